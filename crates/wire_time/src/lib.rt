@@ -1,0 +1,104 @@
+//! Line rates, frames, and how long a frame occupies the wire (IEEE Std 802.3).
+#![tactic(auto)]
+
+ghost use Rattle.std.specs.Prelude.{◌≡◌, ◌<◌, ◌≤◌};
+ghost use Rattle.wire_time.specs.Moment.{greatest_moment, greatest_lead};
+ghost use Rattle.wire_time.specs.Wire.{lead_of, occupancy_of, rate_of, sdu_of};
+
+use std::marker::Model;
+
+/// A line rate, kept as the time that one octet takes.
+#[derive(Clone, Copy, Debug, PartialEq, Eq)]
+pub struct Rate {
+    ps_per_octet: u128,
+}
+
+/// A contract sees a rate as its picoseconds an octet.
+impl Model for Rate {
+    ghost use Rattle.std.specs.Prelude.{ℕ, ◌<◌, ◌≤◌};
+
+    ghost Value = { ℕ };
+
+    ghost view = { λ r. r.ps_per_octet };
+
+    ghost invariant = { λ r. (80 ≤ r.ps_per_octet) × (r.ps_per_octet ≤ 800000) };
+
+    ghost inverse = { λ n. record { ps_per_octet = n } };
+}
+
+/// Why a number is no line rate.
+#[derive(Clone, Copy, Debug, PartialEq, Eq)]
+pub enum RateFault {
+    /// The number is none of the ten rates.
+    UnknownRate,
+}
+
+/// A frame that waits or is sent.
+#[derive(Clone, Copy, Debug, PartialEq, Eq)]
+pub struct Frame {
+    /// The sender's name for the frame, which answers repeat.
+    pub id: u64,
+    /// The priority, 0 to 15.
+    pub priority: u8,
+    /// Octets from the destination address to the end of the payload, without the frame check sequence.
+    pub len: u32,
+    /// Whether the frame has a customer VLAN tag.
+    pub tagged: bool,
+}
+
+impl Rate {
+    /// The rate of so many Mb/s: 10, 100, 1000, 2500, 5000, 10000, 25000, 40000, 50000 or 100000.
+    pub fn from_mbps(mbps: u32) -> Result<Rate, RateFault>
+        ensures { result ≡ rate_of mbps }
+    {
+        let ps_per_octet = match mbps {
+            10 => 800000,
+            100 => 80000,
+            1000 => 8000,
+            2500 => 3200,
+            5000 => 1600,
+            10000 => 800,
+            25000 => 320,
+            40000 => 200,
+            50000 => 160,
+            100000 => 80,
+            _ => return Err(RateFault::UnknownRate),
+        };
+        Ok(Rate { ps_per_octet })
+    }
+
+    /// The picoseconds that one octet takes: 80 to 800,000.
+    pub fn ps_per_octet(&self) -> u128
+        ensures value { result ≡ self.now }
+        ensures within { (80 ≤ result) × (result ≤ 800000) }
+    {
+        self.ps_per_octet
+    }
+}
+
+/// How long a frame of so many octets occupies the wire, in picoseconds, with preamble, start delimiter, check
+/// sequence and gap.
+pub fn occupancy(rate: Rate, len: u32) -> u128
+    ensures value { result ≡ occupancy_of rate len }
+    ensures within { result ≤ greatest_moment }
+{
+    (len.max(60) as u128 + 24) * rate.ps_per_octet
+}
+
+/// The occupancy of the longest frame that a port of this mtu accepts, in picoseconds.
+pub fn lead(rate: Rate, mtu: u32) -> u128
+    requires { mtu ≤ 9216 }
+    ensures value { result ≡ lead_of rate mtu }
+    ensures above { 0 < result }
+    ensures within { result ≤ greatest_lead }
+{
+    (mtu as u128 + 42) * rate.ps_per_octet
+}
+
+/// The octets of the service data unit of a frame; none where the frame is shorter than its header.
+pub fn sdu(frame: &Frame) -> Option<u32>
+    ensures { result ≡ sdu_of frame.now }
+{
+    let header = if frame.tagged { 18 } else { 14 };
+    if frame.len >= header { Some(frame.len - header) } else { None }
+}
