@@ -13,6 +13,9 @@ mod schedule;
 mod table;
 mod visits;
 
+#[cfg(test)]
+mod tests;
+
 pub use schedule::Schedule;
 pub use visits::Visits;
 
