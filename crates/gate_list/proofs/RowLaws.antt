@@ -99,7 +99,7 @@ inside_slot es cycle i x s there soon shown =
     cases_last : (a b : ℕ) → a ≤ b → (a < b) ⊎ (a ≡ b)
     cases_last a b l = grind arith
 
-pub tell_open : (plan : Plan) → IsPlan plan → (i : ℕ) (stays : List Stay) → i < length plan.entries → AreStays plan i stays → TellOpenTime plan i stays
+pub tell_open : (plan : Plan) → IsPlan plan → (i : ℕ) (stays : List Stay) → i < length plan.entries → (prefix plan.entries i < in_ps plan.cycle → AreStays plan i stays) → TellOpenTime plan i stays
 tell_open plan ok i stays within are start k class x d told low said soon shown some =
     let cycle : ℕ = in_ps plan.cycle in
     let cyc : List Slot = slots plan.entries cycle in
@@ -107,7 +107,7 @@ tell_open plan ok i stays within are start k class x d told low said soon shown 
     let s : Slot = get_or cyc i (record { mask = 0; span = 0 }) in
     let at = slice_get-get_or cyc i (record { mask = 0; span = 0 }) there in
     let begin = slots_begin plan.entries cycle i there in
-    let same : told ≡ told_stay (stay cyc i class) = same_Some _ _ (sym said ∙ are class low) in
+    let same : told ≡ told_stay (stay cyc i class) = same_Some _ _ (sym said ∙ are (omega arith) class low) in
     ap (λ n. open_while (mask_since (Some plan) start None) class n d) (let e : start + cycle * k + (prefix plan.entries i + x) ≡ start + cycle * k + length_of (take i cyc) + x = omega arith in e)
     ∙ (plan_law plan ok start k i class x d s at (inside_slot plan.entries cycle i x s at soon shown) some
     ∙ (told_lasts (stay cyc i class) (x + d) ∙ ap (λ t. stay_lasts t (x + d)) (sym same)))

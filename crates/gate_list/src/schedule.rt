@@ -1,4 +1,4 @@
-//! Schedules.
+//! Schedules: a gate control list with its times, and what it tells of open time.
 ghost use Rattle.std.specs.Prelude.{◌≡◌, ◌<◌, ◌≤◌, ◌+◌, ◌^◌, Some, length, max, slice_get, sum_by};
 ghost use Rattle.gate_list.specs.Gate.{Plan, IsPlan, IsSchedule, in_ps, prefix, mask_at, last_mask, change_of, boundary_from, plan_with, plan_fault, ok_unless, least_interval, first_shorter, keeps_apart, is_apart_in};
 ghost use Rattle.gate_list.specs.Stay.{AreStays, AreClosed, TellOpenTime};
@@ -269,7 +269,7 @@ impl Schedule {
         requires { i < length self.now.entries }
         ensures entry { slice_get self.now.entries i ≡ Some result.entry }
         ensures stays { prefix self.now.entries i < in_ps self.now.cycle → AreStays self.now i result.stay }
-        ensures open { prefix self.now.entries i < in_ps self.now.cycle → TellOpenTime self.now i result.stay }
+        ensures open { TellOpenTime self.now i result.stay }
         ensures unseen { in_ps self.now.cycle ≤ prefix self.now.entries i → AreClosed result.stay }
         ensures visit { visits.new ≡ one_more visits.old }
     {

@@ -10,9 +10,9 @@ returns-clause-stays c =
     row_stays c.args.self.now c.self.inside.stays c.args.i c.stays_at.result tabled c.requires c.stays_at.ensures
 
 pub returns-clause-open : goal.returns-clause-open
-returns-clause-open c soon =
+returns-clause-open c =
     let tabled = subst (λ (p : Plan). IsTabled p c.self.inside.stays) c.self.view_is c.self.invariant in
-    tell_open c.args.self.now tabled.sound.plan_is c.args.i c.stays_at.result c.requires (returns-clause-stays c soon)
+    tell_open c.args.self.now tabled.sound.plan_is c.args.i c.stays_at.result c.requires (returns-clause-stays c)
 
 pub returns-clause-unseen : goal.returns-clause-unseen
 returns-clause-unseen c =
