@@ -2,9 +2,8 @@
 #![tactic(auto)]
 
 use gate_list::{Entry, GateList, Schedule, Stay, Visits};
-use std::io;
-use std::mem;
 use std::time::Instant;
+use std::{io, mem};
 use wire_time::Rate;
 
 const ROUNDS: u64 = 20_000;
@@ -48,7 +47,9 @@ fn main(rt: HostRuntime) -> io::Result<()> {
         let start = Instant::now(&rt)?;
         let longest = make_schedules(&list, rate, ROUNDS);
         let took = start.elapsed(&rt)?.as_millis();
-        println!(rt; "{ROUNDS} schedules of 256 entries: {took} ms; the longest stay read is {longest} ps")?;
+        println!(rt;
+            "{ROUNDS} schedules of 256 entries: {took} ms; the longest stay read is {longest} ps"
+        )?;
     }
     Ok(())
 }
