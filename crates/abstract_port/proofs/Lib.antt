@@ -3,3 +3,4 @@ pub mod ClockLaws
 pub mod RunLaws
 pub mod ScanLaws
 pub mod StartsLaws
+pub mod TurnLaws
