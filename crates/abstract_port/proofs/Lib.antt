@@ -3,4 +3,5 @@ pub mod ClockLaws
 pub mod RunLaws
 pub mod ScanLaws
 pub mod StartsLaws
+pub mod TallyLaws
 pub mod TurnLaws
