@@ -1,6 +1,7 @@
 pub mod ArrivalLaws
 pub mod ClockLaws
 pub mod RunLaws
+pub mod RunTurns
 pub mod ScanLaws
 pub mod StartsLaws
 pub mod TallyLaws

@@ -1,6 +1,6 @@
 -- How counters grow over a run.
 use Rattle.std.proofs.Common.{◌≡◌, ◌<◌, ◌≤◌, ℕ, zero, suc, ◌+◌, ◌-◌, ◌==◌, ◌||◌, ltb, Bool, true, false, cond, List, [], ◌∷◌, ◌++◌, length, map, get_or, Option, Some, None, Result, Ok, Err, refl, sym, ap, ◌∙◌, subst, arith, inl, inr, add-zero}
-use Rattle.std.specs.Prelude.{slice_set, sum_by, min, filter}
+use Rattle.std.specs.Prelude.{slice_set, sum_by, min, filter, if◌then◌else◌}
 use Rattle.std.proofs.lemmas.Bool.{cases_eq}
 use Rattle.std.proofs.lemmas.List.{get_or-set_same, get_or-set_other, length-set}
 use Rattle.std.proofs.lemmas.List.Sums.{sum_by-append, sum_by-cons}
@@ -21,6 +21,7 @@ use Rattle.abstract_port.specs.Counting.{add_capped, count_sent, count_dropped, 
 use Rattle.abstract_port.specs.Tally.{Happening, Arrived, Started, Counter, Accepted, Sent, SentOctets, Runts, TooLongs, OverSdus, Fulls, value_of, by_accepted, by_start, by_drop, only_in, growth, greatest_count, started, first_of_class, departures, happened, happenings, CountingLaw}
 use Rattle.abstract_port.proofs.TurnLaws as turn
 use Rattle.abstract_port.proofs.RunLaws.{clock_by}
+use Rattle.abstract_port.proofs.StartsLaws.{starts_until-some, starts_until-none, waiting-next_start}
 
 same_capped : (n : ℕ) → n ≤ greatest_count → n ≡ add_capped n 0
 same_capped n l = omega arith
@@ -105,6 +106,12 @@ module _ (k : Counter) (class : ℕ) (counts : List Counts) (within : class < le
             rw there (ap (value_of k) (get_or-set_other counts d class c no_counts (λ x. ne (sym x))) ∙ same_capped (value_of k (get_or counts class no_counts)) least)
       ]
 
+-- the starts before a moment
+pub departed : (n upto : ℕ) (p : AbstractPort) (o : Option Start) (q : AbstractPort) → (next_start p upto).0 ≡ o → (next_start p upto).1 ≡ q
+    → departures (suc n) upto p ≡ started o (first_of_class p o) (departures n upto q)
+unfolding departures
+departed n upto p o q is_start is_port = ap (λ x. started x (first_of_class p x) (departures n upto (next_start p upto).1)) is_start ∙ ap (λ y. started o (first_of_class p o) (departures n upto y)) is_port
+
 -- a counter grows from one port to another by what happens between
 pub record Grows (k : Counter) (class : ℕ) (p q : AbstractPort) (hs : List Happening) : Type 0 where
   pub long : length q.counts ≡ length p.counts
@@ -164,3 +171,67 @@ module _ (k : Counter) (class : ℕ) where
             ∙ (same_capped (value_of k (counts_at p class)) least
             ∙ ap (add_capped (value_of k (counts_at p class))) (sym (one (Arrived f None (Err why)))));
         }
+
+  -- a start
+  grows_start : (p q : AbstractPort) (m : ℕ) (s : Start) → class < length p.counts → value_of k (counts_at p class) ≤ greatest_count → (t : turn.Started p m s q) → Grows k class p q (Started s t.frame ∷ [])
+  grows_start p q m s within least t =
+      grows_one p q (Started s t.frame) s.class (by_start k t.frame) (count_sent t.frame (counts_at p s.class)) within least (ap (λ x. x.counts) t.port) refl
+        (λ e. send_more k t.frame (counts_at p s.class) (subst (λ i. value_of k (counts_at p i) ≤ greatest_count) (sym e) least))
+
+  start_of_none : (p : AbstractPort) (upto : ℕ) → (next_start p upto).0 ≡ None → (next_start p upto).1.counts ≡ p.counts
+  start_of_none p upto e = ap (λ x. x.counts) (turn.scan-none_started p p.now (upto - p.now) e)
+
+  grows_starts : (n upto : ℕ) (p : AbstractPort) → waiting p < n → class < length p.counts → value_of k (counts_at p class) ≤ greatest_count
+      → Grows k class p (starts_until p upto).1 (departures n upto p)
+  grows_starts zero upto p few within least = absurd (omega arith)
+  grows_starts (suc n) upto p few within least = go (next_start p upto).0 refl (grows_starts n upto (next_start p upto).1)
+    where
+      q : AbstractPort
+      q = (next_start p upto).1
+
+      go : (o : Option Start) → (next_start p upto).0 ≡ o
+          → (waiting q < n → class < length q.counts → value_of k (counts_at q class) ≤ greatest_count → Grows k class q (starts_until q upto).1 (departures n upto q))
+          → Grows k class p (starts_until p upto).1 (departures (suc n) upto p)
+      go None e later =
+          subst (λ hs. Grows k class p (starts_until p upto).1 hs) (sym (departed n upto p None q e refl))
+            (subst (λ r. Grows k class p r []) (ap (λ x. x.1) (sym (starts_until-none p upto e)))
+              (grows_none p q (start_of_none p upto e) least))
+      go (Some s) e rest =
+          let t = turn.next_start-started p upto s e in
+          let first = grows_start p q p.now s within least t in
+          let fewer : waiting q + 1 ≡ waiting p = waiting-next_start p upto s e in
+          let longer = first.long in
+          let later = rest (omega (arith, fewer)) (omega (arith, longer)) (grows_within p q (Started s t.frame ∷ []) first) in
+          subst (λ hs. Grows k class p (starts_until p upto).1 hs)
+            (sym (departed n upto p (Some s) q e refl ∙ ap (λ queue. started (Some s) queue (departures n upto q)) t.waits))
+            (subst (λ r. Grows k class p r (Started s t.frame ∷ departures n upto q)) (ap (λ x. x.1) (sym (starts_until-some p upto s e)))
+              (grows_on p q (starts_until q upto).1 (Started s t.frame ∷ []) (departures n upto q) first later))
+
+  -- a command
+  install_counts : (p : AbstractPort) (command : Command) (r : Option Refused) → (installs_by r p command).1.counts ≡ p.counts
+  install_counts p Delete None = refl
+  install_counts p (Replace c) None = refl
+  install_counts p command (Some r) = refl
+
+  -- a clock event, by the test whether it is refused
+  grows_clock : (b : Bool) (m : ℕ) (p : AbstractPort) → class < length p.counts → value_of k (counts_at p class) ≤ greatest_count → Grows k class p (clock_by b m p).1 (if b then [] else departures (waiting p + 1) m p)
+  grows_clock true m p within least = grows_none p p refl least
+  grows_clock false m p within least = grows_starts (waiting p + 1) m p (omega arith) within least
+
+  grows_event : (event : Event) (p : AbstractPort) → class < length p.counts → value_of k (counts_at p class) ≤ greatest_count → Grows k class p (answers_to event p).1 (happened event p)
+  grows_event (Arrive f) p within least = grows_arrival p within least f (class_for p f.priority) (verdict p f) refl
+  grows_event (Install c) p within least = grows_none p (installs p c.now).1 (install_counts p c.now (refusal p c.now)) least
+  grows_event (Clock m) p within least = grows_clock (ltb m p.now || ltb greatest_moment m) m p within least
+  grows_event Query p within least = grows_none p p refl least
+  grows_event (Count d) p within least = grows_none p p refl least
+
+  grows_run : (events : List Event) (p : AbstractPort) → class < length p.counts → value_of k (counts_at p class) ≤ greatest_count → Grows k class p (port_after events p) (happenings events p)
+  grows_run [] p within least = grows_none p p refl least
+  grows_run (event ∷ rest) p within least =
+      let first = grows_event event p within least in
+      let longer = first.long in
+      grows_on p (answers_to event p).1 (port_after rest (answers_to event p).1) (happened event p) (happenings rest (answers_to event p).1) first
+        (grows_run rest (answers_to event p).1 (omega (arith, longer)) (grows_within p (answers_to event p).1 (happened event p) first))
+
+pub counting : CountingLaw
+counting k class p events within least = (grows_run k class events p within least).value
