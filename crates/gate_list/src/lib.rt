@@ -1,8 +1,9 @@
 //! Gate control lists and schedules.
 #![tactic(auto)]
 
-ghost use Rattle.std.specs.Prelude.{◌≡◌, ◌<◌, ◌≤◌, ◌+◌, ◌^◌, length, max};
-ghost use Rattle.gate_list.specs.Gate.{Plan, IsPlan, mask_at, last_mask, opens, change_of, boundary_from};
+ghost use Rattle.std.specs.Prelude.{◌≡◌, ◌<◌, ◌≤◌, ◌+◌, ◌^◌, ◌==◌, length, max};
+ghost use Rattle.std.specs.List.{list_any};
+ghost use Rattle.gate_list.specs.Gate.{Plan, IsPlan, IsGateList, gate_fault, ok_unless, mask_at, last_mask, opens, change_of, boundary_from};
 ghost use Rattle.gate_list.specs.Stay.{StayLaw};
 ghost use Rattle.gate_list.specs.Visits.{AddsVisits};
 
@@ -23,19 +24,86 @@ pub struct Slot {
     pub span: u128,
 }
 
-/// A gate control list of 1 to 256 entries.
-#[derive(Drop)]
+/// Why entries are no gate control list.
+#[derive(Clone, Copy, Debug, PartialEq, Eq)]
+pub enum GateFault {
+    /// There is no entry.
+    NoEntries,
+    /// There are more than 256 entries.
+    TooManyEntries,
+    /// An entry has the interval 0.
+    ZeroInterval,
+}
+
+/// Why a list and its times are no schedule.
+#[derive(Clone, Copy, Debug, PartialEq, Eq)]
+pub enum PlanFault {
+    /// The entry of this index, the first such, is shorter than the shortest frame.
+    IntervalTooShort(u16),
+    /// The cycle is shorter than the shortest frame.
+    CycleTooShort,
+    /// The cycle is longer than 2^40 ns.
+    CycleTooLong,
+    /// The extension is longer than 2^40 ns.
+    ExtensionTooLong,
+    /// The base time is later than 2^63 - 1 ns.
+    BaseTooLate,
+}
+
+/// A gate control list: 1 to 256 entries, none of interval 0.
+#[derive(Clone, Debug, Drop, PartialEq, Eq)]
 pub struct GateList {
     entries: ArrayVec<Entry, 256>,
 }
 
-#[derive(Clone, Copy, Debug, PartialEq, Eq)]
-pub enum PlanFault {
-    IntervalTooShort(u16),
-    CycleTooShort,
-    CycleTooLong,
-    ExtensionTooLong,
-    BaseTooLate,
+/// A contract sees a list as its entries.
+impl Model for GateList {
+    ghost use Rattle.std.specs.Prelude.{List};
+    ghost use Rattle.gate_list.specs.declared.Entry.{Entry};
+
+    ghost Value = { List Entry };
+
+    ghost use Rattle.gate_list.specs.Gate.{IsGateList};
+
+    ghost view = { λ l. l.entries.items };
+
+    ghost invariant = { λ l. IsGateList l.entries.items };
+
+    ghost inverse = { λ entries. record { entries = record { items = entries } } };
+}
+
+/// Whether an entry lasts no time.
+fn has_zero_interval(entries: &[Entry]) -> bool
+    ensures { result ≡ list_any (λ e. e.interval == 0) entries.now }
+{
+    entries.iter().any(|entry| entry.interval == 0)
+}
+
+impl GateList {
+    /// The list of these entries, in order. Refused, in this order: no entry, more than 256, an interval of 0.
+    pub fn new(entries: &[Entry]) -> Result<GateList, GateFault>
+        ensures { result ≡ ok_unless (gate_fault entries.now) entries.now }
+    {
+        if entries.is_empty() {
+            return Err(GateFault::NoEntries);
+        }
+        let mut kept = ArrayVec::new();
+        if kept.try_extend_from_slice(entries).is_err() {
+            return Err(GateFault::TooManyEntries);
+        }
+        if has_zero_interval(entries) {
+            return Err(GateFault::ZeroInterval);
+        }
+        Ok(GateList { entries: kept })
+    }
+
+    /// The entries, in order.
+    pub fn entries(&self) -> &[Entry]
+        ensures value { result.now ≡ self.now }
+        ensures kept { IsGateList result.now }
+    {
+        self.entries.as_slice()
+    }
 }
 
 /// A gate control list with its times, in nanoseconds.

@@ -1,0 +1,4 @@
+pub mod ClockLaws
+pub mod RunLaws
+pub mod ScanLaws
+pub mod StartsLaws
