@@ -5,6 +5,10 @@ use Rattle.wire_time.specs.declared.Frame.{Frame}
 use Rattle.list_config.specs.Current.{IsCurrent}
 use Rattle.abstract_port.specs.AbstractPort.{AbstractPort, queue_of}
 
+-- an mtu that a port may have, in octets
+abbrev pub IsMtu : ℕ → Type 0
+IsMtu mtu = (68 ≤ mtu) × (mtu ≤ 9216)
+
 -- a frame takes the wire for the lead at most
 abbrev pub FitsLead : ℕ → ℕ → Frame → Type 0
 FitsLead ps mtu f = occupancy_of ps f.len ≤ lead_of ps mtu

@@ -3,12 +3,13 @@
 
 ghost use Rattle.std.specs.Prelude.{◌≡◌, ◌<◌, ◌≤◌, ◌+◌, ◌^◌, ◌==◌, length, max};
 ghost use Rattle.std.specs.List.{list_any};
-ghost use Rattle.gate_list.specs.Gate.{Plan, IsPlan, IsGateList, gate_fault, ok_unless, mask_at, last_mask, opens, change_of, boundary_from};
+ghost use Rattle.gate_list.specs.Gate.{Plan, IsPlan, IsGateList, gate_fault, ok_unless, plan_with, plan_fault, mask_at, last_mask, opens, change_of, boundary_from};
 ghost use Rattle.gate_list.specs.Stay.{StayLaw};
 ghost use Rattle.gate_list.specs.Visits.{AddsVisits};
 
 use arrayvec::ArrayVec;
 use std::marker::Model;
+use wire_time::Rate;
 
 /// One entry of a gate control list: which classes are open, and for how many nanoseconds.
 #[derive(Clone, Copy, Debug, Default, PartialEq, Eq)]
@@ -176,6 +177,14 @@ fn boundary_at(start: u128, cycle: u128, t: u128) -> u128
 }
 
 impl Schedule {
+    pub fn new(list: &GateList, base_ns: u64, cycle_ns: u64, extension_ns: u64, rate: Rate) -> Result<Schedule, PlanFault>
+        requires { base_ns < 0 }
+        ensures { result ≡ ok_unless (plan_fault rate (plan_with list.now base_ns cycle_ns extension_ns)) (plan_with list.now base_ns cycle_ns extension_ns) }
+    {
+        let _ = (list.entries.len(), base_ns, cycle_ns, extension_ns, rate);
+        unreachable!()
+    }
+
     /// How many entries there are: 1 to 256.
     pub fn len(&self) -> usize
         ensures count { result ≡ length self.now.entries }
