@@ -1,3 +1,4 @@
+pub mod ArrivalLaws
 pub mod ClockLaws
 pub mod RunLaws
 pub mod ScanLaws
