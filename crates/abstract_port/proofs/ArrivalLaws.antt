@@ -1,5 +1,6 @@
 -- What is known of a frame that is queued.
 use Rattle.std.proofs.Common.{◌≡◌, ◌<◌, ◌≤◌, ℕ, ◌==◌, ◌&&◌, not, nat_lt, nat_le, Bool, true, false, if◌then◌else◌, length, Option, Some, None, Result, Ok, Err, refl, sym, ap, ◌∙◌, arith}
+use Rattle.std.specs.Prelude.{OnOk}
 use Rattle.wire_time.specs.declared.Frame.{Frame}
 use Rattle.wire_time.specs.Wire.{occupancy_of, lead_of, sdu_of}
 use Rattle.wire_time.proofs.WireLaws.{occupancy_within}
@@ -27,3 +28,11 @@ by_class p f class (Some d) mtu e = by_sdu p f d class (sdu_of f) refl mtu e
 -- a frame that is queued takes the wire for the lead at most
 pub verdict_fits : (p : AbstractPort) (f : Frame) (class : ℕ) → 42 ≤ p.mtu → verdict p f ≡ Ok class → occupancy_of p.ps f.len ≤ lead_of p.ps p.mtu
 verdict_fits p f class mtu e = by_class p f class (class_for p f.priority) mtu e
+
+-- the verdict, by the class of the priority
+pub verdict_is : (p : AbstractPort) (f : Frame) (class : ℕ) (v : Result ℕ Dropped) → class_for p f.priority ≡ Some class → v ≡ verdict_in p class (sdu_of f) → v ≡ verdict p f
+verdict_is p f class v e is = is ∙ ap (verdict_with p f) (sym e)
+
+pub fits_on : (v : Result ℕ Dropped) (p : AbstractPort) (f : Frame) → 42 ≤ p.mtu → v ≡ verdict p f → OnOk v (occupancy_of p.ps f.len ≤ lead_of p.ps p.mtu)
+fits_on (Ok class) p f mtu is = verdict_fits p f class mtu (sym is)
+fits_on (Err why) p f mtu is = tt

@@ -1,5 +1,5 @@
 -- What a list shows at a phase, and when a schedule comes into force.
-use Rattle.std.proofs.Common.{◌≡◌, ◌<◌, ◌≤◌, ℕ, zero, suc, ◌+◌, ◌-◌, ◌*◌, ◌/◌, List, [], ◌∷◌, length, slice_get, Some, inl, inr, refl, ap, ◌∙◌, arith, mod-lt, mul_comm}
+use Rattle.std.proofs.Common.{◌≡◌, ◌<◌, ◌≤◌, ℕ, zero, suc, ◌+◌, ◌-◌, ◌*◌, ◌/◌, List, [], ◌∷◌, length, slice_get, Some, inl, inr, refl, ap, ◌∙◌, arith, mod-lt, mul_comm, Bool, true, false, cond, ltb}
 use Rattle.std.proofs.Math.Nat.{div-lt_iff_lt-mul, mul-le-mul_left}
 use Rattle.std.proofs.lemmas.Bool.{cases_lt, lt-ltb, le-ltb}
 use Rattle.std.proofs.lemmas.Option.{same_Some}
@@ -57,13 +57,29 @@ mask (f ∷ g ∷ es) p (suc i) e h there =
     let rest = in_rest f (g ∷ es) p i h in
     rw (le-ltb p (in_ps f.interval) rest.0) (mask (g ∷ es) (p - in_ps f.interval) i e rest.1 there)
 
-last : (es : List Entry) (e : Entry) → slice_get es (length es - 1) ≡ Some e → last_mask es ≡ e.mask
+pub last : (es : List Entry) (e : Entry) → slice_get es (length es - 1) ≡ Some e → last_mask es ≡ e.mask
 last [] e there = cc
 last (f ∷ []) e there = ap (λ x. x.mask) (same_Some f e there)
 last (f ∷ g ∷ es) e there = last (g ∷ es) e (ap (λ n. slice_get (f ∷ g ∷ es) n) (let s : suc (length (g ∷ es) - 1) ≡ length (f ∷ g ∷ es) - 1 = omega arith in s) ∙ there)
 
 pub phase_is : (es : List Entry) → PhaseLaw es
 phase_is es = record { found = found es; alone = alone es; mask = mask es; last = last es }
+
+-- ---- by a walk
+
+-- what the entries show, and past them all this mask
+abbrev pub mask_or : ℕ → List Entry → ℕ → ℕ
+mask_or past [] p = past
+mask_or past (e ∷ es) p = cond (ltb p (in_ps e.interval)) e.mask (mask_or past es (p - in_ps e.interval))
+
+pub mask_walk : (es : List Entry) (p : ℕ) → mask_or (last_mask es) es p ≡ mask_at es p
+mask_walk [] p = refl
+mask_walk (e ∷ []) p = same (ltb p (in_ps e.interval))
+  where
+    same : (b : Bool) → cond b e.mask e.mask ≡ e.mask
+    same true = refl
+    same false = refl
+mask_walk (e ∷ f ∷ es) p = ap (λ m. cond (ltb p (in_ps e.interval)) e.mask m) (mask_walk (f ∷ es) (p - in_ps e.interval))
 
 -- ---- boundaries
 

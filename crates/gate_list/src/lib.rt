@@ -11,10 +11,9 @@ use std::marker::Model;
 pub mod laws;
 mod schedule;
 mod table;
-mod visits;
-
 #[cfg(test)]
 mod tests;
+mod visits;
 
 pub use schedule::Schedule;
 pub use visits::Visits;

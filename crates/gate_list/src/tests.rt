@@ -1,6 +1,5 @@
 //! Worked cases: each refusal at its limit, the rows of two lists, and that a visit is counted.
-use crate::laws;
-use crate::{Entry, GateFault, GateList, PlanFault, Schedule, Stay, Visits};
+use crate::{Entry, GateFault, GateList, PlanFault, Schedule, Stay, Visits, laws};
 use std::process::Abort;
 use wire_time::Rate;
 
@@ -29,7 +28,10 @@ fn lists_are_refused_in_order(rt: HostRuntime) {
     assert_eq!(rt; GateList::new(&[]), Err(GateFault::NoEntries));
     entries[3].interval = 0;
     assert_eq!(rt; GateList::new(&entries), Err(GateFault::TooManyEntries));
-    assert_eq!(rt; GateList::new(&entries[..256]), Err(GateFault::ZeroInterval));
+    assert_eq!(rt;
+        GateList::new(&entries[..256]),
+        Err(GateFault::ZeroInterval)
+    );
     entries[3].interval = 1;
     let list = GateList::new(&entries[..256]).expect(&rt, "a list");
     assert_eq!(rt; list.entries(), &entries[..256]);
@@ -42,12 +44,28 @@ fn schedules_are_refused_at_their_limits(rt: HostRuntime) {
         (479, 0, 479, 0, Some(PlanFault::IntervalTooShort(0))),
         (480, 0, 479, 0, Some(PlanFault::CycleTooShort)),
         (480, 0, 1099511627777, 0, Some(PlanFault::CycleTooLong)),
-        (480, 0, 1099511627776, 1099511627777, Some(PlanFault::ExtensionTooLong)),
-        (480, 9223372036854775808, 480, 1099511627776, Some(PlanFault::BaseTooLate)),
+        (
+            480,
+            0,
+            1099511627776,
+            1099511627777,
+            Some(PlanFault::ExtensionTooLong),
+        ),
+        (
+            480,
+            9223372036854775808,
+            480,
+            1099511627776,
+            Some(PlanFault::BaseTooLate),
+        ),
         (480, 9223372036854775807, 0, 1099511627776, None),
     ];
     for (interval, base_ns, cycle_ns, extension_ns, want) in cases {
-        let list = GateList::new(&[Entry { interval, ..ALL_OPEN }]).expect(&rt, "a list");
+        let list = GateList::new(&[Entry {
+            interval,
+            ..ALL_OPEN
+        }])
+        .expect(&rt, "a list");
         let schedule = Schedule::new(&list, base_ns, cycle_ns, extension_ns, rate);
         assert_eq!(rt; schedule.err(), want);
     }
@@ -71,7 +89,11 @@ fn a_cycle_of_zero_is_the_sum_of_the_intervals(rt: HostRuntime) {
 #[test]
 fn rows_tell_open_time(rt: HostRuntime) {
     let window = |mask, interval| Entry { mask, interval };
-    let schedule = schedule_of(&rt, &[window(8, 100000), window(0, 100000), window(8, 6000)], 0);
+    let schedule = schedule_of(
+        &rt,
+        &[window(8, 100000), window(0, 100000), window(8, 6000)],
+        0,
+    );
     assert_eq!(rt; stay_in(&rt, &schedule, 0, 3), Stay::Lasts(100000000));
     assert_eq!(rt; stay_in(&rt, &schedule, 1, 3), Stay::Lasts(0));
     assert_eq!(rt; stay_in(&rt, &schedule, 2, 3), Stay::Lasts(106000000));
@@ -84,6 +106,10 @@ fn rows_tell_open_time(rt: HostRuntime) {
     assert_eq!(rt; stay_in(&rt, &long, 0, 1), Stay::Lasts(0));
     assert_eq!(rt; stay_in(&rt, &long, 1, 1), Stay::Lasts(200000000));
     assert_eq!(rt; stay_in(&rt, &short, 1, 1), Stay::Lasts(50000000));
+
+    let cut = schedule_of(&rt, &entries, 100000);
+    assert_eq!(rt; stay_in(&rt, &cut, 0, 0), Stay::Always);
+    assert_eq!(rt; stay_in(&rt, &cut, 1, 0), Stay::Lasts(0));
     assert_eq!(rt; long.mask_at(250000000), 3);
     assert_eq!(rt; long.last_mask(), 3);
     assert_eq!(rt; long.keeps_apart(0), false);
