@@ -1,0 +1,91 @@
+-- What a table tells of an entry.
+use Rattle.std.proofs.Common.{◌≡◌, ◌<◌, ◌≤◌, ℕ, zero, suc, ◌+◌, ◌*◌, Bool, true, false, cond, List, [], ◌∷◌, ◌++◌, length, take, drop, get_or, slice_get, Option, Some, None, ◌⊎◌, inl, inr, refl, sym, ap, ◌∙◌, arith}
+use Rattle.std.proofs.lemmas.Bool.{ne_eqb}
+use Rattle.std.proofs.lemmas.Option.{same_Some, slice_get-get_or}
+use Rattle.gate_list.specs.declared.Entry.{Entry}
+use Rattle.gate_list.specs.declared.Slot.{Slot}
+use Rattle.gate_list.specs.declared.Stay.{Stay}
+use Rattle.gate_list.specs.declared.Stay.TheVariants.{Lasts, Always}
+use Rattle.gate_list.specs.Gate.{Plan, IsPlan, IsSchedule, IsShownAt, in_ps, prefix, mask_since}
+use Rattle.gate_list.specs.Open.{open_while}
+use Rattle.gate_list.specs.Stay.{slots, length_of, run_of, is_open_in_all, stay, lasts, told_stay, stay_lasts, AreStays, TellOpenTime}
+use Rattle.gate_list.specs.Table.{forever, number_of, stay_of, number_at, IsTabled}
+use Rattle.gate_list.proofs.StayLaws.{length_both, slots_total, slots_begin, slot_there, slot_of, plan_law}
+use Rattle.gate_list.proofs.TableLaws.{run_le, room_left}
+
+-- the slots fill the cycle at most
+pub slots_room : (es : List Entry) (cycle : ℕ) → length_of (slots es cycle) ≤ cycle
+slots_room [] cycle = omega arith
+slots_room (e ∷ es) cycle = let all = slots_total e es cycle in omega arith
+
+-- a schedule is a plan whose stays are told
+pub plan_of_schedule : (plan : Plan) → IsSchedule plan → IsPlan plan
+plan_of_schedule plan s = record { entries = s.list.some; cycle = s.above; intervals = s.list.timed }
+
+-- a number of the table is that of its stay alone
+pub stay_back : (t : ℕ) → t < forever → stay_of t ≡ Lasts t
+stay_back t l = ap (λ b. cond b Always (Lasts t)) (ne_eqb t forever (λ e. omega arith))
+
+pub told_back : (cycle : List Slot) (i class : ℕ) → 2 * length_of cycle < forever → stay_of (number_of (stay cycle i class)) ≡ told_stay (stay cycle i class)
+told_back cycle i class fits = by (is_open_in_all cycle class)
+  where
+    run : ℕ
+    run = run_of (drop i cycle ++ cycle) class
+
+    few : run < forever
+    few =
+        let most = run_le (drop i cycle ++ cycle) class in
+        let both = length_both (drop i cycle) cycle in
+        let rest = room_left cycle i in
+        omega arith
+
+    by : (b : Bool) → stay_of (number_of (cond b None (Some run))) ≡ told_stay (cond b None (Some run))
+    by true = refl
+    by false = stay_back run few
+
+pub row_stays : (plan : Plan) (table : List (List ℕ)) (i : ℕ) (stays : List Stay) → IsTabled plan table → i < length plan.entries → ((class : ℕ) → class < 8 → slice_get stays class ≡ Some (stay_of (number_at table class i))) → prefix plan.entries i < in_ps plan.cycle → AreStays plan i stays
+row_stays plan table i stays tabled within read soon class low =
+    let cycle : ℕ = in_ps plan.cycle in
+    let room = slots_room plan.entries cycle in
+    let most = tabled.sound.cycle in
+    read class low
+    ∙ ap Some (ap stay_of (tabled.stays class i low (slot_there plan.entries cycle i within soon))
+    ∙ told_back (slots plan.entries cycle) i class (omega arith))
+
+-- ---- open time
+
+pub told_lasts : (o : Option ℕ) (d : ℕ) → lasts o d ≡ stay_lasts (told_stay o) d
+told_lasts None d = refl
+told_lasts (Some t) d = refl
+
+pub prefix_next : (es : List Entry) (i : ℕ) (e : Entry) → slice_get es i ≡ Some e → prefix es (i + 1) ≡ prefix es i + in_ps e.interval
+prefix_next [] i e there = cc
+prefix_next (f ∷ es) zero e there = let same : f.interval ≡ e.interval = ap (λ x. x.interval) (same_Some f e there) in omega arith
+prefix_next (f ∷ es) (suc i) e there = let rest = prefix_next es i e there in let at : suc i + 1 ≡ suc (i + 1) = omega arith in ap (λ n. prefix (f ∷ es) n) at ∙ (omega arith)
+
+-- where entry i is shown, its slot is
+pub inside_slot : (es : List Entry) (cycle i x : ℕ) (s : Slot) → slice_get (slots es cycle) i ≡ Some s → prefix es i + x < cycle → IsShownAt es (prefix es i + x) i → x < s.span
+inside_slot es cycle i x s there soon shown =
+    let of = slot_of es cycle i s there in
+    let next = prefix_next es i of.entry of.there in
+    let within = shown.within in
+    elim (cases_last (suc i) (length es) within) [
+      | inl more ↦ (let span = of.inner more in let before = shown.before_next (omega arith) in omega arith)
+      | inr last ↦ (let span = of.outer last in omega arith)
+    ]
+  where
+    cases_last : (a b : ℕ) → a ≤ b → (a < b) ⊎ (a ≡ b)
+    cases_last a b l = grind arith
+
+pub tell_open : (plan : Plan) → IsPlan plan → (i : ℕ) (stays : List Stay) → i < length plan.entries → AreStays plan i stays → TellOpenTime plan i stays
+tell_open plan ok i stays within are start k class x d told low said soon shown some =
+    let cycle : ℕ = in_ps plan.cycle in
+    let cyc : List Slot = slots plan.entries cycle in
+    let there = slot_there plan.entries cycle i within (omega arith) in
+    let s : Slot = get_or cyc i (record { mask = 0; span = 0 }) in
+    let at = slice_get-get_or cyc i (record { mask = 0; span = 0 }) there in
+    let begin = slots_begin plan.entries cycle i there in
+    let same : told ≡ told_stay (stay cyc i class) = same_Some _ _ (sym said ∙ are class low) in
+    ap (λ n. open_while (mask_since (Some plan) start None) class n d) (let e : start + cycle * k + (prefix plan.entries i + x) ≡ start + cycle * k + length_of (take i cyc) + x = omega arith in e)
+    ∙ (plan_law plan ok start k i class x d s at (inside_slot plan.entries cycle i x s at soon shown) some
+    ∙ (told_lasts (stay cyc i class) (x + d) ∙ ap (λ t. stay_lasts t (x + d)) (sym same)))

@@ -1,0 +1,281 @@
+//! Schedules.
+ghost use Rattle.std.specs.Prelude.{◌≡◌, ◌<◌, ◌≤◌, ◌+◌, ◌^◌, Some, length, max, slice_get, sum_by};
+ghost use Rattle.gate_list.specs.Gate.{Plan, IsPlan, IsSchedule, in_ps, prefix, mask_at, last_mask, change_of, boundary_from, plan_with, plan_fault, ok_unless, least_interval, first_shorter, keeps_apart, is_apart_in};
+ghost use Rattle.gate_list.specs.Stay.{AreStays, TellOpenTime};
+ghost use Rattle.gate_list.specs.Visits.{one_more};
+
+use crate::table::{Table, stays_at, table_of};
+use crate::{Entry, GateList, PlanFault, Row, Visits, copy_of, is_open};
+use arrayvec::ArrayVec;
+use std::marker::Model;
+use wire_time::Rate;
+
+/// The longest cycle or extension that a schedule takes, in nanoseconds.
+const GREATEST_CYCLE_NS: u64 = 1 << 40;
+
+/// The latest base time that a schedule takes, in nanoseconds.
+const GREATEST_BASE_NS: u64 = (1 << 63) - 1;
+
+/// A gate control list with its base time, cycle and cycle time extension (IEEE Std 802.1Q-2018, 8.6.9).
+#[derive(Drop)]
+pub struct Schedule {
+    entries: ArrayVec<Entry, 256>,
+    base_ns: u64,
+    cycle_ns: u64,
+    extension_ns: u64,
+    stays: Table,
+}
+
+/// A contract sees a schedule as a plan.
+impl Model for Schedule {
+    ghost use Rattle.gate_list.specs.Gate.{Plan};
+    ghost use Rattle.gate_list.specs.Table.{IsTabled};
+
+    ghost Value = { Plan };
+
+    ghost view = { λ s. record { entries = s.entries.items; base = s.base_ns; cycle = s.cycle_ns; extension = s.extension_ns } };
+
+    ghost invariant = { λ s. IsTabled (record { entries = s.entries.items; base = s.base_ns; cycle = s.cycle_ns; extension = s.extension_ns }) s.stays };
+}
+
+/// What a list shows at a phase of its cycle.
+fn mask_at_phase(entries: &[Entry], phase: u128) -> u8
+    ensures { result ≡ mask_at entries.now phase }
+{
+    let mut shown = 0;
+    let mut rest = phase;
+    for e in entries {
+        shown = e.mask;
+        let span = 1000 * u128::from(e.interval);
+        if rest < span {
+            return shown;
+        }
+        rest -= span;
+    }
+    shown
+}
+
+/// What a list shows at its end.
+fn last_mask_of(entries: &[Entry]) -> u8
+    ensures { result ≡ last_mask entries.now }
+{
+    let mut shown = 0;
+    for e in entries {
+        shown = e.mask;
+    }
+    shown
+}
+
+/// The first boundary at or after `t`, of cycles from `start` on.
+fn boundary_at(start: u128, cycle: u128, t: u128) -> u128
+    requires above { 0 < cycle }
+    requires fits { max start t + cycle < 2 ^ 128 }
+    ensures boundary { result ≡ boundary_from start cycle t }
+    ensures after { t ≤ result }
+    ensures near { result < max start t + cycle }
+{
+    let away = if t > start { t - start } else { 0 };
+    start + cycle * ((away + cycle - 1) / cycle)
+}
+
+/// The sum of the intervals, in nanoseconds.
+fn total_of(entries: &[Entry]) -> u64
+    requires { length entries.now ≤ 256 }
+    ensures total { result ≡ sum_by (λ e. e.interval) entries.now }
+{
+    let mut total = 0;
+    for entry in entries {
+        total += u64::from(entry.interval);
+    }
+    total
+}
+
+/// The least interval or cycle at a rate, in nanoseconds.
+fn least_ns(rate: Rate) -> u64
+    ensures value { result ≡ least_interval rate }
+    ensures above { 0 < result }
+{
+    (60 * rate.ps_per_octet() / 1000) as u64
+}
+
+/// The index of the first entry that is shorter.
+fn first_too_short(entries: &[Entry], least: u64) -> Option<u16>
+    requires { length entries.now ≤ 256 }
+    ensures { result ≡ first_shorter least 0 entries.now }
+{
+    for (i, entry) in entries.iter().enumerate() {
+        if u64::from(entry.interval) < least {
+            return Some(i as u16);
+        }
+    }
+    None
+}
+
+/// The first fault of a list with its times.
+fn fault_of(
+    entries: &[Entry],
+    base_ns: u64,
+    cycle_ns: u64,
+    extension_ns: u64,
+    rate: Rate,
+) -> Option<PlanFault>
+    requires { length entries.now ≤ 256 }
+    ensures { result ≡ plan_fault rate (record { entries = entries.now; base = base_ns; cycle = cycle_ns; extension = extension_ns }) }
+{
+    let least = least_ns(rate);
+    match first_too_short(entries, least) {
+        Some(index) => Some(PlanFault::IntervalTooShort(index)),
+        None => {
+            if cycle_ns < least {
+                Some(PlanFault::CycleTooShort)
+            } else if cycle_ns > GREATEST_CYCLE_NS {
+                Some(PlanFault::CycleTooLong)
+            } else if extension_ns > GREATEST_CYCLE_NS {
+                Some(PlanFault::ExtensionTooLong)
+            } else if base_ns > GREATEST_BASE_NS {
+                Some(PlanFault::BaseTooLate)
+            } else {
+                None
+            }
+        }
+    }
+}
+
+/// Whether an entry that opens the class opens no other.
+fn is_apart(entry: Entry, class: u8) -> bool
+    requires { class < 8 }
+    ensures { result ≡ is_apart_in class entry }
+{
+    !is_open(entry.mask, class) || entry.mask == 1 << class
+}
+
+impl Schedule {
+    /// The schedule of a list with these times, in nanoseconds; a cycle of 0 means the sum of the intervals.
+    ///
+    /// Refused, in this order: an interval that is shorter than the shortest frame without what surrounds it, as 60 octets
+    /// take in whole nanoseconds; such a cycle; a cycle, then an extension, above 2^40; a base time above 2^63 - 1.
+    pub fn new(
+        list: &GateList,
+        base_ns: u64,
+        cycle_ns: u64,
+        extension_ns: u64,
+        rate: Rate,
+    ) -> Result<Schedule, PlanFault>
+        ensures { result ≡ ok_unless (plan_fault rate (plan_with list.now base_ns cycle_ns extension_ns)) (plan_with list.now base_ns cycle_ns extension_ns) }
+    {
+        let entries = list.entries();
+        let cycle_ns = if cycle_ns == 0 {
+            total_of(entries)
+        } else {
+            cycle_ns
+        };
+        match fault_of(entries, base_ns, cycle_ns, extension_ns, rate) {
+            Some(fault) => Err(fault),
+            None => Ok(Schedule {
+                entries: copy_of(entries),
+                base_ns,
+                cycle_ns,
+                extension_ns,
+                stays: table_of(entries, cycle_ns),
+            }),
+        }
+    }
+
+    /// How many entries there are: 1 to 256.
+    pub fn len(&self) -> usize
+        ensures count { result ≡ length self.now.entries }
+        ensures within { result ≤ 256 }
+        ensures sound { IsSchedule self.now }
+    {
+        self.entries.len()
+    }
+
+    /// The base time, in nanoseconds.
+    pub fn base_ns(&self) -> u64
+        ensures { result ≡ self.now.base }
+    {
+        self.base_ns
+    }
+
+    /// The cycle time, in nanoseconds; never 0.
+    pub fn cycle_ns(&self) -> u64
+        ensures value { result ≡ self.now.cycle }
+        ensures above { 0 < result }
+    {
+        self.cycle_ns
+    }
+
+    /// The cycle time extension, in nanoseconds.
+    pub fn extension_ns(&self) -> u64
+        ensures { result ≡ self.now.extension }
+    {
+        self.extension_ns
+    }
+
+    /// What the list shows at a phase of its cycle, in picoseconds.
+    pub fn mask_at(&self, phase: u128) -> u8
+        ensures { result ≡ mask_at self.now.entries phase }
+    {
+        mask_at_phase(self.entries.as_slice(), phase)
+    }
+
+    /// What the list shows at its end.
+    pub fn last_mask(&self) -> u8
+        ensures { result ≡ last_mask self.now.entries }
+    {
+        last_mask_of(self.entries.as_slice())
+    }
+
+    /// The moment from which the schedule is in force, if it is accepted for the lead moment `e`.
+    pub fn change_moment(&self, e: u128) -> u128
+        requires { e < 2 ^ 100 }
+        ensures change { result ≡ change_of self.now e }
+        ensures timely { e ≤ result }
+        ensures within { result < 2 ^ 101 }
+    {
+        boundary_at(
+            1000 * u128::from(self.base_ns),
+            1000 * u128::from(self.cycle_ns),
+            e,
+        )
+    }
+
+    /// Whether every entry that opens the class opens none of the other seven.
+    pub fn keeps_apart(&self, class: u8) -> bool
+        requires { class < 8 }
+        ensures { result ≡ keeps_apart self.now.entries class }
+    {
+        for entry in self.entries.as_slice() {
+            if !is_apart(*entry, class) {
+                return false;
+            }
+        }
+        true
+    }
+
+    /// The entry of an index.
+    pub fn entry(&self, i: usize, visits: &mut Visits) -> Entry
+        requires { i < length self.now.entries }
+        ensures entry { slice_get self.now.entries i ≡ Some result }
+        ensures visit { visits.new ≡ one_more visits.old }
+    {
+        visits.add();
+        self.entries.as_slice()[i]
+    }
+
+    /// The entry of an index, with how long each class stays open from its start where the list is repeated for ever.
+    ///
+    /// An entry that begins at or after the cycle's end is never shown, and its stays mean nothing.
+    pub fn row(&self, i: usize, visits: &mut Visits) -> Row
+        requires { i < length self.now.entries }
+        ensures entry { slice_get self.now.entries i ≡ Some result.entry }
+        ensures stays { prefix self.now.entries i < in_ps self.now.cycle → AreStays self.now i result.stay }
+        ensures open { prefix self.now.entries i < in_ps self.now.cycle → TellOpenTime self.now i result.stay }
+        ensures visit { visits.new ≡ one_more visits.old }
+    {
+        Row {
+            entry: self.entry(i, visits),
+            stay: stays_at(&self.stays, i),
+        }
+    }
+}

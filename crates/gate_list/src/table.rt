@@ -1,0 +1,124 @@
+//! The table of open time: how long each class stays open from the start of each entry of a list repeated for ever.
+//!
+//! It is made once, in time linear in the entries, by walks from the end of the cycle to its start.
+ghost use Rattle.std.specs.Prelude.{◌≡◌, ℕ, ◌<◌, ◌≤◌, ◌^◌, length, slice_get, slice_index, Some};
+ghost use Rattle.gate_list.specs.Gate.{in_ps, greatest_cycle};
+ghost use Rattle.gate_list.specs.Stay.{slots, length_of, run_of, is_open_in_all, stay};
+ghost use Rattle.gate_list.specs.Table.{number_of, number_at, stay_of, HasStays};
+
+use crate::{Entry, Slot, Stay, is_open};
+use arrayvec::ArrayVec;
+
+/// By class and by entry, in picoseconds; `FOREVER` where the class never closes.
+pub(crate) type Table = [[u64; 256]; 8];
+
+const FOREVER: u64 = u64::MAX;
+
+/// What a cycle of so many nanoseconds shows, one slot after another.
+fn slots_of(entries: &[Entry], cycle_ns: u64) -> ArrayVec<Slot, 256>
+    requires few { length entries.now ≤ 256 }
+    requires fits { cycle_ns ≤ greatest_cycle }
+    ensures { result.items ≡ slots entries.now (in_ps cycle_ns) }
+{
+    let mut slots = ArrayVec::new();
+    let mut rest = 1000 * cycle_ns;
+    for (i, entry) in entries.iter().enumerate() {
+        let span = 1000 * u64::from(entry.interval);
+        if i + 1 == entries.len() || rest <= span {
+            slots.push(Slot {
+                mask: entry.mask,
+                span: rest,
+            });
+            return slots;
+        }
+        slots.push(Slot {
+            mask: entry.mask,
+            span,
+        });
+        rest -= span;
+    }
+    slots
+}
+
+/// Whether all slots open a class, and for how long it is open from the start of the first on.
+fn first_run(slots: &[Slot], class: u8) -> (bool, u64)
+    requires low { class < 8 }
+    requires fits { length_of slots.now < 2 ^ 62 }
+    ensures all { result.0 ≡ is_open_in_all slots.now class }
+    ensures run { result.1 ≡ run_of slots.now class }
+{
+    let mut all = true;
+    let mut run = 0;
+    let mut left = slots.len();
+    while left > 0 {
+        left -= 1;
+        let slot = slots[left];
+        if is_open(slot.mask, class) {
+            run += slot.span;
+        } else {
+            run = 0;
+            all = false;
+        }
+    }
+    (all, run)
+}
+
+/// Writes for each slot how long a class stays open from its start.
+fn write_stays(slots: &[Slot], class: u8, stays: &mut [u64; 256])
+    requires room { length slots.now ≤ 256 }
+    requires low { class < 8 }
+    requires fits { length_of slots.now < 2 ^ 62 }
+    ensures { (i : ℕ) → i < length slots.now
+        → slice_index stays.new i ≡ number_of (stay slots.now i class) }
+{
+    let (all, mut run) = first_run(slots, class);
+    let mut left = slots.len();
+    while left > 0 {
+        left -= 1;
+        let slot = slots[left];
+        if is_open(slot.mask, class) {
+            run += slot.span;
+        } else {
+            run = 0;
+        }
+        stays[left] = if all { FOREVER } else { run };
+    }
+}
+
+/// The table of a list whose cycle takes so many nanoseconds.
+pub(crate) fn table_of(entries: &[Entry], cycle_ns: u64) -> Table
+    requires few { length entries.now ≤ 256 }
+    requires fits { cycle_ns ≤ greatest_cycle }
+    ensures { HasStays (slots entries.now (in_ps cycle_ns)) 8 result }
+{
+    let slots = slots_of(entries, cycle_ns);
+    let mut table = [[0; 256]; 8];
+    for class in 0..8u8 {
+        write_stays(slots.as_slice(), class, &mut table[usize::from(class)]);
+    }
+    table
+}
+
+/// The stay that a number of the table stands for.
+fn stay_of(number: u64) -> Stay
+    ensures { result ≡ stay_of number }
+{
+    if number == FOREVER {
+        Stay::Always
+    } else {
+        Stay::Lasts(u128::from(number))
+    }
+}
+
+/// What the table has for each class at an entry.
+pub(crate) fn stays_at(table: &Table, i: usize) -> [Stay; 8]
+    requires { i < 256 }
+    ensures { (class : ℕ) → class < 8
+        → slice_get result class ≡ Some (stay_of (number_at table.now class i)) }
+{
+    let mut stays = [Stay::Always; 8];
+    for class in 0..8 {
+        stays[class] = stay_of(table[class][i]);
+    }
+    stays
+}
