@@ -11,6 +11,8 @@ use std::marker::Model;
 pub mod laws;
 mod schedule;
 mod table;
+#[cfg(test)]
+mod tests;
 mod visits;
 
 pub use schedule::Schedule;

@@ -17,7 +17,7 @@ const GREATEST_CYCLE_NS: u64 = 1 << 40;
 const GREATEST_BASE_NS: u64 = (1 << 63) - 1;
 
 /// A gate control list with its base time, cycle and cycle time extension (IEEE Std 802.1Q-2018, 8.6.9).
-#[derive(Drop)]
+#[derive(Clone, Debug, Drop)]
 pub struct Schedule {
     entries: ArrayVec<Entry, 256>,
     base_ns: u64,
@@ -42,28 +42,25 @@ impl Model for Schedule {
 fn mask_at_phase(entries: &[Entry], phase: u128) -> u8
     ensures { result ≡ mask_at entries.now phase }
 {
-    let mut shown = 0;
     let mut rest = phase;
-    for e in entries {
-        shown = e.mask;
-        let span = 1000 * u128::from(e.interval);
+    for entry in entries {
+        let span = 1000 * u128::from(entry.interval);
         if rest < span {
-            return shown;
+            return entry.mask;
         }
         rest -= span;
     }
-    shown
+    last_mask_of(entries)
 }
 
 /// What a list shows at its end.
 fn last_mask_of(entries: &[Entry]) -> u8
     ensures { result ≡ last_mask entries.now }
 {
-    let mut shown = 0;
-    for e in entries {
-        shown = e.mask;
+    match entries.last() {
+        Some(last) => last.mask,
+        None => 0,
     }
-    shown
 }
 
 /// The first boundary at or after `t`, of cycles from `start` on.
@@ -233,11 +230,9 @@ impl Schedule {
         ensures timely { e ≤ result }
         ensures within { result < 2 ^ 101 }
     {
-        boundary_at(
-            1000 * u128::from(self.base_ns),
-            1000 * u128::from(self.cycle_ns),
-            e,
-        )
+        let base = 1000 * u128::from(self.base_ns);
+        let cycle = 1000 * u128::from(self.cycle_ns);
+        boundary_at(base, cycle, e)
     }
 
     /// Whether every entry that opens the class opens none of the other seven.
