@@ -5,7 +5,7 @@ ghost use Rattle.std.specs.Prelude.{◌≡◌, ◌+◌, ◌*◌, ◌<◌, ◌≤
 ghost use Rattle.wire_time.specs.Moment.{greatest_moment};
 ghost use Rattle.gate_list.specs.Gate.{IsShownAt, prefix, mask_at, has_come};
 ghost use Rattle.gate_list.specs.Visits.{one_more};
-ghost use Rattle.list_execute.specs.Walk.{ShowsEntry, ShowsHold, IsOf, mask_of, end_of, more};
+ghost use Rattle.list_execute.specs.Walk.{IsRow, ShowsEntry, ShowsHold, IsOf, mask_of, end_of, more};
 
 use gate_list::{Row, Schedule, Visits};
 use std::marker::Model;
@@ -37,6 +37,18 @@ impl Model for ListExecute {
     ghost inverse = { λ w. record { began = w.began; index = w.index; start = w.start; until = w.until; row = w.row; held = w.held } };
 }
 
+/// The entry of an index, with its stays.
+fn row_of(schedule: &Schedule, index: usize, visits: &mut Visits) -> Row
+    requires { index < length schedule.now.entries }
+    ensures row { IsRow schedule.now index result }
+    ensures visit { visits.new ≡ one_more visits.old }
+    ensures counted { visits.old ≤ visits.new }
+{
+    // The count fits a u64, which makes it no less after one more.
+    let _ = visits.count();
+    schedule.row(index, visits)
+}
+
 /// The walk at an entry of a cycle from a moment on. `last` is the index of the last entry.
 #[tactic(auto, using(crate::proofs::WalkLaws::until_of_start, crate::proofs::WalkLaws::until_of_last))]
 fn walk_at(
@@ -55,8 +67,9 @@ fn walk_at(
     requires within { start ≤ began + 2 ^ 42 * index }
     ensures entry { ShowsEntry schedule.now began index result }
     ensures visit { visits.new ≡ one_more visits.old }
+    ensures counted { visits.old ≤ visits.new }
 {
-    let row = schedule.row(index, visits);
+    let row = row_of(schedule, index, visits);
     let until = if index < last {
         Some(start + 1000 * u128::from(row.entry.interval))
     } else {
@@ -78,6 +91,7 @@ impl ListExecute {
         requires { at ≤ 4 * greatest_moment }
         ensures entry { ShowsEntry schedule.now at 0 result }
         ensures visit { visits.new ≡ one_more visits.old }
+        ensures counted { visits.old ≤ visits.new }
     {
         walk_at(schedule, schedule.len() - 1, at, 0, at, visits)
     }
@@ -124,6 +138,7 @@ impl ListExecute {
         requires ends { IsSome (end_of self.old) }
         ensures entry { ShowsEntry schedule.now self.old.began (self.old.index + 1) self.new }
         ensures visit { visits.new ≡ one_more visits.old }
+        ensures counted { visits.old ≤ visits.new }
     {
         let Some(end) = self.until else { return };
         *self = walk_at(
@@ -142,9 +157,10 @@ impl ListExecute {
         requires { IsOf schedule.now self.old }
         ensures hold { ShowsHold schedule.now self.old.began self.new }
         ensures visit { visits.new ≡ one_more visits.old }
+        ensures counted { visits.old ≤ visits.new }
     {
-        let last = schedule.entry(schedule.len() - 1, visits);
-        self.held = Some(last.mask);
+        let last = row_of(schedule, schedule.len() - 1, visits);
+        self.held = Some(last.entry.mask);
     }
 
     /// Whether the entry has ended by a moment.

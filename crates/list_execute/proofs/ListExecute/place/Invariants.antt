@@ -8,6 +8,7 @@ invariant-loop-walk l = record {
   shown : ShowsEntry l.schedule l.self-inside.began l.walk.index l.walk;
   begun : prefix l.schedule.entries l.walk.index ≤ l.phase;
   counted : l.visits ≡ more l.fn.visits (l.walk.index + 1);
+  onward : l.fn.visits ≤ l.visits;
 }
 
 abbrev pub decreases-loop-walk : goal.decreases-loop-walk
