@@ -1,11 +1,11 @@
 -- What is known of a frame that is queued.
-use Rattle.std.proofs.Common.{◌≡◌, ◌<◌, ◌≤◌, ℕ, ◌==◌, ◌&&◌, not, nat_lt, nat_le, Bool, true, false, if◌then◌else◌, length, Option, Some, None, Result, Ok, Err, refl, sym, ap, ◌∙◌, arith}
+use Rattle.std.proofs.Common.{◌≡◌, ◌≤◌, ℕ, nat_lt, Bool, true, false, if◌then◌else◌, Option, Some, None, Result, Ok, Err, refl, sym, ap, ◌∙◌, arith}
 use Rattle.std.specs.Prelude.{OnOk}
 use Rattle.wire_time.specs.declared.Frame.{Frame}
 use Rattle.wire_time.specs.Wire.{occupancy_of, lead_of, sdu_of}
 use Rattle.wire_time.proofs.WireLaws.{occupancy_within}
 use Rattle.abstract_port.specs.declared.Dropped.{Dropped}
-use Rattle.abstract_port.specs.declared.Dropped.TheVariants.{NoClass, Runt, TooLong, OverSdu, Full}
+use Rattle.abstract_port.specs.declared.Dropped.TheVariants.{NoClass, TooLong}
 use Rattle.abstract_port.specs.AbstractPort.{AbstractPort, class_for, verdict, verdict_in}
 
 by_length : (b : Bool) (later : Result ℕ Dropped) (class : ℕ) → (if b then Err TooLong else later) ≡ Ok class → b ≡ false

@@ -1,11 +1,11 @@
 -- The starts of a run come in turn, and what happens is what is answered.
-use Rattle.std.proofs.Common.{◌≡◌, ◌<◌, ◌≤◌, ℕ, zero, suc, ◌+◌, ◌-◌, ◌||◌, ltb, Bool, true, false, List, [], ◌∷◌, ◌++◌, map, Option, Some, None, Result, Ok, Err, refl, sym, ap, ◌∙◌, subst, arith}
+use Rattle.std.proofs.Common.{◌≡◌, ◌<◌, ℕ, zero, suc, ◌+◌, ◌-◌, ◌||◌, ltb, Bool, true, false, List, [], ◌∷◌, ◌++◌, map, Option, Some, None, Result, Ok, Err, refl, sym, ap, ◌∙◌, subst, arith}
 use Rattle.std.specs.Prelude.{filter, if◌then◌else◌}
 use Rattle.std.proofs.lemmas.List.{map-append}
 use Rattle.std.proofs.lemmas.List.Elements.{filter-append}
 use Rattle.wire_time.specs.Moment.{greatest_moment}
 use Rattle.wire_time.specs.declared.Frame.{Frame}
-use Rattle.list_config.specs.History.{Accepted, open_through}
+use Rattle.list_config.specs.History.{Accepted}
 use Rattle.abstract_port.specs.declared.Dropped.{Dropped}
 use Rattle.abstract_port.specs.declared.Refused.{Refused}
 use Rattle.abstract_port.specs.declared.Command.{Command}
@@ -15,10 +15,10 @@ use Rattle.abstract_port.specs.declared.Event.{Event}
 use Rattle.abstract_port.specs.declared.Event.TheVariants.{Arrive, Install, Clock, Query, Count}
 use Rattle.abstract_port.specs.declared.Answer.{Answer}
 use Rattle.abstract_port.specs.declared.Answer.TheVariants as Answered
-use Rattle.abstract_port.specs.AbstractPort.{AbstractPort, queue_of, class_for, verdict, waiting, next_start, starts_until, drop_in, after_arrival, counters_of, refusal, installs, installs_by}
-use Rattle.abstract_port.specs.Answers.{arrival_answer, command_answer, answers_to, answers_of, port_after}
+use Rattle.abstract_port.specs.AbstractPort.{AbstractPort, class_for, verdict, waiting, next_start, starts_until, drop_in, after_arrival, counters_of, refusal, installs, installs_by}
+use Rattle.abstract_port.specs.Answers.{arrival_answer, command_answer, answers_to, answers_of}
 use Rattle.abstract_port.specs.Laws.{AreInTurn, wire_after, StartInTurn, TurnLaw, starts_in, AreApart, WireLaw}
-use Rattle.abstract_port.specs.Tally.{Happening, Arrived, Started, started, first_of_class, departures, happened, happenings, told, is_told, ToldLaw}
+use Rattle.abstract_port.specs.Tally.{started, departures, happened, happenings, told, is_told, ToldLaw}
 use Rattle.abstract_port.proofs.TurnLaws as turn
 use Rattle.abstract_port.proofs.TallyLaws.{departed}
 use Rattle.abstract_port.proofs.RunLaws.{clock_by}
@@ -48,7 +48,7 @@ turns_by (suc n) upto p few = go (next_start p upto).0 refl (turns_by n upto (ne
         let history : q.history ≡ p.history = ap (λ x. x.history) t.port in
         let free : q.free ≡ s.«end» = ap (λ x. x.free) t.port in
         let turns : AreInTurn p.history s.«end» (starts_until q upto).0 =
-          subst (λ f. AreInTurn p.history f (starts_until q upto).0) free (subst (λ h. AreInTurn h q.free (starts_until q upto).0) history rest.in_turn) in
+        subst (λ f. AreInTurn p.history f (starts_until q upto).0) free (subst (λ h. AreInTurn h q.free (starts_until q upto).0) history rest.in_turn) in
         record {
           in_turn = subst (λ x. AreInTurn p.history p.free x.0) (sym is) (t.free, t.opens, turns);
           wire = ap (λ x. x.1.free) is ∙ (rest.wire ∙ (ap (λ f. wire_after f (starts_until q upto).0) free ∙ ap (λ x. wire_after p.free x.0) (sym is)));
@@ -138,8 +138,8 @@ wires p [] = tt
 wires p (event ∷ rest) =
     let w = wired event p in
     subst (AreApart p.free) (sym (starts_in-append (answers_to event p).0 (answers_of rest (answers_to event p).1)))
-      (apart-append p.free (starts_in (answers_to event p).0) (starts_in (answers_of rest (answers_to event p).1)) w.apart
-        (subst (λ f. AreApart f (starts_in (answers_of rest (answers_to event p).1))) w.wire (wires (answers_to event p).1 rest)))
+    (apart-append p.free (starts_in (answers_to event p).0) (starts_in (answers_of rest (answers_to event p).1)) w.apart
+    (subst (λ f. AreApart f (starts_in (answers_of rest (answers_to event p).1))) w.wire (wires (answers_to event p).1 rest)))
 
 -- ---- what is answered
 

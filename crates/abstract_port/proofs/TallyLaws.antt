@@ -1,6 +1,6 @@
 -- How counters grow over a run.
-use Rattle.std.proofs.Common.{◌≡◌, ◌<◌, ◌≤◌, ℕ, zero, suc, ◌+◌, ◌-◌, ◌==◌, ◌||◌, ltb, Bool, true, false, cond, List, [], ◌∷◌, ◌++◌, length, map, get_or, Option, Some, None, Result, Ok, Err, refl, sym, ap, ◌∙◌, subst, arith, inl, inr, add-zero}
-use Rattle.std.specs.Prelude.{slice_set, sum_by, min, filter, if◌then◌else◌}
+use Rattle.std.proofs.Common.{◌≡◌, ◌<◌, ◌≤◌, ℕ, zero, suc, ◌+◌, ◌-◌, ◌==◌, ◌||◌, ltb, Bool, true, false, List, [], ◌∷◌, ◌++◌, length, get_or, Option, Some, None, Result, Ok, Err, refl, sym, ap, ◌∙◌, subst, arith, inl, inr, add-zero}
+use Rattle.std.specs.Prelude.{slice_set, sum_by, if◌then◌else◌}
 use Rattle.std.proofs.lemmas.Bool.{cases_eq}
 use Rattle.std.proofs.lemmas.List.{get_or-set_same, get_or-set_other, length-set}
 use Rattle.std.proofs.lemmas.List.Sums.{sum_by-append, sum_by-cons}
@@ -15,8 +15,8 @@ use Rattle.abstract_port.specs.declared.Command.TheVariants.{Replace, Delete}
 use Rattle.abstract_port.specs.declared.Refused.{Refused}
 use Rattle.abstract_port.specs.declared.Event.{Event}
 use Rattle.abstract_port.specs.declared.Event.TheVariants.{Arrive, Install, Clock, Query, Count}
-use Rattle.abstract_port.specs.AbstractPort.{AbstractPort, queue_of, counts_at, class_for, verdict, waiting, next_start, starts_from, starts_until, drop_in, after_arrival, refusal, installs, installs_by}
-use Rattle.abstract_port.specs.Answers.{answers_to, answers_of, port_after}
+use Rattle.abstract_port.specs.AbstractPort.{AbstractPort, counts_at, class_for, verdict, waiting, next_start, starts_until, drop_in, after_arrival, refusal, installs, installs_by}
+use Rattle.abstract_port.specs.Answers.{answers_to, port_after}
 use Rattle.abstract_port.specs.Counting.{add_capped, count_sent, count_dropped, no_counts}
 use Rattle.abstract_port.specs.Tally.{Happening, Arrived, Started, Counter, Accepted, Sent, SentOctets, Runts, TooLongs, OverSdus, Fulls, value_of, by_accepted, by_start, by_drop, only_in, growth, greatest_count, started, first_of_class, departures, happened, happenings, CountingLaw}
 use Rattle.abstract_port.proofs.TurnLaws as turn
@@ -98,9 +98,9 @@ module _ (k : Counter) (class : ℕ) (counts : List Counts) (within : class < le
             let here : d == class ≡ true = grind (arith, e) in
             let less : d < length counts = omega arith in
             rw here
-              (ap (λ i. value_of k (get_or (slice_set counts d c) i no_counts)) (sym e)
-              ∙ (ap (value_of k) (get_or-set_same counts d c no_counts less)
-              ∙ (grows e ∙ ap (λ i. add_capped (value_of k (get_or counts i no_counts)) n) e)))
+            (ap (λ i. value_of k (get_or (slice_set counts d c) i no_counts)) (sym e)
+            ∙ (ap (value_of k) (get_or-set_same counts d c no_counts less)
+            ∙ (grows e ∙ ap (λ i. add_capped (value_of k (get_or counts i no_counts)) n) e)))
         | inr ne ↦
             let there : d == class ≡ false = grind (arith, ne) in
             rw there (ap (value_of k) (get_or-set_other counts d class c no_counts (λ x. ne (sym x))) ∙ same_capped (value_of k (get_or counts class no_counts)) least)
@@ -128,10 +128,10 @@ module _ (k : Counter) (class : ℕ) where
   grows_on p q r hs js a b = record {
     long = b.long ∙ a.long;
     value =
-      b.value
-      ∙ (ap (λ n. add_capped n (sum_by (growth k class) js)) a.value
-      ∙ (add_twice (value_of k (counts_at p class)) (sum_by (growth k class) hs) (sum_by (growth k class) js)
-      ∙ ap (add_capped (value_of k (counts_at p class))) (sym (sum_by-append (growth k class) hs js))));
+        b.value
+        ∙ (ap (λ n. add_capped n (sum_by (growth k class) js)) a.value
+        ∙ (add_twice (value_of k (counts_at p class)) (sum_by (growth k class) hs) (sum_by (growth k class) js)
+        ∙ ap (add_capped (value_of k (counts_at p class))) (sym (sum_by-append (growth k class) hs js))));
   }
 
   grows_within : (p q : AbstractPort) (hs : List Happening) → Grows k class p q hs → value_of k (counts_at q class) ≤ greatest_count
@@ -146,9 +146,9 @@ module _ (k : Counter) (class : ℕ) where
   grows_one p q h d n c within least is grown grows = record {
     long = ap (λ cs. length cs) is ∙ length-set p.counts d c;
     value =
-      ap (λ cs. value_of k (get_or cs class no_counts)) is
-      ∙ (written k class p.counts within least d n c grows
-      ∙ ap (add_capped (value_of k (counts_at p class))) (sym grown ∙ sym (one h)));
+        ap (λ cs. value_of k (get_or cs class no_counts)) is
+        ∙ (written k class p.counts within least d n c grows
+        ∙ ap (add_capped (value_of k (counts_at p class))) (sym grown ∙ sym (one h)));
   }
 
   module _ (p : AbstractPort) (within : class < length p.counts) (least : value_of k (counts_at p class) ≤ greatest_count) where
@@ -158,25 +158,25 @@ module _ (k : Counter) (class : ℕ) where
     grows_arrival : (f : Frame) (o : Option ℕ) (v : Result ℕ Dropped) → class_for p f.priority ≡ o → Grows k class p (after_arrival p f v) (Arrived f o v ∷ [])
     grows_arrival f o (Ok d) is =
         grows_one p (after_arrival p f (Ok d)) (Arrived f o (Ok d)) d (by_accepted k) (record (counts_at p d) { accepted = add_capped (counts_at p d).accepted 1 }) within least refl refl
-          (λ e. accept_more k (counts_at p d) (here d e))
+        (λ e. accept_more k (counts_at p d) (here d e))
     grows_arrival f (Some d) (Err why) is =
         grows_one p (after_arrival p f (Err why)) (Arrived f (Some d) (Err why)) d (by_drop k why) (count_dropped why (counts_at p d)) within least
-          (ap (λ x. (drop_in p why x).counts) is) refl
-          (λ e. drop_more k why (counts_at p d) (here d e))
+        (ap (λ x. (drop_in p why x).counts) is) refl
+        (λ e. drop_more k why (counts_at p d) (here d e))
     grows_arrival f None (Err why) is =
         record {
           long = ap (λ x. length (drop_in p why x).counts) is;
           value =
-            ap (λ x. value_of k (counts_at (drop_in p why x) class)) is
-            ∙ (same_capped (value_of k (counts_at p class)) least
-            ∙ ap (add_capped (value_of k (counts_at p class))) (sym (one (Arrived f None (Err why)))));
+              ap (λ x. value_of k (counts_at (drop_in p why x) class)) is
+              ∙ (same_capped (value_of k (counts_at p class)) least
+              ∙ ap (add_capped (value_of k (counts_at p class))) (sym (one (Arrived f None (Err why)))));
         }
 
   -- a start
   grows_start : (p q : AbstractPort) (m : ℕ) (s : Start) → class < length p.counts → value_of k (counts_at p class) ≤ greatest_count → (t : turn.Started p m s q) → Grows k class p q (Started s t.frame ∷ [])
   grows_start p q m s within least t =
       grows_one p q (Started s t.frame) s.class (by_start k t.frame) (count_sent t.frame (counts_at p s.class)) within least (ap (λ x. x.counts) t.port) refl
-        (λ e. send_more k t.frame (counts_at p s.class) (subst (λ i. value_of k (counts_at p i) ≤ greatest_count) (sym e) least))
+      (λ e. send_more k t.frame (counts_at p s.class) (subst (λ i. value_of k (counts_at p i) ≤ greatest_count) (sym e) least))
 
   start_of_none : (p : AbstractPort) (upto : ℕ) → (next_start p upto).0 ≡ None → (next_start p upto).1.counts ≡ p.counts
   start_of_none p upto e = ap (λ x. x.counts) (turn.scan-none_started p p.now (upto - p.now) e)
@@ -194,8 +194,8 @@ module _ (k : Counter) (class : ℕ) where
           → Grows k class p (starts_until p upto).1 (departures (suc n) upto p)
       go None e later =
           subst (λ hs. Grows k class p (starts_until p upto).1 hs) (sym (departed n upto p None q e refl))
-            (subst (λ r. Grows k class p r []) (ap (λ x. x.1) (sym (starts_until-none p upto e)))
-              (grows_none p q (start_of_none p upto e) least))
+          (subst (λ r. Grows k class p r []) (ap (λ x. x.1) (sym (starts_until-none p upto e)))
+          (grows_none p q (start_of_none p upto e) least))
       go (Some s) e rest =
           let t = turn.next_start-started p upto s e in
           let first = grows_start p q p.now s within least t in
@@ -203,9 +203,9 @@ module _ (k : Counter) (class : ℕ) where
           let longer = first.long in
           let later = rest (omega (arith, fewer)) (omega (arith, longer)) (grows_within p q (Started s t.frame ∷ []) first) in
           subst (λ hs. Grows k class p (starts_until p upto).1 hs)
-            (sym (departed n upto p (Some s) q e refl ∙ ap (λ queue. started (Some s) queue (departures n upto q)) t.waits))
-            (subst (λ r. Grows k class p r (Started s t.frame ∷ departures n upto q)) (ap (λ x. x.1) (sym (starts_until-some p upto s e)))
-              (grows_on p q (starts_until q upto).1 (Started s t.frame ∷ []) (departures n upto q) first later))
+          (sym (departed n upto p (Some s) q e refl ∙ ap (λ queue. started (Some s) queue (departures n upto q)) t.waits))
+          (subst (λ r. Grows k class p r (Started s t.frame ∷ departures n upto q)) (ap (λ x. x.1) (sym (starts_until-some p upto s e)))
+          (grows_on p q (starts_until q upto).1 (Started s t.frame ∷ []) (departures n upto q) first later))
 
   -- a command
   install_counts : (p : AbstractPort) (command : Command) (r : Option Refused) → (installs_by r p command).1.counts ≡ p.counts
@@ -231,7 +231,7 @@ module _ (k : Counter) (class : ℕ) where
       let first = grows_event event p within least in
       let longer = first.long in
       grows_on p (answers_to event p).1 (port_after rest (answers_to event p).1) (happened event p) (happenings rest (answers_to event p).1) first
-        (grows_run rest (answers_to event p).1 (omega (arith, longer)) (grows_within p (answers_to event p).1 (happened event p) first))
+      (grows_run rest (answers_to event p).1 (omega (arith, longer)) (grows_within p (answers_to event p).1 (happened event p) first))
 
 pub counting : CountingLaw
 counting k class p events within least = (grows_run k class events p within least).value

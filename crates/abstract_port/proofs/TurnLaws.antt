@@ -1,18 +1,14 @@
 -- What a start is: a frame that waits, at a moment at which the wire is free, by an open gate.
-use Rattle.std.proofs.Common.{◌≡◌, ◌<◌, ◌≤◌, ℕ, zero, suc, ◌+◌, ◌-◌, ◌&&◌, leb, Bool, true, false, List, [], ◌∷◌, ◌++◌, map, Option, Some, None, refl, sym, ap, ◌∙◌, subst, arith, le_refl, le_trans}
-use Rattle.std.specs.Prelude.{slice_set, IsTrue}
+use Rattle.std.proofs.Common.{◌≡◌, ◌<◌, ◌≤◌, ℕ, zero, suc, ◌+◌, ◌-◌, ◌&&◌, leb, Bool, true, false, List, [], ◌∷◌, Option, Some, None, refl, sym, ap, ◌∙◌, subst, arith, le_refl, le_trans}
+use Rattle.std.specs.Prelude.{slice_set}
 use Rattle.wire_time.specs.declared.Frame.{Frame}
 use Rattle.wire_time.specs.Wire.{occupancy_of}
-use Rattle.list_config.specs.History.{Accepted, open_through}
+use Rattle.list_config.specs.History.{open_through}
 use Rattle.list_config.specs.Choice.{may_start}
 use Rattle.list_config.proofs.ChoiceLaws.{greatest_below-passes}
 use Rattle.abstract_port.specs.declared.Start.{Start}
-use Rattle.abstract_port.specs.declared.Event.{Event}
-use Rattle.abstract_port.specs.declared.Event.TheVariants.{Arrive, Install, Clock, Query, Count}
-use Rattle.abstract_port.specs.declared.Answer.{Answer}
-use Rattle.abstract_port.specs.declared.Answer.TheVariants as Answered
 use Rattle.abstract_port.specs.Counting.{count_sent}
-use Rattle.abstract_port.specs.AbstractPort.{AbstractPort, queue_of, counts_at, head_need, is_available, choice, start_head, start_or, scan, next_start, starts_from, starts_until, waiting}
+use Rattle.abstract_port.specs.AbstractPort.{AbstractPort, queue_of, counts_at, head_need, is_available, choice, start_head, start_or, scan, next_start}
 use Rattle.abstract_port.proofs.ScanLaws.{choice-less}
 
 -- a start from m on, and the port after it

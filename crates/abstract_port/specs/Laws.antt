@@ -6,7 +6,7 @@ use Rattle.abstract_port.specs.declared.Event.{Event}
 use Rattle.abstract_port.specs.declared.Answer.{Answer}
 use Rattle.abstract_port.specs.declared.Answer.TheVariants as Answered
 use Rattle.abstract_port.specs.AbstractPort.{AbstractPort, next_start, starts_until, waiting}
-use Rattle.abstract_port.specs.Answers.{answers_of, port_after}
+use Rattle.abstract_port.specs.Answers.{answers_of}
 
 -- The starts before a moment are none where nothing starts before it, and else the first start, which takes one frame, and
 -- then those of the port after it.

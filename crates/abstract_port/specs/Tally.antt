@@ -3,7 +3,7 @@ use Rattle.std.specs.Prelude.{◌≡◌, ◌<◌, ◌≤◌, ℕ, zero, suc, ◌
 use Rattle.wire_time.specs.Moment.{greatest_moment}
 use Rattle.wire_time.specs.declared.Frame.{Frame}
 use Rattle.abstract_port.specs.declared.Dropped.{Dropped}
-use Rattle.abstract_port.specs.declared.Dropped.TheVariants.{NoClass, Runt, TooLong, OverSdu, Full}
+use Rattle.abstract_port.specs.declared.Dropped.TheVariants.{Runt, TooLong, OverSdu, Full}
 use Rattle.abstract_port.specs.declared.Start.{Start}
 use Rattle.abstract_port.specs.declared.Counts.{Counts}
 use Rattle.abstract_port.specs.declared.Event.{Event}

@@ -1,5 +1,5 @@
 -- The refusals of a change, in their order.
-use Rattle.std.proofs.Common.{◌≡◌, ℕ, ◌+◌, List, [], ◌∷◌, ◌++◌, Option, Some, None, Result, Ok, Err, refl, sym, ap, ◌∙◌, subst}
+use Rattle.std.proofs.Common.{◌≡◌, ℕ, ◌+◌, List, [], ◌∷◌, ◌++◌, Option, Some, None, Ok, Err, refl, sym, ap, ◌∙◌}
 use Rattle.std.specs.Prelude.{unwrap_or}
 use Rattle.class_map.specs.declared.ClassMap.{ClassMap}
 use Rattle.class_map.specs.declared.Queues.{Queues}
@@ -12,7 +12,7 @@ use Rattle.gate_list.specs.Gate.{Plan, ok_unless, plan_fault}
 use Rattle.gate_list.specs.declared.PlanFault.{PlanFault}
 use Rattle.abstract_port.specs.declared.Change.{Change}
 use Rattle.abstract_port.specs.declared.Refused.{Refused}
-use Rattle.abstract_port.specs.declared.Refused.TheVariants.{Schedule, Busy}
+use Rattle.abstract_port.specs.declared.Refused.TheVariants.{Schedule}
 use Rattle.abstract_port.specs.declared.Command.{Command}
 use Rattle.abstract_port.specs.declared.Command.TheVariants.{Replace, Delete}
 use Rattle.port.specs.View.{busy_of}

@@ -1,11 +1,11 @@
 -- What the fields of a port keep true is what holds of the port.
-use Rattle.std.proofs.Common.{◌≡◌, ◌<◌, ◌≤◌, ℕ, zero, suc, ◌+◌, ◌-◌, List, [], ◌∷◌, ◌++◌, length, map, get_or, drop, Option, Some, None, refl, sym, ap, ◌∙◌, subst, arith, le_trans}
+use Rattle.std.proofs.Common.{◌≡◌, ◌<◌, ◌≤◌, ℕ, zero, suc, ◌+◌, List, [], ◌∷◌, ◌++◌, length, get_or, drop, Some, refl, sym, ap, ◌∙◌, subst, arith}
 use Rattle.std.specs.Prelude.{All, slice_index_or, slice_get, slice_set}
 use Rattle.wire_time.specs.declared.Frame.{Frame}
 use Rattle.wire_time.specs.Wire.{lead_of, occupancy_of}
 use Rattle.class_queue.specs.Queue.{Queue}
 use Rattle.list_config.specs.Current.{IsCurrent}
-use Rattle.abstract_port.specs.AbstractPort.{AbstractPort, queue_of}
+use Rattle.abstract_port.specs.AbstractPort.{AbstractPort}
 use Rattle.abstract_port.specs.Sound.{FitsLead, IsSoundPort}
 use Rattle.std.proofs.lemmas.List.{length-set}
 use Rattle.std.proofs.lemmas.List.Elements.{All-set, All-drop, All-append}

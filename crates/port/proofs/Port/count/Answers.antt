@@ -1,4 +1,4 @@
-use Rattle.std.proofs.Common.{◌≡◌, ◌<◌, ◌≤◌, ◌∷◌, [], nat_lt, true, false, refl, sym, ap, arith}
+use Rattle.std.proofs.Common.{◌≡◌, ◌∷◌, [], nat_lt, true, false, refl, sym, ap, arith}
 use Rattle.abstract_port.specs.declared.Answer.TheVariants as Answered
 use Rattle.port.proofs.Port.count.Goals as goal
 

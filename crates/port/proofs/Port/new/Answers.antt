@@ -1,4 +1,4 @@
-use Rattle.std.proofs.Common.{◌≤◌, arith, subst}
+use Rattle.std.proofs.Common.{◌≤◌, arith}
 use Rattle.port.proofs.SoundLaws.{kept_new}
 use Rattle.port.proofs.Port.new.Goals as goal
 

@@ -1,4 +1,4 @@
-use Rattle.std.proofs.Common.{◌≡◌, ℕ, Err, refl, sym, ap, ◌∙◌, subst}
+use Rattle.std.proofs.Common.{Err, refl, sym, ap, ◌∙◌, subst}
 use Rattle.port.specs.View.{IsKept}
 use Rattle.port.proofs.RefusalLaws.{replace_taken, replace_busy}
 use Rattle.port.proofs.SoundLaws.{sound_by}

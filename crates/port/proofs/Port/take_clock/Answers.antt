@@ -1,6 +1,6 @@
-use Rattle.std.proofs.Common.{◌≡◌, ◌++◌, sym, ap, ◌∙◌}
+use Rattle.std.proofs.Common.{◌++◌, sym, ap, ◌∙◌}
 use Rattle.abstract_port.specs.AbstractPort.{settled}
-use Rattle.abstract_port.proofs.RunLaws.{clock_back, clock_on, clock_begun}
+use Rattle.abstract_port.proofs.RunLaws.{clock_on, clock_begun}
 use Rattle.port.proofs.HeadLaws.{on_ok, on_err}
 use Rattle.port.proofs.Port.take_clock.Goals as goal
 

@@ -1,4 +1,4 @@
-use Rattle.std.proofs.Common.{get_or, ◌≡◌, ◌<◌, ◌≤◌, ℕ, length, sym, ap, ◌∙◌, subst, arith}
+use Rattle.std.proofs.Common.{get_or, ◌≡◌, ◌<◌, ◌≤◌, length, sym, ap, ◌∙◌, subst, arith}
 use Rattle.wire_time.specs.Wire.{sdu_of}
 use Rattle.abstract_port.specs.AbstractPort.{judged, queue_of}
 use Rattle.abstract_port.proofs.ArrivalLaws.{verdict_is, fits_on}
