@@ -1,13 +1,14 @@
 -- What a list shows by where it stands.
-use Rattle.std.proofs.Common.{◌≡◌, ◌<◌, ◌≤◌, ℕ, zero, suc, ◌+◌, ◌-◌, ◌*◌, ◌%◌, min, Bool, true, false, cond, ◌&&◌, ◌||◌, ◌⊎◌, nat_le, length, get_or, slice_get, Option, Some, None, inl, inr, refl, sym, ap, ◌∙◌, subst, arith, le_refl}
+use Rattle.std.proofs.Common.{◌≡◌, ◌<◌, ◌≤◌, ℕ, zero, suc, ◌+◌, ◌-◌, ◌*◌, ◌%◌, min, Bool, true, false, cond, ◌&&◌, ◌||◌, ◌⊎◌, nat_le, List, length, get_or, slice_get, Option, Some, None, inl, inr, refl, sym, ap, ◌∙◌, subst, arith, le_refl}
 use Rattle.std.proofs.lemmas.Bool.{leb-false, lt-leb, le-leb, cases_lt, false≢true}
-use Rattle.std.proofs.lemmas.Option.{same_Some, get_or_from_slice_get}
+use Rattle.std.proofs.lemmas.Option.{same_Some, get_or_from_slice_get, slice_get-get_or}
 use Rattle.std.specs.Option.{ForSome}
 use Rattle.gate_list.specs.declared.Entry.{Entry}
 use Rattle.gate_list.specs.declared.Stay.{Stay}
-use Rattle.gate_list.specs.Gate.{Plan, IsSchedule, IsShownAt, in_ps, prefix, mask_at, last_mask, has_come, mask_since, opens}
+use Rattle.gate_list.specs.Gate.{Plan, IsGateList, IsSchedule, IsShownAt, in_ps, prefix, mask_at, last_mask, has_come, mask_since, opens}
 use Rattle.gate_list.specs.Open.{open_while}
 use Rattle.gate_list.specs.Stay.{stay_lasts}
+use Rattle.gate_list.proofs.RowLaws.{prefix_next}
 use Rattle.gate_list.proofs.OpenLaws.{open_from}
 use Rattle.list_config.specs.History.{Accepted}
 use Rattle.list_config.proofs.StretchLaws.{come_later, held_while, hold_parts, same_mask_while}
@@ -15,7 +16,7 @@ use Rattle.list_config.proofs.StepLaws.{held_in, mask_of_cycle}
 use Rattle.list_execute.specs.Walk.{Walk, ShowsEntry, ShowsHold, IsOf, until_of, mask_of, end_of}
 use Rattle.list_execute.proofs.WalkLaws.{until_of_more, until_of_last, shown_mask, mask_of_entry}
 use Rattle.stepped.specs.declared.place.Place.{Place}
-use Rattle.stepped.specs.Place.{IsPlaced, IsFlat, Shows, ShowsList, hold_for, is_held_from, list_shows}
+use Rattle.stepped.specs.Place.{IsPlaced, IsFlat, Shows, ShowsList, boundary_in, boundary_of, hold_for, is_held_from, list_shows}
 
 -- the mask of a walk in a hold
 pub mask_of_held : (walk : Walk) (mask : ℕ) → walk.held ≡ Some mask → mask_of walk ≡ mask
@@ -49,6 +50,28 @@ before_end plan n place begun shows u is =
     none : None ≡ Some u → ⊥
     none e = cc
 
+-- the entry is shown up to its end
+pub still_shown : (plan : Plan) (n : ℕ) (place : Place) → place.timer.started ≤ n → ShowsList plan n place → (m : ℕ) → n ≤ m → ForSome (end_of place.walk) (λ u. m < u) → IsShownAt plan.entries (m - place.timer.started) place.walk.index
+still_shown plan n place begun shows m l soon = record {
+  within = (shows.shown).within;
+  begun = (let b = (shows.shown).begun in omega arith);
+  before_next = λ more. (let u = soon (place.timer.started + prefix plan.entries (place.walk.index + 1)) (at_end more) in omega arith);
+}
+  where
+    at_end : place.walk.index + 1 < length plan.entries → end_of place.walk ≡ Some (place.timer.started + prefix plan.entries (place.walk.index + 1))
+    at_end more =
+        end_of_entry plan place.timer.started place.walk.index place.walk shows.shows
+        ∙ ((shows.shows).until_is ∙ until_of_more plan.entries place.timer.started place.walk.index more)
+
+-- an entry takes time
+pub prefix_grows : (es : List Entry) → IsGateList es → (i : ℕ) → i < length es → prefix es i < prefix es (i + 1)
+prefix_grows es ok i within =
+    let e : Entry = get_or es i (record { mask = 0; interval = 0 }) in
+    let there = slice_get-get_or es i (record { mask = 0; interval = 0 }) within in
+    let ends = prefix_next es i e there in
+    let some : 0 < e.interval = ok.timed i (record { mask = 0; interval = 0 }) within in
+    omega arith
+
 module _ (plan : Plan) (ok : IsSchedule plan) (start : ℕ) (next : Option Accepted) where
   -- in one cycle the hold is decided at its start
   pub hold_in : (k m : ℕ) → start + in_ps plan.cycle * k ≤ m → m < start + in_ps plan.cycle * k + in_ps plan.cycle → has_come (hold_for (Some plan) start next) m ≡ is_held_from plan start (start + in_ps plan.cycle * k) next
@@ -81,7 +104,7 @@ module _ (plan : Plan) (ok : IsSchedule plan) (start : ℕ) (next : Option Accep
         by false e shows =
             let s = p.started_is in
             let before = shows.before_next in
-            let next_is = shows.next_is in
+            let next_is = p.next_is in
             let begun = p.begun in
             hold_in p.cycles n (omega arith) (omega arith) ∙ (ap (λ k. is_held_from plan start k next) (sym p.started_is) ∙ e)
 
@@ -98,26 +121,12 @@ module _ (plan : Plan) (ok : IsSchedule plan) (start : ℕ) (next : Option Accep
     entry_mask m l e shows before soon =
         let s = p.started_is in
         let begun = p.begun in
-        let next_is = shows.next_is in
+        let next_is = p.next_is in
         let from : start + in_ps plan.cycle * p.cycles ≤ m = omega arith in
         let to : m < start + in_ps plan.cycle * p.cycles + in_ps plan.cycle = omega arith in
         let unheld : has_come (hold_for (Some plan) start next) m ≡ false = hold_in p.cycles m from to ∙ (ap (λ k. is_held_from plan start k next) (sym s) ∙ e) in
         ap (λ b. cond b (last_mask plan.entries) (mask_at plan.entries ((m - start) % in_ps plan.cycle))) unheld
-        ∙ list_mask p.cycles m place.walk.index place.walk.row.entry from to ((shows.shows).row_is).entry_is (subst (λ k. IsShownAt plan.entries (m - k) place.walk.index) s shown_still)
-      where
-        at_end : place.walk.index + 1 < length plan.entries → end_of place.walk ≡ Some (place.timer.started + prefix plan.entries (place.walk.index + 1))
-        at_end more = unheld_end place.walk.held (shows.shows).unheld ∙ ((shows.shows).until_is ∙ until_of_more plan.entries place.timer.started place.walk.index more)
-          where
-            unheld_end : (held : Option ℕ) → held ≡ None → (elim held [ Some mask ↦ None | None ↦ place.walk.until ]) ≡ place.walk.until
-            unheld_end None e = refl
-            unheld_end (Some k) e = cc
-
-        shown_still : IsShownAt plan.entries (m - place.timer.started) place.walk.index
-        shown_still = record {
-          within = (shows.shown).within;
-          begun = (let b = (shows.shown).begun in let g = p.begun in omega arith);
-          before_next = λ more. (let u = soon (place.timer.started + prefix plan.entries (place.walk.index + 1)) (at_end more) in let g = p.begun in omega arith);
-        }
+        ∙ list_mask p.cycles m place.walk.index place.walk.row.entry from to ((shows.shows).row_is).entry_is (subst (λ k. IsShownAt plan.entries (m - k) place.walk.index) s (still_shown plan n place p.begun shows m l soon))
 
     -- what is shown now
     pub placed_mask : mask_of place.walk ≡ shown_mask_since n
@@ -127,7 +136,7 @@ module _ (plan : Plan) (ok : IsSchedule plan) (start : ℕ) (next : Option Accep
         by true e shows = mask_of_held place.walk (last_mask plan.entries) shows.held_is ∙ sym (held_mask n (le_refl n) e)
         by false e shows =
             mask_of_entry plan place.timer.started place.walk.index place.walk shows.shows
-            ∙ (let s = p.started_is in let begun = p.begun in let next_is = shows.next_is in let before = shows.before_next in
+            ∙ (let s = p.started_is in let begun = p.begun in let next_is = p.next_is in let before = shows.before_next in
             let from : start + in_ps plan.cycle * p.cycles ≤ n = omega arith in
             let to : n < start + in_ps plan.cycle * p.cycles + in_ps plan.cycle = omega arith in
             sym (ap (λ b. cond b (last_mask plan.entries) (mask_at plan.entries ((n - start) % in_ps plan.cycle))) (placed_hold ∙ e)
@@ -142,7 +151,7 @@ module _ (plan : Plan) (ok : IsSchedule plan) (start : ℕ) (next : Option Accep
         by false e shows =
             let s = p.started_is in
             let begun = p.begun in
-            let next_is = shows.next_is in
+            let next_is = p.next_is in
             let before = shows.before_next in
             let start_is = (shows.shows).start_is in
             let first = (shows.shown).begun in
@@ -259,4 +268,70 @@ module _ (plan : Plan) (ok : IsSchedule plan) (start : ℕ) (next : Option Accep
       where
         by : (b : Bool) → b ≡ true → Shows b plan n place → mask_of place.walk ≡ last_mask plan.entries
         by true f shows = mask_of_held place.walk (last_mask plan.entries) shows.held_is
+        by false f shows = absurd (false≢true f)
+
+    -- ---- going on
+
+    -- in the same entry
+    pub same_entry : is_held_from plan start place.timer.started next ≡ false → (m : ℕ) → n ≤ m → m < place.timer.next_start → ForSome (end_of place.walk) (λ u. m < u) → IsPlaced plan start next m place
+    same_entry off m l before soon = record {
+      cycles = p.cycles;
+      length_is = p.length_is;
+      started_is = p.started_is;
+      next_is = p.next_is;
+      begun = (let b = p.begun in omega arith);
+      showing = by (is_held_from plan start place.timer.started next) off p.showing;
+    }
+      where
+        by : (b : Bool) → b ≡ false → Shows b plan n place → Shows b plan m place
+        by true f shows = absurd (false≢true (sym f))
+        by false f shows = record { before_next = before; shows = shows.shows; shown = still_shown plan n place p.begun shows m l soon }
+
+    -- in the entry after
+    pub next_entry : is_held_from plan start place.timer.started next ≡ false → (m : ℕ) → n ≤ m → m < place.timer.next_start → end_of place.walk ≡ Some m → (walk : Walk) → ShowsEntry plan place.walk.began (place.walk.index + 1) walk → IsPlaced plan start next m (record { timer = place.timer; walk = walk })
+    next_entry off m l before ends walk after = record {
+      cycles = p.cycles;
+      length_is = p.length_is;
+      started_is = p.started_is;
+      next_is = p.next_is;
+      begun = (let b = p.begun in omega arith);
+      showing = by (is_held_from plan start place.timer.started next) off p.showing;
+    }
+      where
+        by : (b : Bool) → b ≡ false → Shows b plan n place → Shows b plan m (record { timer = place.timer; walk = walk })
+        by true f shows = absurd (false≢true (sym f))
+        by false f shows =
+            let began : ShowsEntry plan place.timer.started (place.walk.index + 1) walk = subst (λ k. ShowsEntry plan k (place.walk.index + 1) walk) (shows.shows).began_then after in
+            let at : until_of plan.entries place.timer.started place.walk.index ≡ Some m = sym (shows.shows).until_is ∙ (sym (end_of_entry plan place.timer.started place.walk.index place.walk shows.shows) ∙ ends) in
+            let within = began.listed in
+            let more : place.walk.index + 1 < length plan.entries = omega arith in
+            let phase : place.timer.started + prefix plan.entries (place.walk.index + 1) ≡ m = same_Some _ m (sym (until_of_more plan.entries place.timer.started place.walk.index more) ∙ at) in
+            let grows = prefix_grows plan.entries ok.list (place.walk.index + 1) more in
+            let index : walk.index ≡ place.walk.index + 1 = began.index_is in
+            record {
+              before_next = before;
+              shows = subst (λ i. ShowsEntry plan place.timer.started i walk) (sym index) began;
+              shown = subst (λ i. IsShownAt plan.entries (m - place.timer.started) i) (sym index) (record { within = more; begun = omega arith; before_next = λ next_more. omega arith });
+            }
+
+    -- what the next boundary is where the list is in no hold
+    pub boundary_ahead : is_held_from plan start place.timer.started next ≡ false → (m : ℕ) → ForSome (boundary_of plan start next place) (λ u. m ≤ u) → (m ≤ place.timer.next_start) × ForSome (end_of place.walk) (λ u. m ≤ u)
+    boundary_ahead off m upto = by (end_of place.walk) (upto (boundary_in place.timer.next_start (end_of place.walk)) (ap (λ b. cond b None (Some (boundary_in place.timer.next_start (end_of place.walk)))) off))
+      where
+        by : (ends : Option ℕ) → m ≤ boundary_in place.timer.next_start ends → (m ≤ place.timer.next_start) × ForSome ends (λ u. m ≤ u)
+        by None l = (l, λ u is. cc)
+        by (Some e) l = (omega arith, λ u is. (let same : e ≡ u = same_Some e u is in omega arith))
+
+    pub held_still : is_held_from plan start place.timer.started next ≡ true → (m : ℕ) → n ≤ m → IsPlaced plan start next m place
+    held_still on m l = record {
+      cycles = p.cycles;
+      length_is = p.length_is;
+      started_is = p.started_is;
+      next_is = p.next_is;
+      begun = (let b = p.begun in omega arith);
+      showing = by (is_held_from plan start place.timer.started next) on p.showing;
+    }
+      where
+        by : (b : Bool) → b ≡ true → Shows b plan n place → Shows b plan m place
+        by true f shows = shows
         by false f shows = absurd (false≢true f)

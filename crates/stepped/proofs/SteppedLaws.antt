@@ -1,6 +1,6 @@
 -- The gates by the commands that count and the place of the list in force.
-use Rattle.std.proofs.Common.{◌≡◌, ◌<◌, ◌≤◌, ℕ, zero, suc, length, get_or, slice_get, min, Bool, true, false, cond, ◌&&◌, leb, ltb, List, [], Option, Some, None, MatchOption, option_map, inl, inr, refl, sym, ap, ◌∙◌, subst, arith, le_refl, lt_of_lt_of_le}
-use Rattle.std.proofs.lemmas.Bool.{lt-leb, lt-ltb, le-ltb, cases_lt, false≢true, false_from_ne_true}
+use Rattle.std.proofs.Common.{◌≡◌, ◌<◌, ◌≤◌, ℕ, zero, suc, length, get_or, slice_get, min, Bool, true, false, cond, ◌&&◌, leb, ltb, List, [], ◌∷◌, Option, Some, None, MatchOption, option_map, inl, inr, refl, sym, ap, ◌∙◌, subst, arith, le_refl, lt_of_lt_of_le, ◌⊎◌}
+use Rattle.std.proofs.lemmas.Bool.{lt-leb, lt-ltb, le-ltb, cases_lt, false≢true, false_from_ne_true, le-leb}
 use Rattle.std.proofs.lemmas.Option.{same_Some, slice_get-get_or}
 use Rattle.std.specs.Option.{ForSome}
 use Rattle.gate_list.specs.Gate.{Plan, IsSchedule, mask_since, opens}
@@ -16,7 +16,7 @@ use Rattle.list_config.proofs.HistoryLaws.{cons_some_push, push_gates, three_for
 use Rattle.list_config.proofs.StretchLaws.{HasBegun, begun_from, begun_later, has_cycle, start_before, planned_stretch, unheld_stretch, stretches_open_through}
 use Rattle.stepped.specs.declared.place.Place.{Place}
 use Rattle.stepped.specs.Commands.{Commands, AreCommands, IsUsable, history_of, settled_at, in_force_by, pending_by}
-use Rattle.stepped.specs.Place.{IsFlat, Stands, StandsUnder, earlier, hold_for, shown_by, shows_under}
+use Rattle.stepped.specs.Place.{IsFlat, Stands, StandsUnder, earlier, hold_for, shown_by, shows_under, GoesOn, IsLedAt, StoodUnder, boundary_at, edge_at}
 use Rattle.stepped.proofs.PlaceLaws.{placed_mask}
 
 -- ---- what shows now and up to the next command
@@ -43,48 +43,46 @@ module _ (c : Commands) (s : AreCommands c) where
       by (Some a) cycle from = planned_stretch (plan_of c.current) (start_of c.current) m a cycle from
 
   -- up to the next command the same are in force and pending
-  pub gates_ahead : (m : ℕ) → c.moment ≤ m → NoneBy c.next c.later m → gates (history_of c) m ≡ shows_under c.current c.next m
-  gates_ahead m l none =
-      ap (λ f. mask_under f (pending (history_of c) m) m) (three_force c.moment c.current c.next c.later s.settled m l ∙ forced c.next c.later none.0 none.1 s.later_usable)
-      ∙ (ap (λ q. mask_under c.current q m) (three_pending c.moment c.current c.next c.later s.settled m l ∙ awaited c.next c.later none.0 none.1)
-      ∙ under_is m l)
-    where
-      not_yet : (x : Option Accepted) → ForSome x (λ a. m < a.change) → only_if (λ a. leb a.change m) x ≡ None
-      not_yet None h = refl
-      not_yet (Some a) h = ap (λ b. cond b (Some a) None) (lt-leb a.change m (h a refl))
+  module _ (m : ℕ) (l : c.moment ≤ m) (none : NoneBy c.next c.later m) where
+    pub force_still : in_force_by c.current c.next c.later m ≡ c.current
+    force_still =
+        ap (λ y. or_else y (or_else (only_if (λ a. leb a.change m && is_in_time a (cons_some c.later [])) c.next) c.current)) (not_yet c.later (change_after c.later none.1 s.later_usable))
+        ∙ ap (λ y. or_else y c.current) (not_in_time c.next c.later none.0)
+      where
+        not_yet : (x : Option Accepted) → ForSome x (λ a. m < a.change) → only_if (λ a. leb a.change m) x ≡ None
+        not_yet None h = refl
+        not_yet (Some a) h = ap (λ b. cond b (Some a) None) (lt-leb a.change m (h a refl))
 
-      not_in_time : (p x : Option Accepted) → ForSome p (λ a. m < a.change) → only_if (λ a. leb a.change m && is_in_time a (cons_some x [])) p ≡ None
-      not_in_time None x h = refl
-      not_in_time (Some a) x h = ap (λ b. cond (b && is_in_time a (cons_some x [])) (Some a) None) (lt-leb a.change m (h a refl))
+        not_in_time : (p x : Option Accepted) → ForSome p (λ a. m < a.change) → only_if (λ a. leb a.change m && is_in_time a (cons_some x [])) p ≡ None
+        not_in_time None x h = refl
+        not_in_time (Some a) x h = ap (λ b. cond (b && is_in_time a (cons_some x [])) (Some a) None) (lt-leb a.change m (h a refl))
 
-      not_led : (x : Option Accepted) → ForSome x (λ a. m < a.lead) → only_if (λ a. leb a.lead m) x ≡ None
-      not_led None h = refl
-      not_led (Some a) h = ap (λ b. cond b (Some a) None) (lt-leb a.lead m (h a refl))
+        change_after : (x : Option Accepted) → ForSome x (λ a. m < a.lead) → ForSome x IsUsable → ForSome x (λ a. m < a.change)
+        change_after x h u a is = lt_of_lt_of_le (h a is) (u a is).timely
 
-      change_after : (x : Option Accepted) → ForSome x (λ a. m < a.lead) → ForSome x IsUsable → ForSome x (λ a. m < a.change)
-      change_after x h u a is = lt_of_lt_of_le (h a is) (u a is).timely
+    pub pending_still : pending_by c.current c.next c.later m ≡ c.next
+    pending_still = ap (λ y. only_if (λ a. ltb m a.change) (or_else y (or_else c.next c.current))) (not_led c.later none.1) ∙ by c.next none.0
+      where
+        not_led : (x : Option Accepted) → ForSome x (λ a. m < a.lead) → only_if (λ a. leb a.lead m) x ≡ None
+        not_led None h = refl
+        not_led (Some a) h = ap (λ b. cond b (Some a) None) (lt-leb a.lead m (h a refl))
 
-      forced : (p x : Option Accepted) → ForSome p (λ a. m < a.change) → ForSome x (λ a. m < a.lead) → ForSome x IsUsable → in_force_by c.current p x m ≡ c.current
-      forced p x hp hx u =
-          ap (λ y. or_else y (or_else (only_if (λ a. leb a.change m && is_in_time a (cons_some x [])) p) c.current)) (not_yet x (change_after x hx u))
-          ∙ ap (λ y. or_else y c.current) (not_in_time p x hp)
+        old_now : only_if (λ a. ltb m a.change) c.current ≡ None
+        old_now = by c.current (begun_later c.current c.moment m l begun_now)
+          where
+            by : (f : Option Accepted) → HasBegun f m → only_if (λ a. ltb m a.change) f ≡ None
+            by None b = refl
+            by (Some a) b = ap (λ t. cond t (Some a) None) (le-ltb m a.change b.1)
 
-      old_now : only_if (λ a. ltb m a.change) c.current ≡ None
-      old_now = by c.current (begun_later c.current c.moment m l begun_now)
-        where
-          by : (f : Option Accepted) → HasBegun f m → only_if (λ a. ltb m a.change) f ≡ None
-          by None b = refl
-          by (Some a) b = ap (λ t. cond t (Some a) None) (not_below a.change b.1)
-            where
-              not_below : (k : ℕ) → k ≤ m → ltb m k ≡ false
-              not_below k le = le-ltb m k le
+        by : (p : Option Accepted) → ForSome p (λ a. m < a.change) → only_if (λ a. ltb m a.change) (or_else p c.current) ≡ p
+        by None h = old_now
+        by (Some a) h = ap (λ b. cond b (Some a) None) (lt-ltb m a.change (h a refl))
 
-      awaited : (p x : Option Accepted) → ForSome p (λ a. m < a.change) → ForSome x (λ a. m < a.lead) → pending_by c.current p x m ≡ p
-      awaited p x hp hx = ap (λ y. only_if (λ a. ltb m a.change) (or_else y (or_else p c.current))) (not_led x hx) ∙ by p hp
-        where
-          by : (p : Option Accepted) → ForSome p (λ a. m < a.change) → only_if (λ a. ltb m a.change) (or_else p c.current) ≡ p
-          by None h = old_now
-          by (Some a) h = ap (λ b. cond b (Some a) None) (lt-ltb m a.change (h a refl))
+    pub gates_ahead : gates (history_of c) m ≡ shows_under c.current c.next m
+    gates_ahead =
+        ap (λ f. mask_under f (pending (history_of c) m) m) (three_force c.moment c.current c.next c.later s.settled m l ∙ force_still)
+        ∙ (ap (λ q. mask_under c.current q m) (three_pending c.moment c.current c.next c.later s.settled m l ∙ pending_still)
+        ∙ under_is m l)
 
   pub none_now : NoneBy c.next c.later c.moment
   none_now = (waits c.next (s.settled).waiting, leads c.later (s.settled).ahead)
@@ -157,6 +155,90 @@ module _ (c : Commands) (s : AreCommands c) where
       leads_back : (p : Option Accepted) → ForSome p (λ a. c.moment < a.lead) → ForSome (option_map (λ a. a.lead) p) (λ u. c.moment < u)
       leads_back None h u is = cc
       leads_back (Some b) h u is = subst (λ k. c.moment < k) (same_Some b.lead u is) (h b refl)
+
+  -- what goes on at the next edge, or before it
+  pub goes_on : (place : Option Place) → Stands c.current c.next c.moment place → (m : ℕ) → c.moment ≤ m → ForSome (edge_at c place) (λ u. m ≤ u) → GoesOn (in_force_by c.current c.next c.later m) (pending_by c.current c.next c.later m) m place
+  goes_on place stands m l upto =
+      elim (cases c.next c.later (changes c.next commands.0) (leads c.later commands.1) s.later_usable) [
+        | inl none ↦
+            subst (λ f. GoesOn f (pending_by c.current c.next c.later m) m place) (sym (force_still m l none))
+            (subst (λ p. GoesOn c.current p m place) (sym (pending_still m l none))
+            (inr (inr (record { from = c.moment; stands = stands; onward = l; upto = parts.0 }))))
+        | inr moved ↦ moved
+      ]
+    where
+      upto_parts : (a b : Option ℕ) → ForSome (earlier a b) (λ u. m ≤ u) → ForSome a (λ u. m ≤ u) × ForSome b (λ u. m ≤ u)
+      upto_parts None b h = (λ u is. cc, h)
+      upto_parts (Some t) None h = (h, λ u is. cc)
+      upto_parts (Some t) (Some v) h =
+          let low : m ≤ min t v = h (min t v) refl in
+          (λ u is. (let same : t ≡ u = same_Some t u is in omega arith), λ u is. (let same : v ≡ u = same_Some v u is in omega arith))
+
+      parts : ForSome (boundary_at c.current c.next place) (λ u. m ≤ u) × ForSome (earlier (option_map (λ a. a.change) c.next) (option_map (λ a. a.lead) c.later)) (λ u. m ≤ u)
+      parts = upto_parts (boundary_at c.current c.next place) _ upto
+
+      commands : ForSome (option_map (λ a. a.change) c.next) (λ u. m ≤ u) × ForSome (option_map (λ a. a.lead) c.later) (λ u. m ≤ u)
+      commands = upto_parts (option_map (λ a. a.change) c.next) (option_map (λ a. a.lead) c.later) parts.1
+
+      changes : (p : Option Accepted) → ForSome (option_map (λ a. a.change) p) (λ u. m ≤ u) → ForSome p (λ a. m ≤ a.change)
+      changes None h a is = cc
+      changes (Some b) h a is = subst (λ (k : Accepted). m ≤ k.change) (same_Some b a is) (h b.change refl)
+
+      leads : (p : Option Accepted) → ForSome (option_map (λ a. a.lead) p) (λ u. m ≤ u) → ForSome p (λ a. m ≤ a.lead)
+      leads None h a is = cc
+      leads (Some b) h a is = subst (λ (k : Accepted). m ≤ k.lead) (same_Some b a is) (h b.lead refl)
+
+      -- nothing new, or a command that comes into force or has its lead moment
+      Moved : Option Accepted → Option Accepted → Type 0
+      Moved p x = (start_of (in_force_by c.current p x m) ≡ m) ⊎ (IsLedAt (pending_by c.current p x m) m ⊎ StoodUnder (in_force_by c.current p x m) (pending_by c.current p x m) m place)
+
+      -- the announced one has its lead moment
+      led : (p : Option Accepted) (b : Accepted) → b.lead ≡ m → b.lead ≤ b.change → Moved p (Some b)
+      led p b at timely =
+          elim (cases_lt m b.change) [
+            | inl after ↦
+                (let pend : pending_by c.current p (Some b) m ≡ Some b =
+                ap (λ t. only_if (λ a. ltb m a.change) (or_else (cond t (Some b) None) (or_else p c.current))) (le-leb b.lead m (omega arith)) ∙ ap (λ t. cond t (Some b) None) (lt-ltb m b.change after) in
+                inr (inl (subst (λ q. IsLedAt q m) (sym pend) at)))
+            | inr now ↦
+                (let force : in_force_by c.current p (Some b) m ≡ Some b =
+                ap (λ t. or_else (cond t (Some b) None) (or_else (only_if (λ a. leb a.change m && is_in_time a (b ∷ [])) p) c.current)) (le-leb b.change m now) in
+                inl (ap start_of force ∙ (let same : b.change ≡ m = omega arith in same)))
+          ]
+
+      -- the pending one changes the gates
+      begins : (a : Accepted) (x : Option Accepted) → a.change ≡ m → ForSome x (λ b. m < b.lead) → ForSome x IsUsable → Moved (Some a) x
+      begins a x at ahead u = inl (ap start_of force ∙ at)
+        where
+          not_yet : (x : Option Accepted) → ForSome x (λ b. m < b.lead) → ForSome x IsUsable → only_if (λ b. leb b.change m) x ≡ None
+          not_yet None h u = refl
+          not_yet (Some b) h u = ap (λ t. cond t (Some b) None) (lt-leb b.change m (lt_of_lt_of_le (h b refl) (u b refl).timely))
+
+          in_time : (x : Option Accepted) → ForSome x (λ b. m < b.lead) → is_in_time a (cons_some x []) ≡ true
+          in_time None h = refl
+          in_time (Some b) h = le-leb a.change b.lead (let before : m < b.lead = h b refl in omega arith)
+
+          force : in_force_by c.current (Some a) x m ≡ Some a
+          force =
+              ap (λ y. or_else y (or_else (only_if (λ k. leb k.change m && is_in_time k (cons_some x [])) (Some a)) c.current)) (not_yet x ahead u)
+              ∙ (ap (λ t. or_else (cond (t && is_in_time a (cons_some x [])) (Some a) None) c.current) (le-leb a.change m (omega arith))
+              ∙ ap (λ t. or_else (cond t (Some a) None) c.current) (in_time x ahead))
+
+      waiting : (p x : Option Accepted) → ForSome p (λ a. m ≤ a.change) → ForSome x (λ a. m < a.lead) → ForSome x IsUsable → NoneBy p x m ⊎ Moved p x
+      waiting None x hp ahead u = inl (λ a is. cc, ahead)
+      waiting (Some a) x hp ahead u =
+          elim (cases_lt m a.change) [
+            | inl before ↦ inl (λ k is. subst (λ (j : Accepted). m < j.change) (same_Some a k is) before, ahead)
+            | inr at ↦ inr (begins a x (let le : m ≤ a.change = hp a refl in omega arith) ahead u)
+          ]
+
+      cases : (p x : Option Accepted) → ForSome p (λ a. m ≤ a.change) → ForSome x (λ a. m ≤ a.lead) → ForSome x IsUsable → NoneBy p x m ⊎ Moved p x
+      cases p None hp hx u = waiting p None hp (λ a is. cc) u
+      cases p (Some b) hp hx u =
+          elim (cases_lt m b.lead) [
+            | inl before ↦ waiting p (Some b) hp (λ k is. subst (λ (j : Accepted). m < j.lead) (same_Some b k is) before) u
+            | inr at ↦ inr (led p b (let le : m ≤ b.lead = hx b refl in omega arith) (u b refl).timely)
+          ]
 
   -- what is kept at a later moment
   pub settled_history : (t : ℕ) → c.moment ≤ t → history_of (settled_at c t) ≡ kept (history_of c) t

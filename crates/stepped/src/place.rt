@@ -10,7 +10,7 @@ ghost use Rattle.list_config.specs.Stretch.{hold_of};
 ghost use Rattle.cycle_timer.specs.Cycle.{begun_at};
 ghost use Rattle.list_execute.specs.Walk.{IsOf};
 ghost use Rattle.stepped.specs.Commands.{IsUsable, accepted_in, command_of};
-ghost use Rattle.stepped.specs.Place.{IsPlaced, IsFlat, is_held_from, list_shows};
+ghost use Rattle.stepped.specs.Place.{IsPlaced, IsFlat, StoodBefore, boundary_of, is_held_from, list_shows};
 
 use crate::held::Held;
 use cycle_timer::CycleTimer;
@@ -197,7 +197,8 @@ pub fn list_until(
     next: Option<&Held>,
 ) -> Option<u128>
     requires sound { IsSchedule schedule.now }
-    ensures { (n : ℕ) → IsPlaced schedule.now start (command_of next.entry) n place.now → IsFlat (list_shows schedule.now start (command_of next.entry)) n result }
+    ensures boundary { result ≡ boundary_of schedule.now start (command_of next.entry) place.now }
+    ensures flat { (n : ℕ) → IsPlaced schedule.now start (command_of next.entry) n place.now → IsFlat (list_shows schedule.now start (command_of next.entry)) n result }
 {
     if is_holding(schedule, start, place, next) {
         return None;
@@ -207,4 +208,59 @@ pub fn list_until(
         Some(entry_end) => entry_end.min(cycle_end),
         None => cycle_end,
     })
+}
+
+/// A cycle that has just begun: its first entry, or the hold.
+fn begin_cycle(
+    schedule: &Schedule,
+    start: u128,
+    timer: CycleTimer,
+    next: Option<&Held>,
+    visits: &mut Visits,
+) -> Place
+    requires sound { IsSchedule schedule.now }
+    requires within { timer.started ≤ 2 * greatest_moment }
+    requires length { timer.length ≡ in_ps schedule.now.cycle }
+    requires next { timer.next_start ≡ timer.started + in_ps schedule.now.cycle }
+    ensures placed { (k : ℕ) → timer.started ≡ start + in_ps schedule.now.cycle * k → IsPlaced schedule.now start (command_of next.entry) timer.started result }
+    ensures counted { visits.old ≤ visits.new }
+{
+    let mut walk = ListExecute::begin(schedule, timer.started(), visits);
+    if is_held_from(schedule, start, timer.started(), next) {
+        walk.hold(schedule, visits);
+    }
+    Place { timer, walk }
+}
+
+/// Where a list stands at `m`, with no boundary between: the next cycle or the next entry begins there, or nothing does.
+pub fn list_on(
+    schedule: &Schedule,
+    start: u128,
+    place: &Place,
+    next: Option<&Held>,
+    m: u128,
+    visits: &mut Visits,
+) -> Place
+    requires sound { IsSchedule schedule.now }
+    requires within { m ≤ 2 * greatest_moment }
+    requires stood { StoodBefore schedule.now start (command_of next) m place.now }
+    ensures placed { IsPlaced schedule.now start (command_of next.entry) m result }
+    ensures counted { visits.old ≤ visits.new }
+{
+    if is_holding(schedule, start, place, next) {
+        return *place;
+    }
+    if place.timer.next_start() == m {
+        return begin_cycle(schedule, start, place.timer.fire(), next, visits);
+    }
+    let mut walk = place.walk;
+    if let Some(entry_end) = walk.entry_end() {
+        if entry_end == m {
+            walk.next(schedule, visits);
+        }
+    }
+    Place {
+        timer: place.timer,
+        walk,
+    }
 }

@@ -4,14 +4,14 @@ ghost use Rattle.wire_time.specs.Moment.{greatest_moment, greatest_lead};
 ghost use Rattle.gate_list.specs.Gate.{IsSchedule};
 ghost use Rattle.list_config.specs.History.{gates, kept};
 ghost use Rattle.list_config.specs.Current.{IsCurrent, accepted_at, deletion_at};
-ghost use Rattle.stepped.specs.Commands.{IsUsable, accepted_in, command_of};
-ghost use Rattle.stepped.specs.Place.{IsFlat, earlier};
+ghost use Rattle.stepped.specs.Commands.{AreCommands, IsUsable, accepted_in, command_of, history_of};
+ghost use Rattle.stepped.specs.Place.{IsFlat, Stands, earlier, edge_at};
 
 use crate::ahead::{stays_open_through, stays_open_to};
 use crate::held::{Held, installed};
 use crate::place::Place;
 use crate::slots::Slots;
-use crate::under::{place_under, stays_open_under, until_under};
+use crate::under::{place_on, stays_open_under, until_under};
 use gate_list::{Schedule, Visits};
 use list_config::{Gates, Installed, NotNow};
 use std::marker::Model;
@@ -83,30 +83,44 @@ fn held_of(schedule: Schedule, e: u128) -> Held
     }
 }
 
-impl Stepped {
-    /// The next moment at which a boundary of the list comes, or a command does; none: there is none.
-    fn next_edge(&self) -> Option<u128>
-        ensures { IsFlat (gates self.now.history) self.now.moment result }
-    {
-        let listed = until_under(self.slots.current(), &self.place, self.slots.next());
-        earlier(
-            listed,
-            earlier(change_of(self.slots.next()), lead_of(self.slots.later())),
-        )
-    }
+/// The next moment at which a boundary of the list in force comes, or a command does; none: there is none.
+fn edge_of(slots: &Slots, place: &Option<Place>) -> Option<u128>
+    requires sound { AreCommands slots.now }
+    requires stands { Stands slots.now.current slots.now.next slots.now.moment place.now }
+    ensures edge { result ≡ edge_at slots.now place.now }
+    ensures flat { IsFlat (gates (history_of slots.now)) slots.now.moment result }
+{
+    let listed = until_under(slots.current(), place, slots.next());
+    earlier(
+        listed,
+        earlier(change_of(slots.next()), lead_of(slots.later())),
+    )
+}
 
-    /// Goes to a moment.
+impl Stepped {
+    /// Goes on to the next boundary, or to `t` where that comes first.
     #[tactic(auto, using(crate::proofs::SteppedLaws::current_of))]
-    fn place_at(&mut self, t: u128, visits: &mut Visits)
-        requires later { self.old.moment ≤ t }
+    fn step_to(&mut self, t: u128, visits: &mut Visits)
+        requires later { self.old.moment < t }
         requires within { t ≤ greatest_moment }
-        ensures moment { self.new.moment ≡ t }
-        ensures history { self.new.history ≡ kept self.old.history t }
+        ensures onward { self.old.moment < self.new.moment }
+        ensures upto { self.new.moment ≤ t }
+        ensures history { self.new.history ≡ kept self.old.history self.new.moment }
         ensures sound { IsCurrent self.new.history self.new.moment }
         ensures counted { visits.old ≤ visits.new }
     {
-        self.slots.settle(t);
-        self.place = place_under(self.slots.current(), t, self.slots.next(), visits);
+        let m = match edge_of(&self.slots, &self.place) {
+            Some(edge) => edge.min(t),
+            None => t,
+        };
+        self.slots.settle(m);
+        self.place = place_on(
+            self.slots.current(),
+            &self.place,
+            self.slots.next(),
+            m,
+            visits,
+        );
     }
 }
 
@@ -174,7 +188,7 @@ impl Gates for Stepped {
     }
 
     fn next_boundary(&self, before: u128) -> Option<u128> {
-        match self.next_edge() {
+        match edge_of(&self.slots, &self.place) {
             Some(edge) => if edge < before { Some(edge) } else { None },
             None => None,
         }
@@ -195,7 +209,9 @@ impl Gates for Stepped {
     }
 
     fn move_to(&mut self, t: u128, visits: &mut Visits) {
-        self.place_at(t, visits);
+        while self.now() < t {
+            self.step_to(t, visits);
+        }
     }
 
     fn install(&mut self, schedule: Schedule, e: u128) -> Result<u128, NotNow> {
