@@ -100,6 +100,7 @@ pub fn play<G: Gates + Drop>(steps: &[(u128, Step<'_>)]) -> Result<(), usize> {
     Ok(())
 }
 
+pub mod ports;
 pub mod tables;
 #[cfg(test)]
 mod tests;
