@@ -79,16 +79,16 @@ module _ (plan : Plan) (ok : IsSchedule plan) (start : ℕ) (next : Option Accep
     where
       by : (q : Option Accepted) → has_come (hold_for (Some plan) start q) m ≡ is_held_from plan start (start + in_ps plan.cycle * k) q
       by None = refl
-      by (Some a) = held_in plan start k m ok.above from to a
+      by (Some a) = held_in plan start k m ok.plan_is.cycle from to a
 
   -- in one cycle the list's mask is that of the entry that is shown
   pub list_mask : (k m i : ℕ) (e : Entry) → start + in_ps plan.cycle * k ≤ m → m < start + in_ps plan.cycle * k + in_ps plan.cycle → slice_get plan.entries i ≡ Some e → IsShownAt plan.entries (m - (start + in_ps plan.cycle * k)) i → mask_since (Some plan) start None m ≡ e.mask
   list_mask k m i e from to there shown =
-      mask_of_cycle plan start k m ok.above from to None ∙ shown_mask plan.entries (m - (start + in_ps plan.cycle * k)) i e there shown
+      mask_of_cycle plan start k m ok.plan_is.cycle from to None ∙ shown_mask plan.entries (m - (start + in_ps plan.cycle * k)) i e there shown
 
   module _ (n : ℕ) (place : Place) (p : IsPlaced plan start next n place) where
     cycle_above : 0 < in_ps plan.cycle
-    cycle_above = let l = ok.above in omega arith
+    cycle_above = let l = ok.plan_is.cycle in omega arith
 
     -- the hold at n is that of the cycle
     pub placed_hold : has_come (hold_for (Some plan) start next) n ≡ is_held_from plan start place.timer.started next
@@ -306,7 +306,7 @@ module _ (plan : Plan) (ok : IsSchedule plan) (start : ℕ) (next : Option Accep
             let within = began.listed in
             let more : place.walk.index + 1 < length plan.entries = omega arith in
             let phase : place.timer.started + prefix plan.entries (place.walk.index + 1) ≡ m = same_Some _ m (sym (until_of_more plan.entries place.timer.started place.walk.index more) ∙ at) in
-            let grows = prefix_grows plan.entries ok.list (place.walk.index + 1) more in
+            let grows = prefix_grows plan.entries (record { some = ok.plan_is.entries; few = ok.few; timed = ok.plan_is.intervals }) (place.walk.index + 1) more in
             let index : walk.index ≡ place.walk.index + 1 = began.index_is in
             record {
               before_next = before;
