@@ -77,7 +77,7 @@ module _ (law : IsSettling) (q p : AbstractPort) (s : StandsFor q p) where
   same-ending (Some m) =
       ap (λ x. lines_of x ++ left_lines (answers_to (Events.Clock m) q).1) (event-answers (Events.Clock m))
       ∙ ap (λ x. lines_of (answers_to (Events.Clock m) p).0 ++ x)
-        (sym (left-settled (answers_to (Events.Clock m) q).1) ∙ ap left_lines (event-port (Events.Clock m)) ∙ left-settled (answers_to (Events.Clock m) p).1)
+      (sym (left-settled (answers_to (Events.Clock m) q).1) ∙ ap left_lines (event-port (Events.Clock m)) ∙ left-settled (answers_to (Events.Clock m) p).1)
 
 -- The whole output of known lines is what is written and what the lines to come give.
 abbrev pub Goes : Option ℕ → AbstractPort → Option Script → Option (List ℕ) → Option (List ℕ) → Option Script → AbstractPort → Type 0

@@ -100,8 +100,16 @@ fn answers_scripts(rt: HostRuntime) -> Result<(), Fail> {
         ),
         (b"", None, b""),
         (b"# x\n\n \\\r\n#\n", None, b""),
-        (b"clock 5\nclock \\\n4\nclock 5\nquery", None, b"backward\nreport now 5 mask ff no-class 0\nclasses none\nin-force none\npending none\nannounced none\n"),
-        (b"frame 1 0 60", Some(1), b"queued 1 class 0\nstart 1 class 0 at 0 end 672000\n"),
+        (
+            b"clock 5\nclock \\\n4\nclock 5\nquery",
+            None,
+            b"backward\nreport now 5 mask ff no-class 0\nclasses none\nin-force none\npending none\nannounced none\n",
+        ),
+        (
+            b"frame 1 0 60",
+            Some(1),
+            b"queued 1 class 0\nstart 1 class 0 at 0 end 672000\n",
+        ),
     ];
     for (script, until, answers) in rows {
         let mut got = Vec::new(rt.alloc());
@@ -118,14 +126,19 @@ fn keeps_to_settings(rt: HostRuntime) -> Result<(), Fail> {
         rate: Rate::from_mbps(100_000).unwrap(),
         ..usual()
     };
-    run_script(rt.alloc(), b"frame 1 0 60\nclock 1".as_slice(), &mut got, fast)?;
-    assert_eq!(rt; got.as_slice(), b"queued 1 class 0\nstart 1 class 0 at 0 end 6720\n".as_slice());
+    run_script(
+        rt.alloc(),
+        b"frame 1 0 60\nclock 1".as_slice(),
+        &mut got,
+        fast,
+    )?;
+    assert_eq!(rt;
+        got.as_slice(),
+        b"queued 1 class 0\nstart 1 class 0 at 0 end 6720\n".as_slice()
+    );
 
     let mut got = Vec::new(rt.alloc());
-    let narrow = Settings {
-        room: 1,
-        ..usual()
-    };
+    let narrow = Settings { room: 1, ..usual() };
     let script = b"frame 1 0 60\nframe 2 9 60\nframe 3 16 60\nframe 4 1 1515\nclock 1";
     run_script(rt.alloc(), script.as_slice(), &mut got, narrow)?;
     assert_eq!(rt;
@@ -139,9 +152,24 @@ fn keeps_to_settings(rt: HostRuntime) -> Result<(), Fail> {
 #[test]
 fn ends_at_faults(rt: HostRuntime) {
     let rows: [(&[u8], &[u8], u32, ScriptFault); 9] = [
-        (b"frame 1 0 60\nx", b"queued 1 class 0\n", 2, ScriptFault::UnknownLine),
-        (b"clock 0\nclock 9223372036854775807001", b"", 2, ScriptFault::ClockTooLate),
-        (b"clock 340282366920938463463374607431768211456", b"", 1, ScriptFault::BadNumber),
+        (
+            b"frame 1 0 60\nx",
+            b"queued 1 class 0\n",
+            2,
+            ScriptFault::UnknownLine,
+        ),
+        (
+            b"clock 0\nclock 9223372036854775807001",
+            b"",
+            2,
+            ScriptFault::ClockTooLate,
+        ),
+        (
+            b"clock 340282366920938463463374607431768211456",
+            b"",
+            1,
+            ScriptFault::BadNumber,
+        ),
         (b"frame 1 256 60", b"", 1, ScriptFault::BadNumber),
         (b"frame 1 0 60 tag", b"", 1, ScriptFault::WordCount),
         (b"frame x 0 60 tag", b"", 1, ScriptFault::WordCount),
@@ -176,7 +204,10 @@ fn refuses_settings(rt: HostRuntime) {
             ..usual()
         };
         let mut got = Vec::new(rt.alloc());
-        assert_eq!(rt; run_script(rt.alloc(), SCRIPT, &mut got, settings), Err(fault));
+        assert_eq!(rt;
+            run_script(rt.alloc(), SCRIPT, &mut got, settings),
+            Err(fault)
+        );
         assert!(rt; got.is_empty());
     }
 }
@@ -184,20 +215,20 @@ fn refuses_settings(rt: HostRuntime) {
 /// A heap that is too small refuses the room of one queue after another, then the line's and the chunk's.
 #[test]
 fn refuses_each_growth(rt: HostRuntime) -> Result<(), Fail> {
-    let mut done = 0;
+    let mut done = false;
     for size in 1..40usize {
         let heap = LocalHeap::new(rt.alloc(), 3000 * size)?;
         let mut got = Vec::new(rt.alloc());
         let result = run_script(&heap, SCRIPT, &mut got, usual());
         if result.is_ok() {
-            done += 1u32;
+            done = true;
             assert_eq!(rt; got.as_slice(), ANSWERS);
         } else {
             assert_eq!(rt; result, Err(ReplayFault::Memory));
-            assert!(rt; done == 0 && got.is_empty());
+            assert!(rt; !done && got.is_empty());
         }
     }
-    assert!(rt; done > 0);
+    assert!(rt; done);
     Ok(())
 }
 
@@ -234,7 +265,11 @@ fn stops_at_each_write(rt: HostRuntime) -> Result<(), Fail> {
                     fails,
                 };
                 let result = run_script(rt.alloc(), SCRIPT, &mut writer, usual());
-                let want = if room < 49 { Err(ReplayFault::Write) } else { Ok(()) };
+                let want = if room < 49 {
+                    Err(ReplayFault::Write)
+                } else {
+                    Ok(())
+                };
                 assert_eq!(rt; result, want);
                 assert!(rt; ANSWERS.starts_with(&writer.got));
                 assert_eq!(rt; writer.got.len(), room.min(49));
@@ -261,10 +296,26 @@ fn ends_on_endless_readers(rt: HostRuntime) {
 #[test]
 fn says_faults(rt: HostRuntime) {
     let rows: [(ReplayFault, &[u8], u8); 7] = [
-        (ReplayFault::Until, b"taprio_port: bad value of --until\n", 2),
-        (ReplayFault::Port(PortFault::BadMtu), b"taprio_port: bad value of --mtu\n", 2),
-        (ReplayFault::Port(PortFault::BadRoom), b"taprio_port: bad value of --room\n", 2),
-        (ReplayFault::Script(2, ScriptFault::ClockTooLate), b"taprio_port: script line 2: ClockTooLate\n", 3),
+        (
+            ReplayFault::Until,
+            b"taprio_port: bad value of --until\n",
+            2,
+        ),
+        (
+            ReplayFault::Port(PortFault::BadMtu),
+            b"taprio_port: bad value of --mtu\n",
+            2,
+        ),
+        (
+            ReplayFault::Port(PortFault::BadRoom),
+            b"taprio_port: bad value of --room\n",
+            2,
+        ),
+        (
+            ReplayFault::Script(2, ScriptFault::ClockTooLate),
+            b"taprio_port: script line 2: ClockTooLate\n",
+            3,
+        ),
         (ReplayFault::Read, b"taprio_port: read failed\n", 4),
         (ReplayFault::Write, b"taprio_port: write failed\n", 4),
         (ReplayFault::Memory, b"taprio_port: out of memory\n", 4),
@@ -276,12 +327,18 @@ fn says_faults(rt: HostRuntime) {
     }
     let mut got = Vec::new(rt.alloc());
     assert_eq!(rt; say_value(&BadValue::Rate, &mut got), 2);
-    assert_eq!(rt; got.as_slice(), b"taprio_port: bad value of --rate\n".as_slice());
+    assert_eq!(rt;
+        got.as_slice(),
+        b"taprio_port: bad value of --rate\n".as_slice()
+    );
 }
 
 #[test]
 fn reads_settings(rt: HostRuntime) {
-    assert_eq!(rt; Settings::read("1000", "1500", "0128", None, 7), Ok(usual()));
+    assert_eq!(rt;
+        Settings::read("1000", "1500", "0128", None, 7),
+        Ok(usual())
+    );
     let rows = [
         ("1001", "67", "0", Some("8"), BadValue::Rate),
         ("", "67", "0", Some("8"), BadValue::Rate),
