@@ -10,3 +10,6 @@ mod settings;
 pub use faults::{ReplayFault, ScriptFault, say_fault, say_value};
 pub use script::run_script;
 pub use settings::{BadValue, Settings};
+
+#[cfg(test)]
+mod tests;
