@@ -26,5 +26,5 @@ pub filled_within : (num_tc : ℕ) (classes : List ℕ) → list_any (λ class. 
 filled_within num_tc classes none few =
     let each : All (λ c. nat_le num_tc c ≡ false) classes = none_pass (λ c. nat_le num_tc c) classes none in
     All-append (λ c. c < 8) classes (replicate (16 - length classes) 0)
-      (λ k d h. let over = each k d h in grind (arith, over))
-      (All-replicate (λ c. c < 8) (16 - length classes) 0 (omega arith))
+    (λ k d h. let over = each k d h in grind (arith, over))
+    (All-replicate (λ c. c < 8) (16 - length classes) 0 (omega arith))

@@ -52,10 +52,10 @@ pairs = pointwise_decides (λ x y. (pair_is x y, λ e. subst (λ z. same_pair x 
 pub same_padded : (xs ys : List (ℕ × ℕ)) → ((length xs == length ys) && pointwise same_pair (with_no_more xs) (with_no_more ys)) ≡ same_ranges xs ys
 same_padded xs ys = same_by {P = xs ≡ ys} ((length xs == length ys) && pointwise same_pair (with_no_more xs) (with_no_more ys)) (same_ranges xs ys)
     (λ h. let e = both (length xs == length ys) (pointwise same_pair (with_no_more xs) (with_no_more ys)) h in
-      let long : length xs ≡ length ys = grind (arith, e.0) in
-      let same : with_no_more xs ≡ with_no_more ys = (pairs (with_no_more xs) (with_no_more ys)).0 e.1 in
-      sym (take-append_seam xs (replicate (8 - length xs) no_range)) ∙ (ap (take (length xs)) same ∙ (ap (λ n. take n (with_no_more ys)) long ∙ take-append_seam ys (replicate (8 - length ys) no_range))))
+    let long : length xs ≡ length ys = grind (arith, e.0) in
+    let same : with_no_more xs ≡ with_no_more ys = (pairs (with_no_more xs) (with_no_more ys)).0 e.1 in
+    sym (take-append_seam xs (replicate (8 - length xs) no_range)) ∙ (ap (take (length xs)) same ∙ (ap (λ n. take n (with_no_more ys)) long ∙ take-append_seam ys (replicate (8 - length ys) no_range))))
     (λ e. subst (λ zs. ((length xs == length zs) && pointwise same_pair (with_no_more xs) (with_no_more zs)) ≡ true) e
-      (and_of (length xs == length xs) (pointwise same_pair (with_no_more xs) (with_no_more xs)) (eq-eqb (length xs) (length xs) refl) ((pairs (with_no_more xs) (with_no_more xs)).1 refl)))
+    (and_of (length xs == length xs) (pointwise same_pair (with_no_more xs) (with_no_more xs)) (eq-eqb (length xs) (length xs) refl) ((pairs (with_no_more xs) (with_no_more xs)).1 refl)))
     (ranges_are xs ys)
     (λ e. subst (λ zs. same_ranges xs zs ≡ true) e (ranges_self xs))

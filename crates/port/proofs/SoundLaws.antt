@@ -57,8 +57,8 @@ pub kept_queued : (ps mtu room now free class : ℕ) (queues : List Queue) (f : 
 kept_queued ps mtu room now free class queues f k less fits =
     let within : class < length queues = let e = k.eight in omega arith in
     kept_set ps mtu room now free free class queues _ k less
-      (All-append (FitsLead ps mtu) (queue_at queues class).frames (f ∷ []) (k.fits class no_queue within) (alone (FitsLead ps mtu) f fits))
-      k.wire
+    (All-append (FitsLead ps mtu) (queue_at queues class).frames (f ∷ []) (k.fits class no_queue within) (alone (FitsLead ps mtu) f fits))
+    k.wire
 
 -- the first of a list where each passes
 first_passes : {X : Type 0} (P : X → Type 0) (xs : List X) (x : X) → All P xs → slice_get xs 0 ≡ Some x → P x
@@ -73,8 +73,8 @@ kept_started ps mtu room now free class queues f k less e =
     let fits = k.fits class no_queue within in
     let fits_first : occupancy_of ps f.len ≤ lead_of ps mtu = first_passes (FitsLead ps mtu) (queue_at queues class).frames f fits e in
     kept_set ps mtu room now free (now + occupancy_of ps f.len) class queues _ k less
-      (All-drop (FitsLead ps mtu) 1 (queue_at queues class).frames fits)
-      (omega (arith, fits_first))
+    (All-drop (FitsLead ps mtu) 1 (queue_at queues class).frames fits)
+    (omega (arith, fits_first))
 
 empty_at : (k : ℕ) → get_or {A = List Frame} ([] ∷ [] ∷ [] ∷ [] ∷ [] ∷ [] ∷ [] ∷ [] ∷ []) k [] ≡ []
 empty_at zero = refl
@@ -100,7 +100,7 @@ kept_new ps mtu room now queues rate least greatest have empty = record {
   least_mtu = least;
   greatest_mtu = greatest;
   fits = λ k d l.
-    let none = none_at queues empty k d l in
-    subst (All (FitsLead ps mtu)) (sym none) (λ j e m. absurd (omega arith));
+      let none = none_at queues empty k d l in
+      subst (All (FitsLead ps mtu)) (sym none) (λ j e m. absurd (omega arith));
   wire = omega arith;
 }

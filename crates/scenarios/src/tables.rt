@@ -401,9 +401,8 @@ pub fn open_in_a_hold<G: Gates + Drop>() -> Result<(), usize> {
                 Ok(5_150_000_000),
             ),
         ),
-        (5100000000, Step::Open(1, 12_304_000, true)),
-        (5140000000, Step::Open(1, 12_304_000, false)),
-        (5140000000, Step::Open(1, 10_000_000, true)),
+        (5149990000, Step::Open(1, 10_000, true)),
+        (5149990000, Step::Open(1, 10_001, false)),
     ])
 }
 
@@ -524,9 +523,9 @@ pub fn open_over_the_boundary<G: Gates + Drop>() -> Result<(), usize> {
                 Ok(20_000_000),
             ),
         ),
-        (220000000, Step::Open(3, 12_304_000, true)),
-        (220000000, Step::Open(3, 106_000_000, true)),
-        (220000000, Step::Open(3, 106_000_001, false)),
+        (225990000, Step::Open(3, 20_000, true)),
+        (325990000, Step::Open(3, 10_000, true)),
+        (325990000, Step::Open(3, 10_001, false)),
     ])
 }
 
@@ -547,9 +546,9 @@ pub fn closed_by_the_change<G: Gates + Drop>() -> Result<(), usize> {
                 Ok(2_100_000_000),
             ),
         ),
-        (2099000000, Step::Open(0, 12_304_000, false)),
-        (2099000000, Step::Open(0, 1_000_000, true)),
-        (2100000000, Step::Open(1, 12_304_000, true)),
+        (2099990000, Step::Open(0, 10_001, false)),
+        (2099990000, Step::Open(0, 10_000, true)),
+        (2100000000, Step::Open(1, 20_000, true)),
     ])
 }
 
@@ -570,7 +569,7 @@ pub fn open_over_the_change<G: Gates + Drop>() -> Result<(), usize> {
                 Ok(2_100_000_000),
             ),
         ),
-        (2099000000, Step::Open(0, 12_304_000, true)),
+        (2099990000, Step::Open(0, 20_000, true)),
     ])
 }
 
@@ -715,13 +714,43 @@ pub fn schedule_after_a_deletion<G: Gates + Drop>() -> Result<(), usize> {
         ),
         (20000000, Step::Delete(Ok(32_336_000))),
         (20000000, Step::Open(1, 1, false)),
-        (32336000, Step::Open(1, 672_000, true)),
+        (32336000, Step::Open(1, 67_200, true)),
         (
             40000000,
             Step::Install(given(&[entry(0x2, 100000)], 0, 0, 0), Ok(100_000_000)),
         ),
         (99999999, Step::Mask(255)),
         (100000000, Step::Mask(2)),
+    ])
+}
+
+/// Classes stay open for frames of full length: in a hold, over the end of a cycle, and over a change.
+pub fn open_for_long_frames<G: Gates + Drop>() -> Result<(), usize> {
+    play::<G>(&[
+        (
+            0,
+            Step::Install(
+                given(
+                    &[entry(0x8, 100000), entry(0x0, 100000), entry(0x8, 6000)],
+                    20000,
+                    0,
+                    0,
+                ),
+                Ok(20_000_000),
+            ),
+        ),
+        (220000000, Step::Open(3, 12_304_000, true)),
+        (220000000, Step::Open(3, 106_000_000, true)),
+        (220000000, Step::Open(3, 106_000_001, false)),
+        (
+            2000000000,
+            Step::Install(
+                given(&[entry(0x8, 1000000)], 2100000, 0, 0),
+                Ok(2_100_000_000),
+            ),
+        ),
+        (2099990000, Step::Open(3, 12_304_000, true)),
+        (2100000000, Step::Open(3, 1_000_000_000_000_000, true)),
     ])
 }
 

@@ -100,7 +100,11 @@ pub fn sdu(frame: &Frame) -> Option<u32>
     ensures { result ≡ sdu_of frame.now }
 {
     let header = if frame.tagged { 18 } else { 14 };
-    if frame.len >= header { Some(frame.len - header) } else { None }
+    if frame.len >= header {
+        Some(frame.len - header)
+    } else {
+        None
+    }
 }
 
 /// Nothing to run: its contract is the law that no frame whose service data unit is within the mtu occupies the wire for

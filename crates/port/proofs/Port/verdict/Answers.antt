@@ -16,9 +16,9 @@ pub returns-clause-verdict : goal.returns-clause-verdict
 returns-clause-verdict g c =
     let w = waits g c in
     verdict_is c.args.self.now.port c.args.frame.now c.in-Some.class c.judge.result (sym c.requires.class ∙ c.in-Some.is)
-      (rw (← c.self.view_is)
-        (c.judge.ensures.verdict
-        ∙ ap (λ n. judged c.self.inside.mtu (get_or c.self.inside.limits c.in-Some.class 0) c.self.inside.room n c.in-Some.class (sdu_of c.args.frame.now)) (rw (← c.self.view_is) at w)))
+    (rw (← c.self.view_is)
+    (c.judge.ensures.verdict
+    ∙ ap (λ n. judged c.self.inside.mtu (get_or c.self.inside.limits c.in-Some.class 0) c.self.inside.room n c.in-Some.class (sdu_of c.args.frame.now)) (rw (← c.self.view_is) at w)))
 
 pub returns-clause-within : goal.returns-clause-within
 returns-clause-within g c = ok_along c.judge.result c.in-Some.class (λ k. k < 8) c.judge.ensures.class (on_ok_of _ _ (c.requires.within _ c.in-Some.is))
@@ -26,7 +26,7 @@ returns-clause-within g c = ok_along c.judge.result c.in-Some.class (λ k. k < 8
 pub returns-clause-room : goal.returns-clause-room
 returns-clause-room g c =
     ok_along c.judge.result c.in-Some.class (λ k. length (queue_of c.args.self.now.port k) < c.args.self.now.port.room) c.judge.ensures.class
-      (on_ok c.judge.result _ _ c.judge.ensures.room (λ less. let room = ap (λ p. p.port.room) c.self.view_is in let w = waits g c in subst (λ n. n < c.args.self.now.port.room) w (subst (λ n. c.waiting_in-waiting.result < n) room less)))
+    (on_ok c.judge.result _ _ c.judge.ensures.room (λ less. let room = ap (λ p. p.port.room) c.self.view_is in let w = waits g c in subst (λ n. n < c.args.self.now.port.room) w (subst (λ n. c.waiting_in-waiting.result < n) room less)))
 
 pub returns-clause-fits : goal.returns-clause-fits
 returns-clause-fits g c =

@@ -1,0 +1,193 @@
+//! What a gate control list shows, entry after entry: List Execute (IEEE Std 802.1Q-2018, 8.6.9.2).
+#![tactic(auto)]
+
+ghost use Rattle.std.specs.Prelude.{◌≡◌, ◌+◌, ◌*◌, ◌<◌, ◌≤◌, ◌^◌, None, IsSome, length};
+ghost use Rattle.wire_time.specs.Moment.{greatest_moment};
+ghost use Rattle.gate_list.specs.Gate.{IsShownAt, prefix, mask_at, has_come};
+ghost use Rattle.gate_list.specs.Visits.{one_more};
+ghost use Rattle.list_execute.specs.Walk.{IsRow, ShowsEntry, ShowsHold, IsOf, mask_of, end_of, more};
+
+use gate_list::{Row, Schedule, Visits};
+use std::marker::Model;
+
+/// Where a walk of a list stands: at an entry of a cycle, or in the hold of the last mask. All moments are in picoseconds.
+#[derive(Clone, Copy, Debug, PartialEq, Eq)]
+pub struct ListExecute {
+    began: u128,
+    index: usize,
+    start: u128,
+    until: Option<u128>,
+    row: Row,
+    held: Option<u8>,
+}
+
+/// A contract sees where the walk stands.
+impl Model for ListExecute {
+    ghost use Rattle.std.specs.Prelude.{◌≤◌, ◌*◌, ◌<◌, ◌^◌, ◌+◌};
+    ghost use Rattle.std.specs.Option.{ForSome};
+    ghost use Rattle.wire_time.specs.Moment.{greatest_moment};
+    ghost use Rattle.list_execute.specs.Walk.{Walk};
+
+    ghost Value = { Walk };
+
+    ghost view = { λ w. record { began = w.began; index = w.index; start = w.start; until = w.until; row = w.row; held = w.held } };
+
+    ghost invariant = { λ w. (w.began ≤ 4 * greatest_moment) × (w.index < 256) × (w.start ≤ w.began + 2 ^ 42 * w.index) × ForSome w.until (λ u. u ≤ w.began + 2 ^ 42 * (w.index + 1)) };
+
+    ghost inverse = { λ w. record { began = w.began; index = w.index; start = w.start; until = w.until; row = w.row; held = w.held } };
+}
+
+/// The entry of an index, with its stays.
+fn row_of(schedule: &Schedule, index: usize, visits: &mut Visits) -> Row
+    requires { index < length schedule.now.entries }
+    ensures row { IsRow schedule.now index result }
+    ensures visit { visits.new ≡ one_more visits.old }
+    ensures counted { visits.old ≤ visits.new }
+{
+    // The count fits a u64, which makes it no less after one more.
+    let _ = visits.count();
+    schedule.row(index, visits)
+}
+
+/// The walk at an entry of a cycle from a moment on. `last` is the index of the last entry.
+#[tactic(auto, using(crate::proofs::WalkLaws::until_of_start, crate::proofs::WalkLaws::until_of_last))]
+fn walk_at(
+    schedule: &Schedule,
+    last: usize,
+    began: u128,
+    index: usize,
+    start: u128,
+    visits: &mut Visits,
+) -> ListExecute
+    requires last { last + 1 ≡ length schedule.now.entries }
+    requires few { last < 256 }
+    requires listed { index ≤ last }
+    requires began { began ≤ 4 * greatest_moment }
+    requires start { start ≡ began + prefix schedule.now.entries index }
+    requires within { start ≤ began + 2 ^ 42 * index }
+    ensures entry { ShowsEntry schedule.now began index result }
+    ensures visit { visits.new ≡ one_more visits.old }
+    ensures counted { visits.old ≤ visits.new }
+{
+    let row = row_of(schedule, index, visits);
+    let until = if index < last {
+        Some(start + 1000 * u128::from(row.entry.interval))
+    } else {
+        None
+    };
+    ListExecute {
+        began,
+        index,
+        start,
+        until,
+        row,
+        held: None,
+    }
+}
+
+impl ListExecute {
+    /// The first entry of a cycle that began at `at`.
+    pub fn begin(schedule: &Schedule, at: u128, visits: &mut Visits) -> ListExecute
+        requires { at ≤ 4 * greatest_moment }
+        ensures entry { ShowsEntry schedule.now at 0 result }
+        ensures visit { visits.new ≡ one_more visits.old }
+        ensures counted { visits.old ≤ visits.new }
+    {
+        walk_at(schedule, schedule.len() - 1, at, 0, at, visits)
+    }
+
+    /// The classes that are open: bit c is class c.
+    pub fn mask(&self) -> u8
+        ensures { result ≡ mask_of self.now }
+    {
+        match self.held {
+            Some(mask) => mask,
+            None => self.row.entry.mask,
+        }
+    }
+
+    /// When the entry ends; none at the last entry, and in a hold.
+    pub fn entry_end(&self) -> Option<u128>
+        ensures { result ≡ end_of self.now }
+    {
+        match self.held {
+            Some(_) => None,
+            None => self.until,
+        }
+    }
+
+    /// When the entry started.
+    pub fn entry_start(&self) -> u128
+        requires { self.now.held ≡ None }
+        ensures { result ≡ self.now.start }
+    {
+        self.start
+    }
+
+    /// The entry, with how long each class stays open from its start.
+    pub fn row(&self) -> Row
+        requires { self.now.held ≡ None }
+        ensures { result ≡ self.now.row }
+    {
+        self.row
+    }
+
+    /// Goes on to the entry after.
+    pub fn next(&mut self, schedule: &Schedule, visits: &mut Visits)
+        requires of { IsOf schedule.now self.old }
+        requires ends { IsSome (end_of self.old) }
+        ensures entry { ShowsEntry schedule.now self.old.began (self.old.index + 1) self.new }
+        ensures visit { visits.new ≡ one_more visits.old }
+        ensures counted { visits.old ≤ visits.new }
+    {
+        let Some(end) = self.until else { return };
+        *self = walk_at(
+            schedule,
+            schedule.len() - 1,
+            self.began,
+            self.index + 1,
+            end,
+            visits,
+        );
+    }
+
+    /// Shows the last mask.
+    #[tactic(auto, using(crate::proofs::WalkLaws::last_mask_at_end))]
+    pub fn hold(&mut self, schedule: &Schedule, visits: &mut Visits)
+        requires { IsOf schedule.now self.old }
+        ensures hold { ShowsHold schedule.now self.old.began self.new }
+        ensures visit { visits.new ≡ one_more visits.old }
+        ensures counted { visits.old ≤ visits.new }
+    {
+        let last = row_of(schedule, schedule.len() - 1, visits);
+        self.held = Some(last.entry.mask);
+    }
+
+    /// Whether the entry has ended by a moment.
+    fn has_ended_by(&self, moment: u128) -> bool
+        requires { self.now.held ≡ None }
+        ensures { result ≡ has_come (end_of self.now) moment }
+    {
+        match self.until {
+            Some(end) => end <= moment,
+            None => false,
+        }
+    }
+
+    /// Goes to the entry of a phase of the cycle.
+    #[tactic(auto, using(crate::proofs::WalkLaws::until_come, crate::proofs::WalkLaws::until_ahead, crate::proofs::WalkLaws::mask_of_shown))]
+    pub fn place(&mut self, schedule: &Schedule, phase: u128, visits: &mut Visits)
+        requires of { IsOf schedule.now self.old }
+        requires within { phase ≤ 4 * greatest_moment }
+        ensures entry { ShowsEntry schedule.now self.old.began self.new.index self.new }
+        ensures phase { IsShownAt schedule.now.entries phase self.new.index }
+        ensures mask { mask_of self.new ≡ mask_at schedule.now.entries phase }
+        ensures visits { visits.new ≡ more visits.old (self.new.index + 1) }
+    {
+        let mut walk = ListExecute::begin(schedule, self.began, visits);
+        while walk.has_ended_by(self.began + phase) {
+            walk.next(schedule, visits);
+        }
+        *self = walk;
+    }
+}

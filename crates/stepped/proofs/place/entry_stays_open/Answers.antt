@@ -1,0 +1,13 @@
+use Rattle.std.proofs.Common.{◌+◌, ◌-◌, ap, sym, ◌∙◌, get_or}
+use Rattle.gate_list.specs.Stay.{stay_lasts}
+use Rattle.gate_list.specs.declared.Row.{Row}
+use Rattle.gate_list.specs.declared.Stay.TheVariants.{Lasts}
+use Rattle.stepped.proofs.PlaceLaws.{entry_open}
+use Rattle.stepped.proofs.place.entry_stays_open.Goals as goal
+
+pub returns : goal.returns
+returns c = λ plan start next sound placed unheld.
+    c.stay_lasts.ensures
+    ∙ (ap (λ (r : Row). stay_lasts (get_or r.stay c.args.class (Lasts 0)) (c.args.n - c.entry_start.result + c.args.for_ps)) c.row.ensures
+    ∙ (ap (λ s. stay_lasts (get_or (c.args.place.now.walk.row).stay c.args.class (Lasts 0)) (c.args.n - s + c.args.for_ps)) c.entry_start.ensures
+    ∙ sym (entry_open plan sound start next c.args.n c.args.place.now placed unheld c.args.class c.args.for_ps (Lasts 0) c.requires.class c.requires.some)))
