@@ -1,0 +1,4 @@
+pub mod RunLemmas
+pub mod ReadsLemmas
+pub mod HeadsLemmas
+pub mod EndLemmas
