@@ -13,13 +13,13 @@ use crate::reading::Request;
 use abstract_port::Answer;
 use answer_text::{WriteFault, put_answer, put_left};
 use port::{MAX_MOMENT, Port};
-use reference::Plain;
 use std::alloc::Allocator;
 use std::io::Write;
+use stepped::Stepped;
 use wire_time::Frame;
 
 /// The port that runs. Another implementation of the gates takes the place of this one here.
-pub type RunningPort<A> = Port<Plain, A>;
+pub type RunningPort<A> = Port<Stepped, A>;
 
 // Writes the starts before `until`, as they come.
 fn put_starts<A: Allocator, W: Write>(
