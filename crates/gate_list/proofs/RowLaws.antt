@@ -1,16 +1,16 @@
 -- What a table tells of an entry.
-use Rattle.std.proofs.Common.{◌≡◌, ◌<◌, ◌≤◌, ℕ, zero, suc, ◌+◌, ◌*◌, Bool, true, false, cond, List, [], ◌∷◌, ◌++◌, length, take, drop, get_or, slice_get, Option, Some, None, ◌⊎◌, inl, inr, refl, sym, ap, ◌∙◌, arith}
-use Rattle.std.proofs.lemmas.Bool.{ne_eqb}
+use Rattle.std.proofs.Common.{◌≡◌, ◌<◌, ◌≤◌, ℕ, zero, suc, ◌+◌, ◌-◌, ◌*◌, Bool, true, false, cond, List, [], ◌∷◌, ◌++◌, length, take, drop, get_or, slice_get, Option, Some, None, ◌⊎◌, inl, inr, refl, sym, ap, ◌∙◌, arith, ltb, subst}
+use Rattle.std.proofs.lemmas.Bool.{ne_eqb, cases_lt, lt-ltb, le-ltb}
 use Rattle.std.proofs.lemmas.Option.{same_Some, slice_get-get_or}
 use Rattle.gate_list.specs.declared.Entry.{Entry}
 use Rattle.gate_list.specs.declared.Slot.{Slot}
 use Rattle.gate_list.specs.declared.Stay.{Stay}
 use Rattle.gate_list.specs.declared.Stay.TheVariants.{Lasts, Always}
-use Rattle.gate_list.specs.Gate.{Plan, IsPlan, IsSchedule, IsShownAt, in_ps, prefix, mask_since}
+use Rattle.gate_list.specs.Gate.{Plan, IsPlan, IsShownAt, in_ps, prefix, mask_since}
 use Rattle.gate_list.specs.Open.{open_while}
-use Rattle.gate_list.specs.Stay.{slots, length_of, run_of, is_open_in_all, stay, lasts, told_stay, stay_lasts, AreStays, TellOpenTime}
+use Rattle.gate_list.specs.Stay.{slots, length_of, run_of, is_open_in_all, stay, lasts, told_stay, stay_lasts, AreStays, AreClosed, TellOpenTime}
 use Rattle.gate_list.specs.Table.{forever, number_of, stay_of, number_at, IsTabled}
-use Rattle.gate_list.proofs.StayLaws.{length_both, slots_total, slots_begin, slot_there, slot_of, plan_law}
+use Rattle.gate_list.proofs.StayLaws.{length_both, slots_cut, slots_more, slots_total, slots_begin, slot_there, slot_of, plan_law}
 use Rattle.gate_list.proofs.TableLaws.{run_le, room_left}
 
 -- the slots fill the cycle at most
@@ -18,9 +18,19 @@ pub slots_room : (es : List Entry) (cycle : ℕ) → length_of (slots es cycle) 
 slots_room [] cycle = omega arith
 slots_room (e ∷ es) cycle = let all = slots_total e es cycle in omega arith
 
--- a schedule is a plan whose stays are told
-pub plan_of_schedule : (plan : Plan) → IsSchedule plan → IsPlan plan
-plan_of_schedule plan s = record { entries = s.list.some; cycle = s.above; intervals = s.list.timed }
+-- each slot begins before the cycle's end
+pub slot_soon : (es : List Entry) (cycle i : ℕ) → 0 < cycle → i < length (slots es cycle) → prefix es i < cycle
+slot_soon es cycle zero above l = above
+slot_soon [] cycle (suc i) above l = absurd (omega arith)
+slot_soon (e ∷ []) cycle (suc i) above l = absurd (omega arith)
+slot_soon (e ∷ f ∷ es) cycle (suc i) above l =
+    elim (cases_lt (in_ps e.interval) cycle) [
+      | inl more ↦
+          let below : suc i < suc (length (slots (f ∷ es) (cycle - in_ps e.interval))) = subst (λ r. suc i < length r) (slots_more e f es cycle more) l in
+          let rest = slot_soon (f ∷ es) (cycle - in_ps e.interval) i (omega arith) (omega arith) in
+          omega arith
+      | inr cut ↦ absurd (let one : suc i < 1 = subst (λ r. suc i < length r) (slots_cut e f es cycle cut) l in omega arith)
+    ]
 
 -- a number of the table is that of its stay alone
 pub stay_back : (t : ℕ) → t < forever → stay_of t ≡ Lasts t
@@ -43,14 +53,26 @@ told_back cycle i class fits = by (is_open_in_all cycle class)
     by true = refl
     by false = stay_back run few
 
-pub row_stays : (plan : Plan) (table : List (List ℕ)) (i : ℕ) (stays : List Stay) → IsTabled plan table → i < length plan.entries → ((class : ℕ) → class < 8 → slice_get stays class ≡ Some (stay_of (number_at table class i))) → prefix plan.entries i < in_ps plan.cycle → AreStays plan i stays
-row_stays plan table i stays tabled within read soon class low =
-    let cycle : ℕ = in_ps plan.cycle in
-    let room = slots_room plan.entries cycle in
-    let most = tabled.sound.cycle in
-    read class low
-    ∙ ap Some (ap stay_of (tabled.stays class i low (slot_there plan.entries cycle i within soon))
-    ∙ told_back (slots plan.entries cycle) i class (omega arith))
+module _ (plan : Plan) (table : List (List ℕ)) (i : ℕ) (stays : List Stay) (tabled : IsTabled plan table) (within : i < length plan.entries) (read : (class : ℕ) → class < 8 → slice_get stays class ≡ Some (stay_of (number_at table class i))) where
+  pub row_stays : prefix plan.entries i < in_ps plan.cycle → AreStays plan i stays
+  row_stays soon class low =
+      let cyc : List Slot = slots plan.entries (in_ps plan.cycle) in
+      let room = slots_room plan.entries (in_ps plan.cycle) in
+      let most = tabled.sound.cycle in
+      let there = lt-ltb i (length cyc) (slot_there plan.entries (in_ps plan.cycle) i within soon) in
+      read class low
+      ∙ ap (λ n. Some (stay_of n)) (tabled.stays class i low ∙ ap (λ b. cond b (number_of (stay cyc i class)) 0) there)
+      ∙ ap Some (told_back cyc i class (omega arith))
+
+  pub row_closed : in_ps plan.cycle ≤ prefix plan.entries i → AreClosed stays
+  row_closed late class low =
+      let cyc : List Slot = slots plan.entries (in_ps plan.cycle) in
+      let above = tabled.sound.plan_is.cycle in
+      let none : ltb i (length cyc) ≡ false = elim (cases_lt i (length cyc)) [
+        | inl soon ↦ absurd (let before = slot_soon plan.entries (in_ps plan.cycle) i (omega arith) soon in omega arith)
+        | inr past ↦ le-ltb i (length cyc) past
+      ] in
+      read class low ∙ ap (λ n. Some (stay_of n)) (tabled.stays class i low ∙ ap (λ b. cond b (number_of (stay cyc i class)) 0) none)
 
 -- ---- open time
 
@@ -77,7 +99,7 @@ inside_slot es cycle i x s there soon shown =
     cases_last : (a b : ℕ) → a ≤ b → (a < b) ⊎ (a ≡ b)
     cases_last a b l = grind arith
 
-pub tell_open : (plan : Plan) → IsPlan plan → (i : ℕ) (stays : List Stay) → i < length plan.entries → AreStays plan i stays → TellOpenTime plan i stays
+pub tell_open : (plan : Plan) → IsPlan plan → (i : ℕ) (stays : List Stay) → i < length plan.entries → (prefix plan.entries i < in_ps plan.cycle → AreStays plan i stays) → TellOpenTime plan i stays
 tell_open plan ok i stays within are start k class x d told low said soon shown some =
     let cycle : ℕ = in_ps plan.cycle in
     let cyc : List Slot = slots plan.entries cycle in
@@ -85,7 +107,7 @@ tell_open plan ok i stays within are start k class x d told low said soon shown 
     let s : Slot = get_or cyc i (record { mask = 0; span = 0 }) in
     let at = slice_get-get_or cyc i (record { mask = 0; span = 0 }) there in
     let begin = slots_begin plan.entries cycle i there in
-    let same : told ≡ told_stay (stay cyc i class) = same_Some _ _ (sym said ∙ are class low) in
+    let same : told ≡ told_stay (stay cyc i class) = same_Some _ _ (sym said ∙ are (omega arith) class low) in
     ap (λ n. open_while (mask_since (Some plan) start None) class n d) (let e : start + cycle * k + (prefix plan.entries i + x) ≡ start + cycle * k + length_of (take i cyc) + x = omega arith in e)
     ∙ (plan_law plan ok start k i class x d s at (inside_slot plan.entries cycle i x s at soon shown) some
     ∙ (told_lasts (stay cyc i class) (x + d) ∙ ap (λ t. stay_lasts t (x + d)) (sym same)))

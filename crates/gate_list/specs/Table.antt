@@ -1,5 +1,5 @@
 -- How a schedule keeps its table of open time.
-use Rattle.std.specs.Prelude.{◌≡◌, ◌<◌, ◌-◌, ◌^◌, ◌==◌, ℕ, if◌then◌else◌, List, [], Option, Some, None, length, slice_index, slice_index_or}
+use Rattle.std.specs.Prelude.{◌≡◌, ◌<◌, ◌-◌, ◌^◌, ◌==◌, ℕ, if◌then◌else◌, List, [], Option, Some, None, length, nat_lt, slice_index, slice_index_or}
 use Rattle.gate_list.specs.declared.Slot.{Slot}
 use Rattle.gate_list.specs.declared.Stay.{Stay}
 use Rattle.gate_list.specs.declared.Stay.TheVariants.{Lasts, Always}
@@ -21,10 +21,13 @@ stay_of n = if n == forever then Always else Lasts n
 abbrev pub number_at : List (List ℕ) → ℕ → ℕ → ℕ
 number_at table class i = slice_index (slice_index_or table class []) i
 
+-- what it has to have there: 0 where no slot is
+abbrev pub number_in : List Slot → ℕ → ℕ → ℕ
+number_in cycle i class = if nat_lt i (length cycle) then number_of (stay cycle i class) else 0
+
 -- a table has the stays of so many classes
 abbrev pub HasStays : List Slot → ℕ → List (List ℕ) → Type 0
-HasStays cycle classes table =
-    (class i : ℕ) → class < classes → i < length cycle → number_at table class i ≡ number_of (stay cycle i class)
+HasStays cycle classes table = (class i : ℕ) → class < classes → number_at table class i ≡ number_in cycle i class
 
 -- a schedule with its table
 pub record IsTabled (plan : Plan) (table : List (List ℕ)) : Type 0 where

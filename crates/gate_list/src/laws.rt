@@ -1,13 +1,13 @@
 //! Laws of the definitions that the contracts cite. There is nothing to run here: a function's contract is its law.
 ghost use Rattle.std.specs.Prelude.{ℕ, ◌<◌, ◌^◌, List, All};
-ghost use Rattle.gate_list.specs.declared.Entry.{Entry as AnEntry};
+ghost use Rattle.gate_list.specs.declared.Entry.{Entry};
 ghost use Rattle.gate_list.specs.Gate.{Plan, IsPlan};
 ghost use Rattle.gate_list.specs.Laws.{PhaseLaw, ChangeLaw, ApartLaw};
 ghost use Rattle.gate_list.specs.Stay.{StayLaw};
 
 /// A list shows the mask of the one entry that the phase falls in: past them all the last.
 pub fn phase_law()
-    ensures { (entries : List AnEntry) → PhaseLaw entries }
+    ensures { (entries : List Entry) → PhaseLaw entries }
 {}
 
 /// The change moment is the least of base, base + cycle, base + 2 cycles, .. that is at or after the lead moment.
@@ -17,7 +17,7 @@ pub fn change_law()
 
 /// A class is kept apart just where every entry that opens it opens none of the other seven, masks being of eight bits.
 pub fn apart_law()
-    ensures { (entries : List AnEntry) (class : ℕ) → class < 8 → All (λ e. e.mask < 2 ^ 8) entries → ApartLaw entries class }
+    ensures { (entries : List Entry) (class : ℕ) → class < 8 → All (λ e. e.mask < 2 ^ 8) entries → ApartLaw entries class }
 {}
 
 /// Of a schedule alone: a class stays open just as long as its stay.

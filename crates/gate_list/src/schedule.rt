@@ -1,7 +1,7 @@
-//! Schedules.
+//! Schedules: a gate control list with its times, and what it tells of open time.
 ghost use Rattle.std.specs.Prelude.{◌≡◌, ◌<◌, ◌≤◌, ◌+◌, ◌^◌, Some, length, max, slice_get, sum_by};
 ghost use Rattle.gate_list.specs.Gate.{Plan, IsPlan, IsSchedule, in_ps, prefix, mask_at, last_mask, change_of, boundary_from, plan_with, plan_fault, ok_unless, least_interval, first_shorter, keeps_apart, is_apart_in};
-ghost use Rattle.gate_list.specs.Stay.{AreStays, TellOpenTime};
+ghost use Rattle.gate_list.specs.Stay.{AreStays, AreClosed, TellOpenTime};
 ghost use Rattle.gate_list.specs.Visits.{one_more};
 
 use crate::table::{Table, stays_at, table_of};
@@ -33,9 +33,11 @@ impl Model for Schedule {
 
     ghost Value = { Plan };
 
-    ghost view = { λ s. record { entries = s.entries.items; base = s.base_ns; cycle = s.cycle_ns; extension = s.extension_ns } };
+    ghost use Rattle.gate_list.specs.Inside.{plan_inside};
 
-    ghost invariant = { λ s. IsTabled (record { entries = s.entries.items; base = s.base_ns; cycle = s.cycle_ns; extension = s.extension_ns }) s.stays };
+    ghost view = { plan_inside };
+
+    ghost invariant = { λ s. IsTabled (plan_inside s) s.stays };
 }
 
 /// What a list shows at a phase of its cycle.
@@ -117,7 +119,8 @@ fn fault_of(
     rate: Rate,
 ) -> Option<PlanFault>
     requires { length entries.now ≤ 256 }
-    ensures { result ≡ plan_fault rate (record { entries = entries.now; base = base_ns; cycle = cycle_ns; extension = extension_ns }) }
+    ensures { let plan : Plan = record { entries = entries.now; base = base_ns; cycle = cycle_ns; extension = extension_ns } in
+        result ≡ plan_fault rate plan }
 {
     let least = least_ns(rate);
     match first_too_short(entries, least) {
@@ -149,8 +152,8 @@ fn is_apart(entry: Entry, class: u8) -> bool
 impl Schedule {
     /// The schedule of a list with these times, in nanoseconds; a cycle of 0 means the sum of the intervals.
     ///
-    /// Refused, in this order: an interval that is shorter than the shortest frame without what surrounds it, as 60 octets
-    /// take in whole nanoseconds; such a cycle; a cycle, then an extension, above 2^40; a base time above 2^63 - 1.
+    /// Refused, in this order: an interval, then a cycle, that is shorter than the shortest frame, whose 60 octets are taken
+    /// in whole nanoseconds; a cycle, then an extension, above 2^40; a base time above 2^63 - 1.
     pub fn new(
         list: &GateList,
         base_ns: u64,
@@ -158,7 +161,8 @@ impl Schedule {
         extension_ns: u64,
         rate: Rate,
     ) -> Result<Schedule, PlanFault>
-        ensures { result ≡ ok_unless (plan_fault rate (plan_with list.now base_ns cycle_ns extension_ns)) (plan_with list.now base_ns cycle_ns extension_ns) }
+        ensures { let plan = plan_with list.now base_ns cycle_ns extension_ns in
+            result ≡ ok_unless (plan_fault rate plan) plan }
     {
         let entries = list.entries();
         let cycle_ns = if cycle_ns == 0 {
@@ -260,12 +264,13 @@ impl Schedule {
 
     /// The entry of an index, with how long each class stays open from its start where the list is repeated for ever.
     ///
-    /// An entry that begins at or after the cycle's end is never shown, and its stays mean nothing.
+    /// An entry that begins at or after the cycle's end is never shown: its stays are 0.
     pub fn row(&self, i: usize, visits: &mut Visits) -> Row
         requires { i < length self.now.entries }
         ensures entry { slice_get self.now.entries i ≡ Some result.entry }
         ensures stays { prefix self.now.entries i < in_ps self.now.cycle → AreStays self.now i result.stay }
-        ensures open { prefix self.now.entries i < in_ps self.now.cycle → TellOpenTime self.now i result.stay }
+        ensures open { TellOpenTime self.now i result.stay }
+        ensures unseen { in_ps self.now.cycle ≤ prefix self.now.entries i → AreClosed result.stay }
         ensures visit { visits.new ≡ one_more visits.old }
     {
         Row {

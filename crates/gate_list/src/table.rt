@@ -3,8 +3,8 @@
 //! It is made once, in time linear in the entries, by walks from the end of the cycle to its start.
 ghost use Rattle.std.specs.Prelude.{◌≡◌, ℕ, ◌<◌, ◌≤◌, ◌^◌, length, slice_get, slice_index, Some};
 ghost use Rattle.gate_list.specs.Gate.{in_ps, greatest_cycle};
-ghost use Rattle.gate_list.specs.Stay.{slots, length_of, run_of, is_open_in_all, stay};
-ghost use Rattle.gate_list.specs.Table.{number_of, number_at, stay_of, HasStays};
+ghost use Rattle.gate_list.specs.Stay.{slots, length_of, run_of, is_open_in_all};
+ghost use Rattle.gate_list.specs.Table.{number_in, number_at, stay_of, HasStays};
 
 use crate::{Entry, Slot, Stay, is_open};
 use arrayvec::ArrayVec;
@@ -63,15 +63,15 @@ fn first_run(slots: &[Slot], class: u8) -> (bool, u64)
     (all, run)
 }
 
-/// Writes for each slot how long a class stays open from its start.
-fn write_stays(slots: &[Slot], class: u8, stays: &mut [u64; 256])
+/// For each slot, how long a class stays open from its start; 0 where there is no slot.
+fn column_of(slots: &[Slot], class: u8) -> [u64; 256]
     requires room { length slots.now ≤ 256 }
     requires low { class < 8 }
     requires fits { length_of slots.now < 2 ^ 62 }
-    ensures { (i : ℕ) → i < length slots.now
-        → slice_index stays.new i ≡ number_of (stay slots.now i class) }
+    ensures { (i : ℕ) → slice_index result i ≡ number_in slots.now i class }
 {
     let (all, mut run) = first_run(slots, class);
+    let mut stays = [0; 256];
     let mut left = slots.len();
     while left > 0 {
         left -= 1;
@@ -83,6 +83,7 @@ fn write_stays(slots: &[Slot], class: u8, stays: &mut [u64; 256])
         }
         stays[left] = if all { FOREVER } else { run };
     }
+    stays
 }
 
 /// The table of a list whose cycle takes so many nanoseconds.
@@ -94,7 +95,7 @@ pub(crate) fn table_of(entries: &[Entry], cycle_ns: u64) -> Table
     let slots = slots_of(entries, cycle_ns);
     let mut table = [[0; 256]; 8];
     for class in 0..8u8 {
-        write_stays(slots.as_slice(), class, &mut table[usize::from(class)]);
+        table[usize::from(class)] = column_of(slots.as_slice(), class);
     }
     table
 }

@@ -106,6 +106,10 @@ fn rows_tell_open_time(rt: HostRuntime) {
     assert_eq!(rt; stay_in(&rt, &long, 0, 1), Stay::Lasts(0));
     assert_eq!(rt; stay_in(&rt, &long, 1, 1), Stay::Lasts(200000000));
     assert_eq!(rt; stay_in(&rt, &short, 1, 1), Stay::Lasts(50000000));
+
+    let cut = schedule_of(&rt, &entries, 100000);
+    assert_eq!(rt; stay_in(&rt, &cut, 0, 0), Stay::Always);
+    assert_eq!(rt; stay_in(&rt, &cut, 1, 0), Stay::Lasts(0));
     assert_eq!(rt; long.mask_at(250000000), 3);
     assert_eq!(rt; long.last_mask(), 3);
     assert_eq!(rt; long.keeps_apart(0), false);

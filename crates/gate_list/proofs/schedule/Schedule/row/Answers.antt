@@ -1,7 +1,7 @@
 use Rattle.std.proofs.Common.{subst}
 use Rattle.gate_list.specs.Gate.{Plan}
 use Rattle.gate_list.specs.Table.{IsTabled}
-use Rattle.gate_list.proofs.RowLaws.{row_stays, tell_open, plan_of_schedule}
+use Rattle.gate_list.proofs.RowLaws.{row_stays, row_closed, tell_open}
 use Rattle.gate_list.proofs.schedule.Schedule.row.Goals as goal
 
 pub returns-clause-stays : goal.returns-clause-stays
@@ -10,6 +10,11 @@ returns-clause-stays c =
     row_stays c.args.self.now c.self.inside.stays c.args.i c.stays_at.result tabled c.requires c.stays_at.ensures
 
 pub returns-clause-open : goal.returns-clause-open
-returns-clause-open c soon =
+returns-clause-open c =
     let tabled = subst (λ (p : Plan). IsTabled p c.self.inside.stays) c.self.view_is c.self.invariant in
-    tell_open c.args.self.now (plan_of_schedule _ tabled.sound) c.args.i c.stays_at.result c.requires (returns-clause-stays c soon)
+    tell_open c.args.self.now tabled.sound.plan_is c.args.i c.stays_at.result c.requires (returns-clause-stays c)
+
+pub returns-clause-unseen : goal.returns-clause-unseen
+returns-clause-unseen c =
+    let tabled = subst (λ (p : Plan). IsTabled p c.self.inside.stays) c.self.view_is c.self.invariant in
+    row_closed c.args.self.now c.self.inside.stays c.args.i c.stays_at.result tabled c.requires c.stays_at.ensures

@@ -1,0 +1,7 @@
+-- What a contract sees of a schedule.
+use Rattle.gate_list.specs.Gate.{Plan}
+use Rattle.gate_list.specs.declared.schedule.Schedule.TheInside.{Inside}
+
+abbrev pub plan_inside : Inside → Plan
+plan_inside s =
+    record { entries = s.entries.items; base = s.base_ns; cycle = s.cycle_ns; extension = s.extension_ns }
