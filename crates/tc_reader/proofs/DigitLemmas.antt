@@ -1,11 +1,11 @@
 -- A number has digits alone.
-use Rattle.std.proofs.Common.{◌≡◌, ℕ, suc, ◌+◌, ◌-◌, ◌*◌, ◌<◌, ◌≤◌, ◌^◌, Bool, true, false, cond, eqb, leb, ltb, List, [], ◌∷◌, length, None, Some, refl, sym, ap, ◌∙◌, arith}
+use Rattle.std.proofs.Common.{◌≡◌, ℕ, suc, ◌+◌, ◌-◌, ◌*◌, ◌≤◌, ◌^◌, Bool, true, false, cond, eqb, leb, ltb, [], ◌∷◌, length, None, Some, refl, sym, ap, ◌∙◌, arith}
 use Rattle.std.specs.Prelude.{◌&&◌, option_and_then}
 use Rattle.std.specs.List.{list_all, before_first, after_first}
 use Rattle.std.specs.declared.option.Option.{Option}
 use Rattle.std.proofs.lemmas.Bool.{ne_eqb, lt-ltb, le-ltb}
 use Rattle.std.proofs.lemmas.Bool.Decides.{nat_tests}
-use Rattle.words.specs.Numbers.{number_in, is_digits, is_digit, value_behind, digit_in, digit_of, at_most}
+use Rattle.words.specs.Numbers.{number_in, is_digits, is_digit, value_behind, digit_in, at_most}
 use Rattle.tc_reader.specs.Cursor.{Word}
 use Rattle.tc_reader.specs.Values.{is_sign, is_range, range_of, limit_at}
 

@@ -1,5 +1,5 @@
 -- A line has one reading, and the lines that are read as commands are those of the grammar.
-use Rattle.std.proofs.Common.{◌≡◌, ℕ, Bool, true, false, cond, List, [], ◌∷◌, ◌++◌, length, None, Some, Result, Ok, Err, refl, sym, ap, subst, ◌∙◌, codes, inl, inr}
+use Rattle.std.proofs.Common.{◌≡◌, ℕ, Bool, true, false, cond, List, [], ◌∷◌, length, None, Some, Result, Ok, Err, refl, sym, ap, subst, ◌∙◌, codes, inl, inr}
 use Rattle.std.specs.Prelude.{◌&&◌, ◌||◌, ◌⊎◌, ◌↔◌, MatchOption, IfErr}
 use Rattle.std.specs.declared.option.Option.{Option}
 use Rattle.std.specs.List.{list_any}
@@ -10,19 +10,18 @@ use Rattle.abstract_port.specs.declared.Command.{Command}
 use Rattle.abstract_port.specs.declared.Command.TheVariants as commands
 use Rattle.tc_reader.specs.declared.line.Verb.{Verb}
 use Rattle.tc_reader.specs.declared.line.Verb.TheVariants.{Replace, Delete}
-use Rattle.tc_reader.specs.declared.fault.Opt.TheVariants.{Dev, Parent}
 use Rattle.tc_reader.specs.declared.fault.TcFault.{TcFault}
 use Rattle.tc_reader.specs.declared.fault.TcFault.TheVariants as faults
 use Rattle.tc_reader.specs.Cursor.{Word}
 use Rattle.tc_reader.specs.Options.{◌>>=◌, Item, Options, no_options}
-use Rattle.tc_reader.specs.Reads.{Reads, given_by}
+use Rattle.tc_reader.specs.Reads.{given_by}
 use Rattle.tc_reader.specs.Heads.{Head, is_dev, is_parent, ReadsHeads}
 use Rattle.tc_reader.specs.Ends.{change_of, heads_missing}
 use Rattle.tc_reader.specs.Lines.{verb_of, with_rest, verb_at, replacement_of, deletion_of, ReadsOptions, deletion_before, GoesOn, ReadsLine, HasFault}
-use Rattle.tc_reader.specs.Grammar.{heads_before, AreNewHeads, AreHeads, ReplacesBy, IsReplacement, IsDeletion, IsCommand}
+use Rattle.tc_reader.specs.Grammar.{heads_before, AreNewHeads, ReplacesBy, IsReplacement, IsDeletion, IsCommand}
 use Rattle.tc_reader.proofs.RunLemmas.{ok_is}
-use Rattle.tc_reader.proofs.GrammarLemmas.{bind_ok, guard_not, Reads-take, Reads-again, Reads-one}
-use Rattle.tc_reader.proofs.HeadsGrammar.{IsTail, heads_take, heads_again, heads_one}
+use Rattle.tc_reader.proofs.GrammarLemmas.{bind_ok, Reads-take, Reads-again, Reads-one}
+use Rattle.tc_reader.proofs.HeadsGrammar.{heads_take, heads_again, heads_one}
 
 abbrev End : Type 0
 End = Result (Option (List Word)) TcFault
