@@ -1,26 +1,22 @@
 -- What is kept of the options gives the same in the end.
-use Rattle.std.proofs.Common.{◌≡◌, ℕ, ◌≤◌, Bool, true, false, cond, eqb, ltb, List, [], ◌∷◌, length, take, replicate, ◌++◌, ◌-◌, None, Some, Result, Ok, Err, refl, sym, ap, subst, ◌∙◌, arith, inl, inr}
-use Rattle.std.specs.Prelude.{option_map, ◌||◌, not, MatchOption}
-use Rattle.std.specs.List.{list_any}
+use Rattle.std.proofs.Common.{◌≡◌, ℕ, ◌≤◌, Bool, true, false, cond, eqb, ltb, List, length, take, replicate, ◌++◌, ◌-◌, None, Some, Result, Err, refl, sym, ap, ◌∙◌, arith, inl, inr}
+use Rattle.std.specs.Prelude.{option_map, ◌||◌, not}
 use Rattle.std.specs.declared.option.Option.{Option}
 use Rattle.std.proofs.lemmas.Bool.{cases_lt, lt-ltb, ltb-false, eqb-true, ne_eqb}
 use Rattle.std.proofs.lemmas.List.{take_all, take-take, length-take}
-use Rattle.class_map.specs.Map.{map_fault, map_unless, map_of}
-use Rattle.class_map.specs.Ranges.{queue_fault, queues_unless, queues_of, have_overlap}
+use Rattle.class_map.specs.Map.{map_unless, map_of}
+use Rattle.class_map.specs.Ranges.{queues_unless, queues_of}
 use Rattle.class_map.specs.declared.MapFault.{MapFault}
 use Rattle.class_map.specs.declared.MapFault.TheVariants.{BadClassCount, TooManyPriorities}
 use Rattle.class_map.specs.declared.QueueFault.{QueueFault}
 use Rattle.class_map.specs.declared.QueueFault.TheVariants.{QueueCount}
-use Rattle.gate_list.specs.Gate.{gate_fault, ok_unless}
 use Rattle.gate_list.specs.declared.Entry.{Entry}
 use Rattle.gate_list.specs.declared.GateFault.TheVariants.{TooManyEntries}
-use Rattle.class_map.specs.Map.{Map}
 use Rattle.tc_reader.specs.declared.fault.TcFault.{TcFault}
 use Rattle.tc_reader.specs.declared.fault.TcFault.TheVariants as faults
-use Rattle.tc_reader.specs.Cursor.{Word}
-use Rattle.tc_reader.specs.Options.{◌>>=◌, Item, Options, no_options}
+use Rattle.tc_reader.specs.Options.{Options}
 use Rattle.tc_reader.specs.Given.{kept}
-use Rattle.tc_reader.specs.Ends.{in_line, ranges_of, classes_of, list_of, eight_limits, change_of}
+use Rattle.tc_reader.specs.Ends.{ranges_of, classes_of, list_of, eight_limits, change_of}
 
 -- what a list gives, of which more than a few elements all give the same
 by_length : {X R : Type 0} (cap : ℕ) (f : List X → R) (xs : List X) (r : R) → ((ys : List X) → cap ≤ length ys → f ys ≡ r) → f (take cap xs) ≡ f xs

@@ -8,3 +8,4 @@ pub mod Heads
 pub mod Seen
 pub mod Ends
 pub mod Lines
+pub mod Grammar

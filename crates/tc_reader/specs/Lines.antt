@@ -61,3 +61,7 @@ abbrev pub ReadsLine : List Word → Result Command TcFault → Type 0
 ReadsLine line result =
     MatchOption (verb_at line) (result ≡ Err faults.NotTaprio)
     (λ x. (heads : List Head) × (end : Result (Option (List Word)) TcFault) × ReadsHeads [] x.1 heads end × GoesOn (length line) x.0 heads end result)
+
+-- the fault of a line without a command: the first one, from the left
+abbrev pub HasFault : List Word → TcFault → Type 0
+HasFault line fault = ReadsLine line (Err fault)

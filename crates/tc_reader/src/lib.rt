@@ -5,6 +5,7 @@ mod end;
 mod fault;
 mod given;
 mod heads;
+pub mod laws;
 mod line;
 mod lists;
 mod options;

@@ -1,11 +1,12 @@
 //! A whole line.
 
-ghost use Rattle.std.specs.Prelude.{◌≡◌, Option, Some, None, MatchOption};
+ghost use Rattle.std.specs.Prelude.{◌≡◌, ◌↔◌, Option, Some, None, Ok, MatchOption, IfErr};
 ghost use Rattle.words.specs.Words.{words_of};
 ghost use Rattle.words.specs.WordsLeft.{words_left};
 ghost use Rattle.tc_reader.specs.Cursor.{total, Moves};
 ghost use Rattle.tc_reader.specs.Seen.{behind_heads};
-ghost use Rattle.tc_reader.specs.Lines.{verb_of, verb_at, ReadsOptions, deletion_before, ReadsLine};
+ghost use Rattle.tc_reader.specs.Lines.{verb_of, verb_at, ReadsOptions, deletion_before, ReadsLine, HasFault};
+ghost use Rattle.tc_reader.specs.Grammar.{IsCommand};
 
 use crate::end::{change_of, check_heads};
 use crate::fault::TcFault;
@@ -70,8 +71,8 @@ fn read_deletion(words: Words<'_>, seen: Seen, named: bool) -> Result<Command, T
     Ok(Command::Delete)
 }
 
-/// The command that a line of words says, or its first fault.
-pub fn read_command(line: &[u8]) -> Result<Command, TcFault>
+// A line, from the left.
+fn read_line(line: &[u8]) -> Result<Command, TcFault>
     ensures { ReadsLine (words_of line.now) result }
 {
     let mut words = Words::new(line);
@@ -84,4 +85,15 @@ pub fn read_command(line: &[u8]) -> Result<Command, TcFault>
         Verb::Replace if named => read_replacement(words, seen),
         Verb::Replace => Err(TcFault::NotTaprio),
     }
+}
+
+/// The command that a line says, exactly where the grammar of tc-taprio(8) has one; else the line's first fault.
+///
+/// Blanks are those of `Words`. Words are read from the left, and when all are read, what is missing is found, and then
+/// what the map, the ranges and the entries are refused for. A fault's place counts the words from 0.
+pub fn read_command(line: &[u8]) -> Result<Command, TcFault>
+    ensures command { (command : Command) → (result ≡ Ok command) ↔ IsCommand (words_of line.now) command }
+    ensures fault { IfErr result (HasFault (words_of line.now)) }
+{
+    read_line(line)
 }

@@ -64,66 +64,133 @@ fn faults_of_heads(rt: HostRuntime) {
     assert!(rt; fault(b"tc qdisc replace dev eth0 root") == Some(TcFault::NotTaprio));
 }
 
-// What is wrong with a line's options.
-fn option_fault(options: &[u8]) -> Option<TcFault> {
-    let mut line = [b' '; 200];
-    let front = b"tc qdisc replace dev eth0 root taprio";
-    line[..37].copy_from_slice(front);
-    line[38..38 + options.len()].copy_from_slice(options);
-    fault(&line)
-}
-
 #[test]
 fn faults_of_options(rt: HostRuntime) {
-    assert!(rt; option_fault(b"base-time 0") == Some(TcFault::Gates(GateFault::NoEntries)));
-    assert!(rt; option_fault(b"sched-entry S 01") == Some(TcFault::MissingWord(Opt::SchedEntry)));
-    assert!(rt; option_fault(b"sched-entry S 1g 300000") == Some(TcFault::BadNumber(9)));
-    assert!(rt; option_fault(b"sched-entry S 1g") == Some(TcFault::BadNumber(9)));
-    assert!(rt; option_fault(b"sched-entry S 100 300000") == Some(TcFault::BadNumber(9)));
-    assert!(rt; option_fault(b"sched-entry S 0X1 300000") == Some(TcFault::BadNumber(9)));
     assert!(rt;
-        option_fault(b"sched-entry SH 01 300000") == Some(TcFault::Unsupported(Opt::SchedEntry))
-    );
-    assert!(rt; option_fault(b"hold 1") == Some(TcFault::UnknownOption(7)));
-    assert!(rt; option_fault(b"base-time 0 base-time 0") == Some(TcFault::Repeated(Opt::BaseTime)));
-    assert!(rt; option_fault(b"base-time 18446744073709551616") == Some(TcFault::BadNumber(8)));
-    assert!(rt; option_fault(b"flags 1") == Some(TcFault::Unsupported(Opt::Flags)));
-    assert!(rt; option_fault(b"flags 10") == Some(TcFault::Unsupported(Opt::Flags)));
-    assert!(rt; option_fault(b"flags 100000000") == Some(TcFault::BadNumber(8)));
-    assert!(rt; option_fault(b"fp P") == Some(TcFault::Unsupported(Opt::Fp)));
-    assert!(rt; option_fault(b"txtime-delay 5") == Some(TcFault::Unsupported(Opt::TxtimeDelay)));
-    assert!(rt; option_fault(b"clockid UTC") == Some(TcFault::BadNumber(8)));
-    assert!(rt; option_fault(b"map 0 1") == Some(TcFault::MissingWord(Opt::NumTc)));
-    assert!(rt; option_fault(b"queues 1@0") == Some(TcFault::MissingWord(Opt::NumTc)));
-    assert!(rt; option_fault(b"num_tc 2") == Some(TcFault::MissingWord(Opt::Map)));
-    assert!(rt; option_fault(b"num_tc 2 queues 1@0") == Some(TcFault::MissingWord(Opt::Map)));
-    assert!(rt; option_fault(b"num_tc 256 map 0") == Some(TcFault::BadNumber(8)));
-    assert!(rt; option_fault(b"map") == Some(TcFault::MissingWord(Opt::Map)));
-    assert!(rt; option_fault(b"map x") == Some(TcFault::MissingWord(Opt::Map)));
-    assert!(rt; option_fault(b"map 0 1 300 num_tc 2") == Some(TcFault::BadNumber(10)));
-    assert!(rt; option_fault(b"queues 1@0 65536@0") == Some(TcFault::BadNumber(9)));
-    assert!(rt; option_fault(b"queues 1@0 2@") == Some(TcFault::UnknownOption(9)));
-    assert!(rt;
-        option_fault(b"num_tc 9 map 0 sched-entry S 01 300000")
-            == Some(TcFault::Map(MapFault::BadClassCount))
-    );
-    assert!(rt;
-        option_fault(b"num_tc 2 map 0 1 0 1 0 1 0 1 0 1 0 1 0 1 0 1 0")
-            == Some(TcFault::Map(MapFault::TooManyPriorities))
-    );
-    assert!(rt;
-        option_fault(b"num_tc 2 map 0 1 queues 1@0 1@0 sched-entry S 01 480")
-            == Some(TcFault::Ranges(QueueFault::QueueOverlap))
-    );
-    assert!(rt;
-        option_fault(b"max-sdu 0 0 0 0 0 0 0 0 0 0 0 0 0 0 0 0")
+        fault(b"tc qdisc replace dev eth0 root taprio base-time 0")
             == Some(TcFault::Gates(GateFault::NoEntries))
     );
     assert!(rt;
-        option_fault(b"max-sdu 0 0 0 0 0 0 0 0 0 0 0 0 0 0 0 0 0 x") == Some(TcFault::BadNumber(24))
+        fault(b"tc qdisc replace dev eth0 root taprio sched-entry S 01")
+            == Some(TcFault::MissingWord(Opt::SchedEntry))
     );
     assert!(rt;
-        option_fault(b"max-sdu 0 4294967296 0 0 0 0 0 0 0 0 0 0 0 0 0 0 0")
+        fault(b"tc qdisc replace dev eth0 root taprio sched-entry S 1g 300000")
             == Some(TcFault::BadNumber(9))
+    );
+    assert!(rt;
+        fault(b"tc qdisc replace dev eth0 root taprio sched-entry S 1g")
+            == Some(TcFault::BadNumber(9))
+    );
+    assert!(rt;
+        fault(b"tc qdisc replace dev eth0 root taprio sched-entry S 100 300000")
+            == Some(TcFault::BadNumber(9))
+    );
+    assert!(rt;
+        fault(b"tc qdisc replace dev eth0 root taprio sched-entry S 0X1 300000")
+            == Some(TcFault::BadNumber(9))
+    );
+    assert!(rt;
+        fault(b"tc qdisc replace dev eth0 root taprio sched-entry SH 01 300000")
+            == Some(TcFault::Unsupported(Opt::SchedEntry))
+    );
+    assert!(rt;
+        fault(b"tc qdisc replace dev eth0 root taprio hold 1") == Some(TcFault::UnknownOption(7))
+    );
+    assert!(rt;
+        fault(b"tc qdisc replace dev eth0 root taprio base-time 0 base-time 0")
+            == Some(TcFault::Repeated(Opt::BaseTime))
+    );
+    assert!(rt;
+        fault(b"tc qdisc replace dev eth0 root taprio base-time 18446744073709551616")
+            == Some(TcFault::BadNumber(8))
+    );
+    assert!(rt;
+        fault(b"tc qdisc replace dev eth0 root taprio flags 1")
+            == Some(TcFault::Unsupported(Opt::Flags))
+    );
+    assert!(rt;
+        fault(b"tc qdisc replace dev eth0 root taprio flags 10")
+            == Some(TcFault::Unsupported(Opt::Flags))
+    );
+    assert!(rt;
+        fault(b"tc qdisc replace dev eth0 root taprio flags 100000000")
+            == Some(TcFault::BadNumber(8))
+    );
+    assert!(rt;
+        fault(b"tc qdisc replace dev eth0 root taprio fp P") == Some(TcFault::Unsupported(Opt::Fp))
+    );
+    assert!(rt;
+        fault(b"tc qdisc replace dev eth0 root taprio txtime-delay 5")
+            == Some(TcFault::Unsupported(Opt::TxtimeDelay))
+    );
+    assert!(rt;
+        fault(b"tc qdisc replace dev eth0 root taprio clockid UTC") == Some(TcFault::BadNumber(8))
+    );
+    assert!(rt;
+        fault(b"tc qdisc replace dev eth0 root taprio map 0 1")
+            == Some(TcFault::MissingWord(Opt::NumTc))
+    );
+    assert!(rt;
+        fault(b"tc qdisc replace dev eth0 root taprio queues 1@0")
+            == Some(TcFault::MissingWord(Opt::NumTc))
+    );
+    assert!(rt;
+        fault(b"tc qdisc replace dev eth0 root taprio num_tc 2")
+            == Some(TcFault::MissingWord(Opt::Map))
+    );
+    assert!(rt;
+        fault(b"tc qdisc replace dev eth0 root taprio num_tc 2 queues 1@0")
+            == Some(TcFault::MissingWord(Opt::Map))
+    );
+    assert!(rt;
+        fault(b"tc qdisc replace dev eth0 root taprio num_tc 256 map 0")
+            == Some(TcFault::BadNumber(8))
+    );
+    assert!(rt;
+        fault(b"tc qdisc replace dev eth0 root taprio map") == Some(TcFault::MissingWord(Opt::Map))
+    );
+    assert!(rt;
+        fault(b"tc qdisc replace dev eth0 root taprio map x")
+            == Some(TcFault::MissingWord(Opt::Map))
+    );
+    assert!(rt;
+        fault(b"tc qdisc replace dev eth0 root taprio map 0 1 300 num_tc 2")
+            == Some(TcFault::BadNumber(10))
+    );
+    assert!(rt;
+        fault(b"tc qdisc replace dev eth0 root taprio queues 1@0 65536@0")
+            == Some(TcFault::BadNumber(9))
+    );
+    assert!(rt;
+        fault(b"tc qdisc replace dev eth0 root taprio queues 1@0 2@")
+            == Some(TcFault::UnknownOption(9))
+    );
+    assert!(rt;
+        fault(b"tc qdisc replace dev eth0 root taprio num_tc 9 map 0 sched-entry S 01 300000")
+            == Some(TcFault::Map(MapFault::BadClassCount))
+    );
+    assert!(rt;
+        fault(
+            b"tc qdisc replace dev eth0 root taprio num_tc 2 map 0 1 0 1 0 1 0 1 0 1 0 1 0 1 0 1 0"
+        ) == Some(TcFault::Map(MapFault::TooManyPriorities))
+    );
+    assert!(rt;
+        fault(
+            b"tc qdisc replace dev eth0 root taprio num_tc 2 map 0 1 queues 1@0 1@0 sched-entry S 01 480"
+        ) == Some(TcFault::Ranges(QueueFault::QueueOverlap))
+    );
+    assert!(rt;
+        fault(b"tc qdisc replace dev eth0 root taprio max-sdu 0 0 0 0 0 0 0 0 0 0 0 0 0 0 0 0")
+            == Some(TcFault::Gates(GateFault::NoEntries))
+    );
+    assert!(rt;
+        fault(b"tc qdisc replace dev eth0 root taprio max-sdu 0 0 0 0 0 0 0 0 0 0 0 0 0 0 0 0 0 x")
+            == Some(TcFault::BadNumber(24))
+    );
+    assert!(rt;
+        fault(
+            b"tc qdisc replace dev eth0 root taprio max-sdu 0 4294967296 0 0 0 0 0 0 0 0 0 0 0 0 0 0 0"
+        ) == Some(TcFault::BadNumber(9))
     );
 }

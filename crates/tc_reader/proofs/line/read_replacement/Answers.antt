@@ -11,7 +11,7 @@ returns-in_err-change_of c =
     let read = c.in_ok-given.ensures in
     let heads : heads_missing c.args.seen.dev c.args.seen.parent ≡ Ok tt = sym c.check_heads.ensures ∙ c.in_ok-check_heads.was in
     let change : change_of (given_by read.0) ≡ Err c.in_err-change_of.field-0.0 =
-        sym (change_of-kept (given_by read.0)) ∙ ap change_of (sym read.2) ∙ sym c.change_of.ensures ∙ c.in_err-change_of.was in
+    sym (change_of-kept (given_by read.0)) ∙ ap change_of (sym read.2) ∙ sym c.change_of.ensures ∙ c.in_err-change_of.was in
     (read.0, None, read.1, rw (p.1, p.2, heads, change) refl)
 
 pub returns : goal.returns
@@ -19,5 +19,5 @@ returns c =
     let read = c.in_ok-given.ensures in
     let heads : heads_missing c.args.seen.dev c.args.seen.parent ≡ Ok tt = sym c.check_heads.ensures ∙ c.in_ok-check_heads.was in
     let change : change_of (given_by read.0) ≡ Ok c.in_ok-change_of.field-0 =
-        sym (change_of-kept (given_by read.0)) ∙ ap change_of (sym read.2) ∙ sym c.change_of.ensures ∙ c.in_ok-change_of.was in
+    sym (change_of-kept (given_by read.0)) ∙ ap change_of (sym read.2) ∙ sym c.change_of.ensures ∙ c.in_ok-change_of.was in
     (read.0, None, read.1, rw (heads, change) refl)

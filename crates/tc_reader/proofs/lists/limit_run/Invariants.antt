@@ -1,8 +1,8 @@
 use Rattle.std.proofs.Common.{◌≡◌, ℕ, List, take, length}
-use Rattle.words.specs.Numbers.{number_in, is_digits}
+use Rattle.words.specs.Numbers.{is_digits}
 use Rattle.words.specs.WordsLeft.{words_left, words_taken}
 use Rattle.tc_reader.specs.Cursor.{Moves}
-use Rattle.tc_reader.specs.Values.{is_range, range_of, limit_at}
+use Rattle.tc_reader.specs.Values.{limit_at}
 use Rattle.tc_reader.specs.Options.{run_at}
 use Rattle.tc_reader.proofs.RunLemmas.{with_front}
 use Rattle.tc_reader.proofs.lists.limit_run.Given as goal

@@ -1,9 +1,8 @@
-use Rattle.std.proofs.Common.{◌≡◌, ℕ, ◌++◌, ◌∷◌, [], true, false, take, Ok, sym, ap, ◌∙◌, rules, arith}
+use Rattle.std.proofs.Common.{◌≡◌, ◌++◌, ◌∷◌, [], true, false, take, Ok, sym, ap, ◌∙◌, rules, arith}
 use Rattle.std.proofs.lemmas.Result.{err_from_is_err_and}
-use Rattle.words.specs.Numbers.{number_in, is_digits}
 use Rattle.words.specs.WordsLeft.{words_left, words_taken}
 use Rattle.tc_reader.specs.declared.fault.Opt.TheVariants.{Queues}
-use Rattle.tc_reader.specs.Values.{is_range, range_of, limit_at}
+use Rattle.tc_reader.specs.Values.{is_range, range_of}
 use Rattle.tc_reader.specs.Options.{run_at, begins}
 use Rattle.tc_reader.specs.Given.{first_ones}
 use Rattle.tc_reader.proofs.RunLemmas.{run_step, run_step_fails, run_stops, take-push}

@@ -1,6 +1,6 @@
 use Rattle.std.proofs.Common.{◌≡◌, ◌+◌, ◌-◌, ◌∷◌, [], length, sym, ap, subst, ◌∙◌, rules, arith}
 use Rattle.std.proofs.lemmas.Result.{err_from_is_err_and}
-use Rattle.words.specs.WordsLeft.{words_left, words_taken}
+use Rattle.words.specs.WordsLeft.{words_left}
 use Rattle.tc_reader.specs.Cursor.{total}
 use Rattle.tc_reader.specs.Given.{view}
 use Rattle.tc_reader.proofs.ReadsLemmas.{SoFar, SoFar-begin, SoFar-more, SoFar-fault, SoFar-end}
