@@ -101,6 +101,7 @@ pub fn play<G: Gates + Drop>(steps: &[(u128, Step<'_>)]) -> Result<(), usize> {
 }
 
 pub mod ports;
+pub mod random;
 pub mod tables;
 #[cfg(test)]
 mod tests;

@@ -1,4 +1,5 @@
 use super::ports::{frame, plain_map, replace};
+use super::random::{agree, answers};
 use super::tables::{open_for_long_frames, play_all};
 use super::*;
 use abstract_port::{Answer, Command, Counters, Dropped, Event, Refused, Start};
@@ -250,5 +251,58 @@ fn queues_fill_behind_a_closed_gate(rt: HostRuntime) -> Result<(), Fail> {
     let mut answers = Vec::new(rt.alloc());
     assert_eq!(rt; port.run(&closed_at_first(&command), &mut answers), Ok(()));
     assert_eq!(rt; answers.as_slice(), answers_of_closed_at_first().as_slice());
+    Ok(())
+}
+
+#[test]
+fn stepped_agrees_with_plain_at_every_picosecond(rt: HostRuntime) {
+    for seed in 0..24 {
+        assert_eq!(rt;
+            agree::<Plain, Stepped>(seed, 60_000),
+            Ok(()),
+            "seed {seed}"
+        );
+    }
+}
+
+#[test]
+fn ports_answer_alike_on_both_gates(rt: HostRuntime) -> Result<(), Fail> {
+    let rate = Rate::from_mbps(100000).ok().ok_or("a rate")?;
+    for seed in 0..12 {
+        let mut plain = Port::<Plain>::new(rt.alloc(), rate, 68, 3).ok().ok_or("a port")?;
+        let mut stepped = Port::<Stepped>::new(rt.alloc(), rate, 68, 3).ok().ok_or("a port")?;
+        let want = answers(rt.alloc(), &mut plain, seed, 60)?;
+        let got = answers(rt.alloc(), &mut stepped, seed, 60)?;
+        assert_eq!(rt; got.as_slice(), want.as_slice(), "seed {seed}");
+    }
+    Ok(())
+}
+
+/// A frame waits for its gate, and the next schedule comes: through calls of `run` with little memory the answers are those
+/// of one call.
+#[test]
+fn runs_go_on_where_memory_is_wanting(rt: HostRuntime) -> Result<(), Fail> {
+    let command =
+        replace(&[entry(0, 100_000), entry(1, 100_000)], 20_000, plain_map()).ok_or("a command")?;
+    let events = closed_at_first(&command);
+    let want = answers_of_closed_at_first();
+    let mut wanting = 0;
+    for size in [512, 1024, 1536, 2048, 3072, 4096, 6144, 8192] {
+        let heap = LocalHeap::new(rt.alloc(), size)?;
+        let mut port = new_port::<Stepped>(&rt, 2).ok().ok_or("a port")?;
+        let mut few = Vec::new(&heap);
+        let taken = match port.run_in(&events, &mut few) {
+            Ok(()) => events.len(),
+            Err(memory) => memory.taken,
+        };
+        if taken < events.len() {
+            wanting += 1;
+        }
+        let mut all = few.to_vec(rt.alloc())?;
+        let rest = events.get(taken..).ok_or("the rest")?;
+        assert_eq!(rt; port.run(rest, &mut all), Ok(()));
+        assert_eq!(rt; all.as_slice(), want.as_slice());
+    }
+    assert!(rt; wanting > 0 && wanting < 8);
     Ok(())
 }

@@ -1,11 +1,11 @@
 -- What a list shows by where it stands.
-use Rattle.std.proofs.Common.{◌≡◌, ◌<◌, ◌≤◌, ℕ, zero, suc, ◌+◌, ◌-◌, ◌*◌, ◌%◌, min, Bool, true, false, cond, ◌&&◌, ◌||◌, ◌⊎◌, nat_le, List, length, get_or, slice_get, Option, Some, None, inl, inr, refl, sym, ap, ◌∙◌, subst, arith, le_refl}
+use Rattle.std.proofs.Common.{◌≡◌, ◌<◌, ◌≤◌, ℕ, zero, suc, ◌+◌, ◌-◌, ◌*◌, ◌%◌, min, Bool, true, false, cond, ◌&&◌, ◌||◌, ◌⊎◌, nat_le, All, List, length, get_or, slice_get, Option, Some, None, inl, inr, refl, sym, ap, ◌∙◌, subst, arith, le_refl}
 use Rattle.std.proofs.lemmas.Bool.{leb-false, lt-leb, le-leb, cases_lt, false≢true}
 use Rattle.std.proofs.lemmas.Option.{same_Some, get_or_from_slice_get, slice_get-get_or}
 use Rattle.std.specs.Option.{ForSome}
 use Rattle.gate_list.specs.declared.Entry.{Entry}
 use Rattle.gate_list.specs.declared.Stay.{Stay}
-use Rattle.gate_list.specs.Gate.{Plan, IsGateList, IsSchedule, IsShownAt, in_ps, prefix, mask_at, last_mask, has_come, mask_since, opens}
+use Rattle.gate_list.specs.Gate.{Plan, IsSchedule, IsShownAt, in_ps, prefix, mask_at, last_mask, has_come, mask_since, opens}
 use Rattle.gate_list.specs.Open.{open_while}
 use Rattle.gate_list.specs.Stay.{stay_lasts}
 use Rattle.gate_list.proofs.RowLaws.{prefix_next}
@@ -64,12 +64,12 @@ still_shown plan n place begun shows m l soon = record {
         ∙ ((shows.shows).until_is ∙ until_of_more plan.entries place.timer.started place.walk.index more)
 
 -- an entry takes time
-pub prefix_grows : (es : List Entry) → IsGateList es → (i : ℕ) → i < length es → prefix es i < prefix es (i + 1)
+pub prefix_grows : (es : List Entry) → All (λ e. 0 < e.interval) es → (i : ℕ) → i < length es → prefix es i < prefix es (i + 1)
 prefix_grows es ok i within =
     let e : Entry = get_or es i (record { mask = 0; interval = 0 }) in
     let there = slice_get-get_or es i (record { mask = 0; interval = 0 }) within in
     let ends = prefix_next es i e there in
-    let some : 0 < e.interval = ok.timed i (record { mask = 0; interval = 0 }) within in
+    let some : 0 < e.interval = ok i (record { mask = 0; interval = 0 }) within in
     omega arith
 
 module _ (plan : Plan) (ok : IsSchedule plan) (start : ℕ) (next : Option Accepted) where
@@ -79,16 +79,16 @@ module _ (plan : Plan) (ok : IsSchedule plan) (start : ℕ) (next : Option Accep
     where
       by : (q : Option Accepted) → has_come (hold_for (Some plan) start q) m ≡ is_held_from plan start (start + in_ps plan.cycle * k) q
       by None = refl
-      by (Some a) = held_in plan start k m ok.plan_is.cycle from to a
+      by (Some a) = held_in plan start k m (ok.plan_is).cycle from to a
 
   -- in one cycle the list's mask is that of the entry that is shown
   pub list_mask : (k m i : ℕ) (e : Entry) → start + in_ps plan.cycle * k ≤ m → m < start + in_ps plan.cycle * k + in_ps plan.cycle → slice_get plan.entries i ≡ Some e → IsShownAt plan.entries (m - (start + in_ps plan.cycle * k)) i → mask_since (Some plan) start None m ≡ e.mask
   list_mask k m i e from to there shown =
-      mask_of_cycle plan start k m ok.plan_is.cycle from to None ∙ shown_mask plan.entries (m - (start + in_ps plan.cycle * k)) i e there shown
+      mask_of_cycle plan start k m (ok.plan_is).cycle from to None ∙ shown_mask plan.entries (m - (start + in_ps plan.cycle * k)) i e there shown
 
   module _ (n : ℕ) (place : Place) (p : IsPlaced plan start next n place) where
     cycle_above : 0 < in_ps plan.cycle
-    cycle_above = let l = ok.plan_is.cycle in omega arith
+    cycle_above = let l = (ok.plan_is).cycle in omega arith
 
     -- the hold at n is that of the cycle
     pub placed_hold : has_come (hold_for (Some plan) start next) n ≡ is_held_from plan start place.timer.started next
@@ -306,7 +306,7 @@ module _ (plan : Plan) (ok : IsSchedule plan) (start : ℕ) (next : Option Accep
             let within = began.listed in
             let more : place.walk.index + 1 < length plan.entries = omega arith in
             let phase : place.timer.started + prefix plan.entries (place.walk.index + 1) ≡ m = same_Some _ m (sym (until_of_more plan.entries place.timer.started place.walk.index more) ∙ at) in
-            let grows = prefix_grows plan.entries (record { some = ok.plan_is.entries; few = ok.few; timed = ok.plan_is.intervals }) (place.walk.index + 1) more in
+            let grows = prefix_grows plan.entries (ok.plan_is).intervals (place.walk.index + 1) more in
             let index : walk.index ≡ place.walk.index + 1 = began.index_is in
             record {
               before_next = before;

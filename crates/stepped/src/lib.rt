@@ -6,6 +6,8 @@ mod held;
 mod place;
 mod slots;
 mod stepped;
+#[cfg(test)]
+mod tests;
 mod under;
 
 pub use stepped::Stepped;
