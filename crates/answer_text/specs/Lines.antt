@@ -7,7 +7,8 @@ use Rattle.abstract_port.specs.declared.Counters.{Counters}
 use Rattle.abstract_port.specs.declared.Dropped.{Dropped}
 use Rattle.abstract_port.specs.declared.Refused.{Refused}
 use Rattle.abstract_port.specs.declared.Start.{Start}
-use Rattle.answer_text.specs.Names.{dropped_name, refused_name, refused_number}
+use Rattle.tc_reader.specs.declared.fault.TcFault.{TcFault}
+use Rattle.answer_text.specs.Names.{dropped_name, refused_name, refused_number, tc_fault_name, tc_fault_word, tc_fault_place}
 use Rattle.answer_text.specs.Reports.{report_lines}
 
 abbrev pub queued_line : ℕ → ℕ → List ℕ
@@ -62,3 +63,12 @@ answer_lines Answered.BadClass = []
 -- how many frames a class still has at the end
 abbrev pub left_line : ℕ → ℕ → List ℕ
 left_line class frames = concat (codes "left class " ∷ decimal class ∷ codes " frames " ∷ decimal frames ∷ codes "\n" ∷ [])
+
+-- the word or the number behind a name
+abbrev pub detail_text : Option (List ℕ) → Option ℕ → List ℕ
+detail_text (Some word) place = codes " " ++ word
+detail_text None place = number_text place
+
+-- a tc line that is no command
+abbrev pub tc_fault_line : TcFault → List ℕ
+tc_fault_line fault = concat (codes "tc-fault " ∷ tc_fault_name fault ∷ detail_text (tc_fault_word fault) (tc_fault_place fault) ∷ codes "\n" ∷ [])

@@ -2,6 +2,15 @@
 use Rattle.std.specs.Prelude.{List, ℕ, Option, Some, None, codes}
 use Rattle.gate_list.specs.declared.PlanFault.{PlanFault}
 use Rattle.gate_list.specs.declared.PlanFault.TheVariants.{IntervalTooShort, CycleTooShort, CycleTooLong, ExtensionTooLong, BaseTooLate}
+use Rattle.class_map.specs.declared.MapFault.{MapFault}
+use Rattle.class_map.specs.declared.MapFault.TheVariants.{BadClassCount, TooManyPriorities, ClassOutOfRange}
+use Rattle.class_map.specs.declared.QueueFault.{QueueFault}
+use Rattle.class_map.specs.declared.QueueFault.TheVariants.{QueueCount, EmptyQueue, QueueOverlap}
+use Rattle.gate_list.specs.declared.GateFault.{GateFault}
+use Rattle.gate_list.specs.declared.GateFault.TheVariants.{NoEntries, TooManyEntries, ZeroInterval}
+use Rattle.tc_reader.specs.Names.{word_of}
+use Rattle.tc_reader.specs.declared.fault.TcFault.{TcFault}
+use Rattle.tc_reader.specs.declared.fault.TcFault.TheVariants as TcFaults
 use Rattle.abstract_port.specs.declared.Dropped.{Dropped}
 use Rattle.abstract_port.specs.declared.Dropped.TheVariants.{NoClass, Runt, TooLong, OverSdu, Full}
 use Rattle.abstract_port.specs.declared.Refused.{Refused}
@@ -41,3 +50,40 @@ refused_number MapChanged = None
 refused_number (SduTooLarge class) = Some class
 refused_number (Schedule fault) = plan_fault_number fault
 refused_number (Busy lead_moment) = Some lead_moment
+
+abbrev pub map_fault_name : MapFault → List ℕ
+map_fault_name BadClassCount = codes "BadClassCount"
+map_fault_name TooManyPriorities = codes "TooManyPriorities"
+map_fault_name ClassOutOfRange = codes "ClassOutOfRange"
+
+abbrev pub queue_fault_name : QueueFault → List ℕ
+queue_fault_name QueueCount = codes "QueueCount"
+queue_fault_name EmptyQueue = codes "EmptyQueue"
+queue_fault_name QueueOverlap = codes "QueueOverlap"
+
+abbrev pub gate_fault_name : GateFault → List ℕ
+gate_fault_name NoEntries = codes "NoEntries"
+gate_fault_name TooManyEntries = codes "TooManyEntries"
+gate_fault_name ZeroInterval = codes "ZeroInterval"
+
+abbrev pub tc_fault_name : TcFault → List ℕ
+tc_fault_name TcFaults.NotTaprio = codes "NotTaprio"
+tc_fault_name (TcFaults.MissingWord option) = codes "MissingWord"
+tc_fault_name (TcFaults.UnknownOption place) = codes "UnknownOption"
+tc_fault_name (TcFaults.Repeated option) = codes "Repeated"
+tc_fault_name (TcFaults.BadNumber place) = codes "BadNumber"
+tc_fault_name (TcFaults.Unsupported option) = codes "Unsupported"
+tc_fault_name (TcFaults.Map fault) = map_fault_name fault
+tc_fault_name (TcFaults.Ranges fault) = queue_fault_name fault
+tc_fault_name (TcFaults.Gates fault) = gate_fault_name fault
+
+abbrev pub tc_fault_word : TcFault → Option (List ℕ)
+tc_fault_word (TcFaults.MissingWord option) = Some (word_of option)
+tc_fault_word (TcFaults.Repeated option) = Some (word_of option)
+tc_fault_word (TcFaults.Unsupported option) = Some (word_of option)
+tc_fault_word _ = None
+
+abbrev pub tc_fault_place : TcFault → Option ℕ
+tc_fault_place (TcFaults.UnknownOption place) = Some place
+tc_fault_place (TcFaults.BadNumber place) = Some place
+tc_fault_place _ = None

@@ -6,5 +6,5 @@ mod names;
 mod reports;
 mod writing;
 
-pub use lines::{put_answer, put_left};
+pub use lines::{put_answer, put_left, put_tc_fault};
 pub use writing::{Part, WriteFault, put, put_parts};

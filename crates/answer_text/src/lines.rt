@@ -1,14 +1,17 @@
 //! The lines of answers.
 
 ghost use Rattle.std.specs.Prelude.{◌≡◌};
-ghost use Rattle.answer_text.specs.Lines.{queued_line, dropped_line, installed_line, refused_line, start_line, count_line, left_line, answer_lines};
+ghost use Rattle.answer_text.specs.Lines.{queued_line, dropped_line, installed_line, refused_line, start_line, count_line, left_line, answer_lines, number_text, tc_fault_line};
 ghost use Rattle.answer_text.specs.Writes.{Writes};
 
-use crate::names::{dropped_name, refused_name, refused_number};
+use crate::names::{
+    dropped_name, refused_name, refused_number, tc_fault_name, tc_fault_place, tc_fault_word,
+};
 use crate::reports::put_report;
 use crate::writing::{Part, WriteFault, put, put_parts};
 use abstract_port::{Answer, Counters, Dropped, Refused, Start};
 use std::io::Write;
+use tc_reader::TcFault;
 
 fn put_queued<W: Write>(writer: &mut W, id: u64, class: u8) -> Result<(), WriteFault>
     ensures { Writes result (W.contents writer.old) (W.contents writer.new) (queued_line id class) }
@@ -155,4 +158,41 @@ pub fn put_left<W: Write>(writer: &mut W, class: u8, frames: u64) -> Result<(), 
             Part::Text(b"\n"),
         ],
     )
+}
+
+/// Writes the line of a tc line that is no command. At a fault a front of it is written.
+pub fn put_tc_fault<W: Write>(writer: &mut W, fault: TcFault) -> Result<(), WriteFault>
+    ensures { Writes result (W.contents writer.old) (W.contents writer.new) (tc_fault_line fault) }
+{
+    let name = tc_fault_name(fault);
+    match (tc_fault_word(fault), tc_fault_place(fault)) {
+        (Some(word), _) => put_parts(
+            writer,
+            &[
+                Part::Text(b"tc-fault "),
+                Part::Text(name),
+                Part::Text(b" "),
+                Part::Text(word),
+                Part::Text(b"\n"),
+            ],
+        ),
+        (None, Some(place)) => put_parts(
+            writer,
+            &[
+                Part::Text(b"tc-fault "),
+                Part::Text(name),
+                Part::Text(b" "),
+                Part::Number(place),
+                Part::Text(b"\n"),
+            ],
+        ),
+        (None, None) => put_parts(
+            writer,
+            &[
+                Part::Text(b"tc-fault "),
+                Part::Text(name),
+                Part::Text(b"\n"),
+            ],
+        ),
+    }
 }

@@ -1,10 +1,12 @@
 //! The names in answer lines.
 
-ghost use Rattle.std.specs.Prelude.{◌≡◌};
-ghost use Rattle.answer_text.specs.Names.{dropped_name, plan_fault_name, plan_fault_number, refused_name, refused_number};
+ghost use Rattle.std.specs.Prelude.{◌≡◌, option_map};
+ghost use Rattle.answer_text.specs.Names.{dropped_name, plan_fault_name, plan_fault_number, refused_name, refused_number, map_fault_name, queue_fault_name, gate_fault_name, tc_fault_name, tc_fault_word, tc_fault_place};
 
 use abstract_port::{Dropped, Refused};
-use gate_list::PlanFault;
+use class_map::{MapFault, QueueFault};
+use gate_list::{GateFault, PlanFault};
+use tc_reader::TcFault;
 
 /// The name of the reason why a frame was dropped.
 pub fn dropped_name(why: Dropped) -> &'static [u8]
@@ -62,5 +64,74 @@ pub fn refused_number(why: Refused) -> Option<u128>
         Refused::SduTooLarge(class) => Some(u128::from(class)),
         Refused::Schedule(fault) => plan_fault_number(fault),
         Refused::Busy(lead_moment) => Some(lead_moment),
+    }
+}
+
+fn map_fault_name(fault: MapFault) -> &'static [u8]
+    ensures { result.now ≡ map_fault_name fault }
+{
+    match fault {
+        MapFault::BadClassCount => b"BadClassCount",
+        MapFault::TooManyPriorities => b"TooManyPriorities",
+        MapFault::ClassOutOfRange => b"ClassOutOfRange",
+    }
+}
+
+fn queue_fault_name(fault: QueueFault) -> &'static [u8]
+    ensures { result.now ≡ queue_fault_name fault }
+{
+    match fault {
+        QueueFault::QueueCount => b"QueueCount",
+        QueueFault::EmptyQueue => b"EmptyQueue",
+        QueueFault::QueueOverlap => b"QueueOverlap",
+    }
+}
+
+fn gate_fault_name(fault: GateFault) -> &'static [u8]
+    ensures { result.now ≡ gate_fault_name fault }
+{
+    match fault {
+        GateFault::NoEntries => b"NoEntries",
+        GateFault::TooManyEntries => b"TooManyEntries",
+        GateFault::ZeroInterval => b"ZeroInterval",
+    }
+}
+
+/// The name of the reason why a line is no command.
+pub fn tc_fault_name(fault: TcFault) -> &'static [u8]
+    ensures { result.now ≡ tc_fault_name fault }
+{
+    match fault {
+        TcFault::NotTaprio => b"NotTaprio",
+        TcFault::MissingWord(_) => b"MissingWord",
+        TcFault::UnknownOption(_) => b"UnknownOption",
+        TcFault::Repeated(_) => b"Repeated",
+        TcFault::BadNumber(_) => b"BadNumber",
+        TcFault::Unsupported(_) => b"Unsupported",
+        TcFault::Map(map_fault) => map_fault_name(map_fault),
+        TcFault::Ranges(queue_fault) => queue_fault_name(queue_fault),
+        TcFault::Gates(gate_fault) => gate_fault_name(gate_fault),
+    }
+}
+
+/// The option word that stands behind that name, if one does.
+pub fn tc_fault_word(fault: TcFault) -> Option<&'static [u8]>
+    ensures { option_map (λ word. word.now) result ≡ tc_fault_word fault }
+{
+    match fault {
+        TcFault::MissingWord(option) => Some(option.word()),
+        TcFault::Repeated(option) => Some(option.word()),
+        TcFault::Unsupported(option) => Some(option.word()),
+        _ => None,
+    }
+}
+
+/// The place that stands behind that name, if one does.
+pub fn tc_fault_place(fault: TcFault) -> Option<u128>
+    ensures { result ≡ tc_fault_place fault }
+{
+    match fault {
+        TcFault::UnknownOption(place) | TcFault::BadNumber(place) => Some(place as u128),
+        _ => None,
     }
 }

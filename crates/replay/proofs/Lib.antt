@@ -2,4 +2,5 @@ mod AnswerLaws
 mod ClockLaws
 mod StartsLaws
 mod LeftLaws
+mod ReaderLaws
 mod Going

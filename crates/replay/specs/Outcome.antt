@@ -4,6 +4,8 @@ use Rattle.std.specs.Io.KnownBytes.{Appends}
 use Rattle.wire_time.specs.Moment.{greatest_moment}
 use Rattle.port.specs.declared.PortFault.TheVariants as PortFaults
 use Rattle.abstract_port.specs.AbstractPort.{AbstractPort, new_port}
+use Rattle.abstract_port.specs.declared.Command.{Command}
+use Rattle.tc_reader.specs.declared.fault.TcFault.{TcFault}
 use Rattle.answer_text.specs.Writes.{AppendsFront}
 use Rattle.line_reader.specs.Script.{Script, End, Broken, Line, script_of}
 use Rattle.line_reader.specs.declared.lines.Limit.{Limit}
@@ -55,14 +57,14 @@ then_request number (Ok None) p rest = rest p
 then_request number (Ok (Some request)) p rest = after_text (responses request p).0 (rest (responses request p).1)
 
 -- the lines to come, from a port
-abbrev pub outcome_from : Option ℕ → Script → AbstractPort → Outcome
-outcome_from until End p = record { text = ending_text until p; fault = None }
-outcome_from until (Broken number limit) p = record { text = []; fault = Some (number, limit_fault limit) }
-outcome_from until (Line number octets rest) p = then_request number (request_of octets) p (outcome_from until rest)
+abbrev pub outcome_from : (List (List ℕ) → Result Command TcFault) → Option ℕ → Script → AbstractPort → Outcome
+outcome_from read until End p = record { text = ending_text until p; fault = None }
+outcome_from read until (Broken number limit) p = record { text = []; fault = Some (number, limit_fault limit) }
+outcome_from read until (Line number octets rest) p = then_request number (request_of read octets) p (outcome_from read until rest)
 
 -- the octets of an input, on a new port
-abbrev pub outcome_of : Settings → List ℕ → Outcome
-outcome_of s input = outcome_from s.until (script_of input) (new_port s.rate s.mtu s.room)
+abbrev pub outcome_of : (List (List ℕ) → Result Command TcFault) → Settings → List ℕ → Outcome
+outcome_of read s input = outcome_from read s.until (script_of input) (new_port s.rate s.mtu s.room)
 
 -- no refusal of settings
 abbrev pub IsInputFault : {T : Type 0} → Result T ReplayFault → Type 0

@@ -1,11 +1,15 @@
 -- What a line of a script says.
-use Rattle.std.specs.Prelude.{◌==◌, ◌^◌, ◌-◌, nat_lt, List, ℕ, Bool, true, false, [], ◌∷◌, Option, Some, None, Result, Ok, Err, codes, if◌then◌else◌}
+use Rattle.std.specs.Prelude.{◌==◌, ◌^◌, ◌-◌, nat_lt, List, ℕ, Bool, true, false, [], ◌∷◌, Option, Some, None, Result, Ok, Err, MatchResult, codes, if◌then◌else◌}
 use Rattle.std.specs.Str.{bytes_eq}
 use Rattle.wire_time.specs.Moment.{greatest_moment}
+use Rattle.abstract_port.specs.declared.Command.{Command}
+use Rattle.tc_reader.specs.Grammar.{IsCommand}
+use Rattle.tc_reader.specs.Lines.{HasFault}
+use Rattle.tc_reader.specs.declared.fault.TcFault.{TcFault}
 use Rattle.words.specs.Words.{words_of}
 use Rattle.words.specs.Numbers.{number_in}
 use Rattle.replay.specs.declared.reading.Request.{Request}
-use Rattle.replay.specs.declared.reading.Request.TheVariants.{Arrive, Clock, Query, Count}
+use Rattle.replay.specs.declared.reading.Request.TheVariants.{Arrive, Clock, Query, Count, Install, NoCommand}
 use Rattle.replay.specs.declared.faults.ScriptFault.{ScriptFault}
 use Rattle.replay.specs.declared.faults.ScriptFault.TheVariants.{UnknownLine, WordCount, BadNumber, ClockTooLate}
 
@@ -53,6 +57,15 @@ count_of [] = Err WordCount
 count_of (class ∷ []) = count_at (number_in 10 7 class)
 count_of (class ∷ more ∷ ws) = Err WordCount
 
+-- what lines that begin with tc are: the command that the grammar has, or the first fault. There is one such reader, since a
+-- line has just one of them.
+abbrev pub IsReader : (List (List ℕ) → Result Command TcFault) → Type 0
+IsReader read = (line : List (List ℕ)) → MatchResult (read line) (IsCommand line) (HasFault line)
+
+abbrev pub tc_request : Result Command TcFault → Request
+tc_request (Ok command) = Install command
+tc_request (Err fault) = NoCommand fault
+
 abbrev pub is_comment : List ℕ → Bool
 is_comment [] = false
 is_comment (b ∷ bs) = b == 35
@@ -62,15 +75,16 @@ said (Ok request) = Ok (Some request)
 said (Err fault) = Err fault
 
 -- what the words of a line say, by the first of them; a line without words and a comment say nothing
-abbrev pub request_of_words : List (List ℕ) → Result (Option Request) ScriptFault
-request_of_words [] = Ok None
-request_of_words (w ∷ ws) =
+abbrev pub request_of_words : (List (List ℕ) → Result Command TcFault) → List (List ℕ) → Result (Option Request) ScriptFault
+request_of_words read [] = Ok None
+request_of_words read (w ∷ ws) =
     if is_comment w then Ok None
     else if bytes_eq w (codes "clock") then said (clock_of ws)
     else if bytes_eq w (codes "frame") then said (frame_of ws)
     else if bytes_eq w (codes "query") then said (query_of ws)
     else if bytes_eq w (codes "count") then said (count_of ws)
+    else if bytes_eq w (codes "tc") then Ok (Some (tc_request (read (w ∷ ws))))
     else Err UnknownLine
 
-abbrev pub request_of : List ℕ → Result (Option Request) ScriptFault
-request_of line = request_of_words (words_of line)
+abbrev pub request_of : (List (List ℕ) → Result Command TcFault) → List ℕ → Result (Option Request) ScriptFault
+request_of read line = request_of_words read (words_of line)

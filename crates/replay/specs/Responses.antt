@@ -1,15 +1,15 @@
 -- The text of what the abstract port answers to the lines of a script, and at its end.
-use Rattle.std.specs.Prelude.{◌+◌, ◌==◌, ◌||◌, nat_lt, Bool, List, ℕ, zero, suc, [], ◌++◌, length, map, Option, Some, None, if◌then◌else◌}
+use Rattle.std.specs.Prelude.{◌+◌, ◌==◌, ◌||◌, nat_lt, Bool, List, ℕ, zero, suc, [], ◌∷◌, ◌++◌, length, map, Option, Some, None, if◌then◌else◌}
 use Rattle.std.specs.List.{flat_map}
 use Rattle.wire_time.specs.Moment.{greatest_moment}
-use Rattle.abstract_port.specs.AbstractPort.{AbstractPort, queue_of, starts_until}
-use Rattle.abstract_port.specs.Answers.{answers_to}
+use Rattle.abstract_port.specs.AbstractPort.{AbstractPort, installs, queue_of, starts_until}
+use Rattle.abstract_port.specs.Answers.{answers_to, command_answer}
 use Rattle.abstract_port.specs.declared.Answer.{Answer}
 use Rattle.abstract_port.specs.declared.Answer.TheVariants as Answered
 use Rattle.abstract_port.specs.declared.Event.TheVariants as Events
-use Rattle.answer_text.specs.Lines.{answer_lines, left_line}
+use Rattle.answer_text.specs.Lines.{answer_lines, left_line, tc_fault_line}
 use Rattle.replay.specs.declared.reading.Request.{Request}
-use Rattle.replay.specs.declared.reading.Request.TheVariants.{Arrive, Clock, Query, Count}
+use Rattle.replay.specs.declared.reading.Request.TheVariants.{Arrive, Clock, Query, Count, Install, NoCommand}
 
 -- the lines of answers, one after another
 abbrev pub lines_of : List Answer → List ℕ
@@ -33,6 +33,8 @@ responses (Arrive frame) p = texts (answers_to (Events.Arrive frame) p)
 responses (Clock m) p = texts (answers_to (Events.Clock m) p)
 responses Query p = texts (answers_to Events.Query p)
 responses (Count class) p = texts (answers_to (Events.Count class) p)
+responses (Install command) p = let answer = installs p command in texts (command_answer answer.0 ∷ [], answer.1)
+responses (NoCommand fault) p = (tc_fault_line fault, p)
 
 -- how many frames a class still has, where it has some
 abbrev pub left_text : ℕ → ℕ → List ℕ

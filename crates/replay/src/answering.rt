@@ -2,16 +2,16 @@
 
 ghost use Rattle.std.specs.Prelude.{◌≡◌, ◌≤◌, ◌<◌, ◌∷◌, [], length, false, OnOk};
 ghost use Rattle.wire_time.specs.Moment.{greatest_moment};
-ghost use Rattle.abstract_port.specs.AbstractPort.{queue_of, settled, starts_until};
-ghost use Rattle.abstract_port.specs.Answers.{answers_to};
+ghost use Rattle.abstract_port.specs.AbstractPort.{installs, queue_of, settled, starts_until};
+ghost use Rattle.abstract_port.specs.Answers.{answers_to, command_answer};
 ghost use Rattle.abstract_port.specs.Sound.{IsSoundPort};
 ghost use Rattle.abstract_port.specs.declared.Event.TheVariants as Events;
 ghost use Rattle.answer_text.specs.Writes.{Writes};
 ghost use Rattle.replay.specs.Responses.{is_backward, start_lines, texts, responses, left_text, left_lines, ending, ending_text};
 
 use crate::reading::Request;
-use abstract_port::Answer;
-use answer_text::{WriteFault, put_answer, put_left};
+use abstract_port::{Answer, Command};
+use answer_text::{WriteFault, put_answer, put_left, put_tc_fault};
 use port::{MAX_MOMENT, Port};
 use std::alloc::Allocator;
 use std::io::Write;
@@ -102,6 +102,17 @@ fn count<A: Allocator>(port: &RunningPort<A>, class: u8) -> Answer
     }
 }
 
+fn install<A: Allocator>(port: &mut RunningPort<A>, command: &Command) -> Answer
+    ensures answer { result ≡ command_answer (installs port.old.port command.now).0 }
+    ensures port { port.new.port ≡ settled (installs port.old.port command.now).1 }
+    ensures sound { IsSoundPort port.new.port }
+{
+    match port.install(command) {
+        Ok(change) => Answer::Installed(change),
+        Err(why) => Answer::Refused(why),
+    }
+}
+
 /// Takes what a line says, and writes the answers. At a fault a front of them is written.
 pub fn respond<A: Allocator, W: Write>(
     port: &mut RunningPort<A>,
@@ -127,6 +138,11 @@ pub fn respond<A: Allocator, W: Write>(
             let answer = count(port, class);
             put_answer(writer, &answer)
         }
+        Request::Install(command) => {
+            let answer = install(port, &command);
+            put_answer(writer, &answer)
+        }
+        Request::NoCommand(fault) => put_tc_fault(writer, fault),
     }
 }
 

@@ -1,21 +1,29 @@
 //! What the lines of a script say.
 
-ghost use Rattle.std.specs.Prelude.{◌≡◌, ◌≤◌, ◌<◌, ◌^◌, ◌-◌};
+ghost use Rattle.std.specs.Prelude.{◌≡◌, ◌≤◌, ◌<◌, ◌^◌, ◌-◌, ℕ, List, Result};
+ghost use Rattle.abstract_port.specs.declared.Command.{Command};
+ghost use Rattle.tc_reader.specs.declared.fault.TcFault.{TcFault};
+ghost use Rattle.words.specs.Words.{words_of};
 ghost use Rattle.words.specs.WordsLeft.{words_left};
-ghost use Rattle.replay.specs.Requests.{clock_of, count_of, frame_of, frame_of_words, query_of, request_of};
+ghost use Rattle.replay.specs.Requests.{clock_of, count_of, frame_of, frame_of_words, query_of, tc_request, request_of, IsReader};
 
 use crate::faults::ScriptFault;
+use abstract_port::Command;
 use port::MAX_MOMENT;
+use tc_reader::laws::one_reading;
+use tc_reader::{TcFault, read_command};
 use wire_time::Frame;
 use words::{Words, number};
 
 /// What a line says.
-#[derive(Clone, Copy, Debug, PartialEq, Eq)]
+#[derive(Drop)]
 pub enum Request {
     Arrive(Frame),
     Clock(u128),
     Query,
     Count(u8),
+    Install(Command),
+    NoCommand(TcFault),
 }
 
 fn read_clock(mut words: Words<'_>) -> Result<Request, ScriptFault>
@@ -104,9 +112,19 @@ fn read_count(mut words: Words<'_>) -> Result<Request, ScriptFault>
     }
 }
 
+fn read_tc(line: &[u8]) -> Request
+    ensures { (read : List (List ℕ) → Result Command TcFault) → IsReader read → result ≡ tc_request (read (words_of line.now)) }
+{
+    one_reading();
+    match read_command(line) {
+        Ok(command) => Request::Install(command),
+        Err(fault) => Request::NoCommand(fault),
+    }
+}
+
 /// What a line says, or None where it is skipped.
 pub fn read_request(line: &[u8]) -> Result<Option<Request>, ScriptFault>
-    ensures { result ≡ request_of line.now }
+    ensures { (read : List (List ℕ) → Result Command TcFault) → IsReader read → result ≡ request_of read line.now }
 {
     let mut words = Words::new(line);
     let Some(first) = words.next_word() else {
@@ -123,6 +141,8 @@ pub fn read_request(line: &[u8]) -> Result<Option<Request>, ScriptFault>
         read_query(words)?
     } else if first == b"count".as_slice() {
         read_count(words)?
+    } else if first == b"tc".as_slice() {
+        read_tc(line)
     } else {
         return Err(ScriptFault::UnknownLine);
     };

@@ -1,6 +1,9 @@
 //! Runs a script.
 
-ghost use Rattle.std.specs.Prelude.{◌≡◌, IfSome, None};
+ghost use Rattle.std.specs.Prelude.{◌≡◌, ℕ, List, Result, IfSome, None};
+ghost use Rattle.abstract_port.specs.declared.Command.{Command};
+ghost use Rattle.tc_reader.specs.declared.fault.TcFault.{TcFault};
+ghost use Rattle.replay.specs.Requests.{IsReader};
 ghost use Rattle.abstract_port.specs.AbstractPort.{new_port};
 ghost use Rattle.replay.specs.Outcome.{settings_fault, outcome_from, outcome_of, IsInputFault, Runs};
 ghost use Rattle.line_reader.specs.LineReader.{script_left};
@@ -41,8 +44,8 @@ fn run_lines<A: Allocator, B: Allocator, R: Read + Drop, W: Write>(
     writer: &mut W,
 ) -> Result<(), ReplayFault>
     ensures only { IsInputFault result }
-    ensures script { IfSome (script_left R.remaining lines.old) (λ script.
-        Runs result (W.contents writer.old) (W.contents writer.new) (outcome_from until script port.old.port)) }
+    ensures script { (read : List (List ℕ) → Result Command TcFault) → IsReader read → IfSome (script_left R.remaining lines.old) (λ script.
+        Runs result (W.contents writer.old) (W.contents writer.new) (outcome_from read until script port.old.port)) }
 {
     settling();
     let _now = port.now();
@@ -70,8 +73,8 @@ pub fn run_script<A: Allocator, R: Read + Drop, W: Write>(
 ) -> Result<(), ReplayFault>
     ensures refused { IfSome (settings_fault settings) (λ fault. (result ≡ Err fault) × (writer.new ≡ writer.old)) }
     ensures only { settings_fault settings ≡ None → IsInputFault result }
-    ensures script { settings_fault settings ≡ None → IfSome (R.remaining reader) (λ input.
-        Runs result (W.contents writer.old) (W.contents writer.new) (outcome_of settings input)) }
+    ensures script { settings_fault settings ≡ None → (read : List (List ℕ) → Result Command TcFault) → IsReader read → IfSome (R.remaining reader) (λ input.
+        Runs result (W.contents writer.old) (W.contents writer.new) (outcome_of read settings input)) }
 {
     if let Some(fault) = settings_fault(&settings) {
         return Err(fault);

@@ -65,7 +65,7 @@ impl Write for Narrow {
     }
 }
 
-const SCRIPT: &[u8] = b"frame 1 0 60\nclock 672000\n";
+const SCRIPT: &[u8] = b"frame 1 0 60\nclock 1000000\n";
 
 const ANSWERS: &[u8] = b"queued 1 class 0\nstart 1 class 0 at 0 end 672000\n";
 
@@ -81,10 +81,10 @@ fn usual() -> Settings {
 /// Scripts, the moment to run to, and what is answered, whole.
 #[test]
 fn answers_scripts(rt: HostRuntime) -> Result<(), Fail> {
-    let rows: [(&[u8], Option<u128>, &[u8]); 8] = [
-        (b"frame 1 0 60\nclock 1000000\n", None, ANSWERS),
+    let rows: [(&[u8], Option<u128>, &[u8]); 9] = [
+        (SCRIPT, None, ANSWERS),
         (
-            b"frame 1 0 14\nframe 2 0 59\nframe 3 0 13\nclock 1400000\n",
+            b"frame 1 0 14\nframe 2 0 59\nframe 3 0 13\nclock 2000000\n",
             None,
             b"queued 1 class 0\nqueued 2 class 0\ndropped 3 Runt\nstart 1 class 0 at 0 end 672000\nstart 2 class 0 at 672000 end 1344000\n",
         ),
@@ -105,6 +105,7 @@ fn answers_scripts(rt: HostRuntime) -> Result<(), Fail> {
             None,
             b"backward\nreport now 5 mask ff no-class 0\nclasses none\nin-force none\npending none\nannounced none\n",
         ),
+        (b"clock 9223372036854775807000", None, b""),
         (
             b"frame 1 0 60",
             Some(1),
@@ -114,6 +115,39 @@ fn answers_scripts(rt: HostRuntime) -> Result<(), Fail> {
     for (script, until, answers) in rows {
         let mut got = Vec::new(rt.alloc());
         run_script(rt.alloc(), script, &mut got, Settings { until, ..usual() })?;
+        assert_eq!(rt; got.as_slice(), answers);
+    }
+    Ok(())
+}
+
+/// A schedule is installed, shown, kept from being replaced at once, and deleted; a gate closes before a frame ends.
+#[test]
+fn answers_commands(rt: HostRuntime) -> Result<(), Fail> {
+    let rows: [(&[u8], &[u8]); 5] = [
+        (
+            b"tc qdisc replace dev eth0 root taprio num_tc 8 map 0 1 2 3 4 5 6 7 base-time 0 \\\n sched-entry S 01 300000 sched-entry S 02 300000 sched-entry S 04 400000\nquery",
+            b"installed change 1000000000\nreport now 0 mask ff no-class 0\nclasses 8 map 0 1 2 3 4 5 6 7 0 0 0 0 0 0 0 0 queues 1@0 1@1 1@2 1@3 1@4 1@5 1@6 1@7\nin-force none\npending none\nannounced change 1000000000 base 0 cycle 1000000 extension 0 entries 3\n",
+        ),
+        (
+            b"tc qdisc replace dev eth0 root taprio num_tc 1 map 0 sched-entry S 01 300000\ntc qdisc replace dev eth0 root taprio sched-entry S 01 300000\nclock 1000000000\ntc qdisc del dev eth0 root\nclock 1012336000\nquery",
+            b"installed change 300000000\nrefused Busy 12336000\ninstalled change 1012336000\nreport now 1012336000 mask ff no-class 0\nclasses 1 map 0 0 0 0 0 0 0 0 0 0 0 0 0 0 0 0 queues 1@0\nin-force open change 1012336000\npending none\nannounced none\n",
+        ),
+        (
+            b"tc qdisc replace dev eth0 root taprio num_tc 8 map 0 1 2 3 4 5 6 7 base-time 20000 sched-entry S 81 12303 sched-entry S 00 100000\nclock 20000000\nframe 1 7 1514\nframe 2 0 60\nclock 21000000",
+            b"installed change 20000000\nqueued 1 class 7\nqueued 2 class 0\nstart 2 class 0 at 20000000 end 20672000\nleft class 7 frames 1\n",
+        ),
+        (
+            b"tc qdisc replace dev eth0 root taprio sched-entry S 01 300000\ntc qdisc replace dev eth0 root taprio num_tc 1 map 0 sched-entry S 01 479\ntc qdisc replace dev eth0 root taprio num_tc 1 map 0 max-sdu 1501 sched-entry S 01 480",
+            b"refused MapMissing\nrefused IntervalTooShort 0\nrefused SduTooLarge 0\n",
+        ),
+        (
+            b"tc qdisc replace dev eth0 root taprio base-time 0\ntc qdisc replace dev eth0 root taprio sched-entry S 01\ntc qdisc replace dev eth0 root taprio sched-entry S 1g 300000\ntc qdisc add dev eth0 root mqprio",
+            b"tc-fault NoEntries\ntc-fault MissingWord sched-entry\ntc-fault BadNumber 9\ntc-fault NotTaprio\n",
+        ),
+    ];
+    for (script, answers) in rows {
+        let mut got = Vec::new(rt.alloc());
+        run_script(rt.alloc(), script, &mut got, usual())?;
         assert_eq!(rt; got.as_slice(), answers);
     }
     Ok(())
@@ -159,7 +193,7 @@ fn ends_at_faults(rt: HostRuntime) {
             ScriptFault::UnknownLine,
         ),
         (
-            b"clock 0\nclock 9223372036854775807001",
+            b"clock 9223372036854775807000\nclock 9223372036854775807001",
             b"",
             2,
             ScriptFault::ClockTooLate,
@@ -242,7 +276,7 @@ fn reads_pieces(rt: HostRuntime) -> Result<(), Fail> {
         };
         let mut got = Vec::new(rt.alloc());
         let result = run_script(rt.alloc(), reader, &mut got, usual());
-        if calls_left > 26 {
+        if calls_left > 27 {
             result?;
             assert_eq!(rt; got.as_slice(), ANSWERS);
         } else {
