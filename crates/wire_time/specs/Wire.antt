@@ -1,5 +1,5 @@
 -- Time on the wire (IEEE Std 802.3: preamble 7, start delimiter 1, check sequence 4, gap 12 octets; 60 octets at least).
-use Rattle.std.specs.Prelude.{ℕ, ◌+◌, ◌-◌, ◌*◌, ◌/◌, ◌==◌, max, nat_le, if◌then◌else◌, List, [], ◌∷◌, Bool, Option, Some, None, Result, Ok, Err}
+use Rattle.std.specs.Prelude.{ℕ, ◌+◌, ◌-◌, ◌*◌, ◌/◌, ◌==◌, max, nat_le, if◌then◌else◌, List, [], ◌∷◌, Option, Some, None, Result, Ok, Err}
 use Rattle.std.specs.List.{list_any}
 use Rattle.wire_time.specs.declared.Frame.{Frame}
 use Rattle.wire_time.specs.declared.RateFault.{RateFault}

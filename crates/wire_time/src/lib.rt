@@ -1,7 +1,7 @@
 //! Line rates, frames, and how long a frame occupies the wire (IEEE Std 802.3).
 #![tactic(auto)]
 
-ghost use Rattle.std.specs.Prelude.{◌≡◌, ◌<◌, ◌≤◌};
+ghost use Rattle.std.specs.Prelude.{◌≡◌, ◌<◌, ◌≤◌, ℕ, Some};
 ghost use Rattle.wire_time.specs.Moment.{greatest_moment, greatest_lead};
 ghost use Rattle.wire_time.specs.Wire.{lead_of, occupancy_of, rate_of, sdu_of};
 
@@ -100,5 +100,15 @@ pub fn sdu(frame: &Frame) -> Option<u32>
     ensures { result ≡ sdu_of frame.now }
 {
     let header = if frame.tagged { 18 } else { 14 };
-    if frame.len >= header { Some(frame.len - header) } else { None }
+    if frame.len >= header {
+        Some(frame.len - header)
+    } else {
+        None
+    }
 }
+
+/// Nothing to run: its contract is the law that no frame whose service data unit is within the mtu occupies the wire for
+/// longer than the lead.
+pub fn lead_law()
+    ensures { (ps mtu : ℕ) (f : Frame) (sdu : ℕ) → 42 ≤ mtu → sdu_of f ≡ Some sdu → sdu ≤ mtu → occupancy_of ps f.len ≤ lead_of ps mtu }
+{}

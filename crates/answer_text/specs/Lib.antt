@@ -1,0 +1,5 @@
+pub mod Writes
+pub mod Part
+pub mod Names
+pub mod Reports
+pub mod Lines

@@ -1,0 +1,64 @@
+-- The answer lines.
+use Rattle.std.specs.Prelude.{List, ℕ, [], ◌∷◌, ◌++◌, Option, Some, None, decimal, codes, slice_index}
+use Rattle.std.specs.List.{concat}
+use Rattle.abstract_port.specs.declared.Answer.{Answer}
+use Rattle.abstract_port.specs.declared.Answer.TheVariants as Answered
+use Rattle.abstract_port.specs.declared.Counters.{Counters}
+use Rattle.abstract_port.specs.declared.Dropped.{Dropped}
+use Rattle.abstract_port.specs.declared.Refused.{Refused}
+use Rattle.abstract_port.specs.declared.Start.{Start}
+use Rattle.answer_text.specs.Names.{dropped_name, refused_name, refused_number}
+use Rattle.answer_text.specs.Reports.{report_lines}
+
+abbrev pub queued_line : ℕ → ℕ → List ℕ
+queued_line id class = concat (codes "queued " ∷ decimal id ∷ codes " class " ∷ decimal class ∷ codes "\n" ∷ [])
+
+abbrev pub dropped_line : ℕ → Dropped → List ℕ
+dropped_line id why = concat (codes "dropped " ∷ decimal id ∷ codes " " ∷ dropped_name why ∷ codes "\n" ∷ [])
+
+abbrev pub installed_line : ℕ → List ℕ
+installed_line change = concat (codes "installed change " ∷ decimal change ∷ codes "\n" ∷ [])
+
+abbrev pub number_text : Option ℕ → List ℕ
+number_text None = []
+number_text (Some n) = codes " " ++ decimal n
+
+abbrev pub refused_line : Refused → List ℕ
+refused_line why = concat (codes "refused " ∷ refused_name why ∷ number_text (refused_number why) ∷ codes "\n" ∷ [])
+
+abbrev pub start_line : Start → List ℕ
+start_line s = concat (
+    codes "start " ∷ decimal s.id
+    ∷ codes " class " ∷ decimal s.class
+    ∷ codes " at " ∷ decimal s.at
+    ∷ codes " end " ∷ decimal s.«end»
+    ∷ codes "\n" ∷ [])
+
+abbrev pub count_line : ℕ → Counters → List ℕ
+count_line class c = concat (
+    codes "count class " ∷ decimal class
+    ∷ codes " accepted " ∷ decimal c.accepted
+    ∷ codes " sent " ∷ decimal c.sent
+    ∷ codes " octets " ∷ decimal c.sent_octets
+    ∷ codes " runt " ∷ decimal (slice_index c.dropped 0)
+    ∷ codes " too-long " ∷ decimal (slice_index c.dropped 1)
+    ∷ codes " over-sdu " ∷ decimal (slice_index c.dropped 2)
+    ∷ codes " full " ∷ decimal (slice_index c.dropped 3)
+    ∷ codes " waiting " ∷ decimal c.waiting
+    ∷ codes "\n" ∷ [])
+
+-- the lines of an answer; a count of no class has none
+abbrev pub answer_lines : Answer → List ℕ
+answer_lines (Answered.Queued id class) = queued_line id class
+answer_lines (Answered.Dropped id why) = dropped_line id why
+answer_lines (Answered.Installed change) = installed_line change
+answer_lines (Answered.Refused why) = refused_line why
+answer_lines (Answered.Start start) = start_line start
+answer_lines Answered.Backward = codes "backward\n"
+answer_lines (Answered.Report report) = report_lines report
+answer_lines (Answered.Counters class counters) = count_line class counters
+answer_lines Answered.BadClass = []
+
+-- how many frames a class still has at the end
+abbrev pub left_line : ℕ → ℕ → List ℕ
+left_line class frames = concat (codes "left class " ∷ decimal class ∷ codes " frames " ∷ decimal frames ∷ codes "\n" ∷ [])

@@ -1,0 +1,158 @@
+//! The lines of answers.
+
+ghost use Rattle.std.specs.Prelude.{◌≡◌};
+ghost use Rattle.answer_text.specs.Lines.{queued_line, dropped_line, installed_line, refused_line, start_line, count_line, left_line, answer_lines};
+ghost use Rattle.answer_text.specs.Writes.{Writes};
+
+use crate::names::{dropped_name, refused_name, refused_number};
+use crate::reports::put_report;
+use crate::writing::{Part, WriteFault, put, put_parts};
+use abstract_port::{Answer, Counters, Dropped, Refused, Start};
+use std::io::Write;
+
+fn put_queued<W: Write>(writer: &mut W, id: u64, class: u8) -> Result<(), WriteFault>
+    ensures { Writes result (W.contents writer.old) (W.contents writer.new) (queued_line id class) }
+{
+    put_parts(
+        writer,
+        &[
+            Part::Text(b"queued "),
+            Part::Number(u128::from(id)),
+            Part::Text(b" class "),
+            Part::Number(u128::from(class)),
+            Part::Text(b"\n"),
+        ],
+    )
+}
+
+fn put_dropped<W: Write>(writer: &mut W, id: u64, why: Dropped) -> Result<(), WriteFault>
+    ensures { Writes result (W.contents writer.old) (W.contents writer.new) (dropped_line id why) }
+{
+    put_parts(
+        writer,
+        &[
+            Part::Text(b"dropped "),
+            Part::Number(u128::from(id)),
+            Part::Text(b" "),
+            Part::Text(dropped_name(why)),
+            Part::Text(b"\n"),
+        ],
+    )
+}
+
+fn put_installed<W: Write>(writer: &mut W, change: u128) -> Result<(), WriteFault>
+    ensures { Writes result (W.contents writer.old) (W.contents writer.new) (installed_line change) }
+{
+    put_parts(
+        writer,
+        &[
+            Part::Text(b"installed change "),
+            Part::Number(change),
+            Part::Text(b"\n"),
+        ],
+    )
+}
+
+fn put_refused<W: Write>(writer: &mut W, why: Refused) -> Result<(), WriteFault>
+    ensures { Writes result (W.contents writer.old) (W.contents writer.new) (refused_line why) }
+{
+    let name = refused_name(why);
+    match refused_number(why) {
+        Some(number) => put_parts(
+            writer,
+            &[
+                Part::Text(b"refused "),
+                Part::Text(name),
+                Part::Text(b" "),
+                Part::Number(number),
+                Part::Text(b"\n"),
+            ],
+        ),
+        None => put_parts(
+            writer,
+            &[Part::Text(b"refused "), Part::Text(name), Part::Text(b"\n")],
+        ),
+    }
+}
+
+fn put_start<W: Write>(writer: &mut W, start: &Start) -> Result<(), WriteFault>
+    ensures { Writes result (W.contents writer.old) (W.contents writer.new) (start_line start.now) }
+{
+    put_parts(
+        writer,
+        &[
+            Part::Text(b"start "),
+            Part::Number(u128::from(start.id)),
+            Part::Text(b" class "),
+            Part::Number(u128::from(start.class)),
+            Part::Text(b" at "),
+            Part::Number(start.at),
+            Part::Text(b" end "),
+            Part::Number(start.end),
+            Part::Text(b"\n"),
+        ],
+    )
+}
+
+fn put_counters<W: Write>(writer: &mut W, class: u8, counters: &Counters) -> Result<(), WriteFault>
+    ensures { Writes result (W.contents writer.old) (W.contents writer.new) (count_line class counters.now) }
+{
+    let [runt, too_long, over_sdu, full] = counters.dropped;
+    put_parts(
+        writer,
+        &[
+            Part::Text(b"count class "),
+            Part::Number(u128::from(class)),
+            Part::Text(b" accepted "),
+            Part::Number(u128::from(counters.accepted)),
+            Part::Text(b" sent "),
+            Part::Number(u128::from(counters.sent)),
+            Part::Text(b" octets "),
+            Part::Number(u128::from(counters.sent_octets)),
+            Part::Text(b" runt "),
+            Part::Number(u128::from(runt)),
+            Part::Text(b" too-long "),
+            Part::Number(u128::from(too_long)),
+            Part::Text(b" over-sdu "),
+            Part::Number(u128::from(over_sdu)),
+            Part::Text(b" full "),
+            Part::Number(u128::from(full)),
+            Part::Text(b" waiting "),
+            Part::Number(u128::from(counters.waiting)),
+            Part::Text(b"\n"),
+        ],
+    )
+}
+
+/// Writes the lines of an answer. At a fault a front of them is written.
+pub fn put_answer<W: Write>(writer: &mut W, answer: &Answer) -> Result<(), WriteFault>
+    ensures { Writes result (W.contents writer.old) (W.contents writer.new) (answer_lines answer.now) }
+{
+    match answer {
+        Answer::Queued { id, class } => put_queued(writer, *id, *class),
+        Answer::Dropped { id, why } => put_dropped(writer, *id, *why),
+        Answer::Installed(change) => put_installed(writer, *change),
+        Answer::Refused(why) => put_refused(writer, *why),
+        Answer::Start(start) => put_start(writer, start),
+        Answer::Backward => put(writer, b"backward\n"),
+        Answer::Report(report) => put_report(writer, *report),
+        Answer::Counters { class, counters } => put_counters(writer, *class, counters),
+        Answer::BadClass => Ok(()),
+    }
+}
+
+/// Writes the line that says how many frames a class still has at the end. At a fault a front of it is written.
+pub fn put_left<W: Write>(writer: &mut W, class: u8, frames: u64) -> Result<(), WriteFault>
+    ensures { Writes result (W.contents writer.old) (W.contents writer.new) (left_line class frames) }
+{
+    put_parts(
+        writer,
+        &[
+            Part::Text(b"left class "),
+            Part::Number(u128::from(class)),
+            Part::Text(b" frames "),
+            Part::Number(u128::from(frames)),
+            Part::Text(b"\n"),
+        ],
+    )
+}

@@ -1,0 +1,4 @@
+pub mod Source
+pub mod Script
+pub mod LineReader
+pub mod Spelling

@@ -1,0 +1,43 @@
+-- The lines of a script, as its octets come.
+use Rattle.std.specs.Prelude.{◌+◌, ◌-◌, ◌==◌, ◌&&◌, ◌||◌, List, ℕ, [], ◌∷◌, ◌++◌, Bool, not, length, slice_index, if◌then◌else◌}
+use Rattle.line_reader.specs.declared.lines.Limit.{Limit}
+use Rattle.line_reader.specs.declared.lines.Limit.TheVariants.{LongLine, TooManyLines}
+
+-- the lines that are to come, each with the number of its first physical line, and how the script ends
+pub data Script : Type 0 where
+  End : Script
+  Broken : ℕ → Limit → Script
+  Line : ℕ → List ℕ → Script → Script
+
+-- where the reading stands: the octets of the line so far, the number of its first physical line, and the line feeds so far
+pub record Place : Type 0 where
+  pub octets : List ℕ
+  pub first : ℕ
+  pub breaks : ℕ
+
+-- before the line after so many physical lines
+abbrev pub fresh : ℕ → Place
+fresh breaks = record { octets = []; first = breaks + 1; breaks = breaks }
+
+-- a line feed after these octets joins the next physical line: they end with a backslash, or a backslash and CR
+abbrev pub joins : List ℕ → Bool
+joins octets = let n = length octets in
+    (slice_index octets (n - 1) == 92) || ((slice_index octets (n - 1) == 13) && (slice_index octets (n - 2) == 92))
+
+abbrev pub ends : List ℕ → ℕ → Bool
+ends octets b = (b == 10) && not (joins octets)
+
+abbrev pub breaks_after : ℕ → ℕ → ℕ
+breaks_after breaks b = if b == 10 then breaks + 1 else breaks
+
+abbrev pub script_from : Place → List ℕ → Script
+script_from p [] = if length p.octets == 0 then End else Line p.first p.octets End
+script_from p (b ∷ bs) =
+    if (length p.octets == 65536) && not (ends p.octets b) then Broken p.first LongLine else
+    (if p.breaks == 4000000 then Broken 4000001 TooManyLines else
+    (if ends p.octets b then Line p.first p.octets (script_from (fresh (p.breaks + 1)) bs) else
+    script_from (record { octets = p.octets ++ b ∷ []; first = p.first; breaks = breaks_after p.breaks b }) bs))
+
+-- the script that a whole input is
+abbrev pub script_of : List ℕ → Script
+script_of input = script_from (fresh 0) input

@@ -1,0 +1,72 @@
+//! The octets of a reader, one by one.
+
+ghost use Rattle.std.specs.Prelude.{◌≡◌, ◌≤◌, ◌<◌, ◌^◌, IsSome, IfOk, None, Ok, true, false, vec_len};
+
+use std::alloc::{AllocError, Allocator, Global};
+use std::io::Read;
+
+/// How many octets a read asks for.
+pub const CHUNK: usize = 4096;
+
+/// A read failed. It isn't tried again.
+#[derive(Clone, Copy, Debug, PartialEq, Eq)]
+pub struct ReadFault;
+
+/// A reader with a chunk of what it gave. Once it has given no octets it is at its end, and isn't asked again.
+#[derive(Drop)]
+pub struct Source<R, A: Allocator = Global> {
+    reader: R,
+    chunk: Vec<u8, A>,
+    at: usize,
+    filled: usize,
+    ended: bool,
+    ghost ordered: { at ≤ filled },
+    ghost within: { filled ≤ vec_len chunk },
+    ghost room: { vec_len chunk ≡ 4096 },
+    ghost over: { ended ≡ true → at ≡ filled },
+}
+
+impl<R: Read + Drop, A: Allocator> Source<R, A> {
+    ghost use Rattle.line_reader.specs.Source.{octets_left, TakesOctet};
+
+    /// Takes the room for a chunk, and reads nothing.
+    pub fn new(alloc: A, reader: R) -> Result<Source<R, A>, AllocError>
+        ensures left { IfOk result (λ s. octets_left R.remaining s ≡ R.remaining reader) }
+        ensures open { IfOk result (λ s. s.ended ≡ false) }
+    {
+        let chunk = vec![in alloc; 0u8; CHUNK]?;
+        Ok(Source {
+            reader,
+            chunk,
+            at: 0,
+            filled: 0,
+            ended: false,
+        })
+    }
+
+    /// The next octet, or None at the end, and from then on.
+    pub fn next_octet(&mut self) -> Result<Option<u8>, ReadFault>
+        ensures octet { TakesOctet (octets_left R.remaining self.old) result (octets_left R.remaining self.new) }
+        ensures none { result ≡ Ok None → self.new.ended ≡ true }
+        ensures some { IfOk result (λ o. IsSome o → (self.old.ended ≡ false) × (self.new.ended ≡ false)) }
+        ensures over { self.old.ended ≡ true → self.new.ended ≡ true }
+    {
+        if self.at == self.filled {
+            if self.ended {
+                return Ok(None);
+            }
+            let Ok(count) = self.reader.read(&mut self.chunk) else {
+                return Err(ReadFault);
+            };
+            self.at = 0;
+            self.filled = count;
+            if count == 0 {
+                self.ended = true;
+                return Ok(None);
+            }
+        }
+        let octet = self.chunk[self.at];
+        self.at += 1;
+        Ok(Some(octet))
+    }
+}

@@ -1,0 +1,5 @@
+mod AnswerLaws
+mod ClockLaws
+mod StartsLaws
+mod LeftLaws
+mod Going

@@ -1,0 +1,5 @@
+pub mod Settings
+pub mod Requests
+pub mod Responses
+pub mod Outcome
+pub mod Texts

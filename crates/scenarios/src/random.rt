@@ -1,0 +1,223 @@
+//! Small random histories and lists of events, on two implementations of the gates at once.
+
+ghost use Rattle.std.specs.Prelude.{◌≡◌, ◌≤◌, ◌<◌, ◌+◌};
+
+use crate::ports::plain_map;
+use abstract_port::{Answer, Change, Command, Event};
+use gate_list::{Entry, GateList, Schedule, Visits};
+use list_config::Gates;
+use port::Port;
+use std::alloc::{AllocError, Global};
+use wire_time::{Frame, Rate};
+
+/// Numbers that look random, from a seed.
+#[derive(Clone, Copy)]
+pub struct Numbers {
+    state: u64,
+}
+
+impl Numbers {
+    pub fn new(seed: u64) -> Numbers {
+        Numbers { state: seed }
+    }
+
+    /// The next number below 2^31.
+    fn draw(&mut self) -> u32
+        ensures { result < 2147483648 }
+    {
+        self.state = self
+            .state
+            .wrapping_mul(6364136223846793005)
+            .wrapping_add(1442695040888963407);
+        (self.state >> 33) as u32
+    }
+
+    /// The next number from `least` on, one of so many.
+    fn between(&mut self, least: u32, many: u32) -> u32
+        requires some { 0 < many }
+        requires low { least ≤ 1000000 }
+        requires few { many ≤ 1000000 }
+        ensures least { least ≤ result }
+        ensures below { result < least + many }
+    {
+        least + self.draw() % many
+    }
+
+    /// One to three entries of 4 to 12 nanoseconds.
+    fn list(&mut self) -> Option<GateList> {
+        let mut entries = [Entry {
+            mask: 0,
+            interval: 4,
+        }; 3];
+        for entry in entries.iter_mut() {
+            *entry = Entry {
+                mask: self.between(0, 256) as u8,
+                interval: self.between(4, 9),
+            };
+        }
+        let many = self.between(1, 3) as usize;
+        match GateList::new(&entries[..many]) {
+            Ok(list) => Some(list),
+            Err(_) => None,
+        }
+    }
+
+    /// A base time, a cycle and an extension, in nanoseconds.
+    fn times(&mut self) -> (u64, u64, u64) {
+        let cycle = match self.between(0, 3) {
+            0 => self.between(4, 17),
+            _ => 0,
+        };
+        (
+            u64::from(self.between(0, 100)),
+            u64::from(cycle),
+            u64::from(self.between(0, 30)),
+        )
+    }
+}
+
+/// The fastest rate, at which the shortest interval is 4 nanoseconds.
+fn fastest() -> Option<Rate> {
+    match Rate::from_mbps(100000) {
+        Ok(rate) => Some(rate),
+        Err(_) => None,
+    }
+}
+
+/// A random schedule, if it is one.
+fn schedule(numbers: &mut Numbers) -> Option<Schedule> {
+    let list = numbers.list()?;
+    let (base, cycle, extension) = numbers.times();
+    match Schedule::new(&list, base, cycle, extension, fastest()?) {
+        Ok(schedule) => Some(schedule),
+        Err(_) => None,
+    }
+}
+
+/// Gives both the same command, and whether they answer alike.
+fn commanded_alike<G: Gates, H: Gates>(first: &mut G, second: &mut H, numbers: &mut Numbers) -> bool
+    requires first { G.is_sound first.old }
+    requires second { H.is_sound second.old }
+    requires early { G.moment first.old ≤ 1000000000 }
+    requires same { H.moment second.old ≡ G.moment first.old }
+    ensures first { G.is_sound first.new }
+    ensures second { H.is_sound second.new }
+    ensures moment { G.moment first.new ≡ G.moment first.old }
+    ensures same { H.moment second.new ≡ G.moment first.new }
+{
+    let e = first.now() + 1 + u128::from(numbers.between(0, 9000));
+    if numbers.between(0, 5) == 0 {
+        return first.delete(e) == second.delete(e);
+    }
+    let mut again = *numbers;
+    let Some(one) = schedule(numbers) else {
+        return true;
+    };
+    let Some(other) = schedule(&mut again) else {
+        return true;
+    };
+    first.install(one, e) == second.install(other, e)
+}
+
+/// Whether both show the same mask and the same commands, and keep a class open for as long.
+fn shown_alike<G: Gates, H: Gates>(first: &G, second: &H, numbers: &mut Numbers) -> bool
+    requires first { G.is_sound first.now }
+    requires second { H.is_sound second.now }
+{
+    let class = numbers.between(0, 8) as u8;
+    let for_ps = u128::from(numbers.between(0, 30000));
+    let mut visits = Visits::zero();
+    let mut others = Visits::zero();
+    first.in_force() == second.in_force()
+        && first.pending() == second.pending()
+        && first.announced() == second.announced()
+        && first.stays_open(class, for_ps, &mut visits)
+            == second.stays_open(class, for_ps, &mut others)
+}
+
+/// Moves both to each picosecond up to `until`, gives commands now and then, and compares what they show. The first moment at
+/// which they differ.
+pub fn agree<G: Gates + Drop, H: Gates + Drop>(seed: u64, until: u32) -> Result<(), u32> {
+    let mut numbers = Numbers::new(seed);
+    let mut first = G::begin();
+    let mut second = H::begin();
+    let mut visits = Visits::zero();
+    for t in 0..until.min(1000000) {
+        first.move_to(u128::from(t), &mut visits);
+        second.move_to(u128::from(t), &mut visits);
+        if numbers.between(0, 4000) == 0
+            && !commanded_alike(&mut first, &mut second, &mut numbers)
+        {
+            return Err(t);
+        }
+        if first.mask() != second.mask() {
+            return Err(t);
+        }
+        if numbers.between(0, 500) == 0 && !shown_alike(&first, &second, &mut numbers) {
+            return Err(t);
+        }
+    }
+    Ok(())
+}
+
+/// A random command.
+fn command(numbers: &mut Numbers) -> Command {
+    let Some(list) = numbers.list() else {
+        return Command::Delete;
+    };
+    let (base_ns, cycle_ns, extension_ns) = numbers.times();
+    if numbers.between(0, 6) == 0 {
+        return Command::Delete;
+    }
+    Command::Replace(Change {
+        map: plain_map(),
+        queues: None,
+        max_sdu: None,
+        list,
+        base_ns,
+        cycle_ns,
+        extension_ns,
+    })
+}
+
+/// A random event: the moment goes on by up to 6 nanoseconds at a time.
+fn event<'a>(numbers: &mut Numbers, moment: &mut u128, command: &'a Command) -> Event<'a>
+    requires { moment.old ≤ 1000000000 }
+    ensures { moment.new ≤ moment.old + 6000 }
+{
+    match numbers.between(0, 8) {
+        0 => Event::Query,
+        1 => Event::Install(command),
+        2 => Event::Count(numbers.between(0, 9) as u8),
+        3 | 4 | 5 => Event::Arrive(Frame {
+            id: u64::from(numbers.draw()),
+            priority: numbers.between(0, 9) as u8,
+            len: numbers.between(10, 60),
+            tagged: numbers.between(0, 2) == 0,
+        }),
+        _ => {
+            *moment += u128::from(numbers.between(0, 6001));
+            Event::Clock(*moment)
+        }
+    }
+}
+
+/// The answers of a port to so many random events.
+pub fn answers<G: Gates>(
+    alloc: Global,
+    port: &mut Port<G>,
+    seed: u64,
+    many: u32,
+) -> Result<Vec<Answer>, AllocError> {
+    let mut numbers = Numbers::new(seed);
+    let mut moment = 0u128;
+    let mut answers = Vec::new(alloc);
+    for _ in 0..many.min(1000) {
+        let command = command(&mut numbers);
+        let events = [event(&mut numbers, &mut moment, &command)];
+        if port.run(&events, &mut answers).is_err() {
+            return Err(AllocError);
+        }
+    }
+    Ok(answers)
+}

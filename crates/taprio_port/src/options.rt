@@ -1,0 +1,71 @@
+//! The words of the program.
+
+use clap::{Arg, ArgMatches, Command};
+use std::alloc::{AllocError, Global};
+
+const RATE: &str = "1000";
+
+const MTU: &str = "1500";
+
+const ROOM: &str = "128";
+
+/// The values of the options, as they are given.
+#[derive(Clone, Copy, Debug)]
+pub struct Values<'a> {
+    pub rate: &'a str,
+    pub mtu: &'a str,
+    pub room: &'a str,
+    pub until: Option<&'a str>,
+}
+
+/// The values that a subcommand is given, or those that stand for them.
+pub fn values_of<'a>(matches: &ArgMatches<'a>) -> Values<'a> {
+    Values {
+        rate: matches.get_str("rate").unwrap_or(RATE),
+        mtu: matches.get_str("mtu").unwrap_or(MTU),
+        room: matches.get_str("room").unwrap_or(ROOM),
+        until: matches.get_str("until"),
+    }
+}
+
+fn with_options<'a>(alloc: Global, command: Command<'a>) -> Result<Command<'a>, AllocError> {
+    command
+        .arg(
+            Arg::new(alloc, "rate")
+                .long("rate")
+                .value_name("MBPS")
+                .default_value(RATE)
+                .help("The line rate, in Mb/s"),
+        )?
+        .arg(
+            Arg::new(alloc, "mtu")
+                .long("mtu")
+                .value_name("OCTETS")
+                .default_value(MTU)
+                .help("The greatest service data unit, 68 to 9216 octets"),
+        )?
+        .arg(
+            Arg::new(alloc, "room")
+                .long("room")
+                .value_name("FRAMES")
+                .default_value(ROOM)
+                .help("How many frames a class holds, 1 to 4096"),
+        )?
+        .arg(
+            Arg::new(alloc, "until")
+                .long("until")
+                .value_name("PS")
+                .help("Run to this moment after the input, in picoseconds"),
+        )
+}
+
+/// What the program understands.
+pub fn command<'a>(alloc: Global) -> Result<Command<'a>, AllocError> {
+    let script = Command::new(alloc, "script").about(
+        "Answers the lines of a script on standard input",
+    );
+    Command::new(alloc, "taprio_port")
+        .about("An IEEE 802.1Qbv time-aware transmit port")
+        .subcommand_required(true)
+        .subcommand(with_options(alloc, script)?)
+}

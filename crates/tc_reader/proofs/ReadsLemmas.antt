@@ -1,0 +1,107 @@
+-- Reading one option more.
+use Rattle.std.proofs.Common.{◌≡◌, ℕ, ◌+◌, ◌-◌, Bool, cond, List, [], ◌∷◌, ◌++◌, length, take, None, Some, Result, Ok, Err, refl, sym, ap, subst, ◌∙◌, append_assoc, append-nil}
+use Rattle.std.specs.Prelude.{fold, is_some, option_map}
+use Rattle.std.specs.declared.option.Option.{Option}
+use Rattle.gate_list.specs.declared.Entry.{Entry}
+use Rattle.tc_reader.specs.declared.fault.Opt.{Opt}
+use Rattle.tc_reader.specs.declared.fault.Opt.TheVariants.{Dev, Parent, Handle, NumTc, Map, Queues, BaseTime, CycleTime, CycleTimeExtension, SchedEntry, Clockid, Flags, TxtimeDelay, MaxSdu, Fp}
+use Rattle.tc_reader.specs.declared.fault.TcFault.{TcFault}
+use Rattle.tc_reader.specs.declared.fault.TcFault.TheVariants as faults
+use Rattle.tc_reader.specs.Cursor.{Word}
+use Rattle.tc_reader.specs.Options.{◌>>=◌, Item, num_tc, priorities, ranges, base_time, cycle_time, extension, sched_entry, clock, flags, limits, Options, no_options, with_item, is_given, allowed, values_at, item_at}
+use Rattle.tc_reader.specs.Names.{is_unsupported, option_named}
+use Rattle.tc_reader.specs.Given.{keep_item, keeping, kept}
+use Rattle.tc_reader.specs.Reads.{Reads, given_by}
+use Rattle.tc_reader.proofs.RunLemmas.{take-push, ok_is}
+
+-- ---- what is kept tells what was given
+
+is_some-map : {X Y : Type 0} (f : X → Y) (o : Option X) → is_some (option_map f o) ≡ is_some o
+is_some-map f None = refl
+is_some-map f (Some x) = refl
+
+is_given-kept : (g : Options) (o : Opt) → is_given (kept g) o ≡ is_given g o
+is_given-kept g Dev = refl
+is_given-kept g Parent = refl
+is_given-kept g Handle = refl
+is_given-kept g NumTc = refl
+is_given-kept g Map = is_some-map (take 17) g.priorities
+is_given-kept g Queues = is_some-map (take 9) g.ranges
+is_given-kept g BaseTime = refl
+is_given-kept g CycleTime = refl
+is_given-kept g CycleTimeExtension = refl
+is_given-kept g SchedEntry = refl
+is_given-kept g Clockid = refl
+is_given-kept g Flags = refl
+is_given-kept g TxtimeDelay = refl
+is_given-kept g MaxSdu = is_some-map (take 8) g.limits
+is_given-kept g Fp = refl
+
+allowed-kept : (g : Options) (place : ℕ) (o : Option Opt) → allowed (kept g) place o ≡ allowed g place o
+allowed-kept g place None = refl
+allowed-kept g place (Some opt) = ap (λ (b : Bool). cond (is_unsupported opt) (Err (faults.Unsupported opt)) (cond b (Err (faults.Repeated opt)) (Ok opt))) (is_given-kept g opt)
+
+item_at-kept : (g : Options) (place : ℕ) (w : Word) (ws : List Word) → item_at (kept g) place w ws ≡ item_at g place w ws
+unfolding item_at
+item_at-kept g place w ws = ap (λ r. r >>= λ opt. values_at opt (place + 1) ws) (allowed-kept g place (option_named w))
+
+keep_item-kept : (g : Options) (i : Item) → keep_item (kept g) i ≡ kept (with_item g i)
+keep_item-kept g (num_tc n) = refl
+keep_item-kept g (priorities ns) = refl
+keep_item-kept g (ranges rs) = refl
+keep_item-kept g (base_time n) = refl
+keep_item-kept g (cycle_time n) = refl
+keep_item-kept g (extension n) = refl
+keep_item-kept g (sched_entry mask interval) = ap (λ (es : List Entry). record (kept g) { entries = es }) (take-push 257 g.entries (record { mask = mask; interval = interval }))
+keep_item-kept g clock = refl
+keep_item-kept g (flags n) = refl
+keep_item-kept g (limits ns) = refl
+
+-- ---- one option more
+
+given_by-push : (items : List Item) (i : Item) → given_by (items ++ i ∷ []) ≡ with_item (given_by items) i
+given_by-push items i = pushed no_options items
+  where
+    pushed : (g : Options) (items : List Item) → fold with_item g (items ++ i ∷ []) ≡ with_item (fold with_item g items) i
+    pushed g [] = refl
+    pushed g (j ∷ items) = pushed (with_item g j) items
+
+-- what the code has read so far, of a line of so many words
+pub record SoFar (count : ℕ) (start now : List Word) (have : Options) : Type 0 where
+  pub items : List Item
+  pub have_is : have ≡ kept (given_by items)
+  pub goes_on : (more : List Item) (end : Option TcFault) → Reads (given_by items) count now more end → Reads no_options count start (items ++ more) end
+
+pub SoFar-begin : (count : ℕ) (start : List Word) (have : Options) → have ≡ no_options → SoFar count start start have
+SoFar-begin count start have e = record { items = []; have_is = e; goes_on = λ more end r. r }
+
+keeping-ok : (g : Options) (read : Result (Item × List Word) TcFault) (new : Options) (rest : List Word) → keeping g read ≡ Ok (new, rest) → (i : Item) × (read ≡ Ok (i, rest)) × (new ≡ keep_item g i)
+keeping-ok g (Ok x) new rest e =
+    let p = ok_is (keep_item g x.0, x.1) (new, rest) e in
+    (x.0, ap (λ (ws : List Word). Ok (x.0, ws)) (ap (λ (q : Options × List Word). q.1) p), sym (ap (λ (q : Options × List Word). q.0) p))
+keeping-ok g (Err f) new rest e = absurd cc
+
+pub SoFar-more : (count : ℕ) (start : List Word) (w : Word) (ws rest : List Word) (have new : Options) (place : ℕ)
+    → SoFar count start (w ∷ ws) have → place ≡ count - length (w ∷ ws) → keeping have (item_at have place w ws) ≡ Ok (new, rest) → SoFar count start rest new
+SoFar-more count start w ws rest have new place was at took =
+    let k = keeping-ok have (item_at have place w ws) new rest took in
+    let g = given_by was.items in
+    let i = k.0 in
+    let stands : item_at g (count - length (w ∷ ws)) w ws ≡ Ok (i, rest) = rw (← at) (sym (item_at-kept g place w ws) ∙ ap (λ (h : Options). item_at h place w ws) (sym was.have_is) ∙ k.1) in
+    record {
+      items = was.items ++ i ∷ [];
+      have_is = k.2 ∙ ap (λ (h : Options). keep_item h i) was.have_is ∙ keep_item-kept g i ∙ ap kept (sym (given_by-push was.items i));
+      goes_on = λ more end r.
+          let one : Reads (with_item g i) count rest more end = subst (λ (h : Options). Reads h count rest more end) (given_by-push was.items i) r in
+          subst (λ (is : List Item). Reads no_options count start is end) (sym (append_assoc was.items (i ∷ []) more)) (was.goes_on (i ∷ more) end (rest, stands, one));
+    }
+
+pub SoFar-fault : (count : ℕ) (start : List Word) (w : Word) (ws : List Word) (have : Options) (place : ℕ) (f : TcFault)
+    → SoFar count start (w ∷ ws) have → place ≡ count - length (w ∷ ws) → item_at have place w ws ≡ Err f → (items : List Item) × Reads no_options count start items (Some f)
+SoFar-fault count start w ws have place f was at failed =
+    let g = given_by was.items in
+    let stands : item_at g (count - length (w ∷ ws)) w ws ≡ Err f = rw (← at) (sym (item_at-kept g place w ws) ∙ ap (λ (h : Options). item_at h place w ws) (sym was.have_is) ∙ failed) in
+    (was.items ++ [], was.goes_on [] (Some f) (f, refl, stands))
+
+pub SoFar-end : (count : ℕ) (start : List Word) (have : Options) → SoFar count start [] have → (items : List Item) × Reads no_options count start items None × (have ≡ kept (given_by items))
+SoFar-end count start have was = (was.items, subst (λ (is : List Item). Reads no_options count start is None) (append-nil was.items) (was.goes_on [] None refl), was.have_is)

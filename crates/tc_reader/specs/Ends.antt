@@ -1,0 +1,61 @@
+-- What is looked at in the end, when all words are read.
+use Rattle.std.specs.Prelude.{ℕ, ◌-◌, Bool, not, List, ◌++◌, length, take, replicate, Option, Some, None, Result, Ok, Err, if◌then◌else◌, option_map, unwrap_or}
+use Rattle.class_map.specs.declared.ClassMap.{ClassMap}
+use Rattle.class_map.specs.declared.Queues.{Queues}
+use Rattle.class_map.specs.Map.{map_of}
+use Rattle.class_map.specs.Ranges.{queues_of}
+use Rattle.gate_list.specs.Gate.{gate_fault, ok_unless}
+use Rattle.gate_list.specs.declared.Entry.{Entry}
+use Rattle.gate_list.specs.declared.GateList.{GateList}
+use Rattle.abstract_port.specs.declared.Change.{Change}
+use Rattle.tc_reader.specs.declared.fault.Opt.TheVariants.{Dev, Parent, NumTc, Map}
+use Rattle.tc_reader.specs.declared.fault.TcFault.{TcFault}
+use Rattle.tc_reader.specs.declared.fault.TcFault.TheVariants as faults
+use Rattle.tc_reader.specs.Options.{Options, ◌>>=◌}
+
+-- the fault of a part, as one of the line
+abbrev pub in_line : {T E : Type 0} → (E → TcFault) → Result T E → Result T TcFault
+in_line fault (Ok x) = Ok x
+in_line fault (Err e) = Err (fault e)
+
+-- the ranges, if they are given
+abbrev pub ranges_of : ℕ → Option (List (ℕ × ℕ)) → Result (Option Queues) TcFault
+ranges_of num_tc None = Ok None
+ranges_of num_tc (Some rs) = in_line faults.Ranges (queues_of num_tc rs) >>= λ queues. Ok (Some queues)
+
+-- the map and the ranges: map and num_tc come together or not at all, and queues only with them
+abbrev pub classes_of : Option ℕ → Option (List ℕ) → Option (List (ℕ × ℕ)) → Result (Option ClassMap × Option Queues) TcFault
+classes_of None None None = Ok (None, None)
+classes_of None None (Some rs) = Err (faults.MissingWord NumTc)
+classes_of None (Some ns) rs = Err (faults.MissingWord NumTc)
+classes_of (Some n) None rs = Err (faults.MissingWord Map)
+classes_of (Some n) (Some ns) rs = in_line faults.Map (map_of n ns) >>= λ map. ranges_of n rs >>= λ queues. Ok (Some map, queues)
+
+abbrev pub list_of : List Entry → Result GateList TcFault
+list_of entries = in_line faults.Gates (ok_unless (gate_fault entries) entries)
+
+-- the limits of the eight classes: those past the eighth have no effect, and missing ones are 0
+abbrev pub eight_limits : List ℕ → List ℕ
+eight_limits ns = take 8 ns ++ replicate (8 - length (take 8 ns)) 0
+
+-- the change that the options give; times that are not given are 0
+abbrev pub change_of : Options → Result Change TcFault
+change_of g =
+    classes_of g.num_tc g.priorities g.ranges >>= λ classes.
+    list_of g.entries >>= λ list.
+    Ok (record {
+      map = classes.0;
+      queues = classes.1;
+      max_sdu = option_map eight_limits g.limits;
+      list = list;
+      base_ns = unwrap_or g.base_time 0;
+      cycle_ns = unwrap_or g.cycle_time 0;
+      extension_ns = unwrap_or g.extension 0;
+    })
+
+-- the heads that every line has
+abbrev pub heads_missing : Bool → Bool → Result (Unit {0}) TcFault
+heads_missing has_dev has_parent =
+    if not has_dev then Err (faults.MissingWord Dev)
+    else if not has_parent then Err (faults.MissingWord Parent)
+    else Ok tt

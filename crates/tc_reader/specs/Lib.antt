@@ -1,0 +1,11 @@
+pub mod Cursor
+pub mod Names
+pub mod Values
+pub mod Options
+pub mod Given
+pub mod Reads
+pub mod Heads
+pub mod Seen
+pub mod Ends
+pub mod Lines
+pub mod Grammar

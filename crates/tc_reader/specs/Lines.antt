@@ -1,0 +1,67 @@
+-- A whole line, read from the left: its first words, its heads, its options, and what is looked at in the end.
+use Rattle.std.specs.Prelude.{◌≡◌, ℕ, Bool, ◌-◌, List, [], ◌∷◌, length, Option, Some, None, Result, Ok, Err, ◌||◌, ◌&&◌, if◌then◌else◌, MatchOption, codes}
+use Rattle.std.specs.List.{list_any}
+use Rattle.std.specs.Str.{bytes_eq}
+use Rattle.abstract_port.specs.declared.Command.{Command}
+use Rattle.abstract_port.specs.declared.Command.TheVariants as commands
+use Rattle.tc_reader.specs.Cursor.{Word}
+use Rattle.tc_reader.specs.declared.line.Verb.{Verb}
+use Rattle.tc_reader.specs.declared.line.Verb.TheVariants.{Replace, Delete}
+use Rattle.tc_reader.specs.declared.fault.TcFault.{TcFault}
+use Rattle.tc_reader.specs.declared.fault.TcFault.TheVariants as faults
+use Rattle.tc_reader.specs.Options.{◌>>=◌, Item, Options, no_options}
+use Rattle.tc_reader.specs.Reads.{Reads, given_by}
+use Rattle.tc_reader.specs.Heads.{Head, is_dev, is_parent, ReadsHeads}
+use Rattle.tc_reader.specs.Ends.{change_of, heads_missing}
+
+-- what a verb does
+abbrev pub verb_of : Word → Option Verb
+verb_of w =
+    if bytes_eq w (codes "add") || bytes_eq w (codes "replace") || bytes_eq w (codes "change") then Some Replace
+    else if bytes_eq w (codes "del") then Some Delete
+    else None
+
+abbrev pub with_rest : Option Verb → List Word → Option (Verb × List Word)
+with_rest None ws = None
+with_rest (Some v) ws = Some (v, ws)
+
+-- the verb, and the words behind it
+abbrev pub verb_at : List Word → Option (Verb × List Word)
+verb_at (a ∷ b ∷ verb ∷ ws) = if bytes_eq a (codes "tc") && bytes_eq b (codes "qdisc") then with_rest (verb_of verb) ws else None
+verb_at _ = None
+
+-- the command of options, of a line that has a device and a parent or not
+abbrev pub replacement_of : Bool → Bool → Options → Result Command TcFault
+replacement_of has_dev has_parent g = heads_missing has_dev has_parent >>= λ _. change_of g >>= λ change. Ok (commands.Replace change)
+
+abbrev pub deletion_of : Bool → Bool → Result Command TcFault
+deletion_of has_dev has_parent = heads_missing has_dev has_parent >>= λ _. Ok commands.Delete
+
+-- what the words behind `taprio` make of a line of so many words
+abbrev pub ReadsOptions : ℕ → Bool → Bool → List Word → Result Command TcFault → Type 0
+ReadsOptions count has_dev has_parent ws result =
+    (items : List Item) × (last : Option TcFault) × Reads no_options count ws items last
+    × MatchOption last (result ≡ replacement_of has_dev has_parent (given_by items)) (λ fault. result ≡ Err fault)
+
+-- a deletion has no options
+abbrev pub deletion_before : ℕ → Bool → Bool → Option (List Word) → Result Command TcFault
+deletion_before count has_dev has_parent None = deletion_of has_dev has_parent
+deletion_before count has_dev has_parent (Some []) = deletion_of has_dev has_parent
+deletion_before count has_dev has_parent (Some (w ∷ ws)) = Err (faults.UnknownOption (count - length (w ∷ ws)))
+
+-- what the line is, of which the heads are read
+abbrev pub GoesOn : ℕ → Verb → List Head → Result (Option (List Word)) TcFault → Result Command TcFault → Type 0
+GoesOn count verb heads (Err fault) result = result ≡ Err fault
+GoesOn count Replace heads (Ok None) result = result ≡ Err faults.NotTaprio
+GoesOn count Replace heads (Ok (Some ws)) result = ReadsOptions count (list_any is_dev heads) (list_any is_parent heads) ws result
+GoesOn count Delete heads (Ok rest) result = result ≡ deletion_before count (list_any is_dev heads) (list_any is_parent heads) rest
+
+-- what a line is, read from the left: a command, or the first fault
+abbrev pub ReadsLine : List Word → Result Command TcFault → Type 0
+ReadsLine line result =
+    MatchOption (verb_at line) (result ≡ Err faults.NotTaprio)
+    (λ x. (heads : List Head) × (end : Result (Option (List Word)) TcFault) × ReadsHeads [] x.1 heads end × GoesOn (length line) x.0 heads end result)
+
+-- the fault of a line without a command: the first one, from the left
+abbrev pub HasFault : List Word → TcFault → Type 0
+HasFault line fault = ReadsLine line (Err fault)

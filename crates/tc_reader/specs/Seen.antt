@@ -1,0 +1,37 @@
+-- The heads that the code has read.
+use Rattle.std.specs.Prelude.{◌≡◌, Bool, true, false, List, [], ◌∷◌, Option, Some, None, Result, Ok, Err, if◌then◌else◌, codes}
+use Rattle.std.specs.List.{list_any}
+use Rattle.std.specs.Str.{bytes_eq}
+use Rattle.tc_reader.specs.Cursor.{Word}
+use Rattle.tc_reader.specs.declared.fault.Opt.{Opt}
+use Rattle.tc_reader.specs.declared.fault.Opt.TheVariants.{Dev, Parent, Handle}
+use Rattle.tc_reader.specs.declared.fault.TcFault.{TcFault}
+use Rattle.tc_reader.specs.declared.fault.TcFault.TheVariants as faults
+use Rattle.tc_reader.specs.declared.heads.Seen.{Seen}
+use Rattle.tc_reader.specs.Heads.{Head, is_dev, is_parent, is_handle}
+
+-- what was seen of these heads
+abbrev pub seen_of : List Head → Seen
+seen_of heads = record { dev = list_any is_dev heads; parent = list_any is_parent heads; handle = list_any is_handle heads }
+
+abbrev pub skip : Opt → Seen → List Word → Result (Seen × List Word) TcFault
+skip opt seen [] = Err (faults.MissingWord opt)
+skip opt seen (w ∷ ws) = Ok (seen, ws)
+
+-- the same of what was seen alone
+abbrev pub seen_at : Seen → Word → List Word → Result (Seen × List Word) TcFault
+seen_at s w ws =
+    if bytes_eq w (codes "dev") then (if s.dev then Err (faults.Repeated Dev) else skip Dev (record s { dev = true }) ws)
+    else if bytes_eq w (codes "root") then (if s.parent then Err (faults.Repeated Parent) else Ok (record s { parent = true }, ws))
+    else if bytes_eq w (codes "parent") then (if s.parent then Err (faults.Repeated Parent) else skip Parent (record s { parent = true }) ws)
+    else if bytes_eq w (codes "handle") then (if s.handle then Err (faults.Repeated Handle) else skip Handle (record s { handle = true }) ws)
+    else Err faults.NotTaprio
+
+abbrev pub HeadTakes : {X : Type 0} → Seen → Word → List Word → Result X TcFault → Seen → List Word → Type 0
+HeadTakes old w ws (Ok _) new rest = seen_at old w ws ≡ Ok (new, rest)
+HeadTakes old w ws (Err f) new rest = seen_at old w ws ≡ Err f
+
+-- what stands behind the heads, where `taprio` ends them or the line does
+abbrev pub behind_heads : Bool → List Word → Option (List Word)
+behind_heads true ws = Some ws
+behind_heads false ws = None

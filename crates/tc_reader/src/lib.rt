@@ -1,0 +1,18 @@
+//! Schedule commands in the words of tc-taprio(8): `tc qdisc replace dev eth0 root taprio ..`.
+#![tactic(auto)]
+
+mod end;
+mod fault;
+mod given;
+mod heads;
+pub mod laws;
+mod line;
+mod lists;
+mod options;
+mod reading;
+#[cfg(test)]
+mod tests;
+mod values;
+
+pub use fault::{Opt, TcFault};
+pub use line::read_command;

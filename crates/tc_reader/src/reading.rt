@@ -1,0 +1,59 @@
+//! All options of a line.
+
+ghost use Rattle.std.specs.Prelude.{◌≡◌, ◌+◌, List, Some, None, MatchResult};
+ghost use Rattle.words.specs.WordsLeft.{words_left, words_taken};
+ghost use Rattle.tc_reader.specs.Cursor.{total, Moves};
+ghost use Rattle.tc_reader.specs.Options.{Item, no_options, item_at, allowed};
+ghost use Rattle.tc_reader.specs.Given.{view, kept, Takes};
+ghost use Rattle.tc_reader.specs.Reads.{Reads, given_by};
+
+use crate::fault::{Opt, TcFault};
+use crate::given::Given;
+use crate::options::{option_named, take_values};
+use words::Words;
+
+fn allowed(given: &Given, place: usize, opt: Option<Opt>) -> Result<Opt, TcFault>
+    ensures { result ≡ allowed (view given.now) place opt }
+{
+    let Some(opt) = opt else {
+        return Err(TcFault::UnknownOption(place));
+    };
+    if opt == Opt::TxtimeDelay || opt == Opt::Fp {
+        return Err(TcFault::Unsupported(opt));
+    }
+    if given.has(opt) {
+        return Err(TcFault::Repeated(opt));
+    }
+    Ok(opt)
+}
+
+#[tactic(auto, unfolding(crate::specs::Options::item_at))]
+fn take_option(
+    given: &mut Given,
+    words: &mut Words<'_>,
+    place: usize,
+    word: &[u8],
+) -> Result<(), TcFault>
+    requires { words_taken words.old ≡ place + 1 }
+    ensures item { Takes (view given.old) (item_at (view given.old) place word.now (words_left words.old)) result (view given.new) (words_left words.new) }
+    ensures moves { Moves words.old words.new }
+{
+    let opt = allowed(given, place, option_named(word))?;
+    take_values(given, words, opt)
+}
+
+/// The options of the words after `taprio`, up to the end or the first fault.
+pub fn read_options(words: Words<'_>) -> Result<Given, TcFault>
+    ensures { MatchResult result
+        (λ g. (items : List Item) × Reads no_options (total words.entry) (words_left words.entry) items None × (view g ≡ kept (given_by items)))
+        (λ f. (items : List Item) × Reads no_options (total words.entry) (words_left words.entry) items (Some f)) }
+{
+    let mut given = Given::none();
+    let mut rest = words;
+    let mut place = rest.place();
+    while let Some(word) = rest.next_word() {
+        take_option(&mut given, &mut rest, place, word)?;
+        place = rest.place();
+    }
+    Ok(given)
+}

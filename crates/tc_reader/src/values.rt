@@ -1,0 +1,210 @@
+//! One value of an option.
+
+ghost use Rattle.std.specs.Prelude.{◌≡◌, ◌≤◌, ◌<◌, ◌+◌, ◌^◌, ◌-◌, Ok, Err, MatchResult, IfOk, IfSome};
+ghost use Rattle.std.specs.List.{position, before_first, after_first};
+ghost use Rattle.words.specs.Numbers.{number_in};
+ghost use Rattle.words.specs.WordsLeft.{words_left, words_taken};
+ghost use Rattle.tc_reader.specs.Cursor.{Moves};
+ghost use Rattle.tc_reader.specs.Values.{after_0x, hex_in, is_sign, is_range, range_of, is_clock, limit_at};
+ghost use Rattle.tc_reader.specs.Options.{value_at, command_at, entry_at, flags_at, clock_of, sched_entry, clock, flags};
+
+use crate::fault::{Opt, TcFault};
+use gate_list::Entry;
+use words::{Words, hex_number, is_digits, number};
+
+fn after_0x(word: &[u8]) -> &[u8]
+    ensures { result.now ≡ after_0x word.now }
+{
+    match word {
+        [b'0', b'x', digits @ ..] => digits,
+        _ => word,
+    }
+}
+
+/// A decimal number of at most `most`.
+#[tactic(auto, unfolding(crate::specs::Options::value_at))]
+pub fn take_number(words: &mut Words<'_>, opt: Opt, most: u64) -> Result<u64, TcFault>
+    ensures value { MatchResult result
+        (λ n. value_at opt (number_in 10 most) (words_taken words.old) (words_left words.old) ≡ Ok (n, words_left words.new))
+        (λ f. value_at opt (number_in 10 most) (words_taken words.old) (words_left words.old) ≡ Err f) }
+    ensures place { IfOk result (λ _. words_taken words.new ≡ words_taken words.old + 1) }
+    ensures moves { Moves words.old words.new }
+    ensures bound { IfOk result (λ n. n ≤ most) }
+{
+    let place = words.place();
+    let Some(word) = words.next_word() else {
+        return Err(TcFault::MissingWord(opt));
+    };
+    match number(word, most as u128) {
+        Some(n) => Ok(n as u64),
+        None => Err(TcFault::BadNumber(place)),
+    }
+}
+
+/// A hexadecimal number of at most `most`, after an optional 0x.
+#[tactic(auto, unfolding(crate::specs::Options::value_at))]
+fn take_hex(words: &mut Words<'_>, opt: Opt, most: u32) -> Result<u32, TcFault>
+    ensures value { MatchResult result
+        (λ n. value_at opt (hex_in most) (words_taken words.old) (words_left words.old) ≡ Ok (n, words_left words.new))
+        (λ f. value_at opt (hex_in most) (words_taken words.old) (words_left words.old) ≡ Err f) }
+    ensures place { IfOk result (λ _. words_taken words.new ≡ words_taken words.old + 1) }
+    ensures moves { Moves words.old words.new }
+    ensures bound { IfOk result (λ n. n ≤ most) }
+{
+    let place = words.place();
+    let Some(word) = words.next_word() else {
+        return Err(TcFault::MissingWord(opt));
+    };
+    match hex_number(after_0x(word), most as u128) {
+        Some(n) => Ok(n as u32),
+        None => Err(TcFault::BadNumber(place)),
+    }
+}
+
+#[tactic(auto, unfolding(crate::specs::Options::command_at))]
+fn take_command(words: &mut Words<'_>) -> Result<(), TcFault>
+    ensures value { MatchResult result (λ _. command_at (words_left words.old) ≡ Ok (words_left words.new)) (λ f. command_at (words_left words.old) ≡ Err f) }
+    ensures place { IfOk result (λ _. words_taken words.new ≡ words_taken words.old + 1) }
+    ensures moves { Moves words.old words.new }
+{
+    match words.next_word() {
+        None => Err(TcFault::MissingWord(Opt::SchedEntry)),
+        Some(b"S") => Ok(()),
+        Some(_) => Err(TcFault::Unsupported(Opt::SchedEntry)),
+    }
+}
+
+/// The words of an entry: its command, its mask, its interval.
+#[tactic(auto, unfolding(crate::specs::Options::entry_at))]
+pub fn take_entry(words: &mut Words<'_>) -> Result<Entry, TcFault>
+    ensures value { MatchResult result
+        (λ e. entry_at (words_taken words.old) (words_left words.old) ≡ Ok (sched_entry e.mask e.interval, words_left words.new))
+        (λ f. entry_at (words_taken words.old) (words_left words.old) ≡ Err f) }
+    ensures moves { Moves words.old words.new }
+{
+    take_command(words)?;
+    let mask = take_hex(words, Opt::SchedEntry, 255)? as u8;
+    let interval = take_number(words, Opt::SchedEntry, 0xffff_ffff)? as u32;
+    Ok(Entry { mask, interval })
+}
+
+/// Flags that change nothing: 0 or 2.
+#[tactic(auto, unfolding(crate::specs::Options::flags_at))]
+pub fn take_flags(words: &mut Words<'_>) -> Result<u32, TcFault>
+    ensures value { MatchResult result
+        (λ n. flags_at (words_taken words.old) (words_left words.old) ≡ Ok (flags n, words_left words.new))
+        (λ f. flags_at (words_taken words.old) (words_left words.old) ≡ Err f) }
+    ensures moves { Moves words.old words.new }
+{
+    let flags = take_hex(words, Opt::Flags, 0xffff_ffff)?;
+    if flags == 0 || flags == 2 {
+        Ok(flags)
+    } else {
+        Err(TcFault::Unsupported(Opt::Flags))
+    }
+}
+
+fn is_clock(word: &[u8]) -> bool
+    ensures { result ≡ is_clock word.now }
+{
+    word.eq_ignore_ascii_case(b"REALTIME")
+        || word.eq_ignore_ascii_case(b"MONOTONIC")
+        || word.eq_ignore_ascii_case(b"BOOTTIME")
+        || word.eq_ignore_ascii_case(b"TAI")
+        || word.eq_ignore_ascii_case(b"CLOCK_REALTIME")
+        || word.eq_ignore_ascii_case(b"CLOCK_MONOTONIC")
+        || word.eq_ignore_ascii_case(b"CLOCK_BOOTTIME")
+        || word.eq_ignore_ascii_case(b"CLOCK_TAI")
+}
+
+/// The name of a clock, which has no effect.
+#[tactic(auto, unfolding(crate::specs::Options::value_at))]
+pub fn take_clock(words: &mut Words<'_>) -> Result<(), TcFault>
+    ensures value { MatchResult result
+        (λ _. value_at Opt.Clockid clock_of (words_taken words.old) (words_left words.old) ≡ Ok (clock, words_left words.new))
+        (λ f. value_at Opt.Clockid clock_of (words_taken words.old) (words_left words.old) ≡ Err f) }
+    ensures moves { Moves words.old words.new }
+{
+    let place = words.place();
+    let Some(word) = words.next_word() else {
+        return Err(TcFault::MissingWord(Opt::Clockid));
+    };
+    if is_clock(word) {
+        Ok(())
+    } else {
+        Err(TcFault::BadNumber(place))
+    }
+}
+
+fn sign_place(word: &[u8]) -> Option<usize>
+    ensures { result ≡ position is_sign word.now }
+{
+    word.iter().position(|octet| *octet == b'@')
+}
+
+// What stands before and after the first @.
+fn split_range(word: &[u8]) -> (&[u8], &[u8])
+    ensures before { result.0.now ≡ before_first is_sign word.now }
+    ensures after { result.1.now ≡ after_first is_sign word.now }
+{
+    match sign_place(word) {
+        Some(place) => (&word[..place], &word[place + 1..]),
+        None => (word, &[]),
+    }
+}
+
+/// Whether a word has the form of a range of queues: digits, @, digits.
+pub fn is_range(word: &[u8]) -> bool
+    ensures { result ≡ is_range word.now }
+{
+    let (count, offset) = split_range(word);
+    is_digits(count) && is_digits(offset)
+}
+
+fn range_of(word: &[u8]) -> Option<(u16, u16)>
+    ensures { result ≡ range_of word.now }
+{
+    let (count, offset) = split_range(word);
+    let count = number(count, 0xffff)? as u16;
+    let offset = number(offset, 0xffff)? as u16;
+    Some((count, offset))
+}
+
+/// A range of queues: its count and its offset.
+#[tactic(auto, unfolding(crate::specs::Options::value_at))]
+pub fn take_range(words: &mut Words<'_>) -> Result<(u16, u16), TcFault>
+    ensures value { MatchResult result
+        (λ r. value_at Opt.Queues range_of (words_taken words.old) (words_left words.old) ≡ Ok (r, words_left words.new))
+        (λ f. value_at Opt.Queues range_of (words_taken words.old) (words_left words.old) ≡ Err f) }
+    ensures place { IfOk result (λ _. words_taken words.new ≡ words_taken words.old + 1) }
+    ensures moves { Moves words.old words.new }
+{
+    let place = words.place();
+    let Some(word) = words.next_word() else {
+        return Err(TcFault::MissingWord(Opt::Queues));
+    };
+    range_of(word).ok_or(TcFault::BadNumber(place))
+}
+
+/// A size limit, of which the first stands at a place, and no more than 16 may stand.
+#[tactic(auto, unfolding(crate::specs::Options::value_at))]
+pub fn take_limit(words: &mut Words<'_>, first: usize) -> Result<u32, TcFault>
+    requires { first ≤ words_taken words.old }
+    ensures value { MatchResult result
+        (λ n. value_at Opt.MaxSdu (limit_at first (words_taken words.old)) (words_taken words.old) (words_left words.old) ≡ Ok (n, words_left words.new))
+        (λ f. value_at Opt.MaxSdu (limit_at first (words_taken words.old)) (words_taken words.old) (words_left words.old) ≡ Err f) }
+    ensures place { IfOk result (λ _. words_taken words.new ≡ words_taken words.old + 1) }
+    ensures moves { Moves words.old words.new }
+{
+    let place = words.place();
+    let Some(word) = words.next_word() else {
+        return Err(TcFault::MissingWord(Opt::MaxSdu));
+    };
+    if place - first >= 16 {
+        return Err(TcFault::BadNumber(place));
+    }
+    match number(word, 0xffff_ffff) {
+        Some(n) => Ok(n as u32),
+        None => Err(TcFault::BadNumber(place)),
+    }
+}

@@ -1,0 +1,57 @@
+-- Reading a number digit by digit.
+use Rattle.std.proofs.Common.{◌≡◌, ℕ, ◌+◌, ◌*◌, ◌<◌, ◌≤◌, true, false, eqb, List, [], ◌∷◌, length, get_or, drop, None, Some, Option, refl, ap, ◌∙◌, arith}
+use Rattle.std.specs.Prelude.{option_and_then}
+use Rattle.std.proofs.lemmas.Bool.{lt-leb}
+use Rattle.std.proofs.lemmas.List.{at_drop_more}
+use Rattle.std.proofs.Math.Nat.{le-mul_of_pos_right}
+use Rattle.std.proofs.Math.ListN.{drop_of_length-le}
+use Rattle.std.specs.Prelude.{if◌then◌else◌}
+use Rattle.words.specs.Numbers.{digit_in, value_behind, at_most, number_in}
+
+-- the step at a digit
+pub at_digit : (base n i : ℕ) (word : List ℕ) → i < length word → value_behind base n (drop i word) ≡ option_and_then (λ d. value_behind base (n * base + d) (drop (i + 1) word)) (digit_in base (get_or word i 0))
+unfolding value_behind
+at_digit base n i word h = at_drop_more (value_behind base n) word i 0 h
+
+-- digits after a number make no less of it
+later : (base n : ℕ) (bs : List ℕ) (m : ℕ) → 0 < base → ((k : ℕ) → value_behind base k bs ≡ Some m → k ≤ m) → (o : Option ℕ) → option_and_then (λ d. value_behind base (n * base + d) bs) o ≡ Some m → n ≤ m
+later base n bs m some after None e = absurd cc
+later base n bs m some after (Some d) e =
+    let more : n * base + d ≤ m = after (n * base + d) e in
+    let least : n ≤ n * base = le-mul_of_pos_right n some in
+    omega arith
+
+pub grows : (base n : ℕ) (bs : List ℕ) (m : ℕ) → 0 < base → value_behind base n bs ≡ Some m → n ≤ m
+unfolding value_behind
+grows base n [] m some e = (let same : n ≡ m = cc in omega arith)
+grows base n (b ∷ bs) m some e = later base n bs m some (λ k. grows base k bs m some) (digit_in base b) e
+
+-- what is too large stays so
+pub too_large : (base most n : ℕ) (bs : List ℕ) → 0 < base → most < n → at_most most (value_behind base n bs) ≡ None
+too_large base most n bs some over = by_value (value_behind base n bs) refl
+  where
+    by_value : (o : Option ℕ) → value_behind base n bs ≡ o → at_most most o ≡ None
+    by_value None e = refl
+    by_value (Some m) e =
+        let more : n ≤ m = grows base n bs m some e in
+        let over : most < m = omega arith in
+        rw (lt-leb m most over) refl
+
+-- a number is what at_most leaves of its value
+pub of_value : (base most : ℕ) (word : List ℕ) (v : Option ℕ) → value_behind base 0 word ≡ v → at_most most v ≡ None → number_in base most word ≡ None
+of_value base most word v is none =
+    elim (eqb (length word) 0) as (λ t. (if t then None else at_most most (value_behind base 0 word)) ≡ None) [ true ↦ refl | false ↦ ap (at_most most) is ∙ none ]
+
+pub at_known_digit : (base n i : ℕ) (word : List ℕ) (o : Option ℕ) → i < length word → digit_in base (get_or word i 0) ≡ o → value_behind base n (drop i word) ≡ option_and_then (λ d. value_behind base (n * base + d) (drop (i + 1) word)) o
+at_known_digit base n i word o h is = at_digit base n i word h ∙ ap (option_and_then (λ d. value_behind base (n * base + d) (drop (i + 1) word))) is
+
+-- a digit after which the number is too large
+pub past_most : (base most n d i : ℕ) (word : List ℕ) → 0 < base → i < length word → value_behind base 0 word ≡ value_behind base n (drop i word) → digit_in base (get_or word i 0) ≡ Some d → most < n * base + d → number_in base most word ≡ None
+past_most base most n d i word some h whole is over =
+    of_value base most word _ (whole ∙ at_known_digit base n i word (Some d) h is) (too_large base most (n * base + d) (drop (i + 1) word) some over)
+
+-- at the end of the word
+pub read_all : (base most n i : ℕ) (word : List ℕ) → eqb (length word) 0 ≡ false → length word ≤ i → value_behind base 0 word ≡ value_behind base n (drop i word) → number_in base most word ≡ at_most most (Some n)
+unfolding value_behind
+read_all base most n i word some end whole =
+    ap (λ t. if t then None else at_most most (value_behind base 0 word)) some ∙ ap (at_most most) (whole ∙ ap (λ (l : List ℕ). value_behind base n l) (drop_of_length-le word end))

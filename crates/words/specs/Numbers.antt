@@ -1,0 +1,35 @@
+-- Words that are numbers.
+use Rattle.std.specs.Prelude.{ℕ, List, [], ◌∷◌, ◌+◌, ◌-◌, ◌*◌, ◌&&◌, ◌==◌, nat_lt, nat_le, length, Bool, Option, Some, None, option_and_then, if◌then◌else◌}
+use Rattle.std.specs.List.{list_all}
+
+-- what a digit of either case stands for
+abbrev pub digit_of : ℕ → Option ℕ
+digit_of octet =
+    if nat_le 48 octet && nat_le octet 57 then Some (octet - 48)
+    else if nat_le 97 octet && nat_le octet 102 then Some (octet - 87)
+    else if nat_le 65 octet && nat_le octet 70 then Some (octet - 55)
+    else None
+
+-- what it stands for, where the base has it
+abbrev pub digit_in : ℕ → ℕ → Option ℕ
+digit_in base octet = option_and_then (λ d. if nat_lt d base then Some d else None) (digit_of octet)
+
+-- what digits stand for behind digits that stand for a number
+unfoldable pub value_behind : ℕ → ℕ → List ℕ → Option ℕ
+value_behind base front [] = Some front
+value_behind base front (b ∷ bs) = option_and_then (λ d. value_behind base (front * base + d) bs) (digit_in base b)
+
+-- a number, unless it is over the greatest
+abbrev pub at_most : ℕ → Option ℕ → Option ℕ
+at_most most n = option_and_then (λ n. if nat_le n most then Some n else None) n
+
+-- the number up to a greatest one that a word of one digit or more is; leading zeros are allowed
+abbrev pub number_in : ℕ → ℕ → List ℕ → Option ℕ
+number_in base most word = if length word == 0 then None else at_most most (value_behind base 0 word)
+
+abbrev pub is_digit : ℕ → Bool
+is_digit octet = nat_le 48 octet && nat_le octet 57
+
+-- one decimal digit or more
+abbrev pub is_digits : List ℕ → Bool
+is_digits word = nat_lt 0 (length word) && list_all is_digit word

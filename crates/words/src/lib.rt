@@ -1,0 +1,8 @@
+//! The words of a line, and the numbers that words are.
+#![tactic(auto)]
+
+mod numbers;
+mod words;
+
+pub use numbers::{hex_number, is_digits, number};
+pub use words::Words;

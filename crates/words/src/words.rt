@@ -1,0 +1,77 @@
+//! The words of a line, one after another.
+
+ghost use Rattle.std.specs.Prelude.{◌≡◌, ◌≤◌, ◌<◌, ◌+◌, ◌^◌, ◌∷◌, [], length, MatchOption, IfSome, true, false};
+ghost use Rattle.words.specs.Words.{starts_blank, words_of};
+
+fn starts_blank(octets: &[u8]) -> bool
+    ensures { result ≡ starts_blank octets.now }
+{
+    match octets {
+        [] | [b' ' | b'\t' | b'\r' | b'\n', ..] => true,
+        [b'\\', b'\n', ..] | [b'\\', b'\r', b'\n', ..] => true,
+        _ => false,
+    }
+}
+
+// The first word, and what comes after it.
+fn split_word(octets: &[u8]) -> Option<(&[u8], &[u8])>
+    ensures word { MatchOption result (words_of octets.now ≡ [])
+        (λ x. words_of octets.now ≡ x.0.now ∷ words_of x.1.now) }
+    ensures less { IfSome result (λ x. length x.1.now < length octets.now) }
+{
+    let mut rest = octets;
+    while starts_blank(rest) {
+        let (_, more) = rest.split_first()?;
+        rest = more;
+    }
+    let mut end = 0;
+    while !starts_blank(&rest[end..]) {
+        end += 1;
+    }
+    Some(rest.split_at(end))
+}
+
+/// The words of a line: the runs of octets that are no blanks.
+///
+/// Blanks are space, tab, CR and LF, and a backslash directly before LF or CR LF, which joins two physical lines.
+#[derive(Clone, Copy, Debug)]
+pub struct Words<'a> {
+    rest: &'a [u8],
+    place: usize,
+    ghost bounded: { place + length rest.now < 2 ^ 63 },
+}
+
+impl<'a> Words<'a> {
+    ghost use Rattle.words.specs.WordsLeft.{words_left, words_taken};
+
+    /// Before the first word of a line.
+    pub fn new(line: &'a [u8]) -> Words<'a>
+        ensures left { words_left result ≡ words_of line.entry.now }
+        ensures taken { words_taken result ≡ 0 }
+    {
+        Words {
+            rest: line,
+            place: 0,
+        }
+    }
+
+    /// How many words were taken, which is the place of the next one, from 0.
+    pub fn place(&self) -> usize
+        ensures { result ≡ words_taken self.now }
+    {
+        self.place
+    }
+
+    /// The next word. After the last one there is none, and so on.
+    pub fn next_word(&mut self) -> Option<&'a [u8]>
+        ensures word { MatchOption result ((words_left self.old ≡ []) × (words_left self.new ≡ []))
+            (λ word. words_left self.old ≡ word.now ∷ words_left self.new) }
+        ensures taken { MatchOption result (words_taken self.new ≡ words_taken self.old)
+            (λ _. words_taken self.new ≡ words_taken self.old + 1) }
+    {
+        let (word, rest) = split_word(self.rest)?;
+        self.rest = rest;
+        self.place += 1;
+        Some(word)
+    }
+}
