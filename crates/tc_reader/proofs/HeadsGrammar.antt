@@ -15,7 +15,8 @@ use Rattle.tc_reader.specs.Grammar.{head_words, heads_before, has_kind, AreNewHe
 use Rattle.tc_reader.proofs.RunLemmas.{ok_is}
 use Rattle.tc_reader.proofs.GrammarLemmas.{guard_not}
 
-abbrev End : Type 0
+-- how the heads of a line end
+abbrev pub End : Type 0
 End = Result (Option (List Word)) TcFault
 
 -- what stands behind the heads
@@ -31,7 +32,7 @@ at_root ws = Ok (root, ws)
 abbrev pub IsHead : List Head → List Word → Head × List Word → Type 0
 IsHead before ws x = (ws ≡ head_words x.0 ++ x.1) × (has_kind before x.0 ≡ false)
 
-is_word : (w v : Word) → bytes_eq w v ≡ true → w ≡ v
+pub is_word : (w v : Word) → bytes_eq w v ≡ true → w ≡ v
 is_word w v is = (bytes_eq-Decides w v).0 is
 
 named_take : (make : Word → Head) (o : Opt) (before : List Head) (name : Word) (ws : List Word) (h : Head) (rest : List Word)

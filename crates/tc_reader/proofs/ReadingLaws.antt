@@ -18,11 +18,8 @@ use Rattle.tc_reader.specs.Lines.{verb_at, replacement_of, ReadsOptions, deletio
 use Rattle.tc_reader.specs.Grammar.{head_words, IsCommand}
 use Rattle.tc_reader.proofs.HeadsLemmas.{ends_fault, ends_taprio}
 use Rattle.tc_reader.proofs.GrammarLemmas.{item_take}
-use Rattle.tc_reader.proofs.HeadsGrammar.{head_take}
+use Rattle.tc_reader.proofs.HeadsGrammar.{End, head_take}
 use Rattle.tc_reader.proofs.LineLaws.{line_take}
-
-abbrev End : Type 0
-End = Result (Option (List Word)) TcFault
 
 -- ---- options
 
