@@ -8,19 +8,18 @@ use Rattle.abstract_port.specs.Answers.{answers_to}
 use Rattle.abstract_port.specs.Sound.{IsSoundPort}
 use Rattle.abstract_port.specs.declared.Event.{Event}
 use Rattle.abstract_port.specs.declared.Event.TheVariants as Events
-use Rattle.std.specs.Borrow.{Bor}
 use Rattle.abstract_port.specs.declared.Command.{Command}
 use Rattle.tc_reader.specs.declared.fault.TcFault.{TcFault}
 use Rattle.separation.specs.Settling.{IsPossible, IsSettling}
-use Rattle.answer_text.specs.Writes.{AppendsFront, Sent, Writes}
+use Rattle.answer_text.specs.Writes.{AppendsFront, Sent}
 use Rattle.answer_text.proofs.Fronts.{sent_none, sent_more, sent_front, sent_all}
-use Rattle.line_reader.specs.Script.{Script, End, Broken, Line}
+use Rattle.line_reader.specs.Script.{Script, Line}
 use Rattle.line_reader.specs.LineReader.{Advances}
 use Rattle.line_reader.specs.declared.lines.LineFault.{LineFault}
 use Rattle.line_reader.specs.declared.lines.LineFault.TheVariants as LineFaults
 use Rattle.replay.specs.Requests.{request_of}
-use Rattle.replay.specs.Responses.{lines_of, responses, ending, ending_text, left_lines}
-use Rattle.replay.specs.Outcome.{Outcome, Runs, after_text, fault_of_line, limit_fault, outcome_from, then_request}
+use Rattle.replay.specs.Responses.{lines_of, responses, ending_text, left_lines}
+use Rattle.replay.specs.Outcome.{Outcome, Runs, after_text, fault_of_line, outcome_from, then_request}
 use Rattle.replay.specs.declared.reading.Request.{Request}
 use Rattle.replay.specs.declared.reading.Request.TheVariants.{Arrive, Clock, Query, Count, Install, NoCommand}
 use Rattle.replay.specs.declared.faults.ScriptFault.{ScriptFault}

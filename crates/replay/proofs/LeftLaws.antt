@@ -1,5 +1,5 @@
 -- The lines of what is left, class by class.
-use Rattle.std.proofs.Common.{◌≡◌, ◌<◌, ◌≤◌, ◌+◌, ◌-◌, ℕ, suc, List, [], length, ◌++◌, cond, refl, sym, ap, ◌∙◌, arith}
+use Rattle.std.proofs.Common.{◌≡◌, ◌<◌, ◌≤◌, ◌+◌, ◌-◌, ℕ, suc, [], length, ◌++◌, cond, refl, sym, ap, ◌∙◌, arith}
 use Rattle.std.proofs.lemmas.Bool.{ne_eqb}
 use Rattle.abstract_port.specs.AbstractPort.{AbstractPort, queue_of, settled}
 use Rattle.answer_text.specs.Lines.{left_line}

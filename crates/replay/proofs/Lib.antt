@@ -3,4 +3,5 @@ mod ClockLaws
 mod StartsLaws
 mod LeftLaws
 mod ReaderLaws
+mod OneReader
 mod Going

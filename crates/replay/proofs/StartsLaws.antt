@@ -1,8 +1,6 @@
 -- The lines of starts, one by one.
-use Rattle.std.proofs.Common.{◌≡◌, ◌≤◌, ℕ, List, [], ◌∷◌, ◌++◌, ◌+◌, map, Some, None, refl, sym, ap, ◌∙◌, le_refl}
-use Rattle.list_config.specs.Current.{IsCurrent}
+use Rattle.std.proofs.Common.{◌≡◌, ◌≤◌, ℕ, [], ◌∷◌, ◌++◌, ◌+◌, Some, None, refl, sym, ap, le_refl}
 use Rattle.abstract_port.specs.declared.Start.{Start}
-use Rattle.abstract_port.specs.declared.Answer.{Answer}
 use Rattle.abstract_port.specs.declared.Answer.TheVariants as Answered
 use Rattle.abstract_port.specs.AbstractPort.{AbstractPort, next_start, settled, starts_until, waiting}
 use Rattle.abstract_port.specs.Answers.{GoesOn}

@@ -1,7 +1,6 @@
 -- What words say of a port.
-use Rattle.std.specs.Prelude.{◌≡◌, ◌^◌, ◌-◌, ◌||◌, nat_lt, List, ℕ, Bool, false, Option, Some, None, Result, Ok, Err, option_and_then, if◌then◌else◌}
+use Rattle.std.specs.Prelude.{◌^◌, ◌-◌, nat_lt, List, ℕ, Option, Some, None, Result, Ok, Err, option_and_then, if◌then◌else◌}
 use Rattle.wire_time.specs.Wire.{rate_of}
-use Rattle.wire_time.specs.Moment.{greatest_moment}
 use Rattle.wire_time.specs.declared.RateFault.{RateFault}
 use Rattle.words.specs.Numbers.{number_in}
 use Rattle.replay.specs.declared.settings.Settings.{Settings}

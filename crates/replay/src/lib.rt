@@ -3,6 +3,7 @@
 
 mod answering;
 mod faults;
+pub mod laws;
 mod reading;
 mod script;
 mod settings;

@@ -1,5 +1,8 @@
 //! The words of the program.
 
+ghost use Rattle.std.specs.Prelude.{◌≡◌, codes, option_map, unwrap_or};
+ghost use Rattle.clap.specs.Matches.{first_value, found_of};
+
 use clap::{Arg, ArgMatches, Command};
 use std::alloc::{AllocError, Global};
 
@@ -19,7 +22,12 @@ pub struct Values<'a> {
 }
 
 /// The values that a subcommand is given, or those that stand for them.
-pub fn values_of<'a>(matches: &ArgMatches<'a>) -> Values<'a> {
+pub fn values_of<'a>(matches: &ArgMatches<'a>) -> Values<'a>
+    ensures rate { result.rate.now ≡ unwrap_or (first_value (found_of matches.now) (codes "rate")) (codes "1000") }
+    ensures mtu { result.mtu.now ≡ unwrap_or (first_value (found_of matches.now) (codes "mtu")) (codes "1500") }
+    ensures room { result.room.now ≡ unwrap_or (first_value (found_of matches.now) (codes "room")) (codes "128") }
+    ensures until { option_map (λ text. text.now) result.until ≡ first_value (found_of matches.now) (codes "until") }
+{
     Values {
         rate: matches.get_str("rate").unwrap_or(RATE),
         mtu: matches.get_str("mtu").unwrap_or(MTU),

@@ -1,6 +1,7 @@
 //! Runs the subcommands.
 
-ghost use Rattle.std.specs.Prelude.{◌≡◌, ◌⊎◌, Err, IfErr, option_map};
+ghost use Rattle.std.specs.Prelude.{◌≡◌, ◌⊎◌, [], Err, IfErr, option_map};
+ghost use Rattle.std.specs.Io.Buffered.{writer_buffer};
 ghost use Rattle.wire_time.specs.Moment.{greatest_moment};
 ghost use Rattle.replay.specs.Settings.{settings_of};
 
@@ -10,16 +11,15 @@ use replay::{ReplayFault, Settings, run_script, say_fault, say_value};
 use std::alloc::Global;
 use std::io::{BufWriter, Read, Write};
 
-// What was answered goes out, unless a write failed before: no write is tried again.
-fn finish<W: Write + Drop>(
+// Lets out what was answered, also before a fault, unless a write failed already: no write is tried again.
+fn let_out<W: Write + Drop>(
     run: Result<(), ReplayFault>,
-    mut answers: BufWriter<W>,
+    answers: &mut BufWriter<W>,
 ) -> Result<(), ReplayFault>
-    ensures write { run ≡ Err ReplayFault.Write → result ≡ run }
     ensures kept { (result ≡ run) ⊎ (result ≡ Err ReplayFault.Write) }
+    ensures out { (writer_buffer answers.new ≡ []) ⊎ (result ≡ Err ReplayFault.Write) }
 {
     if run == Err(ReplayFault::Write) || answers.flush().is_err() {
-        let (_writer, _unwritten) = answers.into_parts();
         return Err(ReplayFault::Write);
     }
     run
@@ -49,7 +49,9 @@ pub fn run_script_with<R: Read + Drop, W: Write + Drop, E: Write>(
         return say_fault(&ReplayFault::Memory, errors);
     };
     let run = run_script(alloc, reader, &mut answers, settings);
-    match finish(run, answers) {
+    let run = let_out(run, &mut answers);
+    let (_writer, _not_written) = answers.into_parts();
+    match run {
         Ok(()) => 0,
         Err(fault) => say_fault(&fault, errors),
     }

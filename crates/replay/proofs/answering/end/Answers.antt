@@ -1,4 +1,4 @@
-use Rattle.std.proofs.Common.{refl, sym, ap, ◌∙◌, ◌++◌, Some}
+use Rattle.std.proofs.Common.{sym, ap, ◌∙◌, ◌++◌, Some}
 use Rattle.std.proofs.lemmas.Result.{err_from_is_err_and}
 use Rattle.answer_text.proofs.Fronts.{sent_none, sent_more, sent_exit, sent_last}
 use Rattle.replay.specs.Responses.{ending, ending_text, left_lines}

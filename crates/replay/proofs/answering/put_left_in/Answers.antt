@@ -1,4 +1,4 @@
-use Rattle.std.proofs.Common.{List, ℕ, ap, subst, arith}
+use Rattle.std.proofs.Common.{List, ℕ, ap, subst}
 use Rattle.std.specs.Io.KnownBytes.{Appends}
 use Rattle.answer_text.specs.Writes.{Writes}
 use Rattle.answer_text.proofs.Fronts.{Appends-nil}

@@ -1,6 +1,5 @@
-use Rattle.std.proofs.Common.{◌≡◌, ◌+◌, refl, sym, ap, ◌∙◌, arith}
+use Rattle.std.proofs.Common.{refl, sym, ◌∙◌, arith}
 use Rattle.std.proofs.lemmas.Result.{err_from_is_err_and}
-use Rattle.abstract_port.specs.AbstractPort.{waiting}
 use Rattle.answer_text.proofs.Fronts.{sent_none, sent_more, sent_exit, sent_all}
 use Rattle.replay.proofs.StartsLaws.{start-lines, start-port, start-within, start-fewer, no_start-lines, no_start-port}
 use Rattle.replay.proofs.answering.put_starts.Goals as goal
