@@ -7,9 +7,10 @@ use std::{fs, io};
 use wire_time::Rate;
 
 /// The examples, each with its script and its answers.
-const EXAMPLES: [(&str, &str); 5] = [
+const EXAMPLES: [(&str, &str); 6] = [
     ("first.script", "first.answers"),
     ("priorities.script", "priorities.answers"),
+    ("schedule.script", "schedule.answers"),
     ("manual.script", "manual.answers"),
     ("guard_band.script", "guard_band.answers"),
     ("extension.script", "extension.answers"),
