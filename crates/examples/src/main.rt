@@ -1,4 +1,4 @@
-//! Runs each example script, and says whether its answers are those that lie beside it.
+//! Runs each example script and the worked scripts, and says whether their answers are those that lie beside them.
 #![tactic(auto)]
 
 use replay::{Settings, run_script};
@@ -38,6 +38,23 @@ fn agrees<R: Files + AllocGlobal>(rt: &R, script: &str, answers: &str) -> io::Re
     Ok(answers_with(rt, script.as_bytes(), answers.as_bytes()))
 }
 
+/// How many worked scripts there are, and how many of them answer as they should. A script and its answers are parted by a line
+/// of four dashes, and one script from the next by a line of four equals signs.
+fn worked<R: Files + AllocGlobal>(rt: &R) -> io::Result<(u32, u32)> {
+    let text = fs::read_to_string(rt, "worked.txt")?;
+    let mut scripts = 0u32;
+    let mut answered = 0u32;
+    for case in text.split("====\n") {
+        scripts = scripts.saturating_add(1);
+        if let Some((script, answers)) = case.split_once("----\n")
+            && answers_with(rt, script.as_bytes(), answers.as_bytes())
+        {
+            answered = answered.saturating_add(1);
+        }
+    }
+    Ok((scripts, answered))
+}
+
 fn main(rt: HostRuntime) -> io::Result<()> {
     for (script, answers) in EXAMPLES {
         let told = if agrees(&rt, script, answers)? {
@@ -47,5 +64,7 @@ fn main(rt: HostRuntime) -> io::Result<()> {
         };
         println!(rt; "{script} {told}")?;
     }
+    let (scripts, answered) = worked(&rt)?;
+    println!(rt; "{answered} of {scripts} worked scripts answer as they should")?;
     Ok(())
 }

@@ -1,5 +1,5 @@
 //! The gates by three slots.
-ghost use Rattle.std.specs.Prelude.{◌≡◌, ℕ, ◌+◌, ◌<◌, ◌≤◌, ◌^◌, option_map, nat_lt, Some, false};
+ghost use Rattle.std.specs.Prelude.{◌≡◌, ℕ, ◌+◌, ◌<◌, ◌≤◌, ◌^◌, option_map, nat_lt, Some, true, false, []};
 ghost use Rattle.wire_time.specs.Moment.{greatest_moment};
 ghost use Rattle.list_config.specs.History.{IsRising, IsSettled, planned_mask, is_held, mask_under, gates, only_if};
 ghost use Rattle.list_config.specs.Current.{IsCurrent};
@@ -146,6 +146,13 @@ fn pending_of<'a>(
 }
 
 impl Plain {
+    /// Whether no command is in force, pending or announced.
+    fn is_idle(&self) -> bool
+        ensures { result ≡ true → self.now.history ≡ [] }
+    {
+        self.current.is_none() && self.next.is_none() && self.later.is_none()
+    }
+
     /// The classes open at a moment from now on, by the commands accepted so far.
     #[tactic(auto, using(crate::proofs::PlainLaws::gates_later))]
     fn mask_later(&self, m: u128) -> u8
@@ -190,8 +197,11 @@ impl Gates for Plain {
         self.mask_later(self.moment)
     }
 
-    #[tactic(auto, using(crate::proofs::PlainLaws::open_none, crate::proofs::PlainLaws::open_more, crate::proofs::PlainLaws::open_stops))]
+    #[tactic(auto, using(crate::proofs::PlainLaws::open_idle, crate::proofs::PlainLaws::open_none, crate::proofs::PlainLaws::open_more, crate::proofs::PlainLaws::open_stops))]
     fn stays_open(&self, class: u8, for_ps: u128, _visits: &mut Visits) -> bool {
+        if self.is_idle() {
+            return true;
+        }
         for i in 0..for_ps {
             if !is_open(self.mask_later(self.moment + i), class) {
                 return false;
@@ -200,8 +210,11 @@ impl Gates for Plain {
         true
     }
 
-    #[tactic(auto, using(crate::proofs::PlainLaws::steady_none, crate::proofs::PlainLaws::steady_more, crate::proofs::PlainLaws::steady_less))]
+    #[tactic(auto, using(crate::proofs::PlainLaws::steady_idle, crate::proofs::PlainLaws::steady_none, crate::proofs::PlainLaws::steady_more, crate::proofs::PlainLaws::steady_less))]
     fn next_boundary(&self, before: u128) -> Option<u128> {
+        if self.is_idle() {
+            return None;
+        }
         let shown = self.mask();
         for m in self.moment + 1..before {
             if self.mask_later(m) != shown {

@@ -4,7 +4,7 @@ ghost use Rattle.std.specs.Prelude.{◌≡◌, ◌≤◌, ◌<◌, ◌+◌};
 
 use crate::ports::plain_map;
 use abstract_port::{Answer, Change, Command, Event};
-use gate_list::{Entry, GateList, Schedule, Visits};
+use gate_list::{Entry, GateList, Row, Schedule, Stay, Visits};
 use list_config::Gates;
 use port::Port;
 use std::alloc::{AllocError, Global};
@@ -92,6 +92,71 @@ fn schedule(numbers: &mut Numbers) -> Option<Schedule> {
         Ok(schedule) => Some(schedule),
         Err(_) => None,
     }
+}
+
+/// Whether a class is open from now on for just so long.
+fn stays_for<G: Gates>(gates: &G, class: u8, stay: Stay) -> bool
+    requires sound { G.is_sound gates.now }
+    requires class { class < 8 }
+{
+    let mut visits = Visits::zero();
+    match stay {
+        Stay::Always => gates.stays_open(class, 200_000, &mut visits),
+        Stay::Lasts(0) => !gates.stays_open(class, 1, &mut visits),
+        Stay::Lasts(t) => {
+            t < 1_000_000
+                && gates.stays_open(class, t, &mut visits)
+                && !gates.stays_open(class, t + 1, &mut visits)
+        }
+    }
+}
+
+/// Whether a row tells for each class how long it stays open from now on.
+fn tells_open_time<G: Gates>(gates: &G, row: &Row) -> bool
+    requires { G.is_sound gates.now }
+{
+    for class in 0..8u8 {
+        if !stays_for(gates, class, row.stay[class as usize]) {
+            return false;
+        }
+    }
+    true
+}
+
+/// Whether each row of a random schedule tells the open time that the gates show from the entry's start on.
+pub fn rows_tell_open_time<G: Gates + Drop>(seed: u64) -> bool {
+    let mut numbers = Numbers::new(seed);
+    let mut again = numbers;
+    let mut visits = Visits::zero();
+    let mut gates = G::begin();
+    let Some(table) = schedule(&mut numbers) else {
+        return false;
+    };
+    let Some(given) = schedule(&mut again) else {
+        return false;
+    };
+    let Ok(change) = gates.install(given, 1) else {
+        return false;
+    };
+    if change > 1_000_000_000 {
+        return false;
+    }
+    let mut at = change;
+    for i in 0..table.len() {
+        if at < gates.now() || at > 1_000_000_000 {
+            return false;
+        }
+        if at >= change + 1000 * u128::from(table.cycle_ns()) {
+            return true;
+        }
+        gates.move_to(at, &mut visits);
+        let row = table.row(i, &mut visits);
+        if !tells_open_time(&gates, &row) {
+            return false;
+        }
+        at += 1000 * u128::from(row.entry.interval);
+    }
+    true
 }
 
 /// Gives both the same command, and whether they answer alike.

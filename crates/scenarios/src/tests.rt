@@ -1,5 +1,5 @@
 use super::ports::{frame, plain_map, replace};
-use super::random::{agree, answers};
+use super::random::{agree, answers, rows_tell_open_time};
 use super::tables::{open_for_long_frames, play_all};
 use super::*;
 use abstract_port::{Answer, Command, Counters, Dropped, Event, Refused, Start};
@@ -329,4 +329,11 @@ fn ports_want_memory_only_where_it_is_refused(rt: HostRuntime) -> Result<(), Fai
         assert_eq!(rt; port.err(), want);
     }
     Ok(())
+}
+
+#[test]
+fn rows_tell_the_open_time_of_every_picosecond(rt: HostRuntime) {
+    for seed in 0..60 {
+        assert!(rt; rows_tell_open_time::<Plain>(seed), "seed {seed}");
+    }
 }
