@@ -100,6 +100,8 @@ pub fn play<G: Gates + Drop>(steps: &[(u128, Step<'_>)]) -> Result<(), usize> {
     Ok(())
 }
 
+#[cfg(test)]
+mod frames;
 pub mod ports;
 pub mod random;
 pub mod tables;

@@ -181,10 +181,7 @@ fn command(numbers: &mut Numbers) -> Command {
 }
 
 /// A random event: the moment goes on by up to 6 nanoseconds at a time.
-fn event<'a>(numbers: &mut Numbers, moment: &mut u128, command: &'a Command) -> Event<'a>
-    requires { moment.old ≤ 1000000000 }
-    ensures { moment.new ≤ moment.old + 6000 }
-{
+fn event<'a>(numbers: &mut Numbers, moment: &mut u128, command: &'a Command) -> Event<'a> {
     match numbers.between(0, 8) {
         0 => Event::Query,
         1 => Event::Install(command),
@@ -196,7 +193,7 @@ fn event<'a>(numbers: &mut Numbers, moment: &mut u128, command: &'a Command) -> 
             tagged: numbers.between(0, 2) == 0,
         }),
         _ => {
-            *moment += u128::from(numbers.between(0, 6001));
+            *moment = (*moment).min(900_000_000) + u128::from(numbers.between(0, 6001));
             Event::Clock(*moment)
         }
     }

@@ -5,6 +5,7 @@ use super::*;
 use abstract_port::{Answer, Command, Counters, Dropped, Event, Refused, Start};
 use class_map::{ClassMap, Queues};
 use gate_list::PlanFault;
+use linked_list_allocator::LocalHeap;
 use port::{Port, PortFault};
 use reference::Plain;
 use std::test::Fail;
@@ -269,8 +270,12 @@ fn stepped_agrees_with_plain_at_every_picosecond(rt: HostRuntime) {
 fn ports_answer_alike_on_both_gates(rt: HostRuntime) -> Result<(), Fail> {
     let rate = Rate::from_mbps(100000).ok().ok_or("a rate")?;
     for seed in 0..12 {
-        let mut plain = Port::<Plain>::new(rt.alloc(), rate, 68, 3).ok().ok_or("a port")?;
-        let mut stepped = Port::<Stepped>::new(rt.alloc(), rate, 68, 3).ok().ok_or("a port")?;
+        let mut plain = Port::<Plain>::new(rt.alloc(), rate, 68, 3)
+            .ok()
+            .ok_or("a port")?;
+        let mut stepped = Port::<Stepped>::new(rt.alloc(), rate, 68, 3)
+            .ok()
+            .ok_or("a port")?;
         let want = answers(rt.alloc(), &mut plain, seed, 60)?;
         let got = answers(rt.alloc(), &mut stepped, seed, 60)?;
         assert_eq!(rt; got.as_slice(), want.as_slice(), "seed {seed}");
@@ -282,27 +287,46 @@ fn ports_answer_alike_on_both_gates(rt: HostRuntime) -> Result<(), Fail> {
 /// of one call.
 #[test]
 fn runs_go_on_where_memory_is_wanting(rt: HostRuntime) -> Result<(), Fail> {
-    let command =
-        replace(&[entry(0, 100_000), entry(1, 100_000)], 20_000, plain_map()).ok_or("a command")?;
+    let command = replace(&[entry(0, 100_000), entry(1, 100_000)], 20_000, plain_map()).ok_or(
+        "a command",
+    )?;
     let events = closed_at_first(&command);
     let want = answers_of_closed_at_first();
-    let mut wanting = 0;
+    let mut wanted = false;
+    let mut enough = false;
     for size in [512, 1024, 1536, 2048, 3072, 4096, 6144, 8192] {
         let heap = LocalHeap::new(rt.alloc(), size)?;
         let mut port = new_port::<Stepped>(&rt, 2).ok().ok_or("a port")?;
         let mut few = Vec::new(&heap);
-        let taken = match port.run_in(&events, &mut few) {
+        let taken = match port.run(&events, &mut few) {
             Ok(()) => events.len(),
             Err(memory) => memory.taken,
         };
         if taken < events.len() {
-            wanting += 1;
+            wanted = true;
+        } else {
+            enough = true;
         }
         let mut all = few.to_vec(rt.alloc())?;
         let rest = events.get(taken..).ok_or("the rest")?;
         assert_eq!(rt; port.run(rest, &mut all), Ok(()));
         assert_eq!(rt; all.as_slice(), want.as_slice());
     }
-    assert!(rt; wanting > 0 && wanting < 8);
+    assert!(rt; wanted && enough);
+    Ok(())
+}
+
+#[test]
+fn ports_want_memory_only_where_it_is_refused(rt: HostRuntime) -> Result<(), Fail> {
+    let rate = Rate::from_mbps(1000).ok().ok_or("a rate")?;
+    for (size, want) in [
+        (256, Some(PortFault::Memory)),
+        (1024, Some(PortFault::Memory)),
+        (16_384, None),
+    ] {
+        let heap = LocalHeap::new(rt.alloc(), size)?;
+        let port = Port::<Stepped, &LocalHeap>::new(&heap, rate, 1500, 8);
+        assert_eq!(rt; port.err(), want);
+    }
     Ok(())
 }

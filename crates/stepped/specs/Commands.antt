@@ -1,4 +1,4 @@
--- The commands that count at a moment.
+-- The commands that count at a moment (IEEE Std 802.1Q-2018, 8.6.9.3 List Config).
 use Rattle.std.specs.Prelude.{◌≤◌, ℕ, ◌*◌, ◌&&◌, nat_le, nat_lt, List, [], Option, None, option_map}
 use denote.Bor.{Bor}
 use Rattle.std.specs.Option.{ForSome}

@@ -1,4 +1,5 @@
--- Where a list stands: its cycle and the entry that it shows, or its hold.
+-- Where a list stands: its cycle and the entry that it shows, or its hold (IEEE Std 802.1Q-2018, 8.6.9.1 Cycle Timer,
+-- 8.6.9.2 List Execute).
 use Rattle.std.specs.Prelude.{◌≡◌, ◌<◌, ◌≤◌, ℕ, ◌+◌, ◌-◌, ◌*◌, ◌⊎◌, min, Bool, true, false, if◌then◌else◌, Option, Some, None, option_map}
 use Rattle.std.specs.Option.{ForSome}
 use Rattle.gate_list.specs.Gate.{Plan, IsShownAt, in_ps, mask_since}

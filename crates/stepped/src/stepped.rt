@@ -17,6 +17,8 @@ use list_config::{Gates, Installed, NotNow};
 use std::marker::Model;
 
 /// The gates of a port: its commands, and where the list in force stands.
+///
+/// A move takes a step for each boundary that it passes, so the time of a far move grows with its cycles and entries.
 #[derive(Drop)]
 pub struct Stepped {
     slots: Slots,

@@ -15,7 +15,8 @@ use Rattle.tc_reader.specs.Grammar.{head_words, heads_before, has_kind, AreNewHe
 use Rattle.tc_reader.proofs.RunLemmas.{ok_is}
 use Rattle.tc_reader.proofs.GrammarLemmas.{guard_not}
 
-abbrev End : Type 0
+-- how the heads of a line end
+abbrev pub End : Type 0
 End = Result (Option (List Word)) TcFault
 
 -- what stands behind the heads
@@ -28,10 +29,10 @@ IsTail (Some rest) tail = tail ≡ codes "taprio" ∷ rest
 abbrev at_root : List Word → Result (Head × List Word) TcFault
 at_root ws = Ok (root, ws)
 
-abbrev IsHead : List Head → List Word → Head × List Word → Type 0
+abbrev pub IsHead : List Head → List Word → Head × List Word → Type 0
 IsHead before ws x = (ws ≡ head_words x.0 ++ x.1) × (has_kind before x.0 ≡ false)
 
-is_word : (w v : Word) → bytes_eq w v ≡ true → w ≡ v
+pub is_word : (w v : Word) → bytes_eq w v ≡ true → w ≡ v
 is_word w v is = (bytes_eq-Decides w v).0 is
 
 named_take : (make : Word → Head) (o : Opt) (before : List Head) (name : Word) (ws : List Word) (h : Head) (rest : List Word)
@@ -40,7 +41,7 @@ named_take make o before name [] h rest new e = absurd cc
 named_take make o before name (v ∷ ws) h rest new e =
     subst (IsHead before (name ∷ v ∷ ws)) (ok_is (make v, ws) (h, rest) e) (ap (λ (l : List Word). l ++ ws) (sym (new v).1), (new v).0)
 
-head_take : (before : List Head) (w : Word) (ws : List Word) (h : Head) (rest : List Word) → head_at before w ws ≡ Ok (h, rest) → IsHead before (w ∷ ws) (h, rest)
+pub head_take : (before : List Head) (w : Word) (ws : List Word) (h : Head) (rest : List Word) → head_at before w ws ≡ Ok (h, rest) → IsHead before (w ∷ ws) (h, rest)
 head_take before w ws h rest e = by_tests (bytes_eq w (codes "dev")) (bytes_eq w (codes "root")) (bytes_eq w (codes "parent")) (bytes_eq w (codes "handle")) refl refl refl refl e
   where
     is_named : (make : Word → Head) (o : Opt) (name : Word) (d : Bool) → bytes_eq w name ≡ true → ((v : Word) → has_kind before (make v) ≡ d) → ((v : Word) → head_words (make v) ≡ name ∷ v ∷ [])

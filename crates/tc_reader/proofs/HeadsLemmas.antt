@@ -91,14 +91,14 @@ HeadsSoFar-more start w ws rest have new was other took =
       goes_on = λ more end r. subst (λ (hs : List Head). ReadsHeads [] start hs end) (sym (append_assoc was.heads (k.0 ∷ []) more)) (was.goes_on (k.0 ∷ more) end (other, rest, k.1, r));
     }
 
-ends_fault : (hs : List Head) (w : Word) (ws : List Word) (f : TcFault) → bytes_eq w (codes "taprio") ≡ false → head_at hs w ws ≡ Err f → ReadsHeads hs (w ∷ ws) [] (Err f)
+pub ends_fault : (hs : List Head) (w : Word) (ws : List Word) (f : TcFault) → bytes_eq w (codes "taprio") ≡ false → head_at hs w ws ≡ Err f → ReadsHeads hs (w ∷ ws) [] (Err f)
 ends_fault hs w ws f other k = by_test (bytes_eq w (codes "taprio")) other
   where
     by_test : (b : Bool) → b ≡ false → MatchBool b (◌≡◌ {A = Result (Option (List Word)) TcFault} (Err f) (Ok (Some ws))) ((g : TcFault) × (head_at hs w ws ≡ Err g) × (◌≡◌ {A = Result (Option (List Word)) TcFault} (Err f) (Err g)))
     by_test true e = absurd cc
     by_test false e = (f, k, refl)
 
-ends_taprio : (hs : List Head) (w : Word) (ws : List Word) → bytes_eq w (codes "taprio") ≡ true → ReadsHeads hs (w ∷ ws) [] (Ok (Some ws))
+pub ends_taprio : (hs : List Head) (w : Word) (ws : List Word) → bytes_eq w (codes "taprio") ≡ true → ReadsHeads hs (w ∷ ws) [] (Ok (Some ws))
 ends_taprio hs w ws is = by_test (bytes_eq w (codes "taprio")) is
   where
     by_test : (b : Bool) → b ≡ true → MatchBool b (◌≡◌ {A = Result (Option (List Word)) TcFault} (Ok (Some ws)) (Ok (Some ws))) ((g : TcFault) × (head_at hs w ws ≡ Err g) × (◌≡◌ {A = Result (Option (List Word)) TcFault} (Ok (Some ws)) (Err g)))

@@ -6,3 +6,4 @@ pub mod DigitLemmas
 pub mod GrammarLemmas
 pub mod HeadsGrammar
 pub mod LineLaws
+pub mod ReadingLaws

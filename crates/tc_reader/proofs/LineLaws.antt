@@ -4,7 +4,6 @@ use Rattle.std.specs.Prelude.{◌&&◌, ◌||◌, ◌⊎◌, ◌↔◌, MatchOpt
 use Rattle.std.specs.declared.option.Option.{Option}
 use Rattle.std.specs.List.{list_any}
 use Rattle.std.specs.Str.{bytes_eq}
-use Rattle.std.proofs.lemmas.Slice.Eq.{bytes_eq-Decides}
 use Rattle.abstract_port.specs.declared.Change.{Change}
 use Rattle.abstract_port.specs.declared.Command.{Command}
 use Rattle.abstract_port.specs.declared.Command.TheVariants as commands
@@ -21,10 +20,7 @@ use Rattle.tc_reader.specs.Lines.{verb_of, with_rest, verb_at, replacement_of, d
 use Rattle.tc_reader.specs.Grammar.{heads_before, AreNewHeads, ReplacesBy, IsReplacement, IsDeletion, IsCommand}
 use Rattle.tc_reader.proofs.RunLemmas.{ok_is}
 use Rattle.tc_reader.proofs.GrammarLemmas.{bind_ok, Reads-take, Reads-again, Reads-one}
-use Rattle.tc_reader.proofs.HeadsGrammar.{heads_take, heads_again, heads_one}
-
-abbrev End : Type 0
-End = Result (Option (List Word)) TcFault
+use Rattle.tc_reader.proofs.HeadsGrammar.{End, is_word, heads_take, heads_again, heads_one}
 
 -- what is said of the words behind the verb
 abbrev Behind : List Word → Result Command TcFault → Verb × List Word → Type 0
@@ -65,9 +61,6 @@ line_one line r s a b = by_verb (verb_at line) a b
     by_verb (Some x) a b = behind_one line x r s a b
 
 -- ---- what is read as a command is in the grammar
-
-is_word : (w v : Word) → bytes_eq w v ≡ true → w ≡ v
-is_word w v is = (bytes_eq-Decides w v).0 is
 
 -- the words of a verb
 abbrev Says : Verb → Word → Type 0

@@ -1,15 +1,16 @@
 //! What the commands and the faults of lines have to do with each other. Nothing to run.
 
-ghost use Rattle.std.specs.Prelude.{◌≡◌, List};
+ghost use Rattle.std.specs.Prelude.{◌≡◌, ◌⊎◌, List};
 ghost use Rattle.abstract_port.specs.declared.Command.{Command};
 ghost use Rattle.tc_reader.specs.Cursor.{Word};
 ghost use Rattle.tc_reader.specs.declared.fault.TcFault.{TcFault};
 ghost use Rattle.tc_reader.specs.Grammar.{IsCommand};
 ghost use Rattle.tc_reader.specs.Lines.{HasFault};
 
-/// A list of words says at most one command, has at most one first fault, and never both.
+/// Every list of words says a command or has a first fault, never both, and never two of either.
 pub fn one_reading()
+    ensures some { (line : List Word) → ((c : Command) × IsCommand line c) ⊎ ((f : TcFault) × HasFault line f) }
+    ensures not_both { (line : List Word) (c : Command) (f : TcFault) → IsCommand line c → HasFault line f → ⊥ }
     ensures command { (line : List Word) (c d : Command) → IsCommand line c → IsCommand line d → c ≡ d }
     ensures fault { (line : List Word) (f g : TcFault) → HasFault line f → HasFault line g → f ≡ g }
-    ensures not_both { (line : List Word) (c : Command) (f : TcFault) → IsCommand line c → HasFault line f → ⊥ }
 {}

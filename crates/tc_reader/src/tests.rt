@@ -22,7 +22,7 @@ fn change(line: &[u8]) -> Result<Change, Fail> {
 #[test]
 fn a_line_with_every_option(rt: HostRuntime) -> Result<(), Fail> {
     let given = change(
-        b"tc qdisc replace dev eth0 parent root handle 100 taprio num_tc 3 map 2 2 1 0 queues 1@0 1@1 2@2 \
+        b"tc qdisc replace dev eth0 parent root handle 100 taprio num_tc 3 map 2 2 1 0 \\\nqueues 1@0 1@1 2@2 \
           base-time 1528743495910289987 cycle-time 7 cycle-time-extension 8 max-sdu 0 0 100 sched-entry S 0xFf 300000 \
           sched-entry S 02 4294967295 clockid clock_Tai flags 0x2",
     )?;
