@@ -1,5 +1,5 @@
 //! Worked frames: what a port with stepped gates answers to frames, moments and commands, by calls of `run`.
-use super::ports::{frame, plain_map, replace};
+use super::ports::{frame, plain_map};
 use super::*;
 use abstract_port::{Answer, Command, Event, Start};
 use port::Port;
@@ -31,11 +31,13 @@ fn command(base: u64, extension: u64, masks: &[(u8, u32)]) -> Option<Command> {
         let (mask, interval) = masks[i];
         entries[i] = Entry { mask, interval };
     }
-    let mut command = replace(&entries[..many], base, plain_map())?;
-    if let Command::Replace(change) = &mut command {
-        change.extension_ns = extension;
-    }
-    Some(command)
+    let given = Given {
+        entries: &entries[..many],
+        base,
+        cycle: 0,
+        extension,
+    };
+    ports::command(&given, plain_map())
 }
 
 fn start(id: u64, class: u8, at: u128, end: u128) -> Answer {

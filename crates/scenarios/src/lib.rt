@@ -5,6 +5,7 @@ ghost use Rattle.std.specs.Prelude.{◌≡◌, ◌≤◌, ◌<◌};
 
 use gate_list::{Entry, GateList, Schedule, Visits};
 use list_config::{Gates, Installed, NotNow};
+use std::marker::PhantomData;
 use wire_time::Rate;
 
 /// The lead at 1 Gb/s and an mtu of 1500 octets, in picoseconds.
@@ -83,21 +84,39 @@ fn holds<G: Gates>(gates: &mut G, step: &Step<'_>) -> bool
     }
 }
 
-/// Plays the steps, each at its moment in picoseconds, from the beginning on. The index of the first that doesn't come out as
-/// it has to, or whose moment goes back.
-pub fn play<G: Gates + Drop>(steps: &[(u128, Step<'_>)]) -> Result<(), usize> {
-    let mut gates = G::begin();
-    let mut visits = Visits::zero();
-    for (i, (at, step)) in steps.iter().enumerate() {
-        if *at < gates.now() || *at > LATEST {
-            return Err(i);
-        }
-        gates.move_to(*at, &mut visits);
-        if !holds(&mut gates, step) {
-            return Err(i);
-        }
+/// What plays a worked history, each step at its moment in picoseconds, from the beginning on.
+pub trait Player {
+    /// The index of the first step that doesn't come out as it has to, or whose moment goes back.
+    fn play(&self, steps: &[(u128, Step<'_>)]) -> Result<(), usize>;
+}
+
+/// Plays by the calls of gates.
+#[derive(Drop)]
+pub struct OnGates<G> {
+    gates: PhantomData<G>,
+}
+
+impl<G> OnGates<G> {
+    pub fn new() -> Self {
+        OnGates { gates: PhantomData }
     }
-    Ok(())
+}
+
+impl<G: Gates + Drop> Player for OnGates<G> {
+    fn play(&self, steps: &[(u128, Step<'_>)]) -> Result<(), usize> {
+        let mut gates = G::begin();
+        let mut visits = Visits::zero();
+        for (i, (at, step)) in steps.iter().enumerate() {
+            if *at < gates.now() || *at > LATEST {
+                return Err(i);
+            }
+            gates.move_to(*at, &mut visits);
+            if !holds(&mut gates, step) {
+                return Err(i);
+            }
+        }
+        Ok(())
+    }
 }
 
 #[cfg(test)]

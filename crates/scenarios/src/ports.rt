@@ -1,8 +1,13 @@
 //! Ports over the gates: lists of events and what they answer.
-use abstract_port::{Change, Command};
+use super::{Given, Player, Step};
+use abstract_port::{Answer, Change, Command, Event, Refused, Report};
 use class_map::ClassMap;
 use gate_list::{Entry, GateList};
-use wire_time::Frame;
+use list_config::{Gates, NotNow};
+use port::Port;
+use std::alloc::Global;
+use stepped::Stepped;
+use wire_time::{Frame, Rate};
 
 /// An untagged frame.
 pub fn frame(id: u64, priority: u8, len: u32) -> Frame {
@@ -15,8 +20,8 @@ pub fn frame(id: u64, priority: u8, len: u32) -> Frame {
 }
 
 /// The command of a schedule, with a map of classes where one is given.
-pub fn replace(entries: &[Entry], base_ns: u64, map: Option<ClassMap>) -> Option<Command> {
-    let Ok(list) = GateList::new(entries) else {
+pub fn command(given: &Given<'_>, map: Option<ClassMap>) -> Option<Command> {
+    let Ok(list) = GateList::new(given.entries) else {
         return None;
     };
     Some(Command::Replace(Change {
@@ -24,10 +29,23 @@ pub fn replace(entries: &[Entry], base_ns: u64, map: Option<ClassMap>) -> Option
         queues: None,
         max_sdu: None,
         list,
-        base_ns,
-        cycle_ns: 0,
-        extension_ns: 0,
+        base_ns: given.base,
+        cycle_ns: given.cycle,
+        extension_ns: given.extension,
     }))
+}
+
+/// The command of a schedule whose cycle is the sum of its intervals, without an extension.
+pub fn replace(entries: &[Entry], base: u64, map: Option<ClassMap>) -> Option<Command> {
+    command(
+        &Given {
+            entries,
+            base,
+            cycle: 0,
+            extension: 0,
+        },
+        map,
+    )
 }
 
 /// The map of priorities 0 to 7 to classes 0 to 7.
@@ -35,5 +53,91 @@ pub fn plain_map() -> Option<ClassMap> {
     match ClassMap::new(8, &[0, 1, 2, 3, 4, 5, 6, 7]) {
         Ok(map) => Some(map),
         Err(_) => None,
+    }
+}
+
+/// Plays by calls of `run` on a port with stepped gates at 1 Gb/s and an mtu of 1500 octets, in which no frame waits. What a
+/// port isn't asked, whether a class is open for so long, is passed over.
+#[derive(Drop)]
+pub struct OnPort {
+    alloc: Global,
+}
+
+impl OnPort {
+    pub fn new(alloc: Global) -> Self {
+        OnPort { alloc }
+    }
+}
+
+/// The one answer to an event at a moment.
+fn answer<G: Gates>(
+    alloc: Global,
+    port: &mut Port<G>,
+    at: u128,
+    event: Event<'_>,
+) -> Option<Answer> {
+    let mut answers = Vec::new(alloc);
+    if port.run(&[Event::Clock(at), event], &mut answers).is_err() {
+        return None;
+    }
+    match answers.as_slice() {
+        [one] => Some(*one),
+        _ => None,
+    }
+}
+
+/// The answer that a command has to get.
+fn installed(want: Result<u128, NotNow>) -> Option<Answer> {
+    match want {
+        Ok(change) => Some(Answer::Installed(change)),
+        Err(NotNow::Busy(lead)) => Some(Answer::Refused(Refused::Busy(lead))),
+    }
+}
+
+/// The report of a port at a moment.
+fn report<G: Gates>(alloc: Global, port: &mut Port<G>, at: u128) -> Option<Report> {
+    match answer(alloc, port, at, Event::Query)? {
+        Answer::Report(report) => Some(report),
+        _ => None,
+    }
+}
+
+/// Whether a step comes out of a port as it has to, or isn't asked of a port.
+fn holds<G: Gates>(alloc: Global, port: &mut Port<G>, at: u128, step: &Step<'_>) -> Option<bool> {
+    Some(match step {
+        Step::Install(given, want) => {
+            let map = match port.report().classes {
+                Some(_) => None,
+                None => plain_map(),
+            };
+            let command = command(given, map)?;
+            answer(alloc, port, at, Event::Install(&command)) == installed(*want)
+        }
+        Step::Delete(want) => {
+            answer(alloc, port, at, Event::Install(&Command::Delete)) == installed(*want)
+        }
+        Step::Mask(mask) => report(alloc, port, at)?.mask == *mask,
+        Step::Shown(shown) => {
+            let report = report(alloc, port, at)?;
+            report.now == at && [report.in_force, report.pending, report.announced] == *shown
+        }
+        Step::Open(..) => true,
+    })
+}
+
+impl Player for OnPort {
+    fn play(&self, steps: &[(u128, Step<'_>)]) -> Result<(), usize> {
+        let Ok(rate) = Rate::from_mbps(1000) else {
+            return Err(0);
+        };
+        let Ok(mut port) = Port::<Stepped>::new(self.alloc, rate, 1500, 1) else {
+            return Err(0);
+        };
+        for (i, (at, step)) in steps.iter().enumerate() {
+            if *at < port.now() || holds(self.alloc, &mut port, *at, step) != Some(true) {
+                return Err(i);
+            }
+        }
+        Ok(())
     }
 }

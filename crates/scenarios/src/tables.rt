@@ -1,7 +1,7 @@
-//! Worked histories as tables, each for any implementation of the gates: masks, change moments and what is shown.
-use super::{Given, Step, play};
+//! Worked histories as tables, each for any player: masks, change moments and what is shown.
+use super::{Given, Player, Step};
 use gate_list::Entry;
-use list_config::{Gates, Installed, NotNow};
+use list_config::{Installed, NotNow};
 
 fn entry(mask: u8, interval: u32) -> Entry {
     Entry { mask, interval }
@@ -17,8 +17,8 @@ fn given(entries: &[Entry], base: u64, cycle: u64, extension: u64) -> Given<'_> 
 }
 
 /// A schedule is announced up to its lead moment, pending up to its change, and then in force.
-pub fn announced_pending_in_force<G: Gates + Drop>() -> Result<(), usize> {
-    play::<G>(&[
+pub fn announced_pending_in_force<P: Player>(player: &P) -> Result<(), usize> {
+    player.play(&[
         (
             0,
             Step::Install(
@@ -111,16 +111,16 @@ pub fn announced_pending_in_force<G: Gates + Drop>() -> Result<(), usize> {
 }
 
 /// A base time at the lead moment is the change moment.
-pub fn base_time_at_the_lead_moment<G: Gates + Drop>() -> Result<(), usize> {
-    play::<G>(&[(
+pub fn base_time_at_the_lead_moment<P: Player>(player: &P) -> Result<(), usize> {
+    player.play(&[(
         0,
         Step::Install(given(&[entry(0x1, 1000000)], 12336, 0, 0), Ok(12_336_000)),
     )])
 }
 
 /// One that is earlier comes into force whole cycles later.
-pub fn base_time_before_the_lead_moment<G: Gates + Drop>() -> Result<(), usize> {
-    play::<G>(&[(
+pub fn base_time_before_the_lead_moment<P: Player>(player: &P) -> Result<(), usize> {
+    player.play(&[(
         0,
         Step::Install(
             given(&[entry(0x1, 1000000)], 12335, 0, 0),
@@ -130,8 +130,8 @@ pub fn base_time_before_the_lead_moment<G: Gates + Drop>() -> Result<(), usize> 
 }
 
 /// The last state is held for a change that the extension reaches.
-pub fn held_by_the_extension<G: Gates + Drop>() -> Result<(), usize> {
-    play::<G>(&[
+pub fn held_by_the_extension<P: Player>(player: &P) -> Result<(), usize> {
+    player.play(&[
         (
             0,
             Step::Install(
@@ -159,8 +159,8 @@ pub fn held_by_the_extension<G: Gates + Drop>() -> Result<(), usize> {
 }
 
 /// Where the extension is too short, a short cycle begins and is cut.
-pub fn cut_without_enough_extension<G: Gates + Drop>() -> Result<(), usize> {
-    play::<G>(&[
+pub fn cut_without_enough_extension<P: Player>(player: &P) -> Result<(), usize> {
+    player.play(&[
         (
             0,
             Step::Install(
@@ -188,8 +188,8 @@ pub fn cut_without_enough_extension<G: Gates + Drop>() -> Result<(), usize> {
 }
 
 /// A command given after the short cycle began holds nothing.
-pub fn no_hold_after_the_short_cycle_began<G: Gates + Drop>() -> Result<(), usize> {
-    play::<G>(&[
+pub fn no_hold_after_the_short_cycle_began<P: Player>(player: &P) -> Result<(), usize> {
+    player.play(&[
         (
             0,
             Step::Install(
@@ -217,8 +217,8 @@ pub fn no_hold_after_the_short_cycle_began<G: Gates + Drop>() -> Result<(), usiz
 }
 
 /// An extension that just reaches the change.
-pub fn extension_that_just_reaches<G: Gates + Drop>() -> Result<(), usize> {
-    play::<G>(&[
+pub fn extension_that_just_reaches<P: Player>(player: &P) -> Result<(), usize> {
+    player.play(&[
         (
             0,
             Step::Install(
@@ -243,8 +243,8 @@ pub fn extension_that_just_reaches<G: Gates + Drop>() -> Result<(), usize> {
 }
 
 /// One that is a nanosecond shorter.
-pub fn extension_that_just_fails<G: Gates + Drop>() -> Result<(), usize> {
-    play::<G>(&[
+pub fn extension_that_just_fails<P: Player>(player: &P) -> Result<(), usize> {
+    player.play(&[
         (
             0,
             Step::Install(
@@ -269,8 +269,8 @@ pub fn extension_that_just_fails<G: Gates + Drop>() -> Result<(), usize> {
 }
 
 /// The last state is held, though the list is longer than its cycle.
-pub fn held_where_the_list_is_longer<G: Gates + Drop>() -> Result<(), usize> {
-    play::<G>(&[
+pub fn held_where_the_list_is_longer<P: Player>(player: &P) -> Result<(), usize> {
+    player.play(&[
         (
             0,
             Step::Install(
@@ -298,8 +298,8 @@ pub fn held_where_the_list_is_longer<G: Gates + Drop>() -> Result<(), usize> {
 }
 
 /// An extension of more than a cycle holds from the first boundary that it reaches.
-pub fn held_for_cycles<G: Gates + Drop>() -> Result<(), usize> {
-    play::<G>(&[
+pub fn held_for_cycles<P: Player>(player: &P) -> Result<(), usize> {
+    player.play(&[
         (
             0,
             Step::Install(
@@ -328,8 +328,8 @@ pub fn held_for_cycles<G: Gates + Drop>() -> Result<(), usize> {
 }
 
 /// A lead moment at the boundary still holds.
-pub fn lead_at_the_boundary<G: Gates + Drop>() -> Result<(), usize> {
-    play::<G>(&[
+pub fn lead_at_the_boundary<P: Player>(player: &P) -> Result<(), usize> {
+    player.play(&[
         (
             0,
             Step::Install(
@@ -354,8 +354,8 @@ pub fn lead_at_the_boundary<G: Gates + Drop>() -> Result<(), usize> {
 }
 
 /// One a picosecond later does not.
-pub fn lead_after_the_boundary<G: Gates + Drop>() -> Result<(), usize> {
-    play::<G>(&[
+pub fn lead_after_the_boundary<P: Player>(player: &P) -> Result<(), usize> {
+    player.play(&[
         (
             0,
             Step::Install(
@@ -380,8 +380,8 @@ pub fn lead_after_the_boundary<G: Gates + Drop>() -> Result<(), usize> {
 }
 
 /// A class stays open in the hold, up to the change.
-pub fn open_in_a_hold<G: Gates + Drop>() -> Result<(), usize> {
-    play::<G>(&[
+pub fn open_in_a_hold<P: Player>(player: &P) -> Result<(), usize> {
+    player.play(&[
         (
             0,
             Step::Install(
@@ -407,8 +407,8 @@ pub fn open_in_a_hold<G: Gates + Drop>() -> Result<(), usize> {
 }
 
 /// While a command is announced no other is taken; a pending one is replaced, and never comes into force.
-pub fn busy_and_replaced<G: Gates + Drop>() -> Result<(), usize> {
-    play::<G>(&[
+pub fn busy_and_replaced<P: Player>(player: &P) -> Result<(), usize> {
+    player.play(&[
         (
             0,
             Step::Install(
@@ -458,8 +458,8 @@ pub fn busy_and_replaced<G: Gates + Drop>() -> Result<(), usize> {
 }
 
 /// After a deletion all classes are open, and not before its lead moment.
-pub fn deleted<G: Gates + Drop>() -> Result<(), usize> {
-    play::<G>(&[
+pub fn deleted<P: Player>(player: &P) -> Result<(), usize> {
+    player.play(&[
         (
             0,
             Step::Install(
@@ -479,8 +479,8 @@ pub fn deleted<G: Gates + Drop>() -> Result<(), usize> {
 }
 
 /// A cycle longer than the list keeps its last state.
-pub fn last_state_past_the_list<G: Gates + Drop>() -> Result<(), usize> {
-    play::<G>(&[
+pub fn last_state_past_the_list<P: Player>(player: &P) -> Result<(), usize> {
+    player.play(&[
         (
             0,
             Step::Install(
@@ -494,8 +494,8 @@ pub fn last_state_past_the_list<G: Gates + Drop>() -> Result<(), usize> {
 }
 
 /// A cycle shorter than the list cuts it.
-pub fn cut_list<G: Gates + Drop>() -> Result<(), usize> {
-    play::<G>(&[
+pub fn cut_list<P: Player>(player: &P) -> Result<(), usize> {
+    player.play(&[
         (
             0,
             Step::Install(
@@ -509,8 +509,8 @@ pub fn cut_list<G: Gates + Drop>() -> Result<(), usize> {
 }
 
 /// A class stays open over the end of its cycle.
-pub fn open_over_the_boundary<G: Gates + Drop>() -> Result<(), usize> {
-    play::<G>(&[
+pub fn open_over_the_boundary<P: Player>(player: &P) -> Result<(), usize> {
+    player.play(&[
         (
             0,
             Step::Install(
@@ -530,8 +530,8 @@ pub fn open_over_the_boundary<G: Gates + Drop>() -> Result<(), usize> {
 }
 
 /// The pending change closes a class that the schedule in force leaves open.
-pub fn closed_by_the_change<G: Gates + Drop>() -> Result<(), usize> {
-    play::<G>(&[
+pub fn closed_by_the_change<P: Player>(player: &P) -> Result<(), usize> {
+    player.play(&[
         (
             0,
             Step::Install(
@@ -553,8 +553,8 @@ pub fn closed_by_the_change<G: Gates + Drop>() -> Result<(), usize> {
 }
 
 /// A class may stay open under one schedule and then the next.
-pub fn open_over_the_change<G: Gates + Drop>() -> Result<(), usize> {
-    play::<G>(&[
+pub fn open_over_the_change<P: Player>(player: &P) -> Result<(), usize> {
+    player.play(&[
         (
             0,
             Step::Install(
@@ -574,8 +574,8 @@ pub fn open_over_the_change<G: Gates + Drop>() -> Result<(), usize> {
 }
 
 /// A command comes into force where its change is at or before the lead moment of its follower.
-pub fn follower_with_a_late_lead<G: Gates + Drop>() -> Result<(), usize> {
-    play::<G>(&[
+pub fn follower_with_a_late_lead<P: Player>(player: &P) -> Result<(), usize> {
+    player.play(&[
         (
             0,
             Step::Install(
@@ -594,8 +594,8 @@ pub fn follower_with_a_late_lead<G: Gates + Drop>() -> Result<(), usize> {
 }
 
 /// And where it is later.
-pub fn follower_with_a_later_lead<G: Gates + Drop>() -> Result<(), usize> {
-    play::<G>(&[
+pub fn follower_with_a_later_lead<P: Player>(player: &P) -> Result<(), usize> {
+    player.play(&[
         (
             0,
             Step::Install(
@@ -612,8 +612,8 @@ pub fn follower_with_a_later_lead<G: Gates + Drop>() -> Result<(), usize> {
 }
 
 /// Where it is earlier, it never does.
-pub fn follower_with_an_early_lead<G: Gates + Drop>() -> Result<(), usize> {
-    play::<G>(&[
+pub fn follower_with_an_early_lead<P: Player>(player: &P) -> Result<(), usize> {
+    player.play(&[
         (
             0,
             Step::Install(
@@ -632,8 +632,8 @@ pub fn follower_with_an_early_lead<G: Gates + Drop>() -> Result<(), usize> {
 }
 
 /// A hold ends at the follower's lead moment, and the gates go on at their phase.
-pub fn hold_ends_inside_a_cycle<G: Gates + Drop>() -> Result<(), usize> {
-    play::<G>(&[
+pub fn hold_ends_inside_a_cycle<P: Player>(player: &P) -> Result<(), usize> {
+    player.play(&[
         (
             0,
             Step::Install(
@@ -669,8 +669,8 @@ pub fn hold_ends_inside_a_cycle<G: Gates + Drop>() -> Result<(), usize> {
 }
 
 /// A deletion is reported by its change alone.
-pub fn deletion_on_a_new_port<G: Gates + Drop>() -> Result<(), usize> {
-    play::<G>(&[
+pub fn deletion_on_a_new_port<P: Player>(player: &P) -> Result<(), usize> {
+    player.play(&[
         (0, Step::Delete(Ok(12_336_000))),
         (0, Step::Delete(Err(NotNow::Busy(12_336_000)))),
         (
@@ -706,8 +706,8 @@ pub fn deletion_on_a_new_port<G: Gates + Drop>() -> Result<(), usize> {
 }
 
 /// A schedule may follow a deletion.
-pub fn schedule_after_a_deletion<G: Gates + Drop>() -> Result<(), usize> {
-    play::<G>(&[
+pub fn schedule_after_a_deletion<P: Player>(player: &P) -> Result<(), usize> {
+    player.play(&[
         (
             0,
             Step::Install(given(&[entry(0x1, 100000)], 20000, 0, 0), Ok(20_000_000)),
@@ -725,8 +725,8 @@ pub fn schedule_after_a_deletion<G: Gates + Drop>() -> Result<(), usize> {
 }
 
 /// Classes stay open for frames of full length: in a hold, over the end of a cycle, and over a change.
-pub fn open_for_long_frames<G: Gates + Drop>() -> Result<(), usize> {
-    play::<G>(&[
+pub fn open_for_long_frames<P: Player>(player: &P) -> Result<(), usize> {
+    player.play(&[
         (
             0,
             Step::Install(
@@ -755,34 +755,34 @@ pub fn open_for_long_frames<G: Gates + Drop>() -> Result<(), usize> {
 }
 
 /// Plays every table: the number of the first that doesn't come out as it has to, and of its step.
-pub fn play_all<G: Gates + Drop>() -> Result<(), (usize, usize)> {
+pub fn play_all<P: Player>(player: &P) -> Result<(), (usize, usize)> {
     let played = [
-        announced_pending_in_force::<G>(),
-        base_time_at_the_lead_moment::<G>(),
-        base_time_before_the_lead_moment::<G>(),
-        held_by_the_extension::<G>(),
-        cut_without_enough_extension::<G>(),
-        no_hold_after_the_short_cycle_began::<G>(),
-        extension_that_just_reaches::<G>(),
-        extension_that_just_fails::<G>(),
-        held_where_the_list_is_longer::<G>(),
-        held_for_cycles::<G>(),
-        lead_at_the_boundary::<G>(),
-        lead_after_the_boundary::<G>(),
-        open_in_a_hold::<G>(),
-        busy_and_replaced::<G>(),
-        deleted::<G>(),
-        last_state_past_the_list::<G>(),
-        cut_list::<G>(),
-        open_over_the_boundary::<G>(),
-        closed_by_the_change::<G>(),
-        open_over_the_change::<G>(),
-        follower_with_a_late_lead::<G>(),
-        follower_with_a_later_lead::<G>(),
-        follower_with_an_early_lead::<G>(),
-        hold_ends_inside_a_cycle::<G>(),
-        deletion_on_a_new_port::<G>(),
-        schedule_after_a_deletion::<G>(),
+        announced_pending_in_force(player),
+        base_time_at_the_lead_moment(player),
+        base_time_before_the_lead_moment(player),
+        held_by_the_extension(player),
+        cut_without_enough_extension(player),
+        no_hold_after_the_short_cycle_began(player),
+        extension_that_just_reaches(player),
+        extension_that_just_fails(player),
+        held_where_the_list_is_longer(player),
+        held_for_cycles(player),
+        lead_at_the_boundary(player),
+        lead_after_the_boundary(player),
+        open_in_a_hold(player),
+        busy_and_replaced(player),
+        deleted(player),
+        last_state_past_the_list(player),
+        cut_list(player),
+        open_over_the_boundary(player),
+        closed_by_the_change(player),
+        open_over_the_change(player),
+        follower_with_a_late_lead(player),
+        follower_with_a_later_lead(player),
+        follower_with_an_early_lead(player),
+        hold_ends_inside_a_cycle(player),
+        deletion_on_a_new_port(player),
+        schedule_after_a_deletion(player),
     ];
     for (table, outcome) in played.iter().enumerate() {
         if let Err(step) = outcome {

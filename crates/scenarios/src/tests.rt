@@ -1,4 +1,4 @@
-use super::ports::{frame, plain_map, replace};
+use super::ports::{OnPort, frame, plain_map, replace};
 use super::random::{agree, answers, rows_tell_open_time};
 use super::tables::{open_for_long_frames, play_all};
 use super::*;
@@ -14,13 +14,21 @@ use wire_time::Frame;
 
 #[test]
 fn plain_plays_all_tables(rt: HostRuntime) {
-    assert_eq!(rt; play_all::<Plain>(), Ok(()));
+    assert_eq!(rt; play_all(&OnGates::<Plain>::new()), Ok(()));
 }
 
 #[test]
 fn stepped_plays_all_tables(rt: HostRuntime) {
-    assert_eq!(rt; play_all::<Stepped>(), Ok(()));
-    assert_eq!(rt; open_for_long_frames::<Stepped>(), Ok(()));
+    let player = OnGates::<Stepped>::new();
+    assert_eq!(rt; play_all(&player), Ok(()));
+    assert_eq!(rt; open_for_long_frames(&player), Ok(()));
+}
+
+#[test]
+fn a_port_plays_all_tables(rt: HostRuntime) {
+    let player = OnPort::new(rt.alloc());
+    assert_eq!(rt; play_all(&player), Ok(()));
+    assert_eq!(rt; open_for_long_frames(&player), Ok(()));
 }
 
 /// The start of a frame.
@@ -157,20 +165,30 @@ fn installed_maps_stay(rt: HostRuntime) -> Result<(), Fail> {
     Ok(())
 }
 
-#[test]
-fn verdicts_come_in_order(rt: HostRuntime) -> Result<(), Fail> {
-    let mut port = new_port::<Plain>(&rt, 128).ok().ok_or("a port")?;
-    let mut command = replace(&[entry(255, 100_000)], 20_000, plain_map()).ok_or("a command")?;
+/// A command that opens all classes and limits class 2 to 100 octets.
+fn limited() -> Option<Command> {
+    let mut command = replace(&[entry(255, 100_000)], 20_000, plain_map())?;
     if let Command::Replace(change) = &mut command {
         change.max_sdu = Some([0, 0, 100, 0, 0, 0, 0, 0]);
     }
-    assert_eq!(rt; port.install(&command), Ok(20_000_000));
-    let tagged = |id, len| Frame {
+    Some(command)
+}
+
+/// A frame of priority 0 with a tag.
+fn tagged(id: u64, len: u32) -> Frame {
+    Frame {
         id,
         priority: 0,
         len,
         tagged: true,
-    };
+    }
+}
+
+#[test]
+fn verdicts_come_in_order(rt: HostRuntime) -> Result<(), Fail> {
+    let mut port = new_port::<Plain>(&rt, 128).ok().ok_or("a port")?;
+    let command = limited().ok_or("a command")?;
+    assert_eq!(rt; port.install(&command), Ok(20_000_000));
     assert_eq!(rt; port.arrive(frame(1, 16, 60)), Err(Dropped::NoClass));
     assert_eq!(rt; port.arrive(tagged(2, 17)), Err(Dropped::Runt));
     assert_eq!(rt; port.arrive(frame(3, 0, 1515)), Err(Dropped::TooLong));
@@ -178,6 +196,53 @@ fn verdicts_come_in_order(rt: HostRuntime) -> Result<(), Fail> {
     assert_eq!(rt; port.arrive(tagged(5, 1518)), Ok(0));
     assert_eq!(rt; port.arrive(frame(6, 2, 115)), Err(Dropped::OverSdu));
     assert_eq!(rt; port.arrive(frame(7, 2, 114)), Ok(2));
+    Ok(())
+}
+
+#[test]
+fn verdicts_are_answered_and_counted_by_run(rt: HostRuntime) -> Result<(), Fail> {
+    let mut port = new_port::<Stepped>(&rt, 128).ok().ok_or("a port")?;
+    let command = limited().ok_or("a command")?;
+    let events = [
+        Event::Install(&command),
+        Event::Arrive(frame(1, 16, 60)),
+        Event::Arrive(tagged(2, 17)),
+        Event::Arrive(frame(3, 0, 1515)),
+        Event::Arrive(frame(4, 0, 1514)),
+        Event::Arrive(tagged(5, 1518)),
+        Event::Arrive(frame(6, 2, 115)),
+        Event::Arrive(frame(7, 2, 114)),
+        Event::Count(0),
+        Event::Count(2),
+    ];
+    let mut answers = Vec::new(rt.alloc());
+    assert_eq!(rt; port.run(&events, &mut answers), Ok(()));
+    let dropped = |id, why| Answer::Dropped { id, why };
+    let queued = |id, class| Answer::Queued { id, class };
+    let counted = |class, waiting, dropped| Answer::Counters {
+        class,
+        counters: Counters {
+            accepted: waiting,
+            sent: 0,
+            sent_octets: 0,
+            waiting,
+            dropped,
+        },
+    };
+    let want = [
+        Answer::Installed(20_000_000),
+        dropped(1, Dropped::NoClass),
+        dropped(2, Dropped::Runt),
+        dropped(3, Dropped::TooLong),
+        queued(4, 0),
+        queued(5, 0),
+        dropped(6, Dropped::OverSdu),
+        queued(7, 2),
+        counted(0, 2, [1, 1, 0, 0]),
+        counted(2, 1, [0, 0, 1, 0]),
+    ];
+    assert_eq!(rt; answers.as_slice(), want.as_slice());
+    assert_eq!(rt; port.report().no_class, 1);
     Ok(())
 }
 
@@ -333,7 +398,7 @@ fn ports_want_memory_only_where_it_is_refused(rt: HostRuntime) -> Result<(), Fai
 
 #[test]
 fn rows_tell_the_open_time_of_every_picosecond(rt: HostRuntime) {
-    for seed in 0..60 {
+    for seed in 0..20 {
         assert!(rt; rows_tell_open_time::<Plain>(seed), "seed {seed}");
     }
 }

@@ -1,4 +1,4 @@
-use Rattle.std.proofs.Common.{◌≡◌, ◌≤◌}
+use Rattle.std.proofs.Common.{◌≤◌}
 use Rattle.scenarios.proofs.random.agree.Given as goal
 
 abbrev pub invariant-loop-t : goal.invariant-loop-t
