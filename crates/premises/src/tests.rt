@@ -1,0 +1,105 @@
+use super::apart::separated;
+use super::*;
+use abstract_port::{Answer, Change, Command, Event, Start};
+use class_map::ClassMap;
+use gate_list::{Entry, GateList};
+use std::test::Fail;
+use wire_time::Frame;
+
+/// A schedule of two entries with this base time, in nanoseconds, and a class to each priority from 0 to 7.
+fn command(base_ns: u64, masks: [u8; 2], intervals: [u32; 2]) -> Option<Command> {
+    let entries = [
+        Entry {
+            mask: masks[0],
+            interval: intervals[0],
+        },
+        Entry {
+            mask: masks[1],
+            interval: intervals[1],
+        },
+    ];
+    Some(Command::Replace(Change {
+        map: ClassMap::new(8, &[0, 1, 2, 3, 4, 5, 6, 7]).ok(),
+        queues: None,
+        max_sdu: None,
+        list: GateList::new(&entries).ok()?,
+        base_ns,
+        cycle_ns: 0,
+        extension_ns: 0,
+    }))
+}
+
+fn frame(id: u64, priority: u8) -> Event<'static> {
+    Event::Arrive(Frame {
+        id,
+        priority,
+        len: 1514,
+        tagged: false,
+    })
+}
+
+/// A schedule, and a frame of class 0 before one of class 7.
+fn of_two_classes(command: &Command) -> [Event<'_>; 6] {
+    [
+        Event::Install(command),
+        Event::Clock(108_000_000),
+        frame(1, 0),
+        Event::Clock(110_000_000),
+        frame(2, 7),
+        Event::Clock(200_000_000),
+    ]
+}
+
+/// Class 7 is open alone, or closed: the law of separation speaks of it.
+#[test]
+fn a_class_that_is_open_alone_is_separated(rt: HostRuntime) -> Result<(), Fail> {
+    let rate = Rate::from_mbps(1000).ok().ok_or("a rate")?;
+    let command = command(20_000, [0x80, 0x7f], [13_000, 87_000]).ok_or("a command")?;
+    let mut answers = Vec::new(rt.alloc());
+    assert!(rt; separated(rt.alloc(), rate, 7, &of_two_classes(&command), &mut answers));
+    let start = Start {
+        id: 2,
+        class: 7,
+        at: 120_000_000,
+        end: 132_304_000,
+    };
+    assert_eq!(rt;
+        answers.as_slice().get(3).copied(),
+        Some(Answer::Start(start))
+    );
+    Ok(())
+}
+
+/// The others are open with each other.
+#[test]
+fn a_class_that_is_open_with_others_is_not_separated(rt: HostRuntime) -> Result<(), Fail> {
+    let rate = Rate::from_mbps(1000).ok().ok_or("a rate")?;
+    let command = command(20_000, [0x80, 0x7f], [13_000, 87_000]).ok_or("a command")?;
+    let mut answers = Vec::new(rt.alloc());
+    assert!(rt; !separated(rt.alloc(), rate, 0, &of_two_classes(&command), &mut answers));
+    Ok(())
+}
+
+/// Not so where a frame of the class comes before the schedule is in force, or after a deletion.
+#[test]
+fn no_class_is_separated_without_a_schedule(rt: HostRuntime) -> Result<(), Fail> {
+    let rate = Rate::from_mbps(1000).ok().ok_or("a rate")?;
+    let command = command(20_000, [0x80, 0x7f], [13_000, 87_000]).ok_or("a command")?;
+    let early = [Event::Install(&command), frame(1, 7)];
+    let mut answers = Vec::new(rt.alloc());
+    assert!(rt; !separated(rt.alloc(), rate, 7, &early, &mut answers));
+    let deleted = [
+        Event::Install(&command),
+        Event::Clock(20_000_000),
+        Event::Install(&Command::Delete),
+    ];
+    assert!(rt; !separated(rt.alloc(), rate, 7, &deleted, &mut answers));
+    Ok(())
+}
+
+#[test]
+fn a_port_is_made(rt: HostRuntime) -> Result<(), Fail> {
+    let rate = Rate::from_mbps(1000).ok().ok_or("a rate")?;
+    assert!(rt; counted(rt.alloc(), rate).is_ok());
+    Ok(())
+}
