@@ -1,6 +1,6 @@
 //! The octets of a reader, one by one.
 
-ghost use Rattle.std.specs.Prelude.{◌≡◌, ◌≤◌, ◌<◌, ◌^◌, IsSome, IfOk, None, Ok, true, false, vec_len};
+ghost use Rattle.std.specs.Prelude.{◌≡◌, ◌≤◌, ◌<◌, ◌^◌, [], IsSome, IfOk, OnErr, None, Ok, true, false, vec_len};
 
 use std::alloc::{AllocError, Allocator, Global};
 use std::io::Read;
@@ -27,7 +27,7 @@ pub struct Source<R, A: Allocator = Global> {
 }
 
 impl<R: Read + Drop, A: Allocator> Source<R, A> {
-    ghost use Rattle.line_reader.specs.Source.{octets_left, TakesOctet};
+    ghost use Rattle.line_reader.specs.Source.{ahead, octets_left, TakesOctet};
 
     /// Takes the room for a chunk, and reads nothing.
     pub fn new(alloc: A, reader: R) -> Result<Source<R, A>, AllocError>
@@ -44,12 +44,13 @@ impl<R: Read + Drop, A: Allocator> Source<R, A> {
         })
     }
 
-    /// The next octet, or None at the end, and from then on.
+    /// The next octet, or None at the end, and from then on. It fails only where it has to read: none is left in hand.
     pub fn next_octet(&mut self) -> Result<Option<u8>, ReadFault>
         ensures octet { TakesOctet (octets_left R.remaining self.old) result (octets_left R.remaining self.new) }
         ensures none { result ≡ Ok None → self.new.ended ≡ true }
         ensures some { IfOk result (λ o. IsSome o → (self.old.ended ≡ false) × (self.new.ended ≡ false)) }
         ensures over { self.old.ended ≡ true → self.new.ended ≡ true }
+        ensures failed { OnErr result ((ahead self.old ≡ []) × (self.old.ended ≡ false)) }
     {
         if self.at == self.filled {
             if self.ended {

@@ -49,6 +49,10 @@ pub record ShowsHold (plan : Plan) (began : ℕ) (walk : Walk) : Type 0 where
   pub began_then : walk.began ≡ began
   pub held_is : walk.held ≡ Some (last_mask plan.entries)
 
+-- the same walk in the hold of a plan
+abbrev pub in_hold : Plan → Walk → Walk
+in_hold plan walk = record walk { held = Some (last_mask plan.entries) }
+
 -- What the walk shows is of the plan: one of its entries, at its place, or its hold.
 abbrev pub IsOf : Plan → Walk → Type 0
 IsOf plan walk = ShowsEntry plan walk.began walk.index walk ⊎ ShowsHold plan walk.began walk

@@ -5,7 +5,7 @@ ghost use Rattle.std.specs.Prelude.{◌≡◌, ◌+◌, ◌*◌, ◌<◌, ◌≤
 ghost use Rattle.wire_time.specs.Moment.{greatest_moment};
 ghost use Rattle.gate_list.specs.Gate.{IsShownAt, prefix, mask_at, has_come};
 ghost use Rattle.gate_list.specs.Visits.{one_more};
-ghost use Rattle.list_execute.specs.Walk.{IsRow, ShowsEntry, ShowsHold, IsOf, mask_of, end_of, more};
+ghost use Rattle.list_execute.specs.Walk.{in_hold, IsRow, ShowsEntry, ShowsHold, IsOf, mask_of, end_of, more};
 
 use gate_list::{Row, Schedule, Visits};
 use std::marker::Model;
@@ -156,6 +156,7 @@ impl ListExecute {
     pub fn hold(&mut self, schedule: &Schedule, visits: &mut Visits)
         requires { IsOf schedule.now self.old }
         ensures hold { ShowsHold schedule.now self.old.began self.new }
+        ensures rest { self.new ≡ in_hold schedule.now self.old }
         ensures visit { visits.new ≡ one_more visits.old }
         ensures counted { visits.old ≤ visits.new }
     {

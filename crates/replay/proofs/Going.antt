@@ -11,8 +11,8 @@ use Rattle.abstract_port.specs.declared.Event.TheVariants as Events
 use Rattle.abstract_port.specs.declared.Command.{Command}
 use Rattle.tc_reader.specs.declared.fault.TcFault.{TcFault}
 use Rattle.separation.specs.Settling.{IsPossible, IsSettling}
-use Rattle.answer_text.specs.Writes.{AppendsFront, Sent}
-use Rattle.answer_text.proofs.Fronts.{sent_none, sent_more, sent_front, sent_all}
+use Rattle.answer_text.specs.Writes.{FallsShort, Sent}
+use Rattle.answer_text.proofs.Fronts.{sent_none, sent_more, sent_short, sent_all}
 use Rattle.line_reader.specs.Script.{Script, Line}
 use Rattle.line_reader.specs.LineReader.{Advances}
 use Rattle.line_reader.specs.declared.lines.LineFault.{LineFault}
@@ -158,20 +158,20 @@ module _ (read : List (List ℕ) → Result Command TcFault) where
 
   -- a front of the answers to a line is written
   front_of_line : {T : Type 0} {f : Result T ReplayFault} (until : Option ℕ) (p0 : AbstractPort) (number : ℕ) (line : List ℕ) (p : AbstractPort) (all : Option Script) (old now new : Option (List ℕ)) (s t : Option Script) (r : Request)
-      → Goes until p0 all old now s p → Advances s (Ok true) number line t → request_of read line ≡ Ok (Some r) → AppendsFront now new (responses r p).0 → f ≡ Err Faults.Write
+      → Goes until p0 all old now s p → Advances s (Ok true) number line t → request_of read line ≡ Ok (Some r) → FallsShort now new (responses r p).0 → f ≡ Err Faults.Write
       → IfSome all (λ script. Runs f old new (outcome_from read until script p0))
   front_of_line until p0 number line p None old now new s t r g a e w h = tt
   front_of_line until p0 number line p (Some all) old now new None t r g a e w h = absurd g
   front_of_line {T} {f} until p0 number line p (Some all) old now new (Some script) t r g (rest, left, is) e w h =
       let same = line_outcome until script rest number line p r is e in
       let P : Result T ReplayFault → Type 0 = λ x. Runs x old new (outcome_from read until all p0) in
-      subst P (sym h) (sent_front new (responses r p).0 _ g.0 (ap (λ x. x.text) same) w)
+      subst P (sym h) (sent_short new (responses r p).0 _ g.0 (ap (λ x. x.text) same) w)
 
   pub goes_no_further : {T : Type 0} {f : Result T ReplayFault} → IsSettling → (until : Option ℕ) (p0 : AbstractPort) (number : ℕ) (line : List ℕ) (q : AbstractPort) (all : Option Script) (old now new : Option (List ℕ)) (s t : Option Script) (r : Request)
-      → IsRunning until p0 all old now s q → Advances s (Ok true) number line t → request_of read line ≡ Ok (Some r) → AppendsFront now new (responses r q).0 → f ≡ Err Faults.Write
+      → IsRunning until p0 all old now s q → Advances s (Ok true) number line t → request_of read line ≡ Ok (Some r) → FallsShort now new (responses r q).0 → f ≡ Err Faults.Write
       → IfSome all (λ script. Runs f old new (outcome_from read until script p0))
   goes_no_further law until p0 number line q all old now new s t r i a e w h =
-      let P : List ℕ → Type 0 = λ text. AppendsFront now new text in
+      let P : List ℕ → Type 0 = λ text. FallsShort now new text in
       front_of_line until p0 number line i.behind all old now new s t r i.goes a e (subst P (same-text law q i.behind i.stands r) w) h
 
   -- a line with a fault
@@ -192,20 +192,20 @@ module _ (read : List (List ℕ) → Result Command TcFault) where
 
   -- the ending
   ends_with : {T : Type 0} {f : Result T ReplayFault} (until : Option ℕ) (p0 p : AbstractPort) (number : ℕ) (line : List ℕ) (all : Option Script) (old now new : Option (List ℕ)) (s t : Option Script)
-      → Goes until p0 all old now s p → Advances s (Ok false) number line t → AppendsFront now new (ending_text until p) → f ≡ Err Faults.Write
+      → Goes until p0 all old now s p → Advances s (Ok false) number line t → FallsShort now new (ending_text until p) → f ≡ Err Faults.Write
       → IfSome all (λ script. Runs f old new (outcome_from read until script p0))
   ends_with until p0 p number line None old now new s t g a w h = tt
   ends_with until p0 p number line (Some all) old now new None t g a w h = absurd g
   ends_with {T} {f} until p0 p number line (Some all) old now new (Some script) t g a w h =
       let same = ap (λ s. outcome_from read until s p) a in
       let P : Result T ReplayFault → Type 0 = λ x. Runs x old new (outcome_from read until all p0) in
-      subst P (sym h) (sent_front new (ending_text until p) [] g.0 (ap (λ x. x.text) same ∙ sym (append-nil (ending_text until p))) w)
+      subst P (sym h) (sent_short new (ending_text until p) [] g.0 (ap (λ x. x.text) same ∙ sym (append-nil (ending_text until p))) w)
 
   pub ends_early : {T : Type 0} {f : Result T ReplayFault} → IsSettling → (until : Option ℕ) (p0 q : AbstractPort) (number : ℕ) (line : List ℕ) (all : Option Script) (old now new : Option (List ℕ)) (s t : Option Script)
-      → IsRunning until p0 all old now s q → Advances s (Ok false) number line t → AppendsFront now new (ending_text until q) → f ≡ Err Faults.Write
+      → IsRunning until p0 all old now s q → Advances s (Ok false) number line t → FallsShort now new (ending_text until q) → f ≡ Err Faults.Write
       → IfSome all (λ script. Runs f old new (outcome_from read until script p0))
   ends_early law until p0 q number line all old now new s t i a w h =
-      let P : List ℕ → Type 0 = λ text. AppendsFront now new text in
+      let P : List ℕ → Type 0 = λ text. FallsShort now new text in
       ends_with until p0 i.behind number line all old now new s t i.goes a (subst P (same-ending law q i.behind i.stands until) w) h
 
   ends_whole : {T : Type 0} {f : Result T ReplayFault} (x : T) (until : Option ℕ) (p0 p : AbstractPort) (number : ℕ) (line : List ℕ) (all : Option Script) (old now new : Option (List ℕ)) (s t : Option Script)

@@ -6,7 +6,7 @@ use Rattle.port.specs.declared.PortFault.TheVariants as PortFaults
 use Rattle.abstract_port.specs.AbstractPort.{AbstractPort, new_port}
 use Rattle.abstract_port.specs.declared.Command.{Command}
 use Rattle.tc_reader.specs.declared.fault.TcFault.{TcFault}
-use Rattle.answer_text.specs.Writes.{AppendsFront}
+use Rattle.answer_text.specs.Writes.{AppendsFront, FallsShort}
 use Rattle.line_reader.specs.Script.{Script, End, Broken, Line, script_of}
 use Rattle.line_reader.specs.declared.lines.Limit.{Limit}
 use Rattle.line_reader.specs.declared.lines.Limit.TheVariants as Limits
@@ -77,12 +77,12 @@ IsInputFault (Err Faults.Write) = ⊤
 IsInputFault (Err Faults.Memory) = ⊤
 
 -- At Ok and at a script's fault the whole output is written, and the fault is the script's; at the other faults a front of
--- the output.
+-- the output, and after a failed write not all of it.
 abbrev pub Runs : {T : Type 0} → Result T ReplayFault → Option (List ℕ) → Option (List ℕ) → Outcome → Type 0
 Runs (Ok x) old new whole = (whole.fault ≡ None) × Appends old new whole.text
 Runs (Err (Faults.Script number fault)) old new whole = (whole.fault ≡ Some (number, fault)) × Appends old new whole.text
 Runs (Err Faults.Until) old new whole = ⊥
 Runs (Err (Faults.Port fault)) old new whole = ⊥
 Runs (Err Faults.Read) old new whole = AppendsFront old new whole.text
-Runs (Err Faults.Write) old new whole = AppendsFront old new whole.text
+Runs (Err Faults.Write) old new whole = FallsShort old new whole.text
 Runs (Err Faults.Memory) old new whole = AppendsFront old new whole.text
