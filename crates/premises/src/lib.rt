@@ -2,14 +2,14 @@
 //! the laws say of it.
 #![tactic(auto)]
 
-ghost use Rattle.std.specs.Prelude.{◌≡◌, ℕ, ◌+◌, ◌<◌, ◌≤◌, ◌++◌, ◌∷◌, [], List, Some, OnOk, All, ◌^◌, IfOk, sum_by};
+ghost use Rattle.std.specs.Prelude.{◌≡◌, ℕ, ◌+◌, ◌<◌, ◌≤◌, ◌++◌, ◌∷◌, [], List, Some, OnOk, All, ◌^◌, IfOk, IfErr, sum_by};
 ghost use Rattle.wire_time.specs.Moment.{greatest_moment, greatest_lead};
 ghost use Rattle.wire_time.specs.Wire.{sdu_of};
 ghost use Rattle.wire_time.specs.declared.Frame.{Frame};
 ghost use Rattle.gate_list.specs.Laws.{PhaseLaw, ChangeLaw, ApartLaw};
 ghost use Rattle.gate_list.specs.Stay.{StayLaw};
 ghost use Rattle.abstract_port.specs.Sound.{FitsLead};
-ghost use Rattle.list_config.specs.Current.{accepted_at};
+ghost use Rattle.list_config.specs.Current.{accepted_at, answer_to, with_command};
 ghost use Rattle.list_config.specs.History.{gates, open_through};
 ghost use Rattle.list_config.specs.Laws.{KeptLaw, AppendLaw, StretchLaw};
 ghost use Rattle.abstract_port.specs.declared.Event.{Event};
@@ -77,6 +77,10 @@ pub fn commands<G: Gates>(held: &mut G, schedule: Schedule, lead: u128) -> Resul
     requires sound { G.is_sound held.old }
     requires ahead { G.moment held.old < lead }
     requires within { lead ≤ greatest_moment + greatest_lead }
+    ensures sound { G.is_sound held.new }
+    ensures moment { G.moment held.new ≡ G.moment held.old }
+    ensures answer { result ≡ answer_to (G.history held.old) (G.moment held.old) (accepted_at lead schedule) }
+    ensures history { G.history held.new ≡ with_command (G.history held.old) (G.moment held.old) (accepted_at lead schedule) }
     ensures appended { OnOk result (AppendLaw 0 (G.moment held.old) (G.history held.old) (accepted_at lead schedule)) }
     ensures hindsight { (n : ℕ) → n < lead → gates (G.history held.old ++ accepted_at lead schedule ∷ []) n ≡ gates (G.history held.old) n }
     ensures further { (class n d : ℕ) → n + d ≤ lead → open_through (G.history held.old ++ accepted_at lead schedule ∷ []) class n d ≡ open_through (G.history held.old) class n d }
@@ -105,6 +109,7 @@ pub fn runs<G: Gates, A: Allocator>(port: &Port<G, A>)
 /// count over the answers, at most the greatest u64.
 pub fn counted(alloc: Global, rate: Rate) -> Result<Port<Stepped>, PortFault>
     ensures port { IfOk result (λ p. p.port ≡ new_port rate 1500 128) }
+    ensures refused { IfErr result (λ fault. fault ≡ PortFault.Memory) }
     ensures counts { (counter : Counter) (class : ℕ) (events : List Event) → class < 8 →
         value_of counter (counts_at (port_after events (new_port rate 1500 128)) class)
         ≡ add_capped 0 (sum_by (growth counter class) (happenings events (new_port rate 1500 128))) }
