@@ -184,24 +184,33 @@ fn commanded_alike<G: Gates, H: Gates>(first: &mut G, second: &mut H, numbers: &
     first.install(one, e) == second.install(other, e)
 }
 
-/// Whether both show the same mask and the same commands, and keep a class open for as long.
-fn shown_alike<G: Gates, H: Gates>(first: &G, second: &H, numbers: &mut Numbers) -> bool
+/// Whether both show the same mask and the same commands.
+fn shown_alike<G: Gates, H: Gates>(first: &G, second: &H) -> bool
     requires first { G.is_sound first.now }
     requires second { H.is_sound second.now }
 {
-    let class = numbers.between(0, 8) as u8;
-    let for_ps = u128::from(numbers.between(0, 30000));
-    let mut visits = Visits::zero();
-    let mut others = Visits::zero();
-    first.in_force() == second.in_force()
+    first.mask() == second.mask()
+        && first.in_force() == second.in_force()
         && first.pending() == second.pending()
         && first.announced() == second.announced()
-        && first.stays_open(class, for_ps, &mut visits)
-            == second.stays_open(class, for_ps, &mut others)
 }
 
-/// Moves both to each picosecond up to `until`, gives commands now and then, and compares what they show. The first moment at
-/// which they differ.
+/// Whether both keep a class open alike through a while of less than so many picoseconds.
+fn open_alike<G: Gates, H: Gates>(first: &G, second: &H, numbers: &mut Numbers, many: u32) -> bool
+    requires first { G.is_sound first.now }
+    requires second { H.is_sound second.now }
+    requires some { 0 < many }
+    requires few { many ≤ 1000000 }
+{
+    let class = numbers.between(0, 8) as u8;
+    let for_ps = u128::from(numbers.between(0, many));
+    let mut visits = Visits::zero();
+    let mut others = Visits::zero();
+    first.stays_open(class, for_ps, &mut visits) == second.stays_open(class, for_ps, &mut others)
+}
+
+/// Moves both to each picosecond up to `until`, gives commands now and then, and compares at each what they show and whether
+/// a class stays open for a short while, and now and then for a long one. The first moment at which they differ.
 pub fn agree<G: Gates + Drop, H: Gates + Drop>(seed: u64, until: u32) -> Result<(), u32> {
     let mut numbers = Numbers::new(seed);
     let mut first = G::begin();
@@ -215,10 +224,12 @@ pub fn agree<G: Gates + Drop, H: Gates + Drop>(seed: u64, until: u32) -> Result<
         {
             return Err(t);
         }
-        if first.mask() != second.mask() {
-            return Err(t);
-        }
-        if numbers.between(0, 500) == 0 && !shown_alike(&first, &second, &mut numbers) {
+        let many = if numbers.between(0, 500) == 0 {
+            30_000
+        } else {
+            8
+        };
+        if !shown_alike(&first, &second) || !open_alike(&first, &second, &mut numbers, many) {
             return Err(t);
         }
     }

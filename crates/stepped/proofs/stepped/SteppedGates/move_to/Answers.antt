@@ -1,7 +1,7 @@
 use Rattle.std.proofs.Common.{ap, ◌∙◌, arith}
 use Rattle.list_config.specs.History.{kept}
 use Rattle.list_config.proofs.HistoryLaws.{kept_kept}
-use Rattle.list_config.proofs.IdleLaws.{past_later}
+use Rattle.list_config.proofs.HistoryLaws.{past_later}
 use Rattle.stepped.proofs.stepped.SteppedGates.move_to.Goals as goal
 
 pub loop-self-preserved : goal.loop-self-preserved
