@@ -92,6 +92,14 @@ pub fn place_at(
     Place { timer, walk }
 }
 
+/// A class that is to stay open from a moment on for so long, in picoseconds.
+#[derive(Clone, Copy)]
+pub struct Need {
+    pub class: u8,
+    pub from: u128,
+    pub length: u128,
+}
+
 /// Whether a stay is for ever, or at least so long.
 fn stay_lasts(stay: Stay, for_ps: u128) -> bool
     ensures { result ≡ stay_lasts stay for_ps }
@@ -102,18 +110,18 @@ fn stay_lasts(stay: Stay, for_ps: u128) -> bool
     }
 }
 
-/// Whether a class stays open for so long from `n` on, by the stay of the entry that is shown then.
-fn entry_stays_open(place: &Place, n: u128, class: u8, for_ps: u128) -> bool
+/// Whether a class stays open, by the stay of the entry that is shown then.
+fn entry_stays_open(place: &Place, need: Need) -> bool
     requires unheld { place.now.walk.held ≡ None }
-    requires begun { place.now.walk.start ≤ n }
-    requires class { class < 8 }
-    requires some { 0 < for_ps }
-    requires moment { n ≤ 2 * greatest_moment }
-    requires within { for_ps ≤ greatest_moment }
-    ensures { (plan : Plan) (start : ℕ) (next : Option Accepted) → IsSchedule plan → IsPlaced plan start next n place.now → is_held_from plan start place.now.timer.started next ≡ false → result ≡ open_while (mask_since (Some plan) start None) class n for_ps }
+    requires begun { place.now.walk.start ≤ need.from }
+    requires class { need.class < 8 }
+    requires some { 0 < need.length }
+    requires moment { need.from ≤ 2 * greatest_moment }
+    requires within { need.length ≤ greatest_moment }
+    ensures { (plan : Plan) (start : ℕ) (next : Option Accepted) → IsSchedule plan → IsPlaced plan start next need.from place.now → is_held_from plan start place.now.timer.started next ≡ false → result ≡ open_while (mask_since (Some plan) start None) need.class need.from need.length }
 {
-    let stay = place.walk.row().stay[class as usize];
-    stay_lasts(stay, n - place.walk.entry_start() + for_ps)
+    let stay = place.walk.row().stay[need.class as usize];
+    stay_lasts(stay, need.from - place.walk.entry_start() + need.length)
 }
 
 /// The mask of the hold of a list that is walked.
@@ -126,66 +134,64 @@ fn last_mask(schedule: &Schedule, mut walk: ListExecute, visits: &mut Visits) ->
     walk.mask()
 }
 
-/// Whether a class stays open for so long from `n` on in a list that is in no hold, awaiting a change.
+/// Whether a class stays open in a list that is in no hold, awaiting a change.
 fn stays_open_to_hold(
     schedule: &Schedule,
     start: u128,
     place: &Place,
     command: &Held,
-    n: u128,
-    class: u8,
-    for_ps: u128,
+    need: Need,
     visits: &mut Visits,
 ) -> bool
     requires sound { IsSchedule schedule.now }
     requires start { start ≤ 2 * greatest_moment }
     requires usable { IsUsable (accepted_in command.now) }
-    requires placed { IsPlaced schedule.now start (Some (accepted_in command.now)) n place.now }
+    requires placed { IsPlaced schedule.now start (Some (accepted_in command.now)) need.from place.now }
     requires unheld { is_held_from schedule.now start place.now.timer.started (Some (accepted_in command.now)) ≡ false }
-    requires class { class < 8 }
-    requires some { 0 < for_ps }
-    requires moment { n ≤ 2 * greatest_moment }
-    requires within { for_ps ≤ greatest_moment }
-    ensures stays { result ≡ open_while (list_shows schedule.now start (Some (accepted_in command.now))) class n for_ps }
+    requires class { need.class < 8 }
+    requires some { 0 < need.length }
+    requires moment { need.from ≤ 2 * greatest_moment }
+    requires within { need.length ≤ greatest_moment }
+    ensures stays { result ≡ open_while (list_shows schedule.now start (Some (accepted_in command.now))) need.class need.from need.length }
     ensures counted { visits.old ≤ visits.new }
 {
-    let room = hold_moment(schedule, start, command) - n;
-    let listed = entry_stays_open(place, n, class, for_ps.min(room));
-    listed && (for_ps <= room || is_open(last_mask(schedule, place.walk, visits), class))
+    let room = hold_moment(schedule, start, command) - need.from;
+    let within = Need {
+        length: need.length.min(room),
+        ..need
+    };
+    let listed = entry_stays_open(place, within);
+    listed && (need.length <= room || is_open(last_mask(schedule, place.walk, visits), need.class))
 }
 
-/// Whether a class stays open for so long from `n` on in a list that stands there so, with this change pending.
+/// Whether a class stays open in a list that stands there so, with this change pending.
 pub fn list_stays_open(
     schedule: &Schedule,
     start: u128,
     place: &Place,
     next: Option<&Held>,
-    n: u128,
-    class: u8,
-    for_ps: u128,
+    need: Need,
     visits: &mut Visits,
 ) -> bool
     requires sound { IsSchedule schedule.now }
     requires start { start ≤ 2 * greatest_moment }
     requires next { ForSome (command_of next) IsUsable }
-    requires placed { IsPlaced schedule.now start (command_of next) n place.now }
-    requires class { class < 8 }
-    requires moment { n ≤ 2 * greatest_moment }
-    requires within { for_ps ≤ greatest_moment }
-    ensures stays { result ≡ open_while (list_shows schedule.now start (command_of next.entry)) class n for_ps }
+    requires placed { IsPlaced schedule.now start (command_of next) need.from place.now }
+    requires class { need.class < 8 }
+    requires moment { need.from ≤ 2 * greatest_moment }
+    requires within { need.length ≤ greatest_moment }
+    ensures stays { result ≡ open_while (list_shows schedule.now start (command_of next.entry)) need.class need.from need.length }
     ensures counted { visits.old ≤ visits.new }
 {
-    if for_ps == 0 {
+    if need.length == 0 {
         return true;
     }
     if is_holding(schedule, start, place, next) {
-        return is_open(place.walk.mask(), class);
+        return is_open(place.walk.mask(), need.class);
     }
     match next {
-        None => entry_stays_open(place, n, class, for_ps),
-        Some(command) => stays_open_to_hold(
-            schedule, start, place, command, n, class, for_ps, visits,
-        ),
+        None => entry_stays_open(place, need),
+        Some(command) => stays_open_to_hold(schedule, start, place, command, need, visits),
     }
 }
 

@@ -9,7 +9,7 @@ ghost use Rattle.stepped.specs.Place.{IsFlat, Stands, earlier, edge_at};
 
 use crate::ahead::{stays_open_through, stays_open_to};
 use crate::held::{Held, installed};
-use crate::place::Place;
+use crate::place::{Need, Place};
 use crate::slots::Slots;
 use crate::under::{place_on, stays_open_under, until_under};
 use gate_list::{Schedule, Visits};
@@ -160,31 +160,21 @@ impl Gates for Stepped {
     fn stays_open(&self, class: u8, for_ps: u128, visits: &mut Visits) -> bool {
         let held = self.slots.current();
         let now = self.slots.moment();
+        let need = Need {
+            class,
+            from: now,
+            length: for_ps,
+        };
         match self.slots.next() {
             None => match self.slots.later() {
-                None => stays_open_under(held, &self.place, None, now, class, for_ps, visits),
-                Some(command) => stays_open_to(
-                    held,
-                    &self.place,
-                    command,
-                    now,
-                    class,
-                    for_ps,
-                    visits,
-                ),
+                None => stays_open_under(held, &self.place, None, need, visits),
+                Some(command) => stays_open_to(held, &self.place, command, need, visits),
             },
             Some(pending) => match self.slots.later() {
-                None => stays_open_to(held, &self.place, pending, now, class, for_ps, visits),
-                Some(command) => stays_open_through(
-                    held,
-                    &self.place,
-                    pending,
-                    command,
-                    now,
-                    class,
-                    for_ps,
-                    visits,
-                ),
+                None => stays_open_to(held, &self.place, pending, need, visits),
+                Some(command) => {
+                    stays_open_through(held, &self.place, pending, command, need, visits)
+                }
             },
         }
     }

@@ -7,7 +7,7 @@ ghost use Rattle.stepped.specs.Commands.{IsUsable, command_of};
 ghost use Rattle.stepped.specs.Place.{GoesOn, IsFlat, IsLedAt, Stands, boundary_at, shows_under};
 
 use crate::held::Held;
-use crate::place::{Place, list_on, list_stays_open, list_until, place_at};
+use crate::place::{Need, Place, list_on, list_stays_open, list_until, place_at};
 use gate_list::Visits;
 
 /// Where the list of the command in force stands at a moment, with this change pending.
@@ -92,23 +92,21 @@ pub fn until_under(held: Option<&Held>, place: &Option<Place>, next: Option<&Hel
     }
 }
 
-/// Whether a class stays open for so long from `n` on, with this change pending.
+/// Whether a class stays open, with this change pending.
 pub fn stays_open_under(
     held: Option<&Held>,
     place: &Option<Place>,
     next: Option<&Held>,
-    n: u128,
-    class: u8,
-    for_ps: u128,
+    need: Need,
     visits: &mut Visits,
 ) -> bool
     requires usable { ForSome (command_of held) IsUsable }
     requires next { ForSome (command_of next) IsUsable }
-    requires stands { Stands (command_of held) (command_of next) n place.now }
-    requires class { class < 8 }
-    requires moment { n ≤ 2 * greatest_moment }
-    requires within { for_ps ≤ greatest_moment }
-    ensures stays { result ≡ open_while (shows_under (command_of held.entry) (command_of next.entry)) class n for_ps }
+    requires stands { Stands (command_of held) (command_of next) need.from place.now }
+    requires class { need.class < 8 }
+    requires moment { need.from ≤ 2 * greatest_moment }
+    requires within { need.length ≤ greatest_moment }
+    ensures stays { result ≡ open_while (shows_under (command_of held.entry) (command_of next.entry)) need.class need.from need.length }
     ensures counted { visits.old ≤ visits.new }
 {
     match held {
@@ -117,16 +115,7 @@ pub fn stays_open_under(
             None => true,
             Some(schedule) => match place {
                 None => true,
-                Some(place) => list_stays_open(
-                    schedule,
-                    held.change,
-                    place,
-                    next,
-                    n,
-                    class,
-                    for_ps,
-                    visits,
-                ),
+                Some(place) => list_stays_open(schedule, held.change, place, next, need, visits),
             },
         },
     }

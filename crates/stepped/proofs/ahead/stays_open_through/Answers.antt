@@ -9,28 +9,28 @@ use Rattle.stepped.proofs.ahead.stays_open_through.Goals.{then-pending-command, 
 
 pub returns-then-not-stays_open_under-clause-stays : goal.returns-then-not-stays_open_under-clause-stays
 returns-then-not-stays_open_under-clause-stays c =
-    sym (open_two_shut (command_of c.args.held) (accepted_in c.args.pending.now) (accepted_in c.args.command.now) c.args.class c.args.n c.args.for_ps c.requires.before c.stays_open_under.result c.min.result
-    (c.min.ensures ∙ ap (λ k. min c.args.for_ps (k - c.args.n)) c.min-until.ensures) c.stays_open_under.ensures.stays c.if-not-stays_open_under.true)
+    sym (open_two_shut (command_of c.args.held) (accepted_in c.args.pending.now) (accepted_in c.args.command.now) c.args.need.class c.args.need.from c.args.need.length c.requires.before c.stays_open_under.result c.min.result
+    (c.min.ensures ∙ ap (λ k. min c.args.need.length (k - c.args.need.from)) c.min-until.ensures) c.stays_open_under.ensures.stays c.if-not-stays_open_under.true)
 
-pub returns-then-for_ps-room-clause-stays : goal.returns-then-for_ps-room-clause-stays
-returns-then-for_ps-room-clause-stays c =
-    sym (open_two_short (command_of c.args.held) (accepted_in c.args.pending.now) (accepted_in c.args.command.now) c.args.class c.args.n c.args.for_ps c.requires.before c.stays_open_under.result c.min.result
-    (c.min.ensures ∙ ap (λ k. min c.args.for_ps (k - c.args.n)) c.min-until.ensures) c.stays_open_under.ensures.stays c.if-not-stays_open_under.false
-    (subst (λ k. c.args.for_ps ≤ k - c.args.n) c.min-until.ensures c.if-for_ps-room.true))
+pub returns-then-need-room-clause-stays : goal.returns-then-need-room-clause-stays
+returns-then-need-room-clause-stays c =
+    sym (open_two_short (command_of c.args.held) (accepted_in c.args.pending.now) (accepted_in c.args.command.now) c.args.need.class c.args.need.from c.args.need.length c.requires.before c.stays_open_under.result c.min.result
+    (c.min.ensures ∙ ap (λ k. min c.args.need.length (k - c.args.need.from)) c.min-until.ensures) c.stays_open_under.ensures.stays c.if-not-stays_open_under.false
+    (subst (λ k. c.args.need.length ≤ k - c.args.need.from) c.min-until.ensures c.if-need-room.true))
 
 pub returns-clause-stays : goal.returns-clause-stays
 returns-clause-stays c =
     let p = accepted_in c.args.pending.now in
     let x = accepted_in c.args.command.now in
     let now = command_of c.args.held in
-    let second_is : command_of c.if-pending-command.second ≡ second now p x c.args.class c.args.n c.args.for_ps c.requires.before =
+    let second_is : command_of c.if-pending-command.second ≡ second now p x c.args.need.class c.args.need.from c.args.need.length c.requires.before =
     elim c.if-pending-command.branch [
       | then-pending-command w ↦ ap command_of w.second-is ∙ sym (ap (λ b. cond b (Some p) now) (le-leb p.change x.lead w.if-pending-command.true))
       | else-pending-command w ↦ ap command_of w.second-is ∙ sym (ap (λ b. cond b (Some p) now) (lt-leb p.change x.lead w.if-pending-command.false))
     ] in
-    open_two_long now p x c.args.class c.args.n c.args.for_ps c.requires.before c.stays_open_under.result c.min.result
-    (c.min.ensures ∙ ap (λ k. min c.args.for_ps (k - c.args.n)) c.min-until.ensures) c.stays_open_under.ensures.stays c.if-not-stays_open_under.false
+    open_two_long now p x c.args.need.class c.args.need.from c.args.need.length c.requires.before c.stays_open_under.result c.min.result
+    (c.min.ensures ∙ ap (λ k. min c.args.need.length (k - c.args.need.from)) c.min-until.ensures) c.stays_open_under.ensures.stays c.if-not-stays_open_under.false
     c.stays_open_to.result
     (c.stays_open_to.ensures.stays
-    ∙ (ap (λ s. open_while (mask_in (stretches_from s (x ∷ []))) c.args.class c.min-until.result (c.args.for_ps - (c.min-until.result - c.args.n))) second_is
-    ∙ ap (λ u. open_while (mask_in (stretches_from (second now p x c.args.class c.args.n c.args.for_ps c.requires.before) (x ∷ []))) c.args.class u (c.args.for_ps - (u - c.args.n))) c.min-until.ensures))
+    ∙ (ap (λ s. open_while (mask_in (stretches_from s (x ∷ []))) c.args.need.class c.min-until.result (c.args.need.length - (c.min-until.result - c.args.need.from))) second_is
+    ∙ ap (λ u. open_while (mask_in (stretches_from (second now p x c.args.need.class c.args.need.from c.args.need.length c.requires.before) (x ∷ []))) c.args.need.class u (c.args.need.length - (u - c.args.need.from))) c.min-until.ensures))

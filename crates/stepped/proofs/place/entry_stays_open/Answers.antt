@@ -8,6 +8,6 @@ use Rattle.stepped.proofs.place.entry_stays_open.Goals as goal
 pub returns : goal.returns
 returns c = λ plan start next sound placed unheld.
     c.stay_lasts.ensures
-    ∙ (ap (λ (r : Row). stay_lasts (get_or r.stay c.args.class (Lasts 0)) (c.args.n - c.entry_start.result + c.args.for_ps)) c.row.ensures
-    ∙ (ap (λ s. stay_lasts (get_or (c.args.place.now.walk.row).stay c.args.class (Lasts 0)) (c.args.n - s + c.args.for_ps)) c.entry_start.ensures
-    ∙ sym (entry_open plan sound start next c.args.n c.args.place.now placed unheld c.args.class c.args.for_ps (Lasts 0) c.requires.class c.requires.some)))
+    ∙ (ap (λ (r : Row). stay_lasts (get_or r.stay c.args.need.class (Lasts 0)) (c.args.need.from - c.entry_start.result + c.args.need.length)) c.row.ensures
+    ∙ (ap (λ s. stay_lasts (get_or (c.args.place.now.walk.row).stay c.args.need.class (Lasts 0)) (c.args.need.from - s + c.args.need.length)) c.entry_start.ensures
+    ∙ sym (entry_open plan sound start next c.args.need.from c.args.place.now placed unheld c.args.need.class c.args.need.length (Lasts 0) c.requires.class c.requires.some)))
