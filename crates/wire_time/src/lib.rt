@@ -1,11 +1,32 @@
 //! Line rates, frames, and how long a frame occupies the wire (IEEE Std 802.3).
 #![tactic(auto)]
 
-ghost use Rattle.std.specs.Prelude.{◌≡◌, ◌<◌, ◌≤◌, ℕ, Some};
+ghost use Rattle.std.specs.Prelude.{◌≡◌, ◌<◌, ◌≤◌, ◌+◌, ◌*◌, ℕ, Some};
 ghost use Rattle.wire_time.specs.Moment.{greatest_moment, greatest_lead};
 ghost use Rattle.wire_time.specs.Wire.{lead_of, occupancy_of, rate_of, sdu_of};
 
 use std::marker::Model;
+
+/// The greatest moment that is handed in, in picoseconds: 2^63 - 1 ns.
+pub const MAX_MOMENT: u128 = 9_223_372_036_854_775_807_000;
+
+/// How many traffic classes a port has at most (IEEE Std 802.1Q-2018, 8.6.6); they are numbered from 0.
+pub const CLASSES: usize = 8;
+
+/// How many priorities frames have; they are numbered from 0.
+pub const PRIORITIES: usize = 16;
+
+/// The least mtu that a port takes, in octets of a service data unit.
+pub const MIN_MTU: u32 = 68;
+
+/// The greatest mtu that a port takes, in octets of a service data unit.
+pub const MAX_MTU: u32 = 9216;
+
+/// What an octet takes at the fastest rate, in picoseconds.
+pub const MIN_PS_PER_OCTET: u128 = 80;
+
+/// What an octet takes at the slowest rate, in picoseconds.
+pub const MAX_PS_PER_OCTET: u128 = 800_000;
 
 /// A line rate, kept as the time that one octet takes.
 #[derive(Clone, Copy, Debug, PartialEq, Eq)]
@@ -16,12 +37,13 @@ pub struct Rate {
 /// A contract sees a rate as its picoseconds an octet.
 impl Model for Rate {
     ghost use Rattle.std.specs.Prelude.{ℕ, ◌<◌, ◌≤◌};
+    ghost use Rattle.wire_time.specs.declared.TheConstants.{MIN_PS_PER_OCTET, MAX_PS_PER_OCTET};
 
     ghost Value = { ℕ };
 
     ghost view = { λ r. r.ps_per_octet };
 
-    ghost invariant = { λ r. (80 ≤ r.ps_per_octet) × (r.ps_per_octet ≤ 800000) };
+    ghost invariant = { λ r. (MIN_PS_PER_OCTET ≤ r.ps_per_octet) × (r.ps_per_octet ≤ MAX_PS_PER_OCTET) };
 
     ghost inverse = { λ n. record { ps_per_octet = n } };
 }
@@ -38,7 +60,7 @@ pub enum RateFault {
 pub struct Frame {
     /// The sender's name for the frame, which answers repeat.
     pub id: u64,
-    /// The priority, 0 to 15.
+    /// The priority: 0 to 15 have a class.
     pub priority: u8,
     /// Octets from the destination address to the end of the payload, without the frame check sequence.
     pub len: u32,
@@ -70,7 +92,7 @@ impl Rate {
     /// The picoseconds that one octet takes: 80 to 800,000.
     pub fn ps_per_octet(&self) -> u128
         ensures value { result ≡ self.now }
-        ensures within { (80 ≤ result) × (result ≤ 800000) }
+        ensures within { (MIN_PS_PER_OCTET ≤ result) × (result ≤ MAX_PS_PER_OCTET) }
     {
         self.ps_per_octet
     }
@@ -85,12 +107,11 @@ pub fn occupancy(rate: Rate, len: u32) -> u128
     (len.max(60) as u128 + 24) * rate.ps_per_octet
 }
 
-/// The occupancy of the longest frame that a port of this mtu accepts, in picoseconds.
+/// The occupancy of the longest frame that a port of this mtu (octets of a service data unit) accepts, in picoseconds.
 pub fn lead(rate: Rate, mtu: u32) -> u128
-    requires { mtu ≤ 9216 }
     ensures value { result ≡ lead_of rate mtu }
     ensures above { 0 < result }
-    ensures within { result ≤ greatest_lead }
+    ensures within { mtu ≤ MAX_MTU → result ≤ greatest_lead }
 {
     (mtu as u128 + 42) * rate.ps_per_octet
 }
