@@ -65,22 +65,6 @@ last (f ∷ g ∷ es) e there = last (g ∷ es) e (ap (λ n. slice_get (f ∷ g 
 pub phase_is : (es : List Entry) → PhaseLaw es
 phase_is es = record { found = found es; alone = alone es; mask = mask es; last = last es }
 
--- ---- by a walk
-
--- what the entries show, and past them all this mask
-abbrev pub mask_or : ℕ → List Entry → ℕ → ℕ
-mask_or past [] p = past
-mask_or past (e ∷ es) p = cond (ltb p (in_ps e.interval)) e.mask (mask_or past es (p - in_ps e.interval))
-
-pub mask_walk : (es : List Entry) (p : ℕ) → mask_or (last_mask es) es p ≡ mask_at es p
-mask_walk [] p = refl
-mask_walk (e ∷ []) p = same (ltb p (in_ps e.interval))
-  where
-    same : (b : Bool) → cond b e.mask e.mask ≡ e.mask
-    same true = refl
-    same false = refl
-mask_walk (e ∷ f ∷ es) p = ap (λ m. cond (ltb p (in_ps e.interval)) e.mask m) (mask_walk (f ∷ es) (p - in_ps e.interval))
-
 -- ---- boundaries
 
 pub boundary_above : (start cycle t : ℕ) → 0 < cycle → t ≤ boundary_from start cycle t

@@ -4,6 +4,7 @@ use Rattle.gate_list.specs.declared.Slot.{Slot}
 use Rattle.gate_list.specs.declared.Stay.{Stay}
 use Rattle.gate_list.specs.declared.Stay.TheVariants.{Lasts, Always}
 use Rattle.gate_list.specs.Gate.{Plan, IsSchedule, in_ps}
+use Rattle.wire_time.specs.declared.TheConstants.{CLASSES}
 use Rattle.gate_list.specs.Stay.{slots, stay}
 
 -- the number that stands for a stay without end
@@ -32,4 +33,4 @@ HasStays cycle classes table = (class i : ℕ) → class < classes → number_at
 -- a schedule with its table
 pub record IsTabled (plan : Plan) (table : List (List ℕ)) : Type 0 where
   pub sound : IsSchedule plan
-  pub stays : HasStays (slots plan.entries (in_ps plan.cycle)) 8 table
+  pub stays : HasStays (slots plan.entries (in_ps plan.cycle)) CLASSES table

@@ -4,6 +4,7 @@ ghost use Rattle.gate_list.specs.declared.Entry.{Entry};
 ghost use Rattle.gate_list.specs.Gate.{Plan, IsPlan};
 ghost use Rattle.gate_list.specs.Laws.{PhaseLaw, ChangeLaw, ApartLaw};
 ghost use Rattle.gate_list.specs.Stay.{StayLaw};
+ghost use Rattle.wire_time.specs.declared.TheConstants.{CLASSES};
 
 /// A list shows the mask of the one entry that the phase falls in: past them all the last.
 pub fn phase_law()
@@ -12,12 +13,12 @@ pub fn phase_law()
 
 /// The change moment is the least of base, base + cycle, base + 2 cycles, .. that is at or after the lead moment.
 pub fn change_law()
-    ensures { (plan : Plan) (e : ℕ) → 0 < plan.cycle → ChangeLaw plan e }
+    ensures { (plan : Plan) (lead : ℕ) → 0 < plan.cycle → ChangeLaw plan lead }
 {}
 
 /// A class is kept apart just where every entry that opens it opens none of the other seven, masks being of eight bits.
 pub fn apart_law()
-    ensures { (entries : List Entry) (class : ℕ) → class < 8 → All (λ e. e.mask < 2 ^ 8) entries → ApartLaw entries class }
+    ensures { (entries : List Entry) (class : ℕ) → class < CLASSES → All (λ e. e.mask < 2 ^ CLASSES) entries → ApartLaw entries class }
 {}
 
 /// Of a schedule alone: a class stays open just as long as its stay.

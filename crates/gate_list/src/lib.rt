@@ -7,6 +7,7 @@ ghost use Rattle.gate_list.specs.Gate.{IsGateList, gate_fault, ok_unless, opens}
 
 use arrayvec::ArrayVec;
 use std::marker::Model;
+use wire_time::CLASSES;
 
 pub mod laws;
 mod schedule;
@@ -17,6 +18,15 @@ mod visits;
 
 pub use schedule::Schedule;
 pub use visits::Visits;
+
+/// How many entries a gate control list has at most.
+pub const MAX_ENTRIES: usize = 256;
+
+/// The longest cycle or extension that a schedule takes, in nanoseconds: 2^40.
+pub const MAX_CYCLE_NS: u64 = 1 << 40;
+
+/// The latest base time that a schedule takes, in nanoseconds: 2^63 - 1.
+pub const MAX_BASE_NS: u64 = (1 << 63) - 1;
 
 /// One entry of a gate control list.
 #[derive(Clone, Copy, Debug, Default, PartialEq, Eq)]
@@ -48,9 +58,10 @@ pub enum Stay {
 /// An entry, with how long each class stays open from its start.
 #[derive(Clone, Copy, Debug, PartialEq, Eq)]
 pub struct Row {
+    /// The entry: its mask and its interval in nanoseconds.
     pub entry: Entry,
-    /// By class.
-    pub stay: [Stay; 8],
+    /// How long each class stays open from the entry's start, by class.
+    pub stay: [Stay; CLASSES],
 }
 
 /// Why entries are no gate control list.
@@ -82,7 +93,7 @@ pub enum PlanFault {
 /// A gate control list: 1 to 256 entries, none of interval 0.
 #[derive(Clone, Debug, Drop, PartialEq, Eq)]
 pub struct GateList {
-    entries: ArrayVec<Entry, 256>,
+    entries: ArrayVec<Entry, MAX_ENTRIES>,
 }
 
 /// A contract sees a list as its entries.
@@ -109,8 +120,8 @@ fn has_zero_interval(entries: &[Entry]) -> bool
 }
 
 /// The entries in a list of their own.
-fn copy_of(entries: &[Entry]) -> ArrayVec<Entry, 256>
-    requires { length entries.now ≤ 256 }
+fn copy_of(entries: &[Entry]) -> ArrayVec<Entry, MAX_ENTRIES>
+    requires { length entries.now ≤ MAX_ENTRIES }
     ensures { result.items ≡ entries.now }
 {
     let mut copy = ArrayVec::new();
@@ -128,7 +139,7 @@ impl GateList {
         if entries.is_empty() {
             return Err(GateFault::NoEntries);
         }
-        if entries.len() > 256 {
+        if entries.len() > MAX_ENTRIES {
             return Err(GateFault::TooManyEntries);
         }
         if has_zero_interval(entries) {
@@ -150,7 +161,7 @@ impl GateList {
 
 /// Whether a mask opens a class.
 pub fn is_open(mask: u8, class: u8) -> bool
-    requires { class < 8 }
+    requires { class < CLASSES }
     ensures { result ≡ opens mask class }
 {
     (mask >> class) % 2 == 1

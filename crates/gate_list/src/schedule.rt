@@ -1,25 +1,22 @@
 //! Schedules: a gate control list with its times, and what it tells of open time.
 ghost use Rattle.std.specs.Prelude.{◌≡◌, ◌<◌, ◌≤◌, ◌+◌, ◌^◌, Some, length, max, slice_get, sum_by};
-ghost use Rattle.gate_list.specs.Gate.{Plan, IsPlan, IsSchedule, in_ps, prefix, mask_at, last_mask, change_of, boundary_from, plan_with, plan_fault, ok_unless, least_interval, first_shorter, keeps_apart, is_apart_in};
+ghost use Rattle.gate_list.specs.Gate.{Plan, IsPlan, IsSchedule, in_ps, prefix, change_of, boundary_from, plan_with, plan_fault, ok_unless, least_interval, first_shorter, keeps_apart, is_apart_in};
 ghost use Rattle.gate_list.specs.Stay.{AreStays, AreClosed, TellOpenTime};
 ghost use Rattle.gate_list.specs.Visits.{one_more};
 
 use crate::table::{Table, stays_at, table_of};
-use crate::{Entry, GateList, PlanFault, Row, Visits, copy_of, is_open};
+use crate::{
+    Entry, GateList, MAX_BASE_NS, MAX_CYCLE_NS, MAX_ENTRIES, PlanFault, Row, Visits, copy_of,
+    is_open,
+};
 use arrayvec::ArrayVec;
 use std::marker::Model;
-use wire_time::Rate;
-
-/// The longest cycle or extension that a schedule takes, in nanoseconds.
-const GREATEST_CYCLE_NS: u64 = 1 << 40;
-
-/// The latest base time that a schedule takes, in nanoseconds.
-const GREATEST_BASE_NS: u64 = (1 << 63) - 1;
+use wire_time::{CLASSES, Rate};
 
 /// A gate control list with its base time, cycle and cycle time extension (IEEE Std 802.1Q-2018, 8.6.9).
 #[derive(Clone, Debug, Drop)]
 pub struct Schedule {
-    entries: ArrayVec<Entry, 256>,
+    entries: ArrayVec<Entry, MAX_ENTRIES>,
     base_ns: u64,
     cycle_ns: u64,
     extension_ns: u64,
@@ -40,33 +37,8 @@ impl Model for Schedule {
     ghost invariant = { λ s. IsTabled (plan_inside s) s.stays };
 }
 
-/// What a list shows at a phase of its cycle.
-fn mask_at_phase(entries: &[Entry], phase: u128) -> u8
-    ensures { result ≡ mask_at entries.now phase }
-{
-    let mut rest = phase;
-    for entry in entries {
-        let span = 1000 * u128::from(entry.interval);
-        if rest < span {
-            return entry.mask;
-        }
-        rest -= span;
-    }
-    last_mask_of(entries)
-}
-
-/// What a list shows at its end.
-fn last_mask_of(entries: &[Entry]) -> u8
-    ensures { result ≡ last_mask entries.now }
-{
-    match entries.last() {
-        Some(last) => last.mask,
-        None => 0,
-    }
-}
-
 /// The first boundary at or after `t`, of cycles from `start` on.
-fn boundary_at(start: u128, cycle: u128, t: u128) -> u128
+fn boundary_from(start: u128, cycle: u128, t: u128) -> u128
     requires above { 0 < cycle }
     requires fits { max start t + cycle < 2 ^ 128 }
     ensures boundary { result ≡ boundary_from start cycle t }
@@ -79,7 +51,7 @@ fn boundary_at(start: u128, cycle: u128, t: u128) -> u128
 
 /// The sum of the intervals, in nanoseconds.
 fn total_of(entries: &[Entry]) -> u64
-    requires { length entries.now ≤ 256 }
+    requires { length entries.now ≤ MAX_ENTRIES }
     ensures total { result ≡ sum_by (λ e. e.interval) entries.now }
 {
     let mut total = 0;
@@ -99,7 +71,7 @@ fn least_ns(rate: Rate) -> u64
 
 /// The index of the first entry that is shorter.
 fn first_too_short(entries: &[Entry], least: u64) -> Option<u16>
-    requires { length entries.now ≤ 256 }
+    requires { length entries.now ≤ MAX_ENTRIES }
     ensures { result ≡ first_shorter least 0 entries.now }
 {
     for (i, entry) in entries.iter().enumerate() {
@@ -118,7 +90,7 @@ fn fault_of(
     extension_ns: u64,
     rate: Rate,
 ) -> Option<PlanFault>
-    requires { length entries.now ≤ 256 }
+    requires { length entries.now ≤ MAX_ENTRIES }
     ensures { let plan : Plan = record { entries = entries.now; base = base_ns; cycle = cycle_ns; extension = extension_ns } in
         result ≡ plan_fault rate plan }
 {
@@ -128,11 +100,11 @@ fn fault_of(
         None => {
             if cycle_ns < least {
                 Some(PlanFault::CycleTooShort)
-            } else if cycle_ns > GREATEST_CYCLE_NS {
+            } else if cycle_ns > MAX_CYCLE_NS {
                 Some(PlanFault::CycleTooLong)
-            } else if extension_ns > GREATEST_CYCLE_NS {
+            } else if extension_ns > MAX_CYCLE_NS {
                 Some(PlanFault::ExtensionTooLong)
-            } else if base_ns > GREATEST_BASE_NS {
+            } else if base_ns > MAX_BASE_NS {
                 Some(PlanFault::BaseTooLate)
             } else {
                 None
@@ -143,7 +115,7 @@ fn fault_of(
 
 /// Whether an entry that opens the class opens no other.
 fn is_apart(entry: Entry, class: u8) -> bool
-    requires { class < 8 }
+    requires { class < CLASSES }
     ensures { result ≡ is_apart_in class entry }
 {
     !is_open(entry.mask, class) || entry.mask == 1 << class
@@ -185,7 +157,7 @@ impl Schedule {
     /// How many entries there are: 1 to 256.
     pub fn len(&self) -> usize
         ensures count { result ≡ length self.now.entries }
-        ensures within { result ≤ 256 }
+        ensures within { result ≤ MAX_ENTRIES }
         ensures sound { IsSchedule self.now }
     {
         self.entries.len()
@@ -213,35 +185,21 @@ impl Schedule {
         self.extension_ns
     }
 
-    /// What the list shows at a phase of its cycle, in picoseconds.
-    pub fn mask_at(&self, phase: u128) -> u8
-        ensures { result ≡ mask_at self.now.entries phase }
-    {
-        mask_at_phase(self.entries.as_slice(), phase)
-    }
-
-    /// What the list shows at its end.
-    pub fn last_mask(&self) -> u8
-        ensures { result ≡ last_mask self.now.entries }
-    {
-        last_mask_of(self.entries.as_slice())
-    }
-
-    /// The moment from which the schedule is in force, if it is accepted for the lead moment `e`.
-    pub fn change_moment(&self, e: u128) -> u128
-        requires { e < 2 ^ 100 }
-        ensures change { result ≡ change_of self.now e }
-        ensures timely { e ≤ result }
+    /// The moment from which the schedule is in force, if it is accepted for the lead moment `lead`; both in picoseconds.
+    pub fn change_moment(&self, lead: u128) -> u128
+        requires { lead < 2 ^ 100 }
+        ensures change { result ≡ change_of self.now lead }
+        ensures timely { lead ≤ result }
         ensures within { result < 2 ^ 101 }
     {
         let base = 1000 * u128::from(self.base_ns);
         let cycle = 1000 * u128::from(self.cycle_ns);
-        boundary_at(base, cycle, e)
+        boundary_from(base, cycle, lead)
     }
 
     /// Whether every entry that opens the class opens none of the other seven.
     pub fn keeps_apart(&self, class: u8) -> bool
-        requires { class < 8 }
+        requires { class < CLASSES }
         ensures { result ≡ keeps_apart self.now.entries class }
     {
         for entry in self.entries.as_slice() {

@@ -2,22 +2,24 @@
 //!
 //! It is made once, in time linear in the entries, by walks from the end of the cycle to its start.
 ghost use Rattle.std.specs.Prelude.{◌≡◌, ℕ, ◌<◌, ◌≤◌, ◌^◌, length, slice_get, slice_index, Some};
-ghost use Rattle.gate_list.specs.Gate.{in_ps, greatest_cycle};
+ghost use Rattle.gate_list.specs.Gate.{in_ps};
+ghost use Rattle.gate_list.specs.declared.TheConstants.{MAX_CYCLE_NS};
 ghost use Rattle.gate_list.specs.Stay.{slots, length_of, run_of, is_open_in_all};
 ghost use Rattle.gate_list.specs.Table.{number_in, number_at, stay_of, HasStays};
 
-use crate::{Entry, Slot, Stay, is_open};
+use crate::{Entry, MAX_ENTRIES, Slot, Stay, is_open};
 use arrayvec::ArrayVec;
+use wire_time::CLASSES;
 
 /// By class and by entry, in picoseconds; `FOREVER` where the class never closes.
-pub(crate) type Table = [[u64; 256]; 8];
+pub(crate) type Table = [[u64; MAX_ENTRIES]; CLASSES];
 
 const FOREVER: u64 = u64::MAX;
 
 /// What a cycle of so many nanoseconds shows, one slot after another.
-fn slots_of(entries: &[Entry], cycle_ns: u64) -> ArrayVec<Slot, 256>
-    requires few { length entries.now ≤ 256 }
-    requires fits { cycle_ns ≤ greatest_cycle }
+fn slots_of(entries: &[Entry], cycle_ns: u64) -> ArrayVec<Slot, MAX_ENTRIES>
+    requires few { length entries.now ≤ MAX_ENTRIES }
+    requires fits { cycle_ns ≤ MAX_CYCLE_NS }
     ensures { result.items ≡ slots entries.now (in_ps cycle_ns) }
 {
     let mut slots = ArrayVec::new();
@@ -42,7 +44,7 @@ fn slots_of(entries: &[Entry], cycle_ns: u64) -> ArrayVec<Slot, 256>
 
 /// Whether all slots open a class, and for how long it is open from the start of the first on.
 fn first_run(slots: &[Slot], class: u8) -> (bool, u64)
-    requires low { class < 8 }
+    requires low { class < CLASSES }
     requires fits { length_of slots.now < 2 ^ 62 }
     ensures all { result.0 ≡ is_open_in_all slots.now class }
     ensures run { result.1 ≡ run_of slots.now class }
@@ -64,14 +66,14 @@ fn first_run(slots: &[Slot], class: u8) -> (bool, u64)
 }
 
 /// For each slot, how long a class stays open from its start; 0 where there is no slot.
-fn column_of(slots: &[Slot], class: u8) -> [u64; 256]
-    requires room { length slots.now ≤ 256 }
-    requires low { class < 8 }
+fn column_of(slots: &[Slot], class: u8) -> [u64; MAX_ENTRIES]
+    requires room { length slots.now ≤ MAX_ENTRIES }
+    requires low { class < CLASSES }
     requires fits { length_of slots.now < 2 ^ 62 }
     ensures { (i : ℕ) → slice_index result i ≡ number_in slots.now i class }
 {
     let (all, mut run) = first_run(slots, class);
-    let mut stays = [0; 256];
+    let mut stays = [0; MAX_ENTRIES];
     let mut left = slots.len();
     while left > 0 {
         left -= 1;
@@ -88,13 +90,13 @@ fn column_of(slots: &[Slot], class: u8) -> [u64; 256]
 
 /// The table of a list whose cycle takes so many nanoseconds.
 pub(crate) fn table_of(entries: &[Entry], cycle_ns: u64) -> Table
-    requires few { length entries.now ≤ 256 }
-    requires fits { cycle_ns ≤ greatest_cycle }
-    ensures { HasStays (slots entries.now (in_ps cycle_ns)) 8 result }
+    requires few { length entries.now ≤ MAX_ENTRIES }
+    requires fits { cycle_ns ≤ MAX_CYCLE_NS }
+    ensures { HasStays (slots entries.now (in_ps cycle_ns)) CLASSES result }
 {
     let slots = slots_of(entries, cycle_ns);
-    let mut table = [[0; 256]; 8];
-    for class in 0..8u8 {
+    let mut table = [[0; MAX_ENTRIES]; CLASSES];
+    for class in 0..CLASSES as u8 {
         table[usize::from(class)] = column_of(slots.as_slice(), class);
     }
     table
@@ -112,13 +114,13 @@ fn stay_of(number: u64) -> Stay
 }
 
 /// What the table has for each class at an entry.
-pub(crate) fn stays_at(table: &Table, i: usize) -> [Stay; 8]
-    requires { i < 256 }
-    ensures { (class : ℕ) → class < 8
+pub(crate) fn stays_at(table: &Table, i: usize) -> [Stay; CLASSES]
+    requires { i < MAX_ENTRIES }
+    ensures { (class : ℕ) → class < CLASSES
         → slice_get result class ≡ Some (stay_of (number_at table.now class i)) }
 {
-    let mut stays = [Stay::Always; 8];
-    for class in 0..8 {
+    let mut stays = [Stay::Always; CLASSES];
+    for class in 0..CLASSES {
         stays[class] = stay_of(table[class][i]);
     }
     stays

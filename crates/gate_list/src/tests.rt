@@ -110,8 +110,6 @@ fn rows_tell_open_time(rt: HostRuntime) {
     let cut = schedule_of(&rt, &entries, 100000);
     assert_eq!(rt; stay_in(&rt, &cut, 0, 0), Stay::Always);
     assert_eq!(rt; stay_in(&rt, &cut, 1, 0), Stay::Lasts(0));
-    assert_eq!(rt; long.mask_at(250000000), 3);
-    assert_eq!(rt; long.last_mask(), 3);
     assert_eq!(rt; long.keeps_apart(0), false);
     assert_eq!(rt; schedule.keeps_apart(3), true);
 }

@@ -5,7 +5,7 @@ use Rattle.std.proofs.lemmas.Option.{same_Some}
 use Rattle.gate_list.specs.Gate.{Plan, IsShownAt, in_ps, prefix, mask_at, last_mask, has_come}
 use Rattle.gate_list.specs.declared.Entry.{Entry}
 use Rattle.gate_list.proofs.RowLaws.{prefix_next}
-use Rattle.list_execute.specs.Walk.{Walk, ShowsEntry, until_of, mask_of}
+use Rattle.list_execute.specs.Walk.{Walk, ShowsEntry, until_of, walk_mask}
 
 -- ---- the end of an entry
 
@@ -66,13 +66,13 @@ shown_mask (d ∷ f ∷ es) p (suc i) e there shown =
       before_next = λ next. (let soon : p < prefix (d ∷ f ∷ es) (suc (i + 1)) = subst (λ k. p < prefix (d ∷ f ∷ es) k) (let at : suc i + 1 ≡ suc (i + 1) = omega arith in at) (shown.before_next (omega arith)) in omega arith);
     })
 
-pub mask_of_entry : (plan : Plan) (began i : ℕ) (walk : Walk) → ShowsEntry plan began i walk → mask_of walk ≡ ((walk.row).entry).mask
+pub mask_of_entry : (plan : Plan) (began i : ℕ) (walk : Walk) → ShowsEntry plan began i walk → walk_mask walk ≡ ((walk.row).entry).mask
 mask_of_entry plan began i walk shown = by walk.held shown.unheld
   where
     by : (held : Option ℕ) → held ≡ None → (elim held [ Some mask ↦ mask | None ↦ walk.row.entry.mask ]) ≡ walk.row.entry.mask
     by None e = refl
     by (Some mask) e = cc
 
-pub mask_of_shown : (plan : Plan) (began i p : ℕ) (walk : Walk) → ShowsEntry plan began i walk → IsShownAt plan.entries p i → mask_of walk ≡ mask_at plan.entries p
+pub mask_of_shown : (plan : Plan) (began i p : ℕ) (walk : Walk) → ShowsEntry plan began i walk → IsShownAt plan.entries p i → walk_mask walk ≡ mask_at plan.entries p
 mask_of_shown plan began i p walk shows shown =
     mask_of_entry plan began i walk shows ∙ sym (shown_mask plan.entries p i walk.row.entry (shows.row_is).entry_is shown)

@@ -17,8 +17,8 @@ pub record Walk : Type 0 where
   pub held : Option ℕ
 
 -- the classes that are open
-abbrev pub mask_of : Walk → ℕ
-mask_of walk = elim walk.held [ Some mask ↦ mask | None ↦ walk.row.entry.mask ]
+abbrev pub walk_mask : Walk → ℕ
+walk_mask walk = elim walk.held [ Some mask ↦ mask | None ↦ walk.row.entry.mask ]
 
 -- the end of entry i of a cycle from a moment on; the last one has none
 abbrev pub until_of : List Entry → ℕ → ℕ → Option ℕ

@@ -5,7 +5,7 @@ ghost use Rattle.std.specs.Prelude.{◌≡◌, ◌+◌, ◌*◌, ◌<◌, ◌≤
 ghost use Rattle.wire_time.specs.Moment.{greatest_moment};
 ghost use Rattle.gate_list.specs.Gate.{IsShownAt, prefix, mask_at, has_come};
 ghost use Rattle.gate_list.specs.Visits.{one_more};
-ghost use Rattle.list_execute.specs.Walk.{in_hold, IsRow, ShowsEntry, ShowsHold, IsOf, mask_of, end_of, more};
+ghost use Rattle.list_execute.specs.Walk.{in_hold, IsRow, ShowsEntry, ShowsHold, IsOf, walk_mask, end_of, more};
 
 use gate_list::{Row, Schedule, Visits};
 use std::marker::Model;
@@ -98,7 +98,7 @@ impl ListExecute {
 
     /// The classes that are open: bit c is class c.
     pub fn mask(&self) -> u8
-        ensures { result ≡ mask_of self.now }
+        ensures { result ≡ walk_mask self.now }
     {
         match self.held {
             Some(mask) => mask,
@@ -182,7 +182,7 @@ impl ListExecute {
         requires within { phase ≤ 4 * greatest_moment }
         ensures entry { ShowsEntry schedule.now self.old.began self.new.index self.new }
         ensures phase { IsShownAt schedule.now.entries phase self.new.index }
-        ensures mask { mask_of self.new ≡ mask_at schedule.now.entries phase }
+        ensures mask { walk_mask self.new ≡ mask_at schedule.now.entries phase }
         ensures visits { visits.new ≡ more visits.old (self.new.index + 1) }
     {
         let mut walk = ListExecute::begin(schedule, self.began, visits);

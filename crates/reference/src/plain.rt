@@ -1,170 +1,64 @@
-//! The gates by three slots.
-ghost use Rattle.std.specs.Prelude.{◌≡◌, ℕ, ◌+◌, ◌<◌, ◌≤◌, ◌^◌, option_map, nat_lt, Some, true, false, []};
-ghost use Rattle.wire_time.specs.Moment.{greatest_moment};
-ghost use Rattle.list_config.specs.History.{IsRising, IsSettled, planned_mask, is_held, mask_under, gates, only_if};
+//! The gates by the list of accepted commands.
+ghost use Rattle.std.specs.Prelude.{◌≡◌, ℕ, ◌+◌, ◌<◌, ◌≤◌, ◌++◌, ◌∷◌, Some, None, true, false, []};
+ghost use Rattle.list_config.specs.History.{IsSound, announced, gates};
 ghost use Rattle.list_config.specs.Current.{IsCurrent};
-ghost use Rattle.reference.specs.Plain.{Clocked, accepted_in, history_in, in_force_by, pending_by};
+ghost use Rattle.reference.specs.Plain.{accepted_in};
 
-use crate::held::{Held, installed};
+use crate::accepted::AcceptedCommand;
+use crate::history::{announced, gates, in_force, kept, pending};
+use arrayvec::ArrayVec;
 use gate_list::{Schedule, Visits, is_open};
 use list_config::{Gates, Installed, NotNow};
 use std::marker::Model;
+use std::mem;
+use wire_time::CLASSES;
 
-/// The commands in force, pending and announced, and the moment now.
+/// The accepted commands that still count, first to last, and the moment now.
 #[derive(Drop)]
 pub struct Plain {
     moment: u128,
-    current: Option<Held>,
-    next: Option<Held>,
-    later: Option<Held>,
+    history: ArrayVec<AcceptedCommand, 3>,
 }
 
-/// A contract sees the history that the commands make, and the moment.
+/// A contract sees the history, and the moment.
 impl Model for Plain {
+    ghost use Rattle.list_config.specs.Current.{Clocked, IsCurrent};
+    ghost use Rattle.reference.specs.Plain.{clocked};
+
     ghost Value = { Clocked };
 
-    ghost view = { λ g. record { history = history_in g.current g.next g.later; moment = g.moment } };
+    ghost view = { λ g. clocked g.history.items g.moment };
 
-    ghost invariant = { λ g. (g.moment ≤ greatest_moment) × IsSettled g.moment (option_map accepted_in g.current) (option_map accepted_in g.next) (option_map accepted_in g.later) × IsRising 0 (history_in g.current g.next g.later) };
-}
-
-/// Whether the last state is held at a boundary for the change that is pending.
-fn is_held_at(start: u128, extension: u128, boundary: u128, next: Option<&Held>) -> bool
-    ensures { result ≡ is_held start extension boundary (option_map (λ h. accepted_in h.now) next.entry) }
-{
-    match next {
-        None => false,
-        Some(n) => start < boundary
-            && n.lead <= boundary
-            && n.change.saturating_sub(boundary) <= extension,
-    }
-}
-
-/// What a schedule in force since `start` shows at a moment, with this change pending.
-fn planned(schedule: &Schedule, start: u128, next: Option<&Held>, moment: u128) -> u8
-    ensures { result ≡ planned_mask schedule.now start (option_map (λ h. accepted_in h.now) next.entry) moment }
-{
-    let cycle = 1000 * u128::from(schedule.cycle_ns());
-    let boundary = moment - moment.saturating_sub(start) % cycle;
-    if is_held_at(
-        start,
-        1000 * u128::from(schedule.extension_ns()),
-        boundary,
-        next,
-    ) {
-        schedule.last_mask()
-    } else {
-        schedule.mask_at(moment - boundary)
-    }
-}
-
-/// What the command in force shows at a moment, with this change pending.
-fn mask_under(held: Option<&Held>, next: Option<&Held>, moment: u128) -> u8
-    ensures { result ≡ mask_under (option_map (λ h. accepted_in h.now) held.entry) (option_map (λ h. accepted_in h.now) next.entry) moment }
-{
-    match held {
-        None => 255,
-        Some(held) => match &held.schedule {
-            None => 255,
-            Some(schedule) => planned(schedule, held.change, next, moment),
-        },
-    }
-}
-
-/// The slot as a reference.
-fn lent(held: &Option<Held>) -> Option<&Held>
-    ensures { option_map (λ h. accepted_in h.now) result ≡ option_map accepted_in held.now }
-{
-    match held {
-        Some(held) => Some(held),
-        None => None,
-    }
-}
-
-/// The command in force at a moment, by those in force, pending and announced before.
-fn in_force_of<'a>(
-    current: &'a Option<Held>,
-    next: &'a Option<Held>,
-    later: &'a Option<Held>,
-    m: u128,
-) -> Option<&'a Held>
-    ensures { option_map (λ h. accepted_in h.now) result ≡ in_force_by (option_map accepted_in current.now) (option_map accepted_in next.now) (option_map accepted_in later.now) m }
-{
-    match later {
-        Some(x) => {
-            if x.change <= m {
-                return Some(x);
-            }
-            match next {
-                Some(p) => if p.change <= m && p.change <= x.lead {
-                    Some(p)
-                } else {
-                    lent(current)
-                },
-                None => lent(current),
-            }
-        }
-        None => match next {
-            Some(p) => if p.change <= m {
-                Some(p)
-            } else {
-                lent(current)
-            },
-            None => lent(current),
-        },
-    }
-}
-
-/// A command, if its change moment is after a moment.
-fn awaited(held: &Held, m: u128) -> Option<&Held>
-    ensures { option_map (λ h. accepted_in h.now) result ≡ only_if (λ a. nat_lt m a.change) (Some (accepted_in held.now)) }
-{
-    if m < held.change { Some(held) } else { None }
-}
-
-/// The command that is pending at a moment, by those in force, pending and announced before.
-fn pending_of<'a>(
-    current: &'a Option<Held>,
-    next: &'a Option<Held>,
-    later: &'a Option<Held>,
-    m: u128,
-) -> Option<&'a Held>
-    ensures { option_map (λ h. accepted_in h.now) result ≡ pending_by (option_map accepted_in current.now) (option_map accepted_in next.now) (option_map accepted_in later.now) m }
-{
-    if let Some(x) = later {
-        if x.lead <= m {
-            return awaited(x, m);
-        }
-    }
-    match next {
-        Some(p) => awaited(p, m),
-        None => match current {
-            Some(f) => awaited(f, m),
-            None => None,
-        },
-    }
+    ghost invariant = { λ g. IsCurrent (clocked g.history.items g.moment).history g.moment };
 }
 
 impl Plain {
     /// Whether no command is in force, pending or announced.
+    #[tactic(auto, using(crate::proofs::PlainLaws::none_left))]
     fn is_idle(&self) -> bool
         ensures { result ≡ true → self.now.history ≡ [] }
     {
-        self.current.is_none() && self.next.is_none() && self.later.is_none()
+        self.history.is_empty()
     }
 
-    /// The classes open at a moment from now on, by the commands accepted so far.
-    #[tactic(auto, using(crate::proofs::PlainLaws::gates_later))]
+    /// The classes open at a moment, in picoseconds, by the commands accepted so far.
     fn mask_later(&self, m: u128) -> u8
-        requires { self.now.moment ≤ m }
         ensures { result ≡ gates self.now.history m }
     {
-        let in_force = in_force_of(&self.current, &self.next, &self.later, m);
-        mask_under(
-            in_force,
-            pending_of(&self.current, &self.next, &self.later, m),
-            m,
-        )
+        gates(self.history.as_slice(), m)
+    }
+
+    /// Adds a command to the list.
+    #[tactic(auto, using(crate::proofs::PlainLaws::room_for_one))]
+    fn announce(&mut self, command: AcceptedCommand)
+        requires free { announced self.old.history self.old.moment ≡ None }
+        requires ahead { self.old.moment < command.lead }
+        requires sound { IsSound (accepted_in command) }
+        ensures history { self.new.history ≡ self.old.history ++ accepted_in command ∷ [] }
+        ensures moment { self.new.moment ≡ self.old.moment }
+        ensures current { IsCurrent self.new.history self.new.moment }
+    {
+        self.history.push(command);
     }
 }
 
@@ -179,13 +73,10 @@ impl Gates for Plain {
 
     const JUMPS: bool = false;
 
-    #[tactic(auto, using(crate::proofs::PlainLaws::current_of))]
     fn begin() -> Plain {
         Plain {
             moment: 0,
-            current: None,
-            next: None,
-            later: None,
+            history: ArrayVec::new(),
         }
     }
 
@@ -224,75 +115,58 @@ impl Gates for Plain {
         None
     }
 
-    fn quiet(&self, _needs: &[Option<u128>; 8], _before: u128, _visits: &mut Visits) -> u128 {
+    fn quiet(&self, _needs: &[Option<u128>; CLASSES], _before: u128, _visits: &mut Visits) -> u128 {
         self.moment
     }
 
-    #[tactic(auto, using(crate::proofs::PlainLaws::current_of))]
     fn move_to(&mut self, t: u128, _visits: &mut Visits) {
         self.moment = t;
-        if let Some(x) = &self.later {
-            if x.lead <= t {
-                if let Some(p) = &self.next {
-                    if p.change <= x.lead {
-                        self.current = self.next.take();
-                    }
-                }
-                self.next = self.later.take();
-            }
-        }
-        if let Some(p) = &self.next {
-            if p.change <= t {
-                self.current = self.next.take();
-            }
-        }
+        self.history = kept(mem::take(&mut self.history), t);
     }
 
-    #[tactic(auto, using(crate::proofs::PlainLaws::current_of, crate::proofs::PlainLaws::announced_gates))]
-    fn install(&mut self, schedule: Schedule, e: u128) -> Result<u128, NotNow> {
-        if let Some(held) = &self.later {
-            return Err(NotNow::Busy(held.lead));
+    fn install(&mut self, schedule: Schedule, lead: u128) -> Result<u128, NotNow> {
+        if let Some(command) = announced(self.history.as_slice(), self.moment) {
+            return Err(NotNow::Busy(command.lead));
         }
-        let change = schedule.change_moment(e);
-        self.later = Some(Held {
-            lead: e,
+        let change = schedule.change_moment(lead);
+        self.announce(AcceptedCommand {
+            lead,
             change,
             schedule: Some(schedule),
         });
         Ok(change)
     }
 
-    #[tactic(auto, using(crate::proofs::PlainLaws::current_of))]
-    fn delete(&mut self, e: u128) -> Result<u128, NotNow> {
-        if let Some(held) = &self.later {
-            return Err(NotNow::Busy(held.lead));
+    fn delete(&mut self, lead: u128) -> Result<u128, NotNow> {
+        if let Some(command) = announced(self.history.as_slice(), self.moment) {
+            return Err(NotNow::Busy(command.lead));
         }
-        self.later = Some(Held {
-            lead: e,
-            change: e,
+        self.announce(AcceptedCommand {
+            lead,
+            change: lead,
             schedule: None,
         });
-        Ok(e)
+        Ok(lead)
     }
 
     fn in_force(&self) -> Option<Installed> {
-        match &self.current {
+        match in_force(self.history.as_slice(), self.moment) {
             None => None,
-            Some(held) => Some(installed(held)),
+            Some(command) => Some(command.report()),
         }
     }
 
     fn pending(&self) -> Option<Installed> {
-        match &self.next {
+        match pending(self.history.as_slice(), self.moment) {
             None => None,
-            Some(held) => Some(installed(held)),
+            Some(command) => Some(command.report()),
         }
     }
 
     fn announced(&self) -> Option<Installed> {
-        match &self.later {
+        match announced(self.history.as_slice(), self.moment) {
             None => None,
-            Some(held) => Some(installed(held)),
+            Some(command) => Some(command.report()),
         }
     }
 

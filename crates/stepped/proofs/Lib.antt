@@ -1,5 +1,1 @@
-pub mod BoundaryLaws
-pub mod PlaceLaws
-pub mod UnderLaws
-pub mod AheadLaws
-pub mod SteppedLaws
+mod SteppedLaws

@@ -1,43 +1,45 @@
 //! The gates, which go from boundary to boundary.
 ghost use Rattle.std.specs.Prelude.{◌≡◌, ℕ, ◌+◌, ◌<◌, ◌≤◌, Some, None, false, option_map};
 ghost use Rattle.wire_time.specs.Moment.{greatest_moment, greatest_lead};
-ghost use Rattle.gate_list.specs.Gate.{IsSchedule};
 ghost use Rattle.list_config.specs.History.{gates, kept};
-ghost use Rattle.list_config.specs.Current.{IsCurrent, accepted_at, deletion_at};
-ghost use Rattle.stepped.specs.Commands.{AreCommands, IsUsable, accepted_in, command_of, history_of};
-ghost use Rattle.stepped.specs.Place.{IsFlat, Stands, earlier, edge_at};
+ghost use Rattle.list_config.specs.Current.{IsCurrent};
+ghost use Rattle.list_position.specs.Position.{IsFlat};
+ghost use Rattle.accepted_commands.specs.Commands.{AreCommands, accepted_in, command_of, history_of};
+ghost use Rattle.accepted_commands.specs.Standing.{Stands, earlier, edge_at};
 
-use crate::ahead::{stays_open_through, stays_open_to};
-use crate::held::{Held, installed};
-use crate::place::{Need, Place};
-use crate::slots::Slots;
-use crate::under::{place_on, stays_open_under, until_under};
+use accepted_commands::{
+    AcceptedCommand, Slots, installed, mask_under, stays_open_through, stays_open_to,
+    stays_open_under, until_under,
+};
 use gate_list::{Schedule, Visits};
 use list_config::{Gates, Installed, NotNow};
+use list_position::Need;
 use std::marker::Model;
+use wire_time::CLASSES;
 
-/// The gates of a port: its commands, and where the list in force stands.
+/// The gates of a port: its commands, each list with where it stands.
 ///
 /// A move takes a step for each boundary that it passes, so the time of a far move grows with its cycles and entries.
 #[derive(Drop)]
 pub struct Stepped {
     slots: Slots,
-    place: Option<Place>,
 }
 
 /// A contract sees the history that the commands make, and the moment.
 impl Model for Stepped {
-    ghost use Rattle.stepped.specs.Commands.{AreCommands, Clocked, clocked};
-    ghost use Rattle.stepped.specs.Place.{Stands};
+    ghost use Rattle.accepted_commands.specs.Commands.{AreCommands};
+    ghost use Rattle.accepted_commands.specs.Standing.{Stands};
+    ghost use Rattle.list_config.specs.Current.{Clocked};
+    ghost use Rattle.stepped.specs.Clocked.{clocked};
 
     ghost Value = { Clocked };
 
     ghost view = { λ g. clocked g.slots };
 
-    ghost invariant = { λ g. AreCommands g.slots × Stands g.slots.current g.slots.next g.slots.moment g.place };
+    ghost invariant = { λ g. AreCommands g.slots.commands × Stands g.slots.commands.in_force g.slots.commands.pending g.slots.commands.moment g.slots.position };
 }
 
-/// The earlier of two moments, if any.
+/// The earlier of two moments, in picoseconds, if any.
 fn earlier(a: Option<u128>, b: Option<u128>) -> Option<u128>
     ensures { result ≡ earlier a b }
 {
@@ -50,58 +52,46 @@ fn earlier(a: Option<u128>, b: Option<u128>) -> Option<u128>
     }
 }
 
-/// When a command changes the gates.
-fn change_of(held: Option<&Held>) -> Option<u128>
-    ensures { result ≡ option_map (λ a. a.change) (command_of held.entry) }
+/// When a command changes the gates, in picoseconds.
+fn change_moment(command: Option<&AcceptedCommand>) -> Option<u128>
+    ensures { result ≡ option_map (λ a. a.change) (command_of command.entry) }
 {
-    match held {
+    match command {
         None => None,
-        Some(held) => Some(held.change),
+        Some(command) => Some(command.change()),
     }
 }
 
-/// The lead moment of a command.
-fn lead_of(held: Option<&Held>) -> Option<u128>
-    ensures { result ≡ option_map (λ a. a.lead) (command_of held.entry) }
+/// The lead moment of a command, in picoseconds.
+fn lead_moment(command: Option<&AcceptedCommand>) -> Option<u128>
+    ensures { result ≡ option_map (λ a. a.lead) (command_of command.entry) }
 {
-    match held {
+    match command {
         None => None,
-        Some(held) => Some(held.lead),
+        Some(command) => Some(command.lead()),
     }
 }
 
-/// The command of a schedule that is accepted for the lead moment `e`.
-fn held_of(schedule: Schedule, e: u128) -> Held
-    requires { e ≤ greatest_moment + greatest_lead }
-    ensures value { accepted_in result ≡ accepted_at e schedule }
-    ensures usable { IsUsable (accepted_in result) }
-    ensures sound { IsSchedule schedule }
+/// The next moment at which a boundary of the list in force comes, or a command does, in picoseconds; none: there is none.
+fn edge_of(slots: &Slots) -> Option<u128>
+    requires sound { AreCommands slots.now.commands }
+    requires stands { Stands slots.now.commands.in_force slots.now.commands.pending slots.now.commands.moment slots.now.position }
+    ensures edge { result ≡ edge_at slots.now.commands slots.now.position }
+    ensures flat { IsFlat (gates (history_of slots.now.commands)) slots.now.commands.moment result }
 {
-    let _ = schedule.len();
-    Held {
-        lead: e,
-        change: schedule.change_moment(e),
-        schedule: Some(schedule),
-    }
-}
-
-/// The next moment at which a boundary of the list in force comes, or a command does; none: there is none.
-fn edge_of(slots: &Slots, place: &Option<Place>) -> Option<u128>
-    requires sound { AreCommands slots.now }
-    requires stands { Stands slots.now.current slots.now.next slots.now.moment place.now }
-    ensures edge { result ≡ edge_at slots.now place.now }
-    ensures flat { IsFlat (gates (history_of slots.now)) slots.now.moment result }
-{
-    let listed = until_under(slots.current(), place, slots.next());
+    let listed = until_under(slots.in_force(), slots.pending());
     earlier(
         listed,
-        earlier(change_of(slots.next()), lead_of(slots.later())),
+        earlier(
+            change_moment(slots.pending()),
+            lead_moment(slots.announced()),
+        ),
     )
 }
 
 impl Stepped {
-    /// Goes on to the next boundary, or to `t` where that comes first.
-    #[tactic(auto, using(crate::proofs::SteppedLaws::current_of))]
+    /// Goes on to the next boundary, or to `t`, in picoseconds, where that comes first.
+    #[tactic(auto, using(accepted_commands::proofs::CommandLaws::current_of))]
     fn step_to(&mut self, t: u128, visits: &mut Visits)
         requires later { self.old.moment < t }
         requires within { t ≤ greatest_moment }
@@ -111,18 +101,12 @@ impl Stepped {
         ensures sound { IsCurrent self.new.history self.new.moment }
         ensures counted { visits.old ≤ visits.new }
     {
-        let m = match edge_of(&self.slots, &self.place) {
+        let m = match edge_of(&self.slots) {
             Some(edge) => edge.min(t),
             None => t,
         };
         self.slots.settle(m);
-        self.place = place_on(
-            self.slots.current(),
-            &self.place,
-            self.slots.next(),
-            m,
-            visits,
-        );
+        self.slots.go_on(visits);
     }
 }
 
@@ -137,11 +121,10 @@ impl Gates for Stepped {
 
     const JUMPS: bool = false;
 
-    #[tactic(auto, using(crate::proofs::SteppedLaws::current_of))]
+    #[tactic(auto, using(accepted_commands::proofs::CommandLaws::current_of))]
     fn begin() -> Stepped {
         Stepped {
             slots: Slots::begin(),
-            place: None,
         }
     }
 
@@ -149,45 +132,39 @@ impl Gates for Stepped {
         self.slots.moment()
     }
 
-    #[tactic(auto, using(crate::proofs::SteppedLaws::place_shows))]
+    #[tactic(auto, using(accepted_commands::proofs::CommandLaws::position_shows))]
     fn mask(&self) -> u8 {
-        match &self.place {
-            None => 255,
-            Some(place) => place.walk.mask(),
-        }
+        mask_under(self.slots.in_force())
     }
 
     fn stays_open(&self, class: u8, for_ps: u128, visits: &mut Visits) -> bool {
-        let held = self.slots.current();
-        let now = self.slots.moment();
+        let in_force = self.slots.in_force();
         let need = Need {
             class,
-            from: now,
+            from: self.slots.moment(),
             length: for_ps,
         };
-        match self.slots.next() {
-            None => match self.slots.later() {
-                None => stays_open_under(held, &self.place, None, need, visits),
-                Some(command) => stays_open_to(held, &self.place, command, need, visits),
+        match self.slots.pending() {
+            None => match self.slots.announced() {
+                None => stays_open_under(in_force, None, need),
+                Some(announced) => stays_open_to(in_force, announced, need),
             },
-            Some(pending) => match self.slots.later() {
-                None => stays_open_to(held, &self.place, pending, need, visits),
-                Some(command) => {
-                    stays_open_through(held, &self.place, pending, command, need, visits)
-                }
+            Some(pending) => match self.slots.announced() {
+                None => stays_open_to(in_force, pending, need),
+                Some(announced) => stays_open_through(in_force, pending, announced, need, visits),
             },
         }
     }
 
     fn next_boundary(&self, before: u128) -> Option<u128> {
-        match edge_of(&self.slots, &self.place) {
+        match edge_of(&self.slots) {
             Some(edge) => if edge < before { Some(edge) } else { None },
             None => None,
         }
     }
 
-    fn quiet(&self, needs: &[Option<u128>; 8], before: u128, visits: &mut Visits) -> u128 {
-        for class in 0..8u8 {
+    fn quiet(&self, needs: &[Option<u128>; CLASSES], before: u128, visits: &mut Visits) -> u128 {
+        for class in 0..CLASSES as u8 {
             if let Some(need) = needs[class as usize] {
                 if self.stays_open(class, need, visits) {
                     return self.now();
@@ -206,38 +183,34 @@ impl Gates for Stepped {
         }
     }
 
-    fn install(&mut self, schedule: Schedule, e: u128) -> Result<u128, NotNow> {
-        if let Some(lead) = lead_of(self.slots.later()) {
-            return Err(NotNow::Busy(lead));
+    fn install(&mut self, schedule: Schedule, lead: u128) -> Result<u128, NotNow> {
+        if let Some(waited) = lead_moment(self.slots.announced()) {
+            return Err(NotNow::Busy(waited));
         }
-        let held = held_of(schedule, e);
-        let change = held.change;
-        self.slots.announce(held);
+        let command = AcceptedCommand::install(schedule, lead);
+        let change = command.change();
+        self.slots.announce(command);
         Ok(change)
     }
 
-    fn delete(&mut self, e: u128) -> Result<u128, NotNow> {
-        if let Some(lead) = lead_of(self.slots.later()) {
-            return Err(NotNow::Busy(lead));
+    fn delete(&mut self, lead: u128) -> Result<u128, NotNow> {
+        if let Some(waited) = lead_moment(self.slots.announced()) {
+            return Err(NotNow::Busy(waited));
         }
-        self.slots.announce(Held {
-            lead: e,
-            change: e,
-            schedule: None,
-        });
-        Ok(e)
+        self.slots.announce(AcceptedCommand::Delete(lead));
+        Ok(lead)
     }
 
     fn in_force(&self) -> Option<Installed> {
-        installed(self.slots.current())
+        installed(self.slots.in_force())
     }
 
     fn pending(&self) -> Option<Installed> {
-        installed(self.slots.next())
+        installed(self.slots.pending())
     }
 
     fn announced(&self) -> Option<Installed> {
-        installed(self.slots.later())
+        installed(self.slots.announced())
     }
 
     ghost is_current = { λ s h. h };

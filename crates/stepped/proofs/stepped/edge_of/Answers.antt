@@ -1,18 +1,23 @@
 use Rattle.std.proofs.Common.{ℕ, Option, ap, sym, ◌∙◌, subst, option_map}
 use Rattle.list_config.specs.History.{Accepted, gates}
-use Rattle.stepped.specs.Commands.{history_of, command_of}
-use Rattle.stepped.specs.Place.{IsFlat, Stands, earlier, shows_under}
-use Rattle.stepped.proofs.SteppedLaws.{flat_now}
+use Rattle.accepted_commands.specs.Commands.{history_of, command_of}
+use Rattle.list_position.specs.declared.Position.{Position}
+use Rattle.list_position.specs.Position.{IsFlat}
+use Rattle.accepted_commands.specs.Standing.{Stands, earlier, shows_under}
+use Rattle.accepted_commands.proofs.CommandLaws.{flat_now}
 use Rattle.stepped.proofs.stepped.edge_of.Goals as goal
 
 pub returns-clause-flat : goal.returns-clause-flat
 returns-clause-flat c =
-    let slots = c.args.slots.now in
+    let slots = c.args.slots.now.commands in
     let listed = c.until_under-listed.result in
-    let P : Option Accepted → Option Accepted → Type 0 = λ f p. (n : ℕ) → Stands f p n c.args.place.now → IsFlat (shows_under f p) n listed in
-    let flat = subst (λ f. P f slots.next) c.current.ensures (subst (λ p. P (command_of c.current.result) p) c.next.ensures c.until_under-listed.ensures.flat) slots.moment c.requires.stands in
+    let P : Option Accepted → Option Accepted → Option Position → Type 0 = λ f p position. (n : ℕ) → Stands f p n position → IsFlat (shows_under f p) n listed in
+    let flat =
+    subst (λ f. P f slots.pending c.args.slots.now.position) c.in_force.ensures.command
+    (subst (λ p. P (command_of c.in_force.result) p c.args.slots.now.position) c.pending.ensures.command
+    (subst (λ q. P (command_of c.in_force.result) (command_of c.pending.result) q) c.in_force.ensures.position c.until_under-listed.ensures.flat)) slots.moment c.requires.stands in
     let all = flat_now slots c.requires.sound listed flat in
-    let changes = c.change_of.ensures ∙ ap (option_map (λ (a : Accepted). a.change)) c.next-2.ensures in
-    let leads = c.lead_of.ensures ∙ ap (option_map (λ (a : Accepted). a.lead)) c.later.ensures in
-    let same = c.earlier-2.ensures ∙ ap (earlier listed) (c.earlier.ensures ∙ (ap (λ t. earlier t c.lead_of.result) changes ∙ ap (earlier (option_map (λ (a : Accepted). a.change) slots.next)) leads)) in
+    let changes = c.change_moment.ensures ∙ ap (option_map (λ (a : Accepted). a.change)) c.pending-2.ensures.command in
+    let leads = c.lead_moment.ensures ∙ ap (option_map (λ (a : Accepted). a.lead)) c.announced.ensures.command in
+    let same = c.earlier-2.ensures ∙ ap (earlier listed) (c.earlier.ensures ∙ (ap (λ t. earlier t c.lead_moment.result) changes ∙ ap (earlier (option_map (λ (a : Accepted). a.change) slots.pending)) leads)) in
     subst (λ u. IsFlat (gates (history_of slots)) slots.moment u) (sym same) all

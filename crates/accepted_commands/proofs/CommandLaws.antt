@@ -1,0 +1,282 @@
+-- The gates by the commands that count, and by where the list in force stands.
+use Rattle.std.proofs.Common.{◌≡◌, ◌<◌, ◌≤◌, ℕ, zero, suc, length, get_or, slice_get, min, Bool, true, false, cond, ◌&&◌, leb, ltb, List, [], ◌∷◌, Option, Some, None, MatchOption, option_map, inl, inr, refl, sym, ap, ◌∙◌, subst, arith, le_refl, lt_of_lt_of_le, ◌⊎◌}
+use Rattle.std.proofs.lemmas.Bool.{lt-leb, lt-ltb, le-ltb, cases_lt, false≢true, false_from_ne_true, le-leb}
+use Rattle.std.proofs.lemmas.Option.{same_Some, slice_get-get_or}
+use Rattle.std.specs.Option.{ForSome}
+use Rattle.gate_list.specs.Gate.{Plan, IsSchedule, mask_since, opens}
+use Rattle.gate_list.specs.Stay.{NoneFrom}
+use Rattle.gate_list.proofs.OpenLaws.{open_at, open_from}
+use Rattle.list_config.specs.Choice.{may_start, may_go, first_choice}
+use Rattle.list_config.proofs.ChoiceLaws.{greatest_below-none}
+use Rattle.gate_list.specs.Open.{open_while}
+use Rattle.list_config.specs.History.{Accepted, pending, announced, gates, kept, mask_under, open_through, cons_some, three, is_in_time, only_if, or_else, plan_of, start_of, mask_of_plan, IsWaiting, IsAhead}
+use Rattle.list_config.specs.Stretch.{mask_in, stretches_from}
+use Rattle.list_config.specs.Current.{IsCurrent, IsSteady}
+use Rattle.list_config.proofs.HistoryLaws.{cons_some_push, push_gates, three_force, three_pending, three_announced, settled_force, settled_pending, settled_announced, settled_kept, past_three}
+use Rattle.list_config.proofs.StretchLaws.{HasBegun, begun_from, begun_later, has_cycle, start_before, planned_stretch, unheld_stretch, stretches_open_through}
+use Rattle.list_position.specs.declared.Position.{Position}
+use Rattle.list_position.specs.Position.{IsFlat}
+use Rattle.accepted_commands.specs.Commands.{Commands, AreCommands, IsUsable, history_of, settled_at, in_force_by, pending_by}
+use Rattle.accepted_commands.specs.Standing.{Stands, StandsUnder, earlier, hold_for, shown_by, shows_under, ComesTo, IsLedAt, StoodUnder, boundary_in_force, edge_at}
+use Rattle.list_position.proofs.PositionLaws.{placed_mask}
+
+-- ---- what shows now and up to the next command
+
+-- no command comes before its change, or its lead moment
+abbrev pub NoneBy : Option Accepted → Option Accepted → ℕ → Type 0
+NoneBy p x m = ForSome p (λ a. m < a.change) × ForSome x (λ a. m < a.lead)
+
+module _ (c : Commands) (s : AreCommands c) where
+  pub current_of : IsCurrent (history_of c) c.moment
+  current_of = record { within = s.within; rising = s.rising; past = past_three c.moment c.in_force c.pending c.announced s.settled; kept_whole = settled_kept c.moment c.in_force c.pending c.announced s.settled }
+
+  pub begun_now : HasBegun c.in_force c.moment
+  begun_now = begun_from 0 c.moment c.in_force (cons_some c.pending (cons_some c.announced [])) s.rising (s.settled).old
+
+  -- the command in force shows its list with its hold
+  pub under_is : (m : ℕ) → c.moment ≤ m → mask_under c.in_force c.pending m ≡ shows_under c.in_force c.pending m
+  under_is m l =
+      let begun = begun_later c.in_force c.moment m l begun_now in
+      by c.pending (has_cycle c.in_force m begun) (start_before c.in_force m begun)
+    where
+      by : (q : Option Accepted) → MatchOption (plan_of c.in_force) (Unit {0}) (λ plan. 0 < plan.cycle) → start_of c.in_force ≤ m → mask_of_plan (plan_of c.in_force) (start_of c.in_force) q m ≡ shows_under c.in_force q m
+      by None cycle from = unheld_stretch (plan_of c.in_force) (start_of c.in_force) m cycle from
+      by (Some a) cycle from = planned_stretch (plan_of c.in_force) (start_of c.in_force) m a cycle from
+
+  -- up to the next command the same are in force and pending
+  module _ (m : ℕ) (l : c.moment ≤ m) (none : NoneBy c.pending c.announced m) where
+    pub force_still : in_force_by c.in_force c.pending c.announced m ≡ c.in_force
+    force_still =
+        ap (λ y. or_else y (or_else (only_if (λ a. leb a.change m && is_in_time a (cons_some c.announced [])) c.pending) c.in_force)) (not_yet c.announced (change_after c.announced none.1 s.announced_usable))
+        ∙ ap (λ y. or_else y c.in_force) (not_in_time c.pending c.announced none.0)
+      where
+        not_yet : (x : Option Accepted) → ForSome x (λ a. m < a.change) → only_if (λ a. leb a.change m) x ≡ None
+        not_yet None h = refl
+        not_yet (Some a) h = ap (λ b. cond b (Some a) None) (lt-leb a.change m (h a refl))
+
+        not_in_time : (p x : Option Accepted) → ForSome p (λ a. m < a.change) → only_if (λ a. leb a.change m && is_in_time a (cons_some x [])) p ≡ None
+        not_in_time None x h = refl
+        not_in_time (Some a) x h = ap (λ b. cond (b && is_in_time a (cons_some x [])) (Some a) None) (lt-leb a.change m (h a refl))
+
+        change_after : (x : Option Accepted) → ForSome x (λ a. m < a.lead) → ForSome x IsUsable → ForSome x (λ a. m < a.change)
+        change_after x h u a is = lt_of_lt_of_le (h a is) (u a is).timely
+
+    pub pending_still : pending_by c.in_force c.pending c.announced m ≡ c.pending
+    pending_still = ap (λ y. only_if (λ a. ltb m a.change) (or_else y (or_else c.pending c.in_force))) (not_led c.announced none.1) ∙ by c.pending none.0
+      where
+        not_led : (x : Option Accepted) → ForSome x (λ a. m < a.lead) → only_if (λ a. leb a.lead m) x ≡ None
+        not_led None h = refl
+        not_led (Some a) h = ap (λ b. cond b (Some a) None) (lt-leb a.lead m (h a refl))
+
+        old_now : only_if (λ a. ltb m a.change) c.in_force ≡ None
+        old_now = by c.in_force (begun_later c.in_force c.moment m l begun_now)
+          where
+            by : (f : Option Accepted) → HasBegun f m → only_if (λ a. ltb m a.change) f ≡ None
+            by None b = refl
+            by (Some a) b = ap (λ t. cond t (Some a) None) (le-ltb m a.change b.1)
+
+        by : (p : Option Accepted) → ForSome p (λ a. m < a.change) → only_if (λ a. ltb m a.change) (or_else p c.in_force) ≡ p
+        by None h = old_now
+        by (Some a) h = ap (λ b. cond b (Some a) None) (lt-ltb m a.change (h a refl))
+
+    pub gates_ahead : gates (history_of c) m ≡ shows_under c.in_force c.pending m
+    gates_ahead =
+        ap (λ f. mask_under f (pending (history_of c) m) m) (three_force c.moment c.in_force c.pending c.announced s.settled m l ∙ force_still)
+        ∙ (ap (λ q. mask_under c.in_force q m) (three_pending c.moment c.in_force c.pending c.announced s.settled m l ∙ pending_still)
+        ∙ under_is m l)
+
+  pub none_now : NoneBy c.pending c.announced c.moment
+  none_now = (waits c.pending (s.settled).waiting, leads c.announced (s.settled).ahead)
+    where
+      waits : (p : Option Accepted) → IsWaiting c.moment p → ForSome p (λ a. c.moment < a.change)
+      waits None w a is = cc
+      waits (Some b) w a is = subst (λ (k : Accepted). c.moment < k.change) (same_Some b a is) w.1
+
+      leads : (x : Option Accepted) → IsAhead c.moment x → ForSome x (λ a. c.moment < a.lead)
+      leads None w a is = cc
+      leads (Some b) w a is = subst (λ (k : Accepted). c.moment < k.lead) (same_Some b a is) w.0
+
+  pub gates_now : gates (history_of c) c.moment ≡ shows_under c.in_force c.pending c.moment
+  gates_now = gates_ahead c.moment (le_refl c.moment) none_now
+
+  -- the position shows the mask of now
+  pub position_shows : (position : Option Position) → Stands c.in_force c.pending c.moment position → shown_by position ≡ gates (history_of c) c.moment
+  position_shows position stands = by (plan_of c.in_force) refl position stands ∙ sym gates_now
+    where
+      usable : (plan : Plan) → plan_of c.in_force ≡ Some plan → IsSchedule plan
+      usable plan is = by c.in_force s.in_force_usable is
+        where
+          by : (f : Option Accepted) → ForSome f IsUsable → plan_of f ≡ Some plan → IsSchedule plan
+          by None u is = cc
+          by (Some a) u is = (u a refl).planned plan is
+
+      by : (p : Option Plan) → plan_of c.in_force ≡ p → (position : Option Position) → StandsUnder p (start_of c.in_force) c.pending c.moment position → shown_by position ≡ mask_since p (start_of c.in_force) (hold_for p (start_of c.in_force) c.pending) c.moment
+      by None is position stands = ap shown_by stands
+      by (Some plan) is None stands = absurd stands
+      by (Some plan) is (Some position) stands = placed_mask plan (usable plan is) (start_of c.in_force) (hold_for (Some plan) (start_of c.in_force) c.pending) c.moment position stands
+
+  -- one mask shows up to a boundary of the list or the next command
+  pub flat_now : (until : Option ℕ) → IsFlat (shows_under c.in_force c.pending) c.moment until → IsFlat (gates (history_of c)) c.moment (earlier until (earlier (option_map (λ a. a.change) c.pending) (option_map (λ a. a.lead) c.announced)))
+  flat_now until flat = record {
+    same = λ m l soon.
+        (let near = soon_parts until _ m soon in
+        let commands = soon_parts (option_map (λ a. a.change) c.pending) (option_map (λ a. a.lead) c.announced) m near.1 in
+        gates_ahead m l (changes c.pending m commands.0, leads c.announced m commands.1) ∙ (flat.same m l near.0 ∙ sym gates_now));
+    later = both_later until _ flat.later (both_later (option_map (λ a. a.change) c.pending) (option_map (λ a. a.lead) c.announced) (changes_back c.pending none_now.0) (leads_back c.announced none_now.1));
+  }
+    where
+      soon_parts : (a b : Option ℕ) (m : ℕ) → ForSome (earlier a b) (λ u. m < u) → ForSome a (λ u. m < u) × ForSome b (λ u. m < u)
+      soon_parts None b m soon = (λ u is. cc, soon)
+      soon_parts (Some t) None m soon = (soon, λ u is. cc)
+      soon_parts (Some t) (Some v) m soon =
+          let low : m < min t v = soon (min t v) refl in
+          (λ u is. (let same : t ≡ u = same_Some t u is in omega arith), λ u is. (let same : v ≡ u = same_Some v u is in omega arith))
+
+      both_later : (a b : Option ℕ) → ForSome a (λ u. c.moment < u) → ForSome b (λ u. c.moment < u) → ForSome (earlier a b) (λ u. c.moment < u)
+      both_later None b x y = y
+      both_later (Some t) None x y = x
+      both_later (Some t) (Some v) x y = λ u is.
+          let first : c.moment < t = x t refl in
+          let then : c.moment < v = y v refl in
+          let same : min t v ≡ u = same_Some (min t v) u is in
+          omega arith
+
+      changes : (p : Option Accepted) (m : ℕ) → ForSome (option_map (λ a. a.change) p) (λ u. m < u) → ForSome p (λ a. m < a.change)
+      changes None m h a is = cc
+      changes (Some b) m h a is = subst (λ (k : Accepted). m < k.change) (same_Some b a is) (h b.change refl)
+
+      leads : (p : Option Accepted) (m : ℕ) → ForSome (option_map (λ a. a.lead) p) (λ u. m < u) → ForSome p (λ a. m < a.lead)
+      leads None m h a is = cc
+      leads (Some b) m h a is = subst (λ (k : Accepted). m < k.lead) (same_Some b a is) (h b.lead refl)
+
+      changes_back : (p : Option Accepted) → ForSome p (λ a. c.moment < a.change) → ForSome (option_map (λ a. a.change) p) (λ u. c.moment < u)
+      changes_back None h u is = cc
+      changes_back (Some b) h u is = subst (λ k. c.moment < k) (same_Some b.change u is) (h b refl)
+
+      leads_back : (p : Option Accepted) → ForSome p (λ a. c.moment < a.lead) → ForSome (option_map (λ a. a.lead) p) (λ u. c.moment < u)
+      leads_back None h u is = cc
+      leads_back (Some b) h u is = subst (λ k. c.moment < k) (same_Some b.lead u is) (h b refl)
+
+  -- what comes at the next edge, or before it, where the list in force stands as it stood unless a command comes
+  pub comes_to : (position : Option Position) → Stands c.in_force c.pending c.moment position → (m : ℕ) → c.moment ≤ m → ForSome (edge_at c position) (λ u. m ≤ u) → (then : Option Position) → (NoneBy c.pending c.announced m → then ≡ position) → ComesTo (in_force_by c.in_force c.pending c.announced m) (pending_by c.in_force c.pending c.announced m) m then
+  comes_to position stands m l upto then still =
+      elim (cases c.pending c.announced (changes c.pending commands.0) (leads c.announced commands.1) s.announced_usable) [
+        | inl none ↦
+            subst (λ f. ComesTo f (pending_by c.in_force c.pending c.announced m) m then) (sym (force_still m l none))
+            (subst (λ p. ComesTo c.in_force p m then) (sym (pending_still m l none))
+            (subst (ComesTo c.in_force c.pending m) (sym (still none))
+            (inr (inr (record { from = c.moment; stands = stands; onward = l; upto = parts.0 })))))
+        | inr moved ↦ moved
+      ]
+    where
+      upto_parts : (a b : Option ℕ) → ForSome (earlier a b) (λ u. m ≤ u) → ForSome a (λ u. m ≤ u) × ForSome b (λ u. m ≤ u)
+      upto_parts None b h = (λ u is. cc, h)
+      upto_parts (Some t) None h = (h, λ u is. cc)
+      upto_parts (Some t) (Some v) h =
+          let low : m ≤ min t v = h (min t v) refl in
+          (λ u is. (let same : t ≡ u = same_Some t u is in omega arith), λ u is. (let same : v ≡ u = same_Some v u is in omega arith))
+
+      parts : ForSome (boundary_in_force c.in_force c.pending position) (λ u. m ≤ u) × ForSome (earlier (option_map (λ a. a.change) c.pending) (option_map (λ a. a.lead) c.announced)) (λ u. m ≤ u)
+      parts = upto_parts (boundary_in_force c.in_force c.pending position) _ upto
+
+      commands : ForSome (option_map (λ a. a.change) c.pending) (λ u. m ≤ u) × ForSome (option_map (λ a. a.lead) c.announced) (λ u. m ≤ u)
+      commands = upto_parts (option_map (λ a. a.change) c.pending) (option_map (λ a. a.lead) c.announced) parts.1
+
+      changes : (p : Option Accepted) → ForSome (option_map (λ a. a.change) p) (λ u. m ≤ u) → ForSome p (λ a. m ≤ a.change)
+      changes None h a is = cc
+      changes (Some b) h a is = subst (λ (k : Accepted). m ≤ k.change) (same_Some b a is) (h b.change refl)
+
+      leads : (p : Option Accepted) → ForSome (option_map (λ a. a.lead) p) (λ u. m ≤ u) → ForSome p (λ a. m ≤ a.lead)
+      leads None h a is = cc
+      leads (Some b) h a is = subst (λ (k : Accepted). m ≤ k.lead) (same_Some b a is) (h b.lead refl)
+
+      -- nothing new, or a command that comes into force or has its lead moment
+      Moved : Option Accepted → Option Accepted → Type 0
+      Moved p x = (start_of (in_force_by c.in_force p x m) ≡ m) ⊎ (IsLedAt (pending_by c.in_force p x m) m ⊎ StoodUnder (in_force_by c.in_force p x m) (pending_by c.in_force p x m) m then)
+
+      -- the announced one has its lead moment
+      led : (p : Option Accepted) (b : Accepted) → b.lead ≡ m → b.lead ≤ b.change → Moved p (Some b)
+      led p b at timely =
+          elim (cases_lt m b.change) [
+            | inl after ↦
+                (let pend : pending_by c.in_force p (Some b) m ≡ Some b =
+                ap (λ t. only_if (λ a. ltb m a.change) (or_else (cond t (Some b) None) (or_else p c.in_force))) (le-leb b.lead m (omega arith)) ∙ ap (λ t. cond t (Some b) None) (lt-ltb m b.change after) in
+                inr (inl (subst (λ q. IsLedAt q m) (sym pend) at)))
+            | inr now ↦
+                (let force : in_force_by c.in_force p (Some b) m ≡ Some b =
+                ap (λ t. or_else (cond t (Some b) None) (or_else (only_if (λ a. leb a.change m && is_in_time a (b ∷ [])) p) c.in_force)) (le-leb b.change m now) in
+                inl (ap start_of force ∙ (let same : b.change ≡ m = omega arith in same)))
+          ]
+
+      -- the pending one changes the gates
+      begins : (a : Accepted) (x : Option Accepted) → a.change ≡ m → ForSome x (λ b. m < b.lead) → ForSome x IsUsable → Moved (Some a) x
+      begins a x at ahead u = inl (ap start_of force ∙ at)
+        where
+          not_yet : (x : Option Accepted) → ForSome x (λ b. m < b.lead) → ForSome x IsUsable → only_if (λ b. leb b.change m) x ≡ None
+          not_yet None h u = refl
+          not_yet (Some b) h u = ap (λ t. cond t (Some b) None) (lt-leb b.change m (lt_of_lt_of_le (h b refl) (u b refl).timely))
+
+          in_time : (x : Option Accepted) → ForSome x (λ b. m < b.lead) → is_in_time a (cons_some x []) ≡ true
+          in_time None h = refl
+          in_time (Some b) h = le-leb a.change b.lead (let before : m < b.lead = h b refl in omega arith)
+
+          force : in_force_by c.in_force (Some a) x m ≡ Some a
+          force =
+              ap (λ y. or_else y (or_else (only_if (λ k. leb k.change m && is_in_time k (cons_some x [])) (Some a)) c.in_force)) (not_yet x ahead u)
+              ∙ (ap (λ t. or_else (cond (t && is_in_time a (cons_some x [])) (Some a) None) c.in_force) (le-leb a.change m (omega arith))
+              ∙ ap (λ t. or_else (cond t (Some a) None) c.in_force) (in_time x ahead))
+
+      waiting : (p x : Option Accepted) → ForSome p (λ a. m ≤ a.change) → ForSome x (λ a. m < a.lead) → ForSome x IsUsable → NoneBy p x m ⊎ Moved p x
+      waiting None x hp ahead u = inl (λ a is. cc, ahead)
+      waiting (Some a) x hp ahead u =
+          elim (cases_lt m a.change) [
+            | inl before ↦ inl (λ k is. subst (λ (j : Accepted). m < j.change) (same_Some a k is) before, ahead)
+            | inr at ↦ inr (begins a x (let le : m ≤ a.change = hp a refl in omega arith) ahead u)
+          ]
+
+      cases : (p x : Option Accepted) → ForSome p (λ a. m ≤ a.change) → ForSome x (λ a. m ≤ a.lead) → ForSome x IsUsable → NoneBy p x m ⊎ Moved p x
+      cases p None hp hx u = waiting p None hp (λ a is. cc) u
+      cases p (Some b) hp hx u =
+          elim (cases_lt m b.lead) [
+            | inl before ↦ waiting p (Some b) hp (λ k is. subst (λ (j : Accepted). m < j.lead) (same_Some b k is) before) u
+            | inr at ↦ inr (led p b (let le : m ≤ b.lead = hx b refl in omega arith) (u b refl).timely)
+          ]
+
+  -- what is kept at a later moment
+  pub settled_history : (t : ℕ) → c.moment ≤ t → history_of (settled_at c t) ≡ kept (history_of c) t
+  settled_history t l =
+      let f = three_force c.moment c.in_force c.pending c.announced s.settled t l in
+      let p = three_pending c.moment c.in_force c.pending c.announced s.settled t l in
+      let x = three_announced c.moment c.in_force c.pending c.announced s.settled t l in
+      sym (ap (λ y. three y (pending (history_of c) t) (announced (history_of c) t)) f
+      ∙ (ap (λ y. three (in_force_by c.in_force c.pending c.announced t) y (announced (history_of c) t)) p
+      ∙ ap (λ y. three (in_force_by c.in_force c.pending c.announced t) (pending_by c.in_force c.pending c.announced t) y) x))
+
+  -- the while from now on, in the stretches to come
+  pub open_now : (class d : ℕ) → open_through (history_of c) class c.moment d ≡ open_while (mask_in (stretches_from c.in_force (cons_some c.pending (cons_some c.announced [])))) class c.moment d
+  open_now class d =
+      stretches_open_through 0 c.moment (history_of c) s.rising (past_three c.moment c.in_force c.pending c.announced s.settled) class c.moment d (le_refl c.moment)
+      ∙ (ap (λ f. open_while (mask_in (stretches_from f (cons_some (pending (history_of c) c.moment) (cons_some (announced (history_of c) c.moment) [])))) class c.moment d) (settled_force c.moment c.in_force c.pending c.announced s.settled)
+      ∙ (ap (λ q. open_while (mask_in (stretches_from c.in_force (cons_some q (cons_some (announced (history_of c) c.moment) [])))) class c.moment d) (settled_pending c.moment c.in_force c.pending c.announced s.settled)
+      ∙ ap (λ x. open_while (mask_in (stretches_from c.in_force (cons_some c.pending (cons_some x [])))) class c.moment d) (settled_announced c.moment c.in_force c.pending c.announced s.settled)))
+
+  -- an answer of the stretches to come is that of the history
+  pub open_answer : (f : Option Accepted) (rest : List Accepted) → f ≡ c.in_force → cons_some c.pending (cons_some c.announced []) ≡ rest → (class n d : ℕ) → n ≡ c.moment → (answer : Bool) → answer ≡ open_while (mask_in (stretches_from f rest)) class n d → answer ≡ open_through (history_of c) class c.moment d
+  open_answer f rest now then class n d at answer is =
+      is
+      ∙ (ap (λ k. open_while (mask_in (stretches_from f rest)) class k d) at
+      ∙ (ap (λ g. open_while (mask_in (stretches_from g rest)) class c.moment d) now
+      ∙ (ap (λ r. open_while (mask_in (stretches_from c.in_force r)) class c.moment d) (sym then)
+      ∙ sym (open_now class d))))
+
+-- a command that is announced changes no gate before its lead moment
+pub announced_later : (c new : Commands) (x : Accepted) → new ≡ record c { announced = Some x } → c.announced ≡ None → x.lead ≤ x.change → (n : ℕ) → n < x.lead → gates (history_of new) n ≡ gates (history_of c) n
+announced_later c new x is free timely n ahead =
+    ap (λ (k : Commands). gates (history_of k) n) is
+    ∙ (ap (λ h. gates h n) (cons_some_push c.in_force c.pending x)
+    ∙ (push_gates x n ahead timely (cons_some c.in_force (cons_some c.pending []))
+    ∙ ap (λ y. gates (three c.in_force c.pending y) n) (sym free)))
+
+pub lead_none : (o : Option Accepted) → option_map (λ a. a.lead) o ≡ None → o ≡ None
+lead_none None e = refl
+lead_none (Some a) e = cc

@@ -1,0 +1,4 @@
+mod AheadLaws
+pub mod CommandLaws
+mod HoldLaws
+mod UnderLaws

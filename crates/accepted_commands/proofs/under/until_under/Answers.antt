@@ -1,0 +1,11 @@
+use Rattle.std.proofs.Common.{subst, sym, ◌∙◌, Some}
+use Rattle.accepted_commands.specs.Commands.{accepted_in, command_of}
+use Rattle.accepted_commands.specs.Standing.{IsListOf, position_lent}
+use Rattle.accepted_commands.proofs.UnderLaws.{list_flat, list_sound, list_stands, list_usable}
+use Rattle.accepted_commands.proofs.under.until_under.Goals as goal
+
+pub held_from-requires-clause-sound : goal.held_from-requires-clause-sound
+held_from-requires-clause-sound c = list_sound (command_of c.args.in_force) (position_lent c.args.in_force) c.in-Some.list.now (subst (IsListOf (command_of c.args.in_force) (position_lent c.args.in_force)) c.in-Some.is c.list_in.ensures) c.requires.usable
+
+pub held_from-requires-clause-start : goal.held_from-requires-clause-start
+held_from-requires-clause-start c = (list_usable (command_of c.args.in_force) (position_lent c.args.in_force) c.in-Some.list.now (subst (IsListOf (command_of c.args.in_force) (position_lent c.args.in_force)) c.in-Some.is c.list_in.ensures) c.requires.usable).near

@@ -1,0 +1,66 @@
+-- The commands that count at a moment (IEEE Std 802.1Q-2018, 8.6.9.3 List Config).
+use Rattle.std.specs.Prelude.{◌≤◌, ℕ, ◌*◌, ◌&&◌, nat_le, nat_lt, List, [], Option, Some, None, option_map}
+use denote.Bor.{Bor}
+use Rattle.std.specs.Option.{ForSome}
+use Rattle.wire_time.specs.Moment.{greatest_moment}
+use Rattle.gate_list.specs.Gate.{IsSchedule}
+use Rattle.list_config.specs.History.{Accepted, cons_some, only_if, or_else, is_in_time, three, IsSettled, IsRising}
+use Rattle.list_config.specs.Current.{deletion_at}
+use Rattle.accepted_commands.specs.declared.command.AcceptedCommand.{AcceptedCommand}
+use Rattle.accepted_commands.specs.declared.command.AcceptedCommand.TheVariants.{Install, Delete}
+
+-- what a command that is kept stands for
+abbrev pub accepted_in : AcceptedCommand → Accepted
+accepted_in (Install list) = record { lead = list.lead; change = list.change; plan = Some list.schedule }
+accepted_in (Delete lead) = deletion_at lead
+
+-- the command that is lent, if any
+abbrev pub command_of : Option (Bor AcceptedCommand) → Option Accepted
+command_of lent = option_map (λ (c : Bor AcceptedCommand). accepted_in c.now) lent
+
+-- the commands in force, pending and announced at a moment
+pub record Commands : Type 0 where
+  pub moment : ℕ
+  pub in_force : Option Accepted
+  pub pending : Option Accepted
+  pub announced : Option Accepted
+
+abbrev pub no_commands : Commands
+no_commands = record { moment = 0; in_force = None; pending = None; announced = None }
+
+abbrev pub history_of : Commands → List Accepted
+history_of c = three c.in_force c.pending c.announced
+
+-- a command whose schedule, if it has one, can be walked
+pub record IsUsable (a : Accepted) : Type 0 where
+  pub timely : a.lead ≤ a.change
+  pub near : a.change ≤ 2 * greatest_moment
+  pub planned : ForSome a.plan IsSchedule
+
+-- what holds of them
+pub record AreCommands (c : Commands) : Type 0 where
+  pub within : c.moment ≤ greatest_moment
+  pub settled : IsSettled c.moment c.in_force c.pending c.announced
+  pub rising : IsRising 0 (history_of c)
+  pub in_force_usable : ForSome c.in_force IsUsable
+  pub pending_usable : ForSome c.pending IsUsable
+  pub announced_usable : ForSome c.announced IsUsable
+
+-- the command in force at n, by those in force, pending and announced before
+abbrev pub in_force_by : Option Accepted → Option Accepted → Option Accepted → ℕ → Option Accepted
+in_force_by f p x n = or_else (only_if (λ a. nat_le a.change n) x) (or_else (only_if (λ a. nat_le a.change n && is_in_time a (cons_some x [])) p) f)
+
+abbrev pub pending_by : Option Accepted → Option Accepted → Option Accepted → ℕ → Option Accepted
+pending_by f p x n = only_if (λ a. nat_lt n a.change) (or_else (only_if (λ a. nat_le a.lead n) x) (or_else p f))
+
+abbrev pub announced_by : Option Accepted → ℕ → Option Accepted
+announced_by x n = only_if (λ a. nat_lt n a.lead) x
+
+-- those that count at a later moment
+abbrev pub settled_at : Commands → ℕ → Commands
+settled_at c n = record {
+  moment = n;
+  in_force = in_force_by c.in_force c.pending c.announced n;
+  pending = pending_by c.in_force c.pending c.announced n;
+  announced = announced_by c.announced n;
+}

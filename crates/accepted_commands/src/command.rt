@@ -1,0 +1,127 @@
+//! A command as it is kept.
+ghost use Rattle.std.specs.Prelude.{◌≡◌, ◌*◌, ◌+◌, ◌≤◌, Some, None, option_map};
+ghost use Rattle.wire_time.specs.Moment.{greatest_moment, greatest_lead};
+ghost use Rattle.gate_list.specs.Gate.{IsSchedule};
+ghost use Rattle.list_config.specs.Current.{accepted_at, deletion_at, installed_of};
+ghost use Rattle.list_config.specs.Stretch.{hold_of};
+ghost use Rattle.accepted_commands.specs.Commands.{IsUsable, accepted_in, command_of};
+ghost use Rattle.accepted_commands.specs.Standing.{IsFirst};
+
+use cycle_timer::CycleTimer;
+use gate_list::Schedule;
+use list_config::Installed;
+use list_position::Position;
+
+/// A list that was accepted. Its moments are in picoseconds.
+#[derive(Drop)]
+pub struct AcceptedList {
+    /// The moment before which it changes no gate.
+    pub lead: u128,
+    /// The moment from which it is in force, if no other command replaces it before.
+    pub change: u128,
+    /// The list with its times.
+    pub schedule: Schedule,
+    /// Where the list stands: until it is in force, at its change moment.
+    pub position: Position,
+}
+
+/// An accepted command.
+#[derive(Drop)]
+pub enum AcceptedCommand {
+    /// A list, which repeats from its change moment on.
+    Install(AcceptedList),
+    /// All classes are open from this lead moment on, in picoseconds.
+    Delete(u128),
+}
+
+impl AcceptedCommand {
+    /// The command of a schedule that is accepted for a lead moment, in picoseconds.
+    pub fn install(schedule: Schedule, lead: u128) -> AcceptedCommand
+        requires { lead ≤ greatest_moment + greatest_lead }
+        ensures value { accepted_in result ≡ accepted_at lead schedule }
+        ensures usable { IsUsable (accepted_in result) }
+        ensures first { IsFirst result }
+        ensures sound { IsSchedule schedule }
+    {
+        let _ = schedule.len();
+        let change = schedule.change_moment(lead);
+        let position = Position::first(&schedule, change);
+        AcceptedCommand::Install(AcceptedList {
+            lead,
+            change,
+            schedule,
+            position,
+        })
+    }
+
+    /// The moment before which the command changes no gate, in picoseconds.
+    pub fn lead(&self) -> u128
+        ensures { result ≡ (accepted_in self.now).lead }
+    {
+        match self {
+            AcceptedCommand::Install(list) => list.lead,
+            AcceptedCommand::Delete(lead) => *lead,
+        }
+    }
+
+    /// The moment from which the command is in force, if no other replaces it before, in picoseconds.
+    pub fn change(&self) -> u128
+        ensures { result ≡ (accepted_in self.now).change }
+    {
+        match self {
+            AcceptedCommand::Install(list) => list.change,
+            AcceptedCommand::Delete(lead) => *lead,
+        }
+    }
+
+    /// The command as it is reported.
+    fn report(&self) -> Installed
+        ensures { result ≡ installed_of (accepted_in self.now) }
+    {
+        match self {
+            AcceptedCommand::Install(list) => Installed {
+                change: list.change,
+                base_ns: list.schedule.base_ns(),
+                cycle_ns: list.schedule.cycle_ns(),
+                extension_ns: list.schedule.extension_ns(),
+                entries: list.schedule.len() as u16,
+            },
+            AcceptedCommand::Delete(lead) => Installed {
+                change: *lead,
+                base_ns: 0,
+                cycle_ns: 0,
+                extension_ns: 0,
+                entries: 0,
+            },
+        }
+    }
+}
+
+/// The command as it is reported, if there is one.
+pub fn installed(command: Option<&AcceptedCommand>) -> Option<Installed>
+    ensures { result ≡ option_map installed_of (command_of command.entry) }
+{
+    match command {
+        None => None,
+        Some(command) => Some(command.report()),
+    }
+}
+
+impl AcceptedList {
+    /// The first boundary from which the last state is held for a change, in picoseconds.
+    #[tactic(auto, using(crate::proofs::HoldLaws::boundary_not_before))]
+    pub fn hold_moment(&self, command: &AcceptedCommand) -> u128
+        requires sound { IsSchedule self.now.schedule }
+        requires start { self.now.change ≤ 2 * greatest_moment }
+        requires usable { IsUsable (accepted_in command.now) }
+        ensures { hold_of (Some self.now.schedule) self.now.change (accepted_in command.now) ≡ Some result }
+    {
+        let extension = 1000 * u128::from(self.schedule.extension_ns());
+        let from = command
+            .lead()
+            .max(command.change().saturating_sub(extension));
+        let mut timer = CycleTimer::begin(self.change, 1000 * u128::from(self.schedule.cycle_ns()));
+        timer.jump_to(self.change.max(from.saturating_sub(1)));
+        timer.next_start()
+    }
+}

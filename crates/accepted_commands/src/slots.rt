@@ -1,0 +1,147 @@
+//! The commands that count, in three slots.
+ghost use Rattle.std.specs.Prelude.{◌≡◌, ◌<◌, ◌≤◌, None, Some, option_map};
+ghost use Rattle.std.specs.Option.{ForSome};
+ghost use Rattle.wire_time.specs.Moment.{greatest_moment};
+ghost use Rattle.list_config.specs.History.{IsSound};
+ghost use Rattle.accepted_commands.specs.Commands.{AreCommands, IsUsable, accepted_in, command_of, no_commands, settled_at};
+ghost use Rattle.accepted_commands.specs.Standing.{ComesTo, EndsSo, IsFirst, Stands, position_lent, option_position};
+
+use crate::command::AcceptedCommand;
+use gate_list::Visits;
+use std::marker::Model;
+
+/// The moment now, and the commands in force, pending and announced then.
+#[derive(Drop)]
+pub struct Slots {
+    moment: u128,
+    in_force: Option<AcceptedCommand>,
+    pending: Option<AcceptedCommand>,
+    announced: Option<AcceptedCommand>,
+}
+
+/// A contract sees the commands with the moment, and where the list in force stands.
+impl Model for Slots {
+    ghost use Rattle.std.specs.Prelude.{option_map};
+    ghost use Rattle.std.specs.Option.{ForSome};
+    ghost use Rattle.accepted_commands.specs.Commands.{AreCommands, accepted_in};
+    ghost use Rattle.accepted_commands.specs.Standing.{EndsSo, IsFirst, Standing, option_position};
+
+    ghost Value = { Standing };
+
+    ghost view = { λ s. record { commands = record { moment = s.moment; in_force = option_map accepted_in s.in_force; pending = option_map accepted_in s.pending; announced = option_map accepted_in s.announced }; position = option_position s.in_force } };
+
+    ghost invariant = { λ s. AreCommands (record { moment = s.moment; in_force = option_map accepted_in s.in_force; pending = option_map accepted_in s.pending; announced = option_map accepted_in s.announced }) × EndsSo (option_map accepted_in s.in_force) (option_position s.in_force) × ForSome s.pending IsFirst × ForSome s.announced IsFirst };
+}
+
+/// The slot as a reference.
+fn lent(slot: &Option<AcceptedCommand>) -> Option<&AcceptedCommand>
+    ensures command { command_of result ≡ option_map accepted_in slot.now }
+    ensures position { position_lent result ≡ option_position slot.now }
+    ensures first { ForSome slot.now IsFirst → ForSome result (λ c. IsFirst c.now) }
+{
+    match slot {
+        Some(command) => Some(command),
+        None => None,
+    }
+}
+
+impl Slots {
+    /// No command, at the moment 0.
+    pub fn begin() -> Slots
+        ensures value { result.commands ≡ no_commands }
+        ensures position { result.position ≡ None }
+        ensures sound { AreCommands result.commands }
+    {
+        Slots {
+            moment: 0,
+            in_force: None,
+            pending: None,
+            announced: None,
+        }
+    }
+
+    /// The moment now, in picoseconds.
+    pub fn moment(&self) -> u128
+        ensures { result ≡ self.now.commands.moment }
+    {
+        self.moment
+    }
+
+    /// The command in force.
+    pub fn in_force(&self) -> Option<&AcceptedCommand>
+        ensures command { command_of result ≡ self.now.commands.in_force }
+        ensures position { position_lent result ≡ self.now.position }
+        ensures ends { EndsSo self.now.commands.in_force self.now.position }
+    {
+        lent(&self.in_force)
+    }
+
+    /// The command that is pending.
+    pub fn pending(&self) -> Option<&AcceptedCommand>
+        ensures command { command_of result ≡ self.now.commands.pending }
+        ensures first { ForSome result (λ c. IsFirst c.now) }
+    {
+        lent(&self.pending)
+    }
+
+    /// The command that is announced.
+    pub fn announced(&self) -> Option<&AcceptedCommand>
+        ensures command { command_of result ≡ self.now.commands.announced }
+        ensures first { ForSome result (λ c. IsFirst c.now) }
+    {
+        lent(&self.announced)
+    }
+
+    /// Goes on to a moment, in picoseconds: a command that is replaced before its change, or that another follows in force,
+    /// is dropped. The list in force stands where it stood.
+    pub fn settle(&mut self, t: u128)
+        requires later { self.old.commands.moment ≤ t }
+        requires within { t ≤ greatest_moment }
+        ensures value { self.new.commands ≡ settled_at self.old.commands t }
+        ensures position { ForSome self.old.commands.pending (λ a. t < a.change) → ForSome self.old.commands.announced (λ a. t < a.lead) → self.new.position ≡ self.old.position }
+        ensures sound { AreCommands self.new.commands }
+    {
+        self.moment = t;
+        if let Some(announced) = &self.announced {
+            if announced.lead() <= t {
+                if let Some(pending) = &self.pending {
+                    if pending.change() <= announced.lead() {
+                        self.in_force = self.pending.take();
+                    }
+                }
+                self.pending = self.announced.take();
+            }
+        }
+        if let Some(pending) = &self.pending {
+            if pending.change() <= t {
+                self.in_force = self.pending.take();
+            }
+        }
+    }
+
+    /// Lets the list in force go on to now, which is at or before its next boundary and those of the commands.
+    pub fn go_on(&mut self, visits: &mut Visits)
+        requires comes { ComesTo self.old.commands.in_force self.old.commands.pending self.old.commands.moment self.old.position }
+        ensures commands { self.new.commands ≡ self.old.commands }
+        ensures stands { Stands self.new.commands.in_force self.new.commands.pending self.new.commands.moment self.new.position }
+        ensures counted { visits.old ≤ visits.new }
+    {
+        if let Some(command) = &mut self.in_force {
+            command.move_on(lent(&self.pending), self.moment, visits);
+        }
+    }
+
+    /// Announces a command whose lead moment is to come.
+    pub fn announce(&mut self, command: AcceptedCommand)
+        requires free { self.old.commands.announced ≡ None }
+        requires ahead { self.old.commands.moment < (accepted_in command).lead }
+        requires sound { IsSound (accepted_in command) }
+        requires usable { IsUsable (accepted_in command) }
+        requires first { IsFirst command }
+        ensures value { self.new.commands ≡ record self.old.commands { announced = Some (accepted_in command) } }
+        ensures position { self.new.position ≡ self.old.position }
+        ensures sound { AreCommands self.new.commands }
+    {
+        self.announced = Some(command);
+    }
+}

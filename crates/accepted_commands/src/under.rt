@@ -1,0 +1,213 @@
+//! What the command in force shows: its list, or else all classes open.
+ghost use Rattle.std.specs.Prelude.{◌≡◌, ℕ, ◌*◌, ◌<◌, ◌≤◌, ◌↔◌, IsTrue, Some, None};
+ghost use Rattle.std.specs.Option.{ForSome};
+ghost use Rattle.wire_time.specs.Moment.{greatest_moment};
+ghost use Rattle.gate_list.specs.Gate.{IsSchedule, last_mask, mask_since};
+ghost use Rattle.gate_list.specs.Open.{open_while};
+ghost use Rattle.list_position.specs.Position.{IsFlat, IsPlaced};
+ghost use Rattle.accepted_commands.specs.Commands.{IsUsable, accepted_in, command_of};
+ghost use Rattle.accepted_commands.specs.Standing.{ComesTo, EndsSo, IsLedAt, IsListOf, Stands, accepted_list, boundary_in_force, hold_for, position_in, position_lent, shown_by, shows_under};
+
+use crate::command::{AcceptedCommand, AcceptedList};
+use gate_list::Visits;
+use list_position::{Need, Position};
+use wire_time::CLASSES;
+
+impl AcceptedList {
+    /// The moment from which the last state is held for the change that is pending, in picoseconds; none: there is none.
+    pub fn held_from(&self, pending: Option<&AcceptedCommand>) -> Option<u128>
+        requires sound { IsSchedule self.now.schedule }
+        requires start { self.now.change ≤ 2 * greatest_moment }
+        requires usable { ForSome (command_of pending) IsUsable }
+        ensures { result ≡ hold_for (Some self.now.schedule) self.now.change (command_of pending.entry) }
+    {
+        match pending {
+            None => None,
+            Some(command) => Some(self.hold_moment(command)),
+        }
+    }
+
+    /// Where the list stands at the moment `t`, in picoseconds, with this change pending.
+    pub fn position_at(
+        &self,
+        pending: Option<&AcceptedCommand>,
+        t: u128,
+        visits: &mut Visits,
+    ) -> Position
+        requires sound { IsSchedule self.now.schedule }
+        requires start { self.now.change ≤ 2 * greatest_moment }
+        requires usable { ForSome (command_of pending) IsUsable }
+        requires masked { self.now.position.last_mask ≡ last_mask self.now.schedule.entries }
+        requires begun { self.now.change ≤ t }
+        requires within { t ≤ 2 * greatest_moment }
+        ensures placed { IsPlaced self.now.schedule self.now.change (hold_for (Some self.now.schedule) self.now.change (command_of pending.entry)) t result }
+        ensures counted { visits.old ≤ visits.new }
+    {
+        self.position.at(
+            &self.schedule,
+            self.change,
+            self.held_from(pending),
+            t,
+            visits,
+        )
+    }
+
+    /// Where the list stands at `t`, in picoseconds, which is at or before its next boundary and those of the commands.
+    fn position_on(
+        &self,
+        pending: Option<&AcceptedCommand>,
+        t: u128,
+        visits: &mut Visits,
+    ) -> Position
+        requires sound { IsSchedule self.now.schedule }
+        requires start { self.now.change ≤ 2 * greatest_moment }
+        requires usable { ForSome (command_of pending) IsUsable }
+        requires masked { self.now.position.last_mask ≡ last_mask self.now.schedule.entries }
+        requires begun { self.now.change ≤ t }
+        requires within { t ≤ 2 * greatest_moment }
+        requires comes { ComesTo (Some (accepted_list self.now)) (command_of pending) t (Some self.now.position) }
+        ensures placed { IsPlaced self.now.schedule self.now.change (hold_for (Some self.now.schedule) self.now.change (command_of pending.entry)) t result }
+        ensures counted { visits.old ≤ visits.new }
+    {
+        if self.change == t || is_led_at(pending, t) {
+            return self.position_at(pending, t, visits);
+        }
+        self.position
+            .on(&self.schedule, self.held_from(pending), t, visits)
+    }
+
+    /// Whether a class stays open in a list that stands there, with this change pending.
+    pub fn stays_open(
+        &self,
+        position: &Position,
+        pending: Option<&AcceptedCommand>,
+        need: Need,
+    ) -> bool
+        requires sound { IsSchedule self.now.schedule }
+        requires start { self.now.change ≤ 2 * greatest_moment }
+        requires usable { ForSome (command_of pending) IsUsable }
+        requires placed { IsPlaced self.now.schedule self.now.change (hold_for (Some self.now.schedule) self.now.change (command_of pending)) need.from position.now }
+        requires class { need.class < CLASSES }
+        requires moment { need.from ≤ 2 * greatest_moment }
+        requires within { need.length ≤ greatest_moment }
+        ensures { result ≡ open_while (mask_since (Some self.now.schedule) self.now.change (hold_for (Some self.now.schedule) self.now.change (command_of pending.entry))) need.class need.from need.length }
+    {
+        position.stays_open(self.held_from(pending), need)
+    }
+}
+
+impl AcceptedCommand {
+    /// Lets the list of the command, if it is one, go on to `t`, in picoseconds, which is at or before the list's next boundary
+    /// and those of the commands.
+    pub fn move_on(&mut self, pending: Option<&AcceptedCommand>, t: u128, visits: &mut Visits)
+        requires usable { IsUsable (accepted_in self.old) }
+        requires pending { ForSome (command_of pending) IsUsable }
+        requires ends { EndsSo (Some (accepted_in self.old)) (position_in self.old) }
+        requires begun { (accepted_in self.old).change ≤ t }
+        requires within { t ≤ 2 * greatest_moment }
+        requires comes { ComesTo (Some (accepted_in self.old)) (command_of pending) t (position_in self.old) }
+        ensures same { accepted_in self.new ≡ accepted_in self.old }
+        ensures stands { Stands (Some (accepted_in self.old)) (command_of pending.entry) t (position_in self.new) }
+        ensures counted { visits.old ≤ visits.new }
+    {
+        match self {
+            AcceptedCommand::Install(list) => list.position = list.position_on(pending, t, visits),
+            AcceptedCommand::Delete(_) => {}
+        }
+    }
+}
+
+/// Whether a command has its lead moment then, in picoseconds.
+fn is_led_at(command: Option<&AcceptedCommand>, moment: u128) -> bool
+    ensures { IsTrue result ↔ IsLedAt (command_of command.entry) moment }
+{
+    match command {
+        None => false,
+        Some(command) => command.lead() == moment,
+    }
+}
+
+/// The list of a command, if it has one.
+pub fn list_in(command: Option<&AcceptedCommand>) -> Option<&AcceptedList>
+    ensures { IsListOf (command_of command.entry) (position_lent command.entry) result }
+{
+    match command {
+        None => None,
+        Some(command) => match command {
+            AcceptedCommand::Install(list) => Some(list),
+            AcceptedCommand::Delete(_) => None,
+        },
+    }
+}
+
+/// The moment up to which the command in force shows one mask, with this change pending, in picoseconds; none: for ever.
+pub fn until_under(
+    in_force: Option<&AcceptedCommand>,
+    pending: Option<&AcceptedCommand>,
+) -> Option<u128>
+    requires usable { ForSome (command_of in_force) IsUsable }
+    requires pending { ForSome (command_of pending) IsUsable }
+    ensures boundary { result ≡ boundary_in_force (command_of in_force.entry) (command_of pending.entry) (position_lent in_force.entry) }
+    ensures flat { (n : ℕ) → Stands (command_of in_force.entry) (command_of pending.entry) n (position_lent in_force.entry) → IsFlat (shows_under (command_of in_force.entry) (command_of pending.entry)) n result }
+{
+    match list_in(in_force) {
+        None => None,
+        Some(list) => list.position.until(list.held_from(pending)),
+    }
+}
+
+/// The classes that the command in force opens: bit c is class c.
+pub fn mask_under(in_force: Option<&AcceptedCommand>) -> u8
+    ensures { result ≡ shown_by (position_lent in_force.entry) }
+{
+    match list_in(in_force) {
+        None => u8::MAX,
+        Some(list) => list.position.walk.mask(),
+    }
+}
+
+/// Whether a class stays open by the command in force, with this change pending.
+pub fn stays_open_under(
+    in_force: Option<&AcceptedCommand>,
+    pending: Option<&AcceptedCommand>,
+    need: Need,
+) -> bool
+    requires usable { ForSome (command_of in_force) IsUsable }
+    requires pending { ForSome (command_of pending) IsUsable }
+    requires stands { Stands (command_of in_force) (command_of pending) need.from (position_lent in_force) }
+    requires class { need.class < CLASSES }
+    requires moment { need.from ≤ 2 * greatest_moment }
+    requires within { need.length ≤ greatest_moment }
+    ensures { result ≡ open_while (shows_under (command_of in_force.entry) (command_of pending.entry)) need.class need.from need.length }
+{
+    match list_in(in_force) {
+        None => true,
+        Some(list) => list.stays_open(&list.position, pending, need),
+    }
+}
+
+/// Whether a class stays open by the command in force from a later moment on, with a change pending by then.
+pub fn stays_open_later(
+    in_force: Option<&AcceptedCommand>,
+    pending: &AcceptedCommand,
+    need: Need,
+    visits: &mut Visits,
+) -> bool
+    requires usable { ForSome (command_of in_force) IsUsable }
+    requires pending { IsUsable (accepted_in pending.now) }
+    requires masked { EndsSo (command_of in_force) (position_lent in_force) }
+    requires begun { ForSome (command_of in_force) (λ a. a.change ≤ need.from) }
+    requires class { need.class < CLASSES }
+    requires moment { need.from ≤ 2 * greatest_moment }
+    requires within { need.length ≤ greatest_moment }
+    ensures stays { result ≡ open_while (shows_under (command_of in_force.entry) (Some (accepted_in pending.now))) need.class need.from need.length }
+    ensures counted { visits.old ≤ visits.new }
+{
+    match list_in(in_force) {
+        None => true,
+        Some(list) => {
+            let position = list.position_at(Some(pending), need.from, visits);
+            list.stays_open(&position, Some(pending), need)
+        }
+    }
+}

@@ -1,0 +1,18 @@
+use Rattle.std.proofs.Common.{◌≡◌, ◌+◌, ◌-◌, ◌*◌, None, length, ap, sym, ◌∙◌, subst, arith}
+use Rattle.gate_list.specs.Gate.{in_ps}
+use Rattle.cycle_timer.specs.Cycle.{Cycle}
+use Rattle.list_execute.proofs.WalkLaws.{last_mask_at_end}
+use Rattle.list_position.specs.Position.{IsPlaced}
+use Rattle.list_position.proofs.Position.first.Goals as goal
+
+pub begin_cycle-requires-clause-last : goal.begin_cycle-requires-clause-last
+begin_cycle-requires-clause-last c =
+    let count = c.len.ensures.count in
+    let some = (c.requires.sound.plan_is).entries in
+    sym (last_mask_at_end c.args.schedule.now.entries (c.len.result - 1) c.entry-last.result c.entry-last.ensures.entry (omega (arith, count, some)))
+
+pub returns : goal.returns
+returns c =
+    let plan = c.args.schedule.now in
+    let at = ap (λ (t : Cycle). t.started) c.timer_from-timer.ensures in
+    subst (λ m. IsPlaced plan c.args.start None m c.begin_cycle.result) at (c.begin_cycle.ensures.placed c.args.start 0 (omega (arith, at)) tt)

@@ -1,0 +1,251 @@
+//! Where a gate control list stands: its cycle, and the entry or the hold that it shows.
+#![tactic(auto)]
+
+ghost use Rattle.std.specs.Prelude.{◌≡◌, ℕ, Option, ◌+◌, ◌*◌, ◌<◌, ◌≤◌, Some, None, false};
+ghost use Rattle.wire_time.specs.Moment.{greatest_moment};
+ghost use Rattle.gate_list.specs.Gate.{Plan, IsSchedule, has_come, in_ps, last_mask, mask_since};
+ghost use Rattle.gate_list.specs.Open.{open_while};
+ghost use Rattle.gate_list.specs.Stay.{stay_lasts};
+ghost use Rattle.cycle_timer.specs.Cycle.{begun_at};
+ghost use Rattle.list_position.specs.Position.{IsPlaced, IsCycleStart, IsFlat, StandsSo, StoodBefore, boundary_of};
+
+use cycle_timer::CycleTimer;
+use gate_list::{Schedule, Stay, Visits, is_open};
+use list_execute::ListExecute;
+use wire_time::CLASSES;
+
+/// Where a list stands: the cycle that runs, the walk of its entries, and what it shows in a hold.
+#[derive(Clone, Copy, Debug)]
+pub struct Position {
+    /// The cycle that runs.
+    pub timer: CycleTimer,
+    /// The entry that is shown, or the hold.
+    pub walk: ListExecute,
+    /// The mask of the last entry, which a hold shows: bit c is class c.
+    pub last_mask: u8,
+}
+
+/// A class that is to stay open from a moment on for so long.
+#[derive(Clone, Copy)]
+pub struct Need {
+    /// The class: 0 to 7.
+    pub class: u8,
+    /// The moment, in picoseconds.
+    pub from: u128,
+    /// For how long, in picoseconds.
+    pub length: u128,
+}
+
+/// The timer of the cycles of a schedule from a moment on.
+fn timer_from(schedule: &Schedule, start: u128) -> CycleTimer
+    requires sound { IsSchedule schedule.now }
+    requires start { start ≤ 2 * greatest_moment }
+    ensures { result ≡ begun_at start (in_ps schedule.now.cycle) }
+{
+    CycleTimer::begin(start, 1000 * u128::from(schedule.cycle_ns()))
+}
+
+/// Whether a moment, if there is one, has come by another.
+fn has_come(moment: Option<u128>, by: u128) -> bool
+    ensures { result ≡ has_come moment by }
+{
+    match moment {
+        None => false,
+        Some(moment) => moment <= by,
+    }
+}
+
+/// Whether a stay is for ever, or at least so long, in picoseconds.
+fn stay_lasts(stay: Stay, for_ps: u128) -> bool
+    ensures { result ≡ stay_lasts stay for_ps }
+{
+    match stay {
+        Stay::Always => true,
+        Stay::Lasts(t) => for_ps <= t,
+    }
+}
+
+/// A cycle that has just begun: its first entry, or the hold where the last state is held from that moment or before.
+fn begin_cycle(
+    schedule: &Schedule,
+    timer: CycleTimer,
+    end_mask: u8,
+    held_from: Option<u128>,
+    visits: &mut Visits,
+) -> Position
+    requires sound { IsSchedule schedule.now }
+    requires within { timer.started ≤ 2 * greatest_moment }
+    requires length { timer.length ≡ in_ps schedule.now.cycle }
+    requires next { timer.next_start ≡ timer.started + in_ps schedule.now.cycle }
+    requires last { end_mask ≡ last_mask schedule.now.entries }
+    ensures placed { (start k : ℕ) → timer.started ≡ start + in_ps schedule.now.cycle * k → IsCycleStart schedule.now start held_from → IsPlaced schedule.now start held_from timer.started result }
+    ensures counted { visits.old ≤ visits.new }
+{
+    let mut walk = ListExecute::begin(schedule, timer.started(), visits);
+    if has_come(held_from, timer.started()) {
+        walk.hold(schedule, visits);
+    }
+    Position {
+        timer,
+        walk,
+        last_mask: end_mask,
+    }
+}
+
+impl Position {
+    /// The position of a list at `start`, the moment at which its first cycle begins, in picoseconds.
+    pub fn first(schedule: &Schedule, start: u128) -> Position
+        requires sound { IsSchedule schedule.now }
+        requires start { start ≤ 2 * greatest_moment }
+        ensures { IsPlaced schedule.now start None start result }
+    {
+        let mut visits = Visits::zero();
+        let last = schedule.entry(schedule.len() - 1, &mut visits);
+        let timer = timer_from(schedule, start);
+        begin_cycle(schedule, timer, last.mask, None, &mut visits)
+    }
+
+    /// The position of the same list at the moment `t`, whose cycles began at `start`, and whose last state is held from
+    /// `held_from` on; none: from no moment on. All are in picoseconds.
+    pub fn at(
+        &self,
+        schedule: &Schedule,
+        start: u128,
+        held_from: Option<u128>,
+        t: u128,
+        visits: &mut Visits,
+    ) -> Position
+        requires sound { IsSchedule schedule.now }
+        requires begun { start ≤ t }
+        requires within { t ≤ 2 * greatest_moment }
+        requires held { IsCycleStart schedule.now start held_from }
+        requires last { self.now.last_mask ≡ last_mask schedule.now.entries }
+        ensures placed { IsPlaced schedule.now start held_from t result }
+        ensures counted { visits.old ≤ visits.new }
+    {
+        let mut timer = timer_from(schedule, start);
+        timer.jump_to(t);
+        let mut walk = ListExecute::begin(schedule, timer.started(), visits);
+        if has_come(held_from, timer.started()) {
+            walk.hold(schedule, visits);
+        } else {
+            walk.place(schedule, t - timer.started(), visits);
+        }
+        Position {
+            timer,
+            walk,
+            last_mask: self.last_mask,
+        }
+    }
+
+    /// Whether a class stays open, by the stay of the entry that is shown then.
+    fn entry_stays_open(&self, need: Need) -> bool
+        requires unheld { self.now.walk.held ≡ None }
+        requires begun { self.now.walk.start ≤ need.from }
+        requires class { need.class < CLASSES }
+        requires some { 0 < need.length }
+        requires moment { need.from ≤ 2 * greatest_moment }
+        requires within { need.length ≤ greatest_moment }
+        ensures { (plan : Plan) (start : ℕ) (held : Option ℕ) → IsSchedule plan → IsPlaced plan start held need.from self.now → has_come held self.now.timer.started ≡ false → result ≡ open_while (mask_since (Some plan) start None) need.class need.from need.length }
+    {
+        let stay = self.walk.row().stay[need.class as usize];
+        stay_lasts(stay, need.from - self.walk.entry_start() + need.length)
+    }
+
+    /// Whether a class stays open in a list that is in no hold yet, and whose last state is held from a moment on.
+    fn stays_open_to_hold(&self, held_from: u128, need: Need) -> bool
+        requires stands { StandsSo (Some held_from) need.from self.now }
+        requires ahead { need.from < held_from }
+        requires class { need.class < CLASSES }
+        requires some { 0 < need.length }
+        requires moment { need.from ≤ 2 * greatest_moment }
+        requires within { need.length ≤ greatest_moment }
+        ensures { (plan : Plan) (start : ℕ) → IsSchedule plan → IsPlaced plan start (Some held_from) need.from self.now → result ≡ open_while (mask_since (Some plan) start (Some held_from)) need.class need.from need.length }
+    {
+        let left = held_from - need.from;
+        let within = Need {
+            length: need.length.min(left),
+            ..need
+        };
+        let listed = self.entry_stays_open(within);
+        listed && (need.length <= left || is_open(self.last_mask, need.class))
+    }
+
+    /// Whether a class stays open in a list that stands so then, and whose last state is held from a moment on, in
+    /// picoseconds; none: from no moment on.
+    pub fn stays_open(&self, held_from: Option<u128>, need: Need) -> bool
+        requires stands { StandsSo held_from need.from self.now }
+        requires class { need.class < CLASSES }
+        requires moment { need.from ≤ 2 * greatest_moment }
+        requires within { need.length ≤ greatest_moment }
+        ensures { (plan : Plan) (start : ℕ) → IsSchedule plan → IsPlaced plan start held_from need.from self.now → result ≡ open_while (mask_since (Some plan) start held_from) need.class need.from need.length }
+    {
+        if need.length == 0 {
+            return true;
+        }
+        match held_from {
+            None => self.entry_stays_open(need),
+            Some(held_from) => if held_from <= need.from {
+                is_open(self.last_mask, need.class)
+            } else {
+                self.stays_open_to_hold(held_from, need)
+            },
+        }
+    }
+
+    /// The moment up to which a list shows one mask, in picoseconds, where it stands so and its last state is held from a
+    /// moment on; none: for ever.
+    pub fn until(&self, held_from: Option<u128>) -> Option<u128>
+        ensures boundary { result ≡ boundary_of held_from self.now }
+        ensures flat { (plan : Plan) (start n : ℕ) → IsSchedule plan → IsPlaced plan start held_from n self.now → IsFlat (mask_since (Some plan) start held_from) n result }
+    {
+        if has_come(held_from, self.timer.started()) {
+            return None;
+        }
+        let cycle_end = self.timer.next_start();
+        Some(match self.walk.entry_end() {
+            Some(entry_end) => entry_end.min(cycle_end),
+            None => cycle_end,
+        })
+    }
+
+    /// The position of the same list at `m`, with no boundary between: the next cycle or the next entry begins there, or
+    /// nothing does. Its last state is held from `held_from` on; none: from no moment on. All are in picoseconds.
+    pub fn on(
+        &self,
+        schedule: &Schedule,
+        held_from: Option<u128>,
+        m: u128,
+        visits: &mut Visits,
+    ) -> Position
+        requires sound { IsSchedule schedule.now }
+        requires within { m ≤ 2 * greatest_moment }
+        requires stood { (start : ℕ) × StoodBefore schedule.now start held_from m self.now }
+        ensures placed { (start : ℕ) → StoodBefore schedule.now start held_from m self.now → IsPlaced schedule.now start held_from m result }
+        ensures counted { visits.old ≤ visits.new }
+    {
+        if has_come(held_from, self.timer.started()) {
+            return *self;
+        }
+        if self.timer.next_start() == m {
+            return begin_cycle(
+                schedule,
+                self.timer.fire(),
+                self.last_mask,
+                held_from,
+                visits,
+            );
+        }
+        let mut walk = self.walk;
+        if let Some(entry_end) = walk.entry_end() {
+            if entry_end == m {
+                walk.next(schedule, visits);
+            }
+        }
+        Position {
+            timer: self.timer,
+            walk,
+            last_mask: self.last_mask,
+        }
+    }
+}
