@@ -1,0 +1,27 @@
+//! Writes octets whole, with a loop over `write` of its own: a write that fails or takes nothing isn't tried again.
+#![tactic(auto)]
+
+ghost use Rattle.octet_writer.specs.Writes.{Writes};
+
+use std::io::Write;
+
+#[cfg(test)]
+mod tests;
+
+/// A write failed, or took nothing.
+#[derive(Clone, Copy, Debug, PartialEq, Eq)]
+pub struct WriteFault;
+
+/// Writes all of the octets. At a fault a front of them is written, and not all.
+pub fn put<W: Write>(writer: &mut W, octets: &[u8]) -> Result<(), WriteFault>
+    ensures { Writes result (W.contents writer.old) (W.contents writer.new) octets.now }
+{
+    let mut rest = octets;
+    while !rest.is_empty() {
+        match writer.write(rest) {
+            Ok(0) | Err(_) => return Err(WriteFault),
+            Ok(taken) => rest = &rest[taken..],
+        }
+    }
+    Ok(())
+}
