@@ -1,4 +1,3 @@
-pub mod Writes
 pub mod Part
 pub mod Names
 pub mod Reports

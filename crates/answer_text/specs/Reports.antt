@@ -1,6 +1,7 @@
 -- The lines of a report.
 use Rattle.std.specs.Prelude.{List, ℕ, [], ◌∷◌, ◌++◌, ◌==◌, Option, Some, None, take, decimal, codes, if◌then◌else◌}
 use Rattle.std.specs.List.{concat, flat_map}
+use Rattle.wire_time.specs.declared.TheConstants.{PRIORITIES}
 use Rattle.class_map.specs.declared.ClassMap.{ClassMap}
 use Rattle.class_map.specs.declared.Queues.{Queues}
 use Rattle.list_config.specs.declared.Installed.{Installed}
@@ -10,9 +11,9 @@ use Rattle.answer_text.specs.Part.{mask_text}
 abbrev pub class_text : ℕ → List ℕ
 class_text class = concat (codes " " ∷ decimal class ∷ [])
 
--- the class of each of the 16 priorities
+-- the class of each priority
 abbrev pub map_text : ClassMap → List ℕ
-map_text map = flat_map class_text (take 16 map.classes)
+map_text map = flat_map class_text (take PRIORITIES map.classes)
 
 abbrev pub range_text : (ℕ × ℕ) → List ℕ
 range_text range = concat (codes " " ∷ decimal range.0 ∷ codes "@" ∷ decimal range.1 ∷ [])

@@ -7,4 +7,5 @@ mod reports;
 mod writing;
 
 pub use lines::{put_answer, put_left, put_tc_fault};
-pub use writing::{Part, WriteFault, put, put_parts};
+pub use octet_writer::{WriteFault, put};
+pub use writing::{Part, put_parts};

@@ -2,30 +2,28 @@
 
 ghost use Rattle.std.specs.Prelude.{◌≡◌};
 ghost use Rattle.answer_text.specs.Lines.{queued_line, dropped_line, installed_line, refused_line, start_line, count_line, left_line, answer_lines, number_text, tc_fault_line};
-ghost use Rattle.answer_text.specs.Writes.{Writes};
+ghost use Rattle.octet_writer.specs.Writes.{Writes};
 
 use crate::names::{
     dropped_name, refused_name, refused_number, tc_fault_name, tc_fault_place, tc_fault_word,
 };
 use crate::reports::put_report;
-use crate::writing::{Part, WriteFault, put, put_parts};
+use crate::writing::{LineBuffer, Part, add_number, add_text, put_parts};
 use abstract_port::{Answer, Counters, Dropped, Refused, Start};
+use octet_writer::{WriteFault, put};
 use std::io::Write;
 use tc_reader::TcFault;
 
 fn put_queued<W: Write>(writer: &mut W, id: u64, class: u8) -> Result<(), WriteFault>
     ensures { Writes result (W.contents writer.old) (W.contents writer.new) (queued_line id class) }
 {
-    put_parts(
-        writer,
-        &[
-            Part::Text(b"queued "),
-            Part::Number(u128::from(id)),
-            Part::Text(b" class "),
-            Part::Number(u128::from(class)),
-            Part::Text(b"\n"),
-        ],
-    )
+    let mut line = LineBuffer::new();
+    add_text(&mut line, b"queued ");
+    add_number(&mut line, u128::from(id));
+    add_text(&mut line, b" class ");
+    add_number(&mut line, u128::from(class));
+    add_text(&mut line, b"\n");
+    put(writer, line.as_slice())
 }
 
 fn put_dropped<W: Write>(writer: &mut W, id: u64, why: Dropped) -> Result<(), WriteFault>
@@ -81,20 +79,17 @@ fn put_refused<W: Write>(writer: &mut W, why: Refused) -> Result<(), WriteFault>
 fn put_start<W: Write>(writer: &mut W, start: &Start) -> Result<(), WriteFault>
     ensures { Writes result (W.contents writer.old) (W.contents writer.new) (start_line start.now) }
 {
-    put_parts(
-        writer,
-        &[
-            Part::Text(b"start "),
-            Part::Number(u128::from(start.id)),
-            Part::Text(b" class "),
-            Part::Number(u128::from(start.class)),
-            Part::Text(b" at "),
-            Part::Number(start.at),
-            Part::Text(b" end "),
-            Part::Number(start.end),
-            Part::Text(b"\n"),
-        ],
-    )
+    let mut line = LineBuffer::new();
+    add_text(&mut line, b"start ");
+    add_number(&mut line, u128::from(start.id));
+    add_text(&mut line, b" class ");
+    add_number(&mut line, u128::from(start.class));
+    add_text(&mut line, b" at ");
+    add_number(&mut line, start.at);
+    add_text(&mut line, b" end ");
+    add_number(&mut line, start.end);
+    add_text(&mut line, b"\n");
+    put(writer, line.as_slice())
 }
 
 fn put_counters<W: Write>(writer: &mut W, class: u8, counters: &Counters) -> Result<(), WriteFault>

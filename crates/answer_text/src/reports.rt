@@ -2,13 +2,15 @@
 
 ghost use Rattle.std.specs.Prelude.{◌≡◌};
 ghost use Rattle.answer_text.specs.Reports.{class_text, num_tc_text, now_line, map_text, range_text, ranges_text, map_and_ranges_line, classes_line, open_text, list_text, installed_text, schedule_line, report_lines};
-ghost use Rattle.answer_text.specs.Writes.{Writes};
+ghost use Rattle.octet_writer.specs.Writes.{Writes};
 
-use crate::writing::{Part, WriteFault, put, put_parts};
+use crate::writing::{Part, put_parts};
 use abstract_port::Report;
 use class_map::{ClassMap, Queues};
 use list_config::Installed;
+use octet_writer::{WriteFault, put};
 use std::io::Write;
+use wire_time::PRIORITIES;
 
 fn put_class<W: Write>(writer: &mut W, class: u8) -> Result<(), WriteFault>
     ensures { Writes result (W.contents writer.old) (W.contents writer.new) (class_text class) }
@@ -16,11 +18,11 @@ fn put_class<W: Write>(writer: &mut W, class: u8) -> Result<(), WriteFault>
     put_parts(writer, &[Part::Text(b" "), Part::Number(u128::from(class))])
 }
 
-// The class of each of the 16 priorities.
+// The class of each priority.
 fn put_map<W: Write>(writer: &mut W, map: &ClassMap) -> Result<(), WriteFault>
     ensures { Writes result (W.contents writer.old) (W.contents writer.new) (map_text map.now) }
 {
-    for priority in 0..16u8 {
+    for priority in 0..PRIORITIES as u8 {
         let Some(class) = map.class_of(priority) else {
             return Ok(());
         };

@@ -1,30 +1,16 @@
 //! Writes text, with a loop over `write` of its own: a write that fails or takes nothing isn't tried again.
 
-ghost use Rattle.std.specs.Prelude.{◌≡◌, ◌<◌, List, ℕ, decimal};
+ghost use Rattle.std.specs.Prelude.{◌≡◌, ◌<◌, ◌≤◌, ◌+◌, ◌++◌, length, List, ℕ, decimal, true};
 ghost use Rattle.std.specs.List.{flat_map};
+ghost use Rattle.arrayvec.specs.ArrayVec.{array_vec_len};
+ghost use Rattle.answer_text.specs.declared.writing.TheConstants.{LINE_CAPACITY, NUMBER_CAPACITY};
 ghost use Rattle.answer_text.specs.Part.{hex_digit, text_of};
-ghost use Rattle.answer_text.specs.Writes.{Writes};
+ghost use Rattle.octet_writer.specs.Writes.{Writes};
 
+use arrayvec::ArrayVec;
 use itoa::Buffer;
+use octet_writer::{WriteFault, put};
 use std::io::Write;
-
-/// A write failed, or took nothing.
-#[derive(Clone, Copy, Debug, PartialEq, Eq)]
-pub struct WriteFault;
-
-/// Writes all of a text. At a fault a front of it is written.
-pub fn put<W: Write>(writer: &mut W, text: &[u8]) -> Result<(), WriteFault>
-    ensures { Writes result (W.contents writer.old) (W.contents writer.new) text.now }
-{
-    let mut rest = text;
-    while !rest.is_empty() {
-        match writer.write(rest) {
-            Ok(0) | Err(_) => return Err(WriteFault),
-            Ok(taken) => rest = &rest[taken..],
-        }
-    }
-    Ok(())
-}
 
 // Writes a number in decimal.
 fn put_number<W: Write>(writer: &mut W, number: u128) -> Result<(), WriteFault>
@@ -66,12 +52,82 @@ fn put_part<W: Write>(writer: &mut W, part: Part<'_>) -> Result<(), WriteFault>
     }
 }
 
-/// Writes parts, one after another. At a fault a front of their text is written.
-pub fn put_parts<W: Write>(writer: &mut W, parts: &[Part<'_>]) -> Result<(), WriteFault>
+// Writes parts by a call or more for each.
+fn put_each<W: Write>(writer: &mut W, parts: &[Part<'_>]) -> Result<(), WriteFault>
     ensures { Writes result (W.contents writer.old) (W.contents writer.new) (flat_map text_of parts.now) }
 {
     for part in parts {
         put_part(writer, *part)?;
     }
     Ok(())
+}
+
+/// The octets of a line that is put together before it is written.
+pub const LINE_CAPACITY: usize = 256;
+
+/// The octets of such a line that a number in decimal may take.
+pub const NUMBER_CAPACITY: usize = 40;
+
+/// A line that is put together, to be written by one call.
+pub type LineBuffer = ArrayVec<u8, LINE_CAPACITY>;
+
+/// Adds a text to a line.
+pub fn add_text(line: &mut LineBuffer, text: &[u8])
+    requires { array_vec_len line.old + length text.now ≤ LINE_CAPACITY }
+    ensures items { line.new.items ≡ line.old.items ++ text.now }
+    ensures len { array_vec_len line.new ≡ array_vec_len line.old + length text.now }
+{
+    line.try_extend_from_slice(text).unwrap();
+}
+
+/// Adds a number in decimal to a line.
+pub fn add_number(line: &mut LineBuffer, number: u128)
+    requires { array_vec_len line.old + NUMBER_CAPACITY ≤ LINE_CAPACITY }
+    ensures items { line.new.items ≡ line.old.items ++ decimal number }
+    ensures len { array_vec_len line.new ≤ array_vec_len line.old + NUMBER_CAPACITY }
+{
+    let mut buffer = Buffer::new();
+    add_text(line, buffer.format(number).as_bytes());
+}
+
+// Adds a part to a line, if it fits.
+fn add_part(line: &mut LineBuffer, part: Part<'_>) -> bool
+    ensures { result ≡ true → line.new.items ≡ line.old.items ++ text_of part.entry }
+{
+    match part {
+        Part::Text(text) => line.try_extend_from_slice(text).is_ok(),
+        Part::Number(number) => {
+            let mut buffer = Buffer::new();
+            line.try_extend_from_slice(buffer.format(number).as_bytes())
+                .is_ok()
+        }
+        Part::Mask(mask) => {
+            line.try_extend_from_slice(&[hex_digit(mask / 16), hex_digit(mask % 16)])
+                .is_ok()
+        }
+    }
+}
+
+// Adds parts to a line, one after another, if all fit.
+fn add_parts(line: &mut LineBuffer, parts: &[Part<'_>]) -> bool
+    ensures { result ≡ true → line.new.items ≡ line.old.items ++ flat_map text_of parts.now }
+{
+    for part in parts {
+        if !add_part(line, *part) {
+            return false;
+        }
+    }
+    true
+}
+
+/// Writes parts, one after another. At a fault a front of their text is written.
+pub fn put_parts<W: Write>(writer: &mut W, parts: &[Part<'_>]) -> Result<(), WriteFault>
+    ensures { Writes result (W.contents writer.old) (W.contents writer.new) (flat_map text_of parts.now) }
+{
+    let mut line = LineBuffer::new();
+    if add_parts(&mut line, parts) {
+        put(writer, line.as_slice())
+    } else {
+        put_each(writer, parts)
+    }
 }

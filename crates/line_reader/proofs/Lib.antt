@@ -1,1 +1,2 @@
 mod SpellingLaws
+mod RunLaws

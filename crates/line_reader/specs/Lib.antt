@@ -1,4 +1,5 @@
 pub mod Source
 pub mod Script
+pub mod Endings
 pub mod LineReader
 pub mod Spelling

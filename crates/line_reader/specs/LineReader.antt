@@ -1,10 +1,12 @@
 -- What a line reader has left.
-use Rattle.std.specs.Prelude.{◌≡◌, ◌+◌, ◌-◌, List, ℕ, Option, Some, None, Result, Ok, Err, ⊤, Bool, true, false, option_map, if◌then◌else◌}
-use Rattle.line_reader.specs.Source.{octets_left}
-use Rattle.line_reader.specs.Script.{Script, Place, End, Broken, Line, fresh, script_from}
+use Rattle.std.specs.Prelude.{◌≡◌, ◌+◌, ◌-◌, List, ℕ, [], Option, Some, None, Result, Ok, Err, ⊤, Bool, true, false, option_map, if◌then◌else◌}
+use Rattle.line_reader.specs.Source.{octets_left, ahead}
+use Rattle.line_reader.specs.Script.{Script, Progress, End, Broken, Line, fresh, script_from}
+use Rattle.line_reader.specs.Endings.{answer_of}
 use Rattle.line_reader.specs.declared.lines.LineReader.{LineReader}
 use Rattle.line_reader.specs.declared.lines.LineFault.{LineFault}
 use Rattle.line_reader.specs.declared.lines.LineFault.TheVariants.{Limit, Read}
+use Rattle.line_reader.specs.declared.lines.TheConstants.{MAX_LINES}
 
 -- the line that a reader stands at
 abbrev pub current_line : {R A : Type 0} → LineReader R A → List ℕ
@@ -14,30 +16,57 @@ current_line r = r.line.items
 abbrev pub current_number : {R A : Type 0} → LineReader R A → ℕ
 current_number r = r.first
 
-abbrev pub place_of : {R A : Type 0} → LineReader R A → Place
-place_of r = record { octets = r.line.items; first = r.first; breaks = r.breaks }
+-- how its lines ended, if they did
+abbrev pub how_ended : {R A : Type 0} → LineReader R A → Option (Result (Unit {0}) LineFault)
+how_ended r = r.ended
+
+-- what was read and is in no line yet
+abbrev pub in_hand : {R A : Type 0} → LineReader R A → List ℕ
+in_hand r = ahead r.source
+
+-- the input has ended, and there is no line
+abbrev pub IsAtEnd : {R A : Type 0} → LineReader R A → Type 0
+IsAtEnd r = (r.source.ended ≡ true) × (r.line.items ≡ [])
+
+abbrev pub progress_of : {R A : Type 0} → LineReader R A → Progress
+progress_of r = record { octets = r.line.items; first = r.first; breaks = r.breaks }
 
 -- within a line: what the octets so far and those to come are
 abbrev pub script_within : {R A : Type 0} → (R → Option (List ℕ)) → LineReader R A → Option Script
-script_within remaining r = option_map (script_from (place_of r)) (octets_left remaining r.source)
+script_within remaining r = option_map (script_from (progress_of r)) (octets_left remaining r.source)
 
 -- between lines: the lines to come, where the reader tells
+abbrev pub script_ahead : {R A : Type 0} → (R → Option (List ℕ)) → LineReader R A → Option Script
+script_ahead remaining r = option_map (script_from (fresh r.breaks)) (octets_left remaining r.source)
+
+-- behind an answer: at a failed read the line so far and what was to come
+abbrev pub script_behind : {R A : Type 0} → (R → Option (List ℕ)) → Result Bool LineFault → LineReader R A → Option Script
+script_behind remaining (Ok true) r = script_ahead remaining r
+script_behind remaining (Ok false) r = Some End
+script_behind remaining (Err (Limit number limit)) r = Some (Broken number limit)
+script_behind remaining (Err Read) r = script_within remaining r
+
+abbrev pub script_after : {R A : Type 0} → (R → Option (List ℕ)) → Option (Result (Unit {0}) LineFault) → LineReader R A → Option Script
+script_after remaining None r = script_ahead remaining r
+script_after remaining (Some ended) r = script_behind remaining (answer_of ended) r
+
+-- the lines to come, where the reader tells
 abbrev pub script_left : {R A : Type 0} → (R → Option (List ℕ)) → LineReader R A → Option Script
-script_left remaining r = option_map (script_from (fresh r.breaks)) (octets_left remaining r.source)
+script_left remaining r = script_after remaining r.ended r
 
 -- what is known stays
 abbrev pub Stays : {A : Type 0} → Option A → Option A → Type 0
 Stays None new = ⊤
 Stays (Some x) new = new ≡ Some x
 
--- a call that goes on to the next line, and then the reader's line and its number
+-- a call that goes on to the next line, and then the reader's line and its number; a failed read loses nothing
 abbrev pub Advances : Option Script → Result Bool LineFault → ℕ → List ℕ → Option Script → Type 0
 Advances None r number line new = ⊤
 Advances (Some script) (Ok true) number line new = (rest : Script) × (new ≡ Some rest) × (script ≡ Line number line rest)
 Advances (Some script) (Ok false) number line new = script ≡ End
 Advances (Some script) (Err (Limit number limit)) n line new = script ≡ Broken number limit
-Advances (Some script) (Err Read) n line new = ⊤
+Advances (Some script) (Err Read) n line new = new ≡ Some script
 
 -- how many more lines there can be
 abbrev pub most_lines : {R A : Type 0} → LineReader R A → ℕ
-most_lines r = (4000000 - r.breaks) + (if r.source.ended then 0 else 1)
+most_lines r = (MAX_LINES - r.breaks) + (if r.source.ended then 0 else 1)

@@ -2,6 +2,7 @@
 use Rattle.std.specs.Prelude.{◌+◌, ◌-◌, ◌==◌, ◌&&◌, ◌||◌, List, ℕ, [], ◌∷◌, ◌++◌, Bool, not, length, slice_index, if◌then◌else◌}
 use Rattle.line_reader.specs.declared.lines.Limit.{Limit}
 use Rattle.line_reader.specs.declared.lines.Limit.TheVariants.{LongLine, TooManyLines}
+use Rattle.line_reader.specs.declared.lines.TheConstants.{MAX_LINE_OCTETS, MAX_LINES}
 
 -- the lines that are to come, each with the number of its first physical line, and how the script ends
 pub data Script : Type 0 where
@@ -10,13 +11,13 @@ pub data Script : Type 0 where
   Line : ℕ → List ℕ → Script → Script
 
 -- where the reading stands: the octets of the line so far, the number of its first physical line, and the line feeds so far
-pub record Place : Type 0 where
+pub record Progress : Type 0 where
   pub octets : List ℕ
   pub first : ℕ
   pub breaks : ℕ
 
 -- before the line after so many physical lines
-abbrev pub fresh : ℕ → Place
+abbrev pub fresh : ℕ → Progress
 fresh breaks = record { octets = []; first = breaks + 1; breaks = breaks }
 
 -- a line feed after these octets joins the next physical line: they end with a backslash, or a backslash and CR
@@ -30,11 +31,11 @@ ends octets b = (b == 10) && not (joins octets)
 abbrev pub breaks_after : ℕ → ℕ → ℕ
 breaks_after breaks b = if b == 10 then breaks + 1 else breaks
 
-abbrev pub script_from : Place → List ℕ → Script
+abbrev pub script_from : Progress → List ℕ → Script
 script_from p [] = if length p.octets == 0 then End else Line p.first p.octets End
 script_from p (b ∷ bs) =
-    if (length p.octets == 65536) && not (ends p.octets b) then Broken p.first LongLine else
-    (if p.breaks == 4000000 then Broken 4000001 TooManyLines else
+    if (length p.octets == MAX_LINE_OCTETS) && not (ends p.octets b) then Broken p.first LongLine else
+    (if p.breaks == MAX_LINES then Broken (MAX_LINES + 1) TooManyLines else
     (if ends p.octets b then Line p.first p.octets (script_from (fresh (p.breaks + 1)) bs) else
     script_from (record { octets = p.octets ++ b ∷ []; first = p.first; breaks = breaks_after p.breaks b }) bs))
 

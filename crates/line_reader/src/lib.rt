@@ -1,15 +1,10 @@
-//! The lines of a script, read octet by octet.
+//! The lines of a script, as its octets come.
 #![tactic(auto)]
 
-ghost use Rattle.line_reader.specs.Spelling.{IsSpelling};
-
+pub mod laws;
 mod lines;
 mod source;
+#[cfg(test)]
+mod tests;
 
-pub use lines::{LONGEST_LINE, Limit, LineFault, LineReader, MOST_LINES};
-pub use source::{CHUNK, ReadFault, Source};
-
-/// Nothing to run: its contract is the law that lines spelled with line feeds are read as those lines, numbered from 1.
-pub fn spelling()
-    ensures { IsSpelling }
-{}
+pub use lines::{Limit, LineFault, LineReader, MAX_LINE_OCTETS, MAX_LINES};

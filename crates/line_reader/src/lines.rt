@@ -1,30 +1,38 @@
 //! The lines of a script.
 
-ghost use Rattle.std.specs.Prelude.{◌≡◌, ◌≤◌, ◌<◌, ◌+◌, ◌^◌, ◌==◌, [], IsSome, IfOk, IsOkUnless, length, None, Ok, true, false, vec_len, vec_capacity, option_map};
+ghost use Rattle.std.specs.List.{list_all};
+ghost use Rattle.std.specs.Prelude.{take, not, ◌≡◌, ◌≤◌, ◌<◌, ◌+◌, ◌^◌, ◌==◌, [], IsSome, IfSome, IfOk, IsOkUnless, length, None, Ok, Err, true, false, vec_len, vec_capacity, option_map};
 ghost use Rattle.line_reader.specs.Script.{joins, script_of};
+ghost use Rattle.line_reader.specs.Endings.{answer_of, ended_by};
+ghost use Rattle.line_reader.specs.declared.lines.TheConstants.{MAX_LINE_OCTETS, MAX_LINES};
 ghost use Rattle.line_reader.specs.declared.lines.LineFault.TheVariants.{Read as ReadVariant};
 
 use crate::source::{ReadFault, Source};
+use memchr::memchr;
 use std::alloc::{AllocError, Allocator, Global};
 use std::io::Read;
 
 /// The most octets of a line before the LF that ends it. Physical lines that are joined count with their backslashes and LFs.
-pub const LONGEST_LINE: usize = 65536;
+pub const MAX_LINE_OCTETS: usize = 65_536;
 
 /// The most physical lines of a script.
-pub const MOST_LINES: u32 = 4_000_000;
+pub const MAX_LINES: u32 = 4_000_000;
 
-/// A limit that a script passes: a line longer than `LONGEST_LINE`, or more than `MOST_LINES` physical lines.
+/// A limit that a script passes.
 #[derive(Clone, Copy, Debug, PartialEq, Eq)]
 pub enum Limit {
+    /// A line has more than `MAX_LINE_OCTETS` octets.
     LongLine,
+    /// A script has more than `MAX_LINES` physical lines.
     TooManyLines,
 }
 
-/// Why there is no next line: a limit is passed on the line of this number, or a read failed.
+/// Why there is no next line.
 #[derive(Clone, Copy, Debug, PartialEq, Eq)]
 pub enum LineFault {
+    /// A limit is passed on the line of this number, that of its first physical line, from 1.
     Limit(u32, Limit),
+    /// A read failed.
     Read,
 }
 
@@ -36,7 +44,7 @@ impl From<ReadFault> for LineFault {
     }
 }
 
-/// Whether a line feed after these octets joins the next physical line.
+// Whether a line feed after these octets joins the next physical line.
 fn joins(octets: &[u8]) -> bool
     ensures { result ≡ joins octets.now }
 {
@@ -46,37 +54,80 @@ fn joins(octets: &[u8]) -> bool
     }
 }
 
+// The octets before the first line feed, at most `most` of them.
+fn unbroken_front(octets: &[u8], most: usize) -> &[u8]
+    ensures front { result.now ≡ take (length result.now) octets.now }
+    ensures unbroken { list_all (λ octet. not (octet == 10)) result.now ≡ true }
+    ensures short { length result.now ≤ most }
+    ensures within { length result.now ≤ length octets.now }
+{
+    let front = if octets.len() < most {
+        octets
+    } else {
+        &octets[..most]
+    };
+    match memchr(b'\n', front) {
+        Some(index) => &front[..index],
+        None => front,
+    }
+}
+
+// What each further call answers once the lines have ended.
+fn answer_of(ended: Result<(), LineFault>) -> Result<bool, LineFault>
+    ensures { result ≡ answer_of ended }
+{
+    match ended {
+        Ok(()) => Ok(false),
+        Err(fault) => Err(fault),
+    }
+}
+
+// How an answer ends the lines, if it does.
+fn ended_by(answer: Result<bool, LineFault>) -> Option<Result<(), LineFault>>
+    ensures { result ≡ ended_by answer }
+{
+    match answer {
+        Ok(true) => None,
+        Ok(false) => Some(Ok(())),
+        Err(fault) => Some(Err(fault)),
+    }
+}
+
 /// A reader's lines, one after another.
 ///
 /// A physical line ends at LF or at the end of the input, where an empty rest is no line. A backslash directly before that
-/// LF, or before CR LF, joins the next physical line. Both buffers are made once, whatever the reader gives.
+/// LF, or before CR LF, joins the next physical line. Both buffers are made once, whatever the reader gives. Once the input
+/// has ended or a fault was found, nothing more is read.
 #[derive(Drop)]
 pub struct LineReader<R, A: Allocator = Global> {
     source: Source<R, A>,
     line: Vec<u8, A>,
     first: u32,
     breaks: u32,
-    ghost room: { 65536 ≤ vec_capacity line },
-    ghost fits: { vec_len line ≤ 65536 },
-    ghost counted: { breaks ≤ 4000000 },
+    ended: Option<Result<(), LineFault>>,
+    ghost holds_line: { MAX_LINE_OCTETS ≤ vec_capacity line },
+    ghost fits: { vec_len line ≤ MAX_LINE_OCTETS },
+    ghost counted: { breaks ≤ MAX_LINES },
 }
 
 impl<R: Read + Drop, A: Allocator> LineReader<R, A> {
-    ghost use Rattle.line_reader.specs.LineReader.{script_left, Advances, most_lines, current_line, current_number};
+    ghost use Rattle.line_reader.specs.LineReader.{script_ahead, script_behind, script_within, script_left, Advances, most_lines, current_line, current_number, in_hand, how_ended, IsAtEnd};
 
-    /// Takes the room for a chunk and a line, and reads nothing.
+    /// Makes both buffers, and reads nothing.
     pub fn new(alloc: A, reader: R) -> Result<LineReader<R, A>, AllocError>
     where
         A: Clone,
-        ensures { IfOk result (λ r. script_left R.remaining r ≡ option_map script_of (R.remaining reader)) }
+        ensures left { IfOk result (λ r. script_left R.remaining r ≡ option_map script_of (R.remaining reader)) }
+        ensures open { IfOk result (λ r. how_ended r ≡ None) }
     {
-        let line = Vec::with_capacity(alloc.clone()?, LONGEST_LINE)?;
+        let line = Vec::with_capacity(alloc.clone()?, MAX_LINE_OCTETS)?;
         let source = Source::new(alloc, reader)?;
         Ok(LineReader {
             source,
             line,
             first: 1,
             breaks: 0,
+            ended: None,
         })
     }
 
@@ -88,33 +139,51 @@ impl<R: Read + Drop, A: Allocator> LineReader<R, A> {
     }
 
     /// The number of that line: that of its first physical line, from 1.
-    pub fn number(&self) -> u32
+    pub fn line_number(&self) -> u32
         ensures { result ≡ current_number self.now }
     {
         self.first
     }
 
-    /// Goes on to the next line, if there is one.
-    ///
-    /// A line that is too long is found at its octet after the last that it may have, too many physical lines at the first
-    /// octet after the last of them. A read that fails isn't tried again.
-    pub fn advance(&mut self) -> Result<bool, LineFault>
-        ensures line { Advances (script_left R.remaining self.old) result
-            (current_number self.new) (current_line self.new) (script_left R.remaining self.new) }
+    // Takes the octets in hand up to a line feed or to the longest line. One by one they would do the same.
+    fn take_unbroken(&mut self)
+        ensures script { script_within R.remaining self.new ≡ script_within R.remaining self.old }
+        ensures first { self.new.first ≡ self.old.first }
+        ensures breaks { self.new.breaks ≡ self.old.breaks }
+        ensures ended { self.new.source.ended ≡ self.old.source.ended }
+        ensures grows { vec_len self.old.line ≤ vec_len self.new.line }
+        ensures open { (0 < vec_len self.old.line → self.old.source.ended ≡ false) → 0 < vec_len self.new.line → self.new.source.ended ≡ false }
+    {
+        if self.breaks == MAX_LINES {
+            return;
+        }
+        let run = unbroken_front(self.source.buffer(), MAX_LINE_OCTETS - self.line.len());
+        self.line.extend_from_slice(run).unwrap();
+        let taken = run.len();
+        self.source.consume(taken);
+    }
+
+    // The next line, while the lines have not ended.
+    fn next_line(&mut self) -> Result<bool, LineFault>
+        ensures line { Advances (script_ahead R.remaining self.old) result
+            (current_number self.new) (current_line self.new) (script_behind R.remaining result self.new) }
         ensures fewer { result ≡ Ok true → most_lines self.new < most_lines self.old }
+        ensures hand { result ≡ Err ReadVariant → in_hand self.new ≡ [] }
+        ensures at_end { result ≡ Ok false → IsAtEnd self.new }
     {
         self.line.clear();
         self.first = self.breaks + 1;
         'octets: loop {
+            self.take_unbroken();
             let Some(octet) = self.source.next_octet()? else {
                 return Ok(!self.line.is_empty());
             };
             let ends = octet == b'\n' && !joins(&self.line);
-            if self.line.len() == LONGEST_LINE && !ends {
+            if self.line.len() == MAX_LINE_OCTETS && !ends {
                 return Err(LineFault::Limit(self.first, Limit::LongLine));
             }
-            if self.breaks == MOST_LINES {
-                return Err(LineFault::Limit(MOST_LINES + 1, Limit::TooManyLines));
+            if self.breaks == MAX_LINES {
+                return Err(LineFault::Limit(MAX_LINES + 1, Limit::TooManyLines));
             }
             if octet == b'\n' {
                 self.breaks += 1;
@@ -124,5 +193,27 @@ impl<R: Read + Drop, A: Allocator> LineReader<R, A> {
             }
             self.line.push(octet).unwrap();
         }
+    }
+
+    /// Goes on to the next line, if there is one. After the end, and after a fault, each further call gives the same answer.
+    ///
+    /// A line that is too long is found at its octet after the last that it may have, too many physical lines at the first
+    /// octet after the last of them. A read that fails isn't tried again: it fails with no octet in hand, and the line so far
+    /// is no line.
+    pub fn advance(&mut self) -> Result<bool, LineFault>
+        ensures line { Advances (script_left R.remaining self.old) result
+            (current_number self.new) (current_line self.new) (script_left R.remaining self.new) }
+        ensures fewer { result ≡ Ok true → most_lines self.new < most_lines self.old }
+        ensures over { IfSome (how_ended self.old) (λ ended. (result ≡ answer_of ended) × (self.new ≡ self.old)) }
+        ensures ended { how_ended self.old ≡ None → how_ended self.new ≡ ended_by result }
+        ensures hand { how_ended self.old ≡ None → result ≡ Err ReadVariant → in_hand self.new ≡ [] }
+        ensures at_end { how_ended self.old ≡ None → result ≡ Ok false → IsAtEnd self.new }
+    {
+        if let Some(ended) = self.ended {
+            return answer_of(ended);
+        }
+        let answer = self.next_line();
+        self.ended = ended_by(answer);
+        answer
     }
 }

@@ -7,6 +7,7 @@ use Rattle.std.proofs.lemmas.Bool.{ne_eqb, lt-ltb, le-ltb}
 use Rattle.std.proofs.lemmas.Bool.Decides.{nat_tests}
 use Rattle.words.specs.Numbers.{number_in, is_digits, is_digit, value_behind, digit_in, at_most}
 use Rattle.tc_reader.specs.Cursor.{Word}
+use Rattle.tc_reader.specs.declared.values.TheConstants.{MAX_SDU_VALUES}
 use Rattle.tc_reader.specs.Values.{is_sign, is_range, range_of, limit_at}
 
 pub and_then_some : {X Y : Type 0} (f : X → Option Y) (o : Option X) (y : Y) → option_and_then f o ≡ Some y → (x : X) × (o ≡ Some x) × (f x ≡ Some y)
@@ -52,8 +53,8 @@ range_form w r e =
     let b = and_then_some (λ (offset : ℕ). Some (a.0, offset)) (number_in 10 (2 ^ 16 - 1) (after_first is_sign w)) r a.2 in
     rw (digits_of (2 ^ 16 - 1) (before_first is_sign w) a.0 a.1) (digits_of (2 ^ 16 - 1) (after_first is_sign w) b.0 b.1)
 
-pub limit_take : (first p : ℕ) (w : Word) (n : ℕ) → limit_at first p w ≡ Some n → (ltb (p - first) 16 ≡ true) × (number_in 10 (2 ^ 32 - 1) w ≡ Some n)
-limit_take first p w n e = by_test (ltb (p - first) 16) e
+pub limit_take : (first p : ℕ) (w : Word) (n : ℕ) → limit_at first p w ≡ Some n → (ltb (p - first) MAX_SDU_VALUES ≡ true) × (number_in 10 (2 ^ 32 - 1) w ≡ Some n)
+limit_take first p w n e = by_test (ltb (p - first) MAX_SDU_VALUES) e
   where
     by_test : (t : Bool) → cond t (number_in 10 (2 ^ 32 - 1) w) None ≡ Some n → (t ≡ true) × (number_in 10 (2 ^ 32 - 1) w ≡ Some n)
     by_test true e = (refl, e)

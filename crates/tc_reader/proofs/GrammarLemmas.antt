@@ -11,11 +11,12 @@ use Rattle.tc_reader.specs.declared.fault.Opt.TheVariants.{Dev, Parent, Handle, 
 use Rattle.tc_reader.specs.declared.fault.TcFault.{TcFault}
 use Rattle.tc_reader.specs.declared.fault.TcFault.TheVariants as faults
 use Rattle.tc_reader.specs.Cursor.{Word}
+use Rattle.tc_reader.specs.declared.values.TheConstants.{MAX_SDU_VALUES}
 use Rattle.tc_reader.specs.Names.{word_of, first_named, all_options, option_named, is_unsupported}
 use Rattle.tc_reader.specs.Values.{hex_in, is_range, range_of, is_clock, limit_at}
-use Rattle.tc_reader.specs.Options.{◌>>=◌, Item, num_tc, priorities, ranges, base_time, cycle_time, extension, sched_entry, clock, flags, limits, Options, with_item, is_given, allowed, value_or, value_at, run_at, begins, some_at, as_item, command_at, entry_at, flags_at, clock_of, values_at, item_at}
-use Rattle.tc_reader.specs.Reads.{Stands, Ends, Reads}
-use Rattle.tc_reader.specs.Grammar.{kind_of, AreNumbers, AreRanges, AreValues, AreOptions, AreNew}
+use Rattle.tc_reader.specs.Options.{◌>>=◌, Item, num_tc, priorities, ranges, base_time, cycle_time, extension, sched_entry, clock, flags, limits, Options, with_item, is_given, allowed, value_or, value_at, run_at, begins, some_at, as_item, command_at, entry_at, flags_at, clock_item, values_at, item_at}
+use Rattle.tc_reader.specs.Reads.{OptionInFront, Ends, Reads}
+use Rattle.tc_reader.specs.Grammar.{kind_of, AreNumbers, AreQueueRanges, AreValues, AreOptions, AreNew}
 use Rattle.tc_reader.proofs.DigitLemmas.{digits_of, range_form, limit_take}
 use Rattle.tc_reader.proofs.RunLemmas.{ok_is, value_or-ok}
 
@@ -128,33 +129,33 @@ numbers_again most p (w ∷ ws) (n ∷ ns) are = (are.0, numbers_again most (p +
 numbers_again most p [] (n ∷ ns) are = absurd are
 numbers_again most p (w ∷ ws) [] are = absurd are
 
-ranges_take : (p : ℕ) (ws : List Word) (rs : List (ℕ × ℕ)) → AreAll (λ q. range_of) p ws rs → AreRanges ws rs
+ranges_take : (p : ℕ) (ws : List Word) (rs : List (ℕ × ℕ)) → AreAll (λ q. range_of) p ws rs → AreQueueRanges ws rs
 ranges_take p [] [] are = tt
 ranges_take p (w ∷ ws) (r ∷ rs) are = (are.0, ranges_take (p + 1) ws rs are.1)
 ranges_take p [] (r ∷ rs) are = absurd are
 ranges_take p (w ∷ ws) [] are = absurd are
 
-ranges_again : (p : ℕ) (ws : List Word) (rs : List (ℕ × ℕ)) → AreRanges ws rs → AreAll (λ q. range_of) p ws rs
+ranges_again : (p : ℕ) (ws : List Word) (rs : List (ℕ × ℕ)) → AreQueueRanges ws rs → AreAll (λ q. range_of) p ws rs
 ranges_again p [] [] are = tt
 ranges_again p (w ∷ ws) (r ∷ rs) are = (are.0, ranges_again (p + 1) ws rs are.1)
 ranges_again p [] (r ∷ rs) are = absurd are
 ranges_again p (w ∷ ws) [] are = absurd are
 
-limits_take : (first p : ℕ) (ws : List Word) (ns : List ℕ) → first ≤ p → p - first ≤ 16 → AreAll (limit_at first) p ws ns → (p - first + length ns ≤ 16) × AreNumbers (2 ^ 32 - 1) ws ns
+limits_take : (first p : ℕ) (ws : List Word) (ns : List ℕ) → first ≤ p → p - first ≤ MAX_SDU_VALUES → AreAll (limit_at first) p ws ns → (p - first + length ns ≤ MAX_SDU_VALUES) × AreNumbers (2 ^ 32 - 1) ws ns
 limits_take first p [] [] le few are = (omega arith, tt)
 limits_take first p (w ∷ ws) (n ∷ ns) le few are =
     let one = limit_take first p w n are.0 in
-    let less : p - first < 16 = ltb-true (p - first) 16 one.0 in
+    let less : p - first < MAX_SDU_VALUES = ltb-true (p - first) MAX_SDU_VALUES one.0 in
     let more = limits_take first (p + 1) ws ns (omega arith) (omega arith) are.1 in
-    let rest : p + 1 - first + length ns ≤ 16 = more.0 in
+    let rest : p + 1 - first + length ns ≤ MAX_SDU_VALUES = more.0 in
     (omega arith, (one.1, more.1))
 limits_take first p [] (n ∷ ns) le few are = absurd are
 limits_take first p (w ∷ ws) [] le few are = absurd are
 
-limits_again : (first p : ℕ) (ws : List Word) (ns : List ℕ) → first ≤ p → p - first + length ns ≤ 16 → AreNumbers (2 ^ 32 - 1) ws ns → AreAll (limit_at first) p ws ns
+limits_again : (first p : ℕ) (ws : List Word) (ns : List ℕ) → first ≤ p → p - first + length ns ≤ MAX_SDU_VALUES → AreNumbers (2 ^ 32 - 1) ws ns → AreAll (limit_at first) p ws ns
 limits_again first p [] [] le few are = tt
 limits_again first p (w ∷ ws) (n ∷ ns) le few are =
-    let less : ltb (p - first) 16 ≡ true = lt-ltb (p - first) 16 (omega arith) in
+    let less : ltb (p - first) MAX_SDU_VALUES ≡ true = lt-ltb (p - first) MAX_SDU_VALUES (omega arith) in
     (rw less are.0, limits_again first (p + 1) ws ns (omega arith) (omega arith) are.1)
 limits_again first p [] (n ∷ ns) le few are = absurd are
 limits_again first p (w ∷ ws) [] le few are = absurd are
@@ -208,21 +209,21 @@ unfolding flags_at
 flags_again p w n rest h (inl z) = rw (value_again Flags (hex_in (2 ^ 32 - 1)) p w n rest h, z) refl
 flags_again p w n rest h (inr z) = rw (value_again Flags (hex_in (2 ^ 32 - 1)) p w n rest h, z) refl
 
-clock_is : (w : Word) (i : Item) → clock_of w ≡ Some i → (is_clock w ≡ true) × (clock ≡ i)
+clock_is : (w : Word) (i : Item) → clock_item w ≡ Some i → (is_clock w ≡ true) × (clock ≡ i)
 clock_is w i e = by_test (is_clock w) e
   where
     by_test : (b : Bool) → cond b (Some clock) None ≡ Some i → (b ≡ true) × (clock ≡ i)
     by_test true e = (refl, cc)
     by_test false e = absurd cc
 
-clock_take : (p : ℕ) (ws : List Word) (i : Item) (rest : List Word) → value_at Clockid clock_of p ws ≡ Ok (i, rest) → IsRead Clockid ws (i, rest)
+clock_take : (p : ℕ) (ws : List Word) (i : Item) (rest : List Word) → value_at Clockid clock_item p ws ≡ Ok (i, rest) → IsRead Clockid ws (i, rest)
 clock_take p ws i rest e =
-    let t = value_take Clockid clock_of p ws i rest e in
+    let t = value_take Clockid clock_item p ws i rest e in
     let c = clock_is t.0 i t.2 in
     subst (λ (j : Item). IsRead Clockid ws (j, rest)) c.1 (refl, t.0 ∷ [], t.1, (t.0, refl, c.0))
 
-clock_again : (p : ℕ) (w : Word) (rest : List Word) → is_clock w ≡ true → value_at Clockid clock_of p (w ∷ rest) ≡ Ok (clock, rest)
-clock_again p w rest is = value_again Clockid clock_of p w clock rest (ap (λ (b : Bool). cond b (Some clock) None) is)
+clock_again : (p : ℕ) (w : Word) (rest : List Word) → is_clock w ≡ true → value_at Clockid clock_item p (w ∷ rest) ≡ Ok (clock, rest)
+clock_again p w rest is = value_again Clockid clock_item p w clock rest (ap (λ (b : Bool). cond b (Some clock) None) is)
 
 one_take : (o : Opt) (most p : ℕ) (make : ℕ → Item) (ws : List Word) (i : Item) (rest : List Word) → ((n : ℕ) → (w : Word) → number_in 10 most w ≡ Some n → (o ≡ kind_of (make n)) × AreValues (make n) (w ∷ []))
     → as_item make (value_at o (number_in 10 most) p ws) ≡ Ok (i, rest) → IsRead o ws (i, rest)
@@ -253,7 +254,7 @@ values_take MaxSdu p ws i rest e =
     let r = got limits (some_at MaxSdu is_digits (limit_at p) p ws) i rest e in
     let t = some_take MaxSdu is_digits (limit_at p) p ws r.0 rest r.1 in
     let l = limits_take p p t.0 r.0 (omega arith) (omega arith) t.3 in
-    let few : length r.0 ≤ 16 = let within : p - p + length r.0 ≤ 16 = l.0 in omega arith in
+    let few : length r.0 ≤ MAX_SDU_VALUES = let within : p - p + length r.0 ≤ MAX_SDU_VALUES = l.0 in omega arith in
     subst (λ (j : Item). IsRead MaxSdu ws (j, rest)) r.2 (refl, t.0, t.1, (t.2, few, l.1))
 values_take Dev p ws i rest e = absurd cc
 values_take Parent p ws i rest e = absurd cc
@@ -376,7 +377,7 @@ pub Reads-again : (g : Options) (count : ℕ) (ws : List Word) (is : List Item) 
 Reads-again g count ws [] e new = subst (λ (l : List Word). Ends g count l None) (sym e) refl
 Reads-again g count ws (i ∷ is) (values, rest, e, are, others) new =
     let one = item_again g (count - length (word_of (kind_of i) ∷ values ++ rest)) i values rest new.0 are (stops_at is rest others) in
-    (rest, subst (λ (l : List Word). Stands g count l i rest) (sym e) one, Reads-again (with_item g i) count rest is others new.1)
+    (rest, subst (λ (l : List Word). OptionInFront g count l i rest) (sym e) one, Reads-again (with_item g i) count rest is others new.1)
 
 -- ---- words are read in one way
 

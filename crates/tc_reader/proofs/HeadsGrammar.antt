@@ -108,17 +108,17 @@ ends_one : (before : List Head) (w : Word) (ws : List Word) (b : Bool) (d e : En
 ends_one before w ws true d e p q = p ∙ sym q
 ends_one before w ws false d e p q = let same : p.0 ≡ q.0 = (let x = sym p.1 ∙ q.1 in cc) in p.2 ∙ ap (λ (f : TcFault). Err f) same ∙ sym q.2
 
-not_at_end : (before : List Head) (w : Word) (ws : List Word) (b : Bool) (d : End) (x : Head × List Word) → EndsAt before w ws b d → b ≡ false → head_at before w ws ≡ Ok x → ⊥
-not_at_end before w ws true d x p is at = absurd cc
-not_at_end before w ws false d x p is at = absurd (let y = sym p.1 ∙ at in cc)
+words_remain : (before : List Head) (w : Word) (ws : List Word) (b : Bool) (d : End) (x : Head × List Word) → EndsAt before w ws b d → b ≡ false → head_at before w ws ≡ Ok x → ⊥
+words_remain before w ws true d x p is at = absurd cc
+words_remain before w ws false d x p is at = absurd (let y = sym p.1 ∙ at in cc)
 
 pub heads_one : (before : List Head) (ws : List Word) (hs ks : List Head) (d e : End) → ReadsHeads before ws hs d → ReadsHeads before ws ks e → (hs ≡ ks) × (d ≡ e)
 heads_one before [] [] [] d e p q = (refl, p ∙ sym q)
 heads_one before (w ∷ ws) [] [] d e p q = (refl, ends_one before w ws (bytes_eq w (codes "taprio")) d e p q)
 heads_one before [] (h ∷ hs) ks d e p q = absurd p
 heads_one before [] [] (k ∷ ks) d e p q = absurd q
-heads_one before (w ∷ ws) [] (k ∷ ks) d e p (other, rest, at, r) = absurd (not_at_end before w ws (bytes_eq w (codes "taprio")) d (k, rest) p other at)
-heads_one before (w ∷ ws) (h ∷ hs) [] d e (other, rest, at, r) q = absurd (not_at_end before w ws (bytes_eq w (codes "taprio")) e (h, rest) q other at)
+heads_one before (w ∷ ws) [] (k ∷ ks) d e p (other, rest, at, r) = absurd (words_remain before w ws (bytes_eq w (codes "taprio")) d (k, rest) p other at)
+heads_one before (w ∷ ws) (h ∷ hs) [] d e (other, rest, at, r) q = absurd (words_remain before w ws (bytes_eq w (codes "taprio")) e (h, rest) q other at)
 heads_one before (w ∷ ws) (h ∷ hs) (k ∷ ks) d e a b =
     let p = ok_is (h, a.1) (k, b.1) (sym a.2 ∙ b.2) in
     let same_head : h ≡ k = ap (λ (q : Head × List Word). q.0) p in

@@ -12,11 +12,11 @@ use Rattle.tc_reader.specs.declared.fault.TcFault.TheVariants as faults
 use Rattle.tc_reader.specs.declared.heads.Seen.{Seen}
 use Rattle.tc_reader.specs.Cursor.{Word}
 use Rattle.tc_reader.specs.Heads.{Head, dev, root, parent, handle, is_dev, is_parent, is_handle, named, head_at, ReadsHeads}
-use Rattle.tc_reader.specs.Seen.{seen_of, skip, seen_at}
+use Rattle.tc_reader.specs.Seen.{seen_of, head_word, seen_at}
 use Rattle.tc_reader.proofs.RunLemmas.{ok_is}
 
-abbrev made : Bool → Bool → Bool → Seen
-made d p h = record { dev = d; parent = p; handle = h }
+abbrev seen_as : Bool → Bool → Bool → Seen
+seen_as d p h = record { dev = d; parent = p; handle = h }
 
 any_yes : (p : Head → Bool) (hs : List Head) (h : Head) → p h ≡ true → list_any p (hs ++ h ∷ []) ≡ true
 any_yes p hs h e = list_any-append p hs (h ∷ []) ∙ rw e (or-true (list_any p hs))
@@ -24,13 +24,13 @@ any_yes p hs h e = list_any-append p hs (h ∷ []) ∙ rw e (or-true (list_any p
 any_no : (p : Head → Bool) (hs : List Head) (h : Head) → p h ≡ false → list_any p (hs ++ h ∷ []) ≡ list_any p hs
 any_no p hs h e = list_any-append p hs (h ∷ []) ∙ rw e (or-false (list_any p hs))
 
-seen-dev : (hs : List Head) (v : Word) → seen_of (hs ++ dev v ∷ []) ≡ made true (list_any is_parent hs) (list_any is_handle hs)
+seen-dev : (hs : List Head) (v : Word) → seen_of (hs ++ dev v ∷ []) ≡ seen_as true (list_any is_parent hs) (list_any is_handle hs)
 seen-dev hs v = rw (any_yes is_dev hs (dev v) refl, any_no is_parent hs (dev v) refl, any_no is_handle hs (dev v) refl) refl
 
-seen-parent : (hs : List Head) (h : Head) → is_dev h ≡ false → is_parent h ≡ true → is_handle h ≡ false → seen_of (hs ++ h ∷ []) ≡ made (list_any is_dev hs) true (list_any is_handle hs)
+seen-parent : (hs : List Head) (h : Head) → is_dev h ≡ false → is_parent h ≡ true → is_handle h ≡ false → seen_of (hs ++ h ∷ []) ≡ seen_as (list_any is_dev hs) true (list_any is_handle hs)
 seen-parent hs h a b d = rw (any_no is_dev hs h a, any_yes is_parent hs h b, any_no is_handle hs h d) refl
 
-seen-handle : (hs : List Head) (v : Word) → seen_of (hs ++ handle v ∷ []) ≡ made (list_any is_dev hs) (list_any is_parent hs) true
+seen-handle : (hs : List Head) (v : Word) → seen_of (hs ++ handle v ∷ []) ≡ seen_as (list_any is_dev hs) (list_any is_parent hs) true
 seen-handle hs v = rw (any_no is_dev hs (handle v) refl, any_no is_parent hs (handle v) refl, any_yes is_handle hs (handle v) refl) refl
 
 abbrev pub as_seen : List Head → Result (Head × List Word) TcFault → Result (Seen × List Word) TcFault
@@ -42,10 +42,10 @@ pub seen_at-head_at : (hs : List Head) (w : Word) (ws : List Word) → seen_at (
 seen_at-head_at hs w ws = by_tests (bytes_eq w (codes "dev")) (bytes_eq w (codes "root")) (bytes_eq w (codes "parent")) (bytes_eq w (codes "handle")) (list_any is_dev hs) (list_any is_parent hs) (list_any is_handle hs) ws
   where
     by_tests : (a b c e d p q : Bool) (ws : List Word) →
-        cond a (cond d (Err (faults.Repeated Dev)) (skip Dev (made true (list_any is_parent hs) (list_any is_handle hs)) ws))
-        (cond b (cond p (Err (faults.Repeated Parent)) (Ok (made (list_any is_dev hs) true (list_any is_handle hs), ws)))
-        (cond c (cond p (Err (faults.Repeated Parent)) (skip Parent (made (list_any is_dev hs) true (list_any is_handle hs)) ws))
-        (cond e (cond q (Err (faults.Repeated Handle)) (skip Handle (made (list_any is_dev hs) (list_any is_parent hs) true) ws)) (Err faults.NotTaprio))))
+        cond a (cond d (Err (faults.Repeated Dev)) (head_word Dev (seen_as true (list_any is_parent hs) (list_any is_handle hs)) ws))
+        (cond b (cond p (Err (faults.Repeated Parent)) (Ok (seen_as (list_any is_dev hs) true (list_any is_handle hs), ws)))
+        (cond c (cond p (Err (faults.Repeated Parent)) (head_word Parent (seen_as (list_any is_dev hs) true (list_any is_handle hs)) ws))
+        (cond e (cond q (Err (faults.Repeated Handle)) (head_word Handle (seen_as (list_any is_dev hs) (list_any is_parent hs) true) ws)) (Err faults.NotTaprio))))
         ≡ as_seen hs (cond a (cond d (Err (faults.Repeated Dev)) (named dev Dev ws))
         (cond b (cond p (Err (faults.Repeated Parent)) (Ok (root, ws)))
         (cond c (cond p (Err (faults.Repeated Parent)) (named parent Parent ws))
@@ -67,10 +67,10 @@ seen_at-head_at hs w ws = by_tests (bytes_eq w (codes "dev")) (bytes_eq w (codes
 pub record HeadsSoFar (start now : List Word) (seen : Seen) : Type 0 where
   pub heads : List Head
   pub seen_is : seen ≡ seen_of heads
-  pub goes_on : (more : List Head) (end : Result (Option (List Word)) TcFault) → ReadsHeads heads now more end → ReadsHeads [] start (heads ++ more) end
+  pub rest_reads : (more : List Head) (end : Result (Option (List Word)) TcFault) → ReadsHeads heads now more end → ReadsHeads [] start (heads ++ more) end
 
-pub HeadsSoFar-begin : (start : List Word) → HeadsSoFar start start (made false false false)
-HeadsSoFar-begin start = record { heads = []; seen_is = refl; goes_on = λ more end r. r }
+pub HeadsSoFar-begin : (start : List Word) → HeadsSoFar start start (seen_as false false false)
+HeadsSoFar-begin start = record { heads = []; seen_is = refl; rest_reads = λ more end r. r }
 
 as_seen-ok : (hs : List Head) (r : Result (Head × List Word) TcFault) (new : Seen) (rest : List Word) → as_seen hs r ≡ Ok (new, rest) → (h : Head) × (r ≡ Ok (h, rest)) × (new ≡ seen_of (hs ++ h ∷ []))
 as_seen-ok hs (Ok x) new rest e =
@@ -88,7 +88,7 @@ HeadsSoFar-more start w ws rest have new was other took =
     record {
       heads = was.heads ++ k.0 ∷ [];
       seen_is = k.2;
-      goes_on = λ more end r. subst (λ (hs : List Head). ReadsHeads [] start hs end) (sym (append_assoc was.heads (k.0 ∷ []) more)) (was.goes_on (k.0 ∷ more) end (other, rest, k.1, r));
+      rest_reads = λ more end r. subst (λ (hs : List Head). ReadsHeads [] start hs end) (sym (append_assoc was.heads (k.0 ∷ []) more)) (was.rest_reads (k.0 ∷ more) end (other, rest, k.1, r));
     }
 
 pub ends_fault : (hs : List Head) (w : Word) (ws : List Word) (f : TcFault) → bytes_eq w (codes "taprio") ≡ false → head_at hs w ws ≡ Err f → ReadsHeads hs (w ∷ ws) [] (Err f)
@@ -109,13 +109,13 @@ pub HeadsSoFar-fault : (start : List Word) (w : Word) (ws : List Word) (have : S
     → (heads : List Head) × ReadsHeads [] start heads (Err f)
 HeadsSoFar-fault start w ws have f was other failed =
     let k = as_seen-err was.heads (head_at was.heads w ws) f (sym (seen_at-head_at was.heads w ws) ∙ ap (λ (s : Seen). seen_at s w ws) (sym was.seen_is) ∙ failed) in
-    (was.heads ++ [], was.goes_on [] (Err f) (ends_fault was.heads w ws f other k))
+    (was.heads ++ [], was.rest_reads [] (Err f) (ends_fault was.heads w ws f other k))
 
 pub HeadsSoFar-taprio : (start : List Word) (w : Word) (ws : List Word) (have : Seen) → HeadsSoFar start (w ∷ ws) have → bytes_eq w (codes "taprio") ≡ true
     → (heads : List Head) × ReadsHeads [] start heads (Ok (Some ws)) × (have ≡ seen_of heads)
 HeadsSoFar-taprio start w ws have was is =
-    (was.heads, subst (λ (hs : List Head). ReadsHeads [] start hs (Ok (Some ws))) (append-nil was.heads) (was.goes_on [] (Ok (Some ws)) (ends_taprio was.heads w ws is)), was.seen_is)
+    (was.heads, subst (λ (hs : List Head). ReadsHeads [] start hs (Ok (Some ws))) (append-nil was.heads) (was.rest_reads [] (Ok (Some ws)) (ends_taprio was.heads w ws is)), was.seen_is)
 
 pub HeadsSoFar-end : (start : List Word) (have : Seen) → HeadsSoFar start [] have → (heads : List Head) × ReadsHeads [] start heads (Ok None) × (have ≡ seen_of heads)
 HeadsSoFar-end start have was =
-    (was.heads, subst (λ (hs : List Head). ReadsHeads [] start hs (Ok None)) (append-nil was.heads) (was.goes_on [] (Ok None) refl), was.seen_is)
+    (was.heads, subst (λ (hs : List Head). ReadsHeads [] start hs (Ok None)) (append-nil was.heads) (was.rest_reads [] (Ok None) refl), was.seen_is)

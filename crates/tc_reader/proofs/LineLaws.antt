@@ -15,8 +15,8 @@ use Rattle.tc_reader.specs.Cursor.{Word}
 use Rattle.tc_reader.specs.Options.{◌>>=◌, Item, Options, no_options}
 use Rattle.tc_reader.specs.Reads.{given_by}
 use Rattle.tc_reader.specs.Heads.{Head, is_dev, is_parent, ReadsHeads}
-use Rattle.tc_reader.specs.Ends.{change_of, heads_missing}
-use Rattle.tc_reader.specs.Lines.{verb_of, with_rest, verb_at, replacement_of, deletion_of, ReadsOptions, deletion_before, GoesOn, ReadsLine, HasFault}
+use Rattle.tc_reader.specs.Ends.{change_given, heads_missing}
+use Rattle.tc_reader.specs.Lines.{verb_of, verb_with_rest, verb_at, replacement_of, deletion_of, ReadsOptions, deletion_before, ReadsRest, ReadsLine, HasFault}
 use Rattle.tc_reader.specs.Grammar.{heads_before, AreNewHeads, ReplacesBy, IsReplacement, IsDeletion, IsCommand}
 use Rattle.tc_reader.proofs.RunLemmas.{ok_is}
 use Rattle.tc_reader.proofs.GrammarLemmas.{bind_ok, Reads-take, Reads-again, Reads-one}
@@ -24,7 +24,7 @@ use Rattle.tc_reader.proofs.HeadsGrammar.{End, is_word, heads_take, heads_again,
 
 -- what is said of the words behind the verb
 abbrev Behind : List Word → Result Command TcFault → Verb × List Word → Type 0
-Behind line result x = (heads : List Head) × (end : End) × ReadsHeads [] x.1 heads end × GoesOn (length line) x.0 heads end result
+Behind line result x = (heads : List Head) × (end : End) × ReadsHeads [] x.1 heads end × ReadsRest (length line) x.0 heads end result
 
 -- ---- one reading
 
@@ -41,7 +41,7 @@ options_one count d p ws r s (is, last, reads, a) (js, final, again, b) =
     let moved : Matched d p r js final = subst (λ (l : Option TcFault). Matched d p r js l) same.1 (subst (λ (l : List Item). Matched d p r l last) same.0 a) in
     matched_one (given_by js) final d p r s moved b
 
-goes_one : (count : ℕ) (v : Verb) (heads : List Head) (end : End) (r s : Result Command TcFault) → GoesOn count v heads end r → GoesOn count v heads end s → r ≡ s
+goes_one : (count : ℕ) (v : Verb) (heads : List Head) (end : End) (r s : Result Command TcFault) → ReadsRest count v heads end r → ReadsRest count v heads end s → r ≡ s
 goes_one count v heads (Err f) r s a b = a ∙ sym b
 goes_one count Replace heads (Ok None) r s a b = a ∙ sym b
 goes_one count Replace heads (Ok (Some ws)) r s a b = options_one count (list_any is_dev heads) (list_any is_parent heads) ws r s a b
@@ -50,7 +50,7 @@ goes_one count Delete heads (Ok rest) r s a b = a ∙ sym b
 behind_one : (line : List Word) (x : Verb × List Word) (r s : Result Command TcFault) → Behind line r x → Behind line s x → r ≡ s
 behind_one line x r s (hs, d, reads, a) (ks, e, again, b) =
     let same = heads_one [] x.1 hs ks d e reads again in
-    let moved : GoesOn (length line) x.0 ks e r = subst (λ (l : End). GoesOn (length line) x.0 ks l r) same.1 (subst (λ (l : List Head). GoesOn (length line) x.0 l d r) same.0 a) in
+    let moved : ReadsRest (length line) x.0 ks e r = subst (λ (l : End). ReadsRest (length line) x.0 ks l r) same.1 (subst (λ (l : List Head). ReadsRest (length line) x.0 l d r) same.0 a) in
     goes_one (length line) x.0 ks e r s moved b
 
 pub line_one : (line : List Word) (r s : Result Command TcFault) → ReadsLine line r → ReadsLine line s → r ≡ s
@@ -94,7 +94,7 @@ first_words (a ∷ b ∷ []) v ws e = absurd cc
 first_words (a ∷ b ∷ w ∷ rest) v ws e = by_tests (bytes_eq a (codes "tc")) (bytes_eq b (codes "qdisc")) (verb_of w) refl refl refl e
   where
     by_tests : (s t : Bool) (o : Option Verb) → bytes_eq a (codes "tc") ≡ s → bytes_eq b (codes "qdisc") ≡ t → verb_of w ≡ o
-        → cond (s && t) (with_rest o rest) None ≡ Some (v, ws) → FirstWords (a ∷ b ∷ w ∷ rest) v ws
+        → cond (s && t) (verb_with_rest o rest) None ≡ Some (v, ws) → FirstWords (a ∷ b ∷ w ∷ rest) v ws
     by_tests true true None p q r e = absurd cc
     by_tests true true (Some u) p q r e =
         let same : (u, rest) ≡ (v, ws) = cc in
@@ -114,10 +114,10 @@ both_heads true true u e = (refl, refl)
 both_heads true false u e = absurd cc
 both_heads false p u e = absurd cc
 
-replacement_take : (d p : Bool) (g : Options) (c : Command) → replacement_of d p g ≡ Ok c → (d ≡ true) × (p ≡ true) × (change : Change) × (change_of g ≡ Ok change) × (commands.Replace change ≡ c)
+replacement_take : (d p : Bool) (g : Options) (c : Command) → replacement_of d p g ≡ Ok c → (d ≡ true) × (p ≡ true) × (change : Change) × (change_given g ≡ Ok change) × (commands.Replace change ≡ c)
 replacement_take d p g c e =
-    let a = bind_ok (heads_missing d p) (λ _. change_of g >>= λ change. Ok (commands.Replace change)) c e in
-    let b = bind_ok (change_of g) (λ change. Ok (commands.Replace change)) c a.2 in
+    let a = bind_ok (heads_missing d p) (λ _. change_given g >>= λ change. Ok (commands.Replace change)) c e in
+    let b = bind_ok (change_given g) (λ change. Ok (commands.Replace change)) c a.2 in
     let both = both_heads d p a.0 a.1 in
     (both.0, both.1, b.0, b.1, ok_is (commands.Replace b.0) c b.2)
 
@@ -147,9 +147,9 @@ options_take line ws rest heads c first reads (items, None, options, e) =
       change_is = made.3;
     })
 
-deletion_at : (line ws tail : List Word) (heads : List Head) (c : Command) → FirstWords line Delete ws → ws ≡ heads_before heads tail → AreNewHeads [] heads → (tail ≡ []) ⊎ (tail ≡ codes "taprio" ∷ [])
+deletion_taken : (line ws tail : List Word) (heads : List Head) (c : Command) → FirstWords line Delete ws → ws ≡ heads_before heads tail → AreNewHeads [] heads → (tail ≡ []) ⊎ (tail ≡ codes "taprio" ∷ [])
     → deletion_of (list_any is_dev heads) (list_any is_parent heads) ≡ Ok c → IsCommand line c
-deletion_at line ws tail heads c first stands once end e =
+deletion_taken line ws tail heads c first stands once end e =
     let made = deletion_take (list_any is_dev heads) (list_any is_parent heads) c e in
     subst (IsCommand line) made.2 (record {
       heads = heads;
@@ -159,16 +159,16 @@ deletion_at line ws tail heads c first stands once end e =
       heads_are = record { once = once; has_dev = made.0; has_parent = made.1 };
     })
 
-goes_take : (line : List Word) (v : Verb) (ws : List Word) (heads : List Head) (end : End) (c : Command) → FirstWords line v ws → ReadsHeads [] ws heads end → GoesOn (length line) v heads end (Ok c) → IsCommand line c
+goes_take : (line : List Word) (v : Verb) (ws : List Word) (heads : List Head) (end : End) (c : Command) → FirstWords line v ws → ReadsHeads [] ws heads end → ReadsRest (length line) v heads end (Ok c) → IsCommand line c
 goes_take line v ws heads (Err f) c first reads g = absurd (let x : ◌≡◌ {A = Result Command TcFault} (Ok c) (Err f) = g in cc)
 goes_take line Replace ws heads (Ok None) c first reads g = absurd cc
 goes_take line Replace ws heads (Ok (Some rest)) c first reads g = options_take line ws rest heads c first reads g
 goes_take line Delete ws heads (Ok None) c first reads g =
     let t = heads_take [] ws heads None reads in
-    deletion_at line ws t.0 heads c first t.1 t.2 (inl t.3) (sym g)
+    deletion_taken line ws t.0 heads c first t.1 t.2 (inl t.3) (sym g)
 goes_take line Delete ws heads (Ok (Some [])) c first reads g =
     let t = heads_take [] ws heads (Some []) reads in
-    deletion_at line ws t.0 heads c first t.1 t.2 (inr t.3) (sym g)
+    deletion_taken line ws t.0 heads c first t.1 t.2 (inr t.3) (sym g)
 goes_take line Delete ws heads (Ok (Some (w ∷ rest))) c first reads g = absurd cc
 
 pub line_take : (line : List Word) (c : Command) → ReadsLine line (Ok c) → IsCommand line c
@@ -225,9 +225,9 @@ line_again line commands.Delete is = deletion_again line is
 pub read_as : (line : List Word) (r : Result Command TcFault) (c : Command) → ReadsLine line r → (r ≡ Ok c) ↔ IsCommand line c
 read_as line r c reads = (λ e. line_take line c (subst (ReadsLine line) e reads), λ is. line_one line r (Ok c) reads (line_again line c is))
 
-pub fault_of : (line : List Word) (r : Result Command TcFault) → ReadsLine line r → IfErr r (HasFault line)
-fault_of line (Ok c) reads = tt
-fault_of line (Err f) reads = reads
+pub line_fault : (line : List Word) (r : Result Command TcFault) → ReadsLine line r → IfErr r (HasFault line)
+line_fault line (Ok c) reads = tt
+line_fault line (Err f) reads = reads
 
 pub one_command : (line : List Word) (c d : Command) → IsCommand line c → IsCommand line d → c ≡ d
 one_command line c d a b = ok_is c d (line_one line (Ok c) (Ok d) (line_again line c a) (line_again line d b))

@@ -7,55 +7,57 @@ use Rattle.tc_reader.specs.declared.fault.Opt.{Opt}
 use Rattle.tc_reader.specs.declared.fault.Opt.TheVariants.{Dev, Parent, Handle, NumTc, Map, Queues, BaseTime, CycleTime, CycleTimeExtension, SchedEntry, Clockid, Flags, TxtimeDelay, MaxSdu, Fp}
 use Rattle.tc_reader.specs.declared.fault.TcFault.{TcFault}
 use Rattle.tc_reader.specs.declared.fault.TcFault.TheVariants as faults
+use Rattle.tc_reader.specs.declared.capped.TheConstants.{KEPT_PRIORITIES, KEPT_RANGES, KEPT_ENTRIES}
+use Rattle.wire_time.specs.declared.TheConstants.{CLASSES}
 use Rattle.tc_reader.specs.Cursor.{Word}
 use Rattle.tc_reader.specs.Options.{◌>>=◌, Item, num_tc, priorities, ranges, base_time, cycle_time, extension, sched_entry, clock, flags, limits, Options, no_options, with_item, is_given, allowed, values_at, item_at}
 use Rattle.tc_reader.specs.Names.{is_unsupported, option_named}
-use Rattle.tc_reader.specs.Given.{keep_item, keeping, kept}
+use Rattle.tc_reader.specs.Capped.{capped_with, with_read, capped}
 use Rattle.tc_reader.specs.Reads.{Reads, given_by}
 use Rattle.tc_reader.proofs.RunLemmas.{take-push, ok_is}
 
--- ---- what is kept tells what was given
+-- ---- what is capped tells what was given
 
 is_some-map : {X Y : Type 0} (f : X → Y) (o : Option X) → is_some (option_map f o) ≡ is_some o
 is_some-map f None = refl
 is_some-map f (Some x) = refl
 
-is_given-kept : (g : Options) (o : Opt) → is_given (kept g) o ≡ is_given g o
-is_given-kept g Dev = refl
-is_given-kept g Parent = refl
-is_given-kept g Handle = refl
-is_given-kept g NumTc = refl
-is_given-kept g Map = is_some-map (take 17) g.priorities
-is_given-kept g Queues = is_some-map (take 9) g.ranges
-is_given-kept g BaseTime = refl
-is_given-kept g CycleTime = refl
-is_given-kept g CycleTimeExtension = refl
-is_given-kept g SchedEntry = refl
-is_given-kept g Clockid = refl
-is_given-kept g Flags = refl
-is_given-kept g TxtimeDelay = refl
-is_given-kept g MaxSdu = is_some-map (take 8) g.limits
-is_given-kept g Fp = refl
+is_given-capped : (g : Options) (o : Opt) → is_given (capped g) o ≡ is_given g o
+is_given-capped g Dev = refl
+is_given-capped g Parent = refl
+is_given-capped g Handle = refl
+is_given-capped g NumTc = refl
+is_given-capped g Map = is_some-map (take KEPT_PRIORITIES) g.priorities
+is_given-capped g Queues = is_some-map (take KEPT_RANGES) g.ranges
+is_given-capped g BaseTime = refl
+is_given-capped g CycleTime = refl
+is_given-capped g CycleTimeExtension = refl
+is_given-capped g SchedEntry = refl
+is_given-capped g Clockid = refl
+is_given-capped g Flags = refl
+is_given-capped g TxtimeDelay = refl
+is_given-capped g MaxSdu = is_some-map (take CLASSES) g.limits
+is_given-capped g Fp = refl
 
-allowed-kept : (g : Options) (place : ℕ) (o : Option Opt) → allowed (kept g) place o ≡ allowed g place o
-allowed-kept g place None = refl
-allowed-kept g place (Some opt) = ap (λ (b : Bool). cond (is_unsupported opt) (Err (faults.Unsupported opt)) (cond b (Err (faults.Repeated opt)) (Ok opt))) (is_given-kept g opt)
+allowed-capped : (g : Options) (place : ℕ) (o : Option Opt) → allowed (capped g) place o ≡ allowed g place o
+allowed-capped g place None = refl
+allowed-capped g place (Some opt) = ap (λ (b : Bool). cond (is_unsupported opt) (Err (faults.Unsupported opt)) (cond b (Err (faults.Repeated opt)) (Ok opt))) (is_given-capped g opt)
 
-item_at-kept : (g : Options) (place : ℕ) (w : Word) (ws : List Word) → item_at (kept g) place w ws ≡ item_at g place w ws
+item_at-capped : (g : Options) (place : ℕ) (w : Word) (ws : List Word) → item_at (capped g) place w ws ≡ item_at g place w ws
 unfolding item_at
-item_at-kept g place w ws = ap (λ r. r >>= λ opt. values_at opt (place + 1) ws) (allowed-kept g place (option_named w))
+item_at-capped g place w ws = ap (λ r. r >>= λ opt. values_at opt (place + 1) ws) (allowed-capped g place (option_named w))
 
-keep_item-kept : (g : Options) (i : Item) → keep_item (kept g) i ≡ kept (with_item g i)
-keep_item-kept g (num_tc n) = refl
-keep_item-kept g (priorities ns) = refl
-keep_item-kept g (ranges rs) = refl
-keep_item-kept g (base_time n) = refl
-keep_item-kept g (cycle_time n) = refl
-keep_item-kept g (extension n) = refl
-keep_item-kept g (sched_entry mask interval) = ap (λ (es : List Entry). record (kept g) { entries = es }) (take-push 257 g.entries (record { mask = mask; interval = interval }))
-keep_item-kept g clock = refl
-keep_item-kept g (flags n) = refl
-keep_item-kept g (limits ns) = refl
+capped_with-capped : (g : Options) (i : Item) → capped_with (capped g) i ≡ capped (with_item g i)
+capped_with-capped g (num_tc n) = refl
+capped_with-capped g (priorities ns) = refl
+capped_with-capped g (ranges rs) = refl
+capped_with-capped g (base_time n) = refl
+capped_with-capped g (cycle_time n) = refl
+capped_with-capped g (extension n) = refl
+capped_with-capped g (sched_entry mask interval) = ap (λ (es : List Entry). record (capped g) { entries = es }) (take-push KEPT_ENTRIES g.entries (record { mask = mask; interval = interval }))
+capped_with-capped g clock = refl
+capped_with-capped g (flags n) = refl
+capped_with-capped g (limits ns) = refl
 
 -- ---- one option more
 
@@ -69,39 +71,39 @@ given_by-push items i = pushed no_options items
 -- what the code has read so far, of a line of so many words
 pub record SoFar (count : ℕ) (start now : List Word) (have : Options) : Type 0 where
   pub items : List Item
-  pub have_is : have ≡ kept (given_by items)
-  pub goes_on : (more : List Item) (end : Option TcFault) → Reads (given_by items) count now more end → Reads no_options count start (items ++ more) end
+  pub have_is : have ≡ capped (given_by items)
+  pub rest_reads : (more : List Item) (end : Option TcFault) → Reads (given_by items) count now more end → Reads no_options count start (items ++ more) end
 
 pub SoFar-begin : (count : ℕ) (start : List Word) (have : Options) → have ≡ no_options → SoFar count start start have
-SoFar-begin count start have e = record { items = []; have_is = e; goes_on = λ more end r. r }
+SoFar-begin count start have e = record { items = []; have_is = e; rest_reads = λ more end r. r }
 
-keeping-ok : (g : Options) (read : Result (Item × List Word) TcFault) (new : Options) (rest : List Word) → keeping g read ≡ Ok (new, rest) → (i : Item) × (read ≡ Ok (i, rest)) × (new ≡ keep_item g i)
-keeping-ok g (Ok x) new rest e =
-    let p = ok_is (keep_item g x.0, x.1) (new, rest) e in
+with_read-ok : (g : Options) (read : Result (Item × List Word) TcFault) (new : Options) (rest : List Word) → with_read g read ≡ Ok (new, rest) → (i : Item) × (read ≡ Ok (i, rest)) × (new ≡ capped_with g i)
+with_read-ok g (Ok x) new rest e =
+    let p = ok_is (capped_with g x.0, x.1) (new, rest) e in
     (x.0, ap (λ (ws : List Word). Ok (x.0, ws)) (ap (λ (q : Options × List Word). q.1) p), sym (ap (λ (q : Options × List Word). q.0) p))
-keeping-ok g (Err f) new rest e = absurd cc
+with_read-ok g (Err f) new rest e = absurd cc
 
 pub SoFar-more : (count : ℕ) (start : List Word) (w : Word) (ws rest : List Word) (have new : Options) (place : ℕ)
-    → SoFar count start (w ∷ ws) have → place ≡ count - length (w ∷ ws) → keeping have (item_at have place w ws) ≡ Ok (new, rest) → SoFar count start rest new
+    → SoFar count start (w ∷ ws) have → place ≡ count - length (w ∷ ws) → with_read have (item_at have place w ws) ≡ Ok (new, rest) → SoFar count start rest new
 SoFar-more count start w ws rest have new place was at took =
-    let k = keeping-ok have (item_at have place w ws) new rest took in
+    let k = with_read-ok have (item_at have place w ws) new rest took in
     let g = given_by was.items in
     let i = k.0 in
-    let stands : item_at g (count - length (w ∷ ws)) w ws ≡ Ok (i, rest) = rw (← at) (sym (item_at-kept g place w ws) ∙ ap (λ (h : Options). item_at h place w ws) (sym was.have_is) ∙ k.1) in
+    let stands : item_at g (count - length (w ∷ ws)) w ws ≡ Ok (i, rest) = rw (← at) (sym (item_at-capped g place w ws) ∙ ap (λ (h : Options). item_at h place w ws) (sym was.have_is) ∙ k.1) in
     record {
       items = was.items ++ i ∷ [];
-      have_is = k.2 ∙ ap (λ (h : Options). keep_item h i) was.have_is ∙ keep_item-kept g i ∙ ap kept (sym (given_by-push was.items i));
-      goes_on = λ more end r.
+      have_is = k.2 ∙ ap (λ (h : Options). capped_with h i) was.have_is ∙ capped_with-capped g i ∙ ap capped (sym (given_by-push was.items i));
+      rest_reads = λ more end r.
           let one : Reads (with_item g i) count rest more end = subst (λ (h : Options). Reads h count rest more end) (given_by-push was.items i) r in
-          subst (λ (is : List Item). Reads no_options count start is end) (sym (append_assoc was.items (i ∷ []) more)) (was.goes_on (i ∷ more) end (rest, stands, one));
+          subst (λ (is : List Item). Reads no_options count start is end) (sym (append_assoc was.items (i ∷ []) more)) (was.rest_reads (i ∷ more) end (rest, stands, one));
     }
 
 pub SoFar-fault : (count : ℕ) (start : List Word) (w : Word) (ws : List Word) (have : Options) (place : ℕ) (f : TcFault)
     → SoFar count start (w ∷ ws) have → place ≡ count - length (w ∷ ws) → item_at have place w ws ≡ Err f → (items : List Item) × Reads no_options count start items (Some f)
 SoFar-fault count start w ws have place f was at failed =
     let g = given_by was.items in
-    let stands : item_at g (count - length (w ∷ ws)) w ws ≡ Err f = rw (← at) (sym (item_at-kept g place w ws) ∙ ap (λ (h : Options). item_at h place w ws) (sym was.have_is) ∙ failed) in
-    (was.items ++ [], was.goes_on [] (Some f) (f, refl, stands))
+    let stands : item_at g (count - length (w ∷ ws)) w ws ≡ Err f = rw (← at) (sym (item_at-capped g place w ws) ∙ ap (λ (h : Options). item_at h place w ws) (sym was.have_is) ∙ failed) in
+    (was.items ++ [], was.rest_reads [] (Some f) (f, refl, stands))
 
-pub SoFar-end : (count : ℕ) (start : List Word) (have : Options) → SoFar count start [] have → (items : List Item) × Reads no_options count start items None × (have ≡ kept (given_by items))
-SoFar-end count start have was = (was.items, subst (λ (is : List Item). Reads no_options count start is None) (append-nil was.items) (was.goes_on [] None refl), was.have_is)
+pub SoFar-end : (count : ℕ) (start : List Word) (have : Options) → SoFar count start [] have → (items : List Item) × Reads no_options count start items None × (have ≡ capped (given_by items))
+SoFar-end count start have was = (was.items, subst (λ (is : List Item). Reads no_options count start is None) (append-nil was.items) (was.rest_reads [] None refl), was.have_is)

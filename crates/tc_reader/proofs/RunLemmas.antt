@@ -1,11 +1,14 @@
 -- Reading a run of values.
-use Rattle.std.proofs.Common.{◌≡◌, ℕ, ◌+◌, ◌≤◌, Bool, true, false, List, [], ◌∷◌, ◌++◌, length, take, None, Some, Result, Ok, Err, refl, sym, ap, ◌∙◌, append_assoc, append-nil, arith, inl, inr}
+use Rattle.std.proofs.Common.{◌≡◌, ℕ, ◌<◌, ◌+◌, ◌≤◌, Bool, true, false, List, [], ◌∷◌, ◌++◌, length, take, None, Some, Result, Ok, Err, refl, sym, ap, ◌∙◌, append_assoc, append-nil, arith, inl, inr}
 use Rattle.std.specs.declared.option.Option.{Option}
 use Rattle.std.proofs.lemmas.List.{take_all, take-take, take-append-le, length-take}
 use Rattle.std.proofs.lemmas.Bool.{cases_lt}
 use Rattle.tc_reader.specs.declared.fault.Opt.{Opt}
 use Rattle.tc_reader.specs.declared.fault.TcFault.{TcFault}
+use Rattle.tc_reader.specs.declared.fault.TcFault.TheVariants as faults
 use Rattle.tc_reader.specs.Cursor.{Word}
+use Rattle.tc_reader.specs.Capped.{first_ones}
+use Rattle.std.specs.Prelude.{◌==◌, if◌then◌else◌}
 use Rattle.tc_reader.specs.Options.{◌>>=◌, value_or, value_at, run_at, begins}
 
 abbrev pub with_front : {X : Type 0} → List X → Result (List X × List Word) TcFault → Result (List X × List Word) TcFault
@@ -53,20 +56,30 @@ run_stops form value front place [] all is so_far = sym so_far ∙ rw append-nil
 run_stops form value front place (w ∷ ws) all is so_far = sym so_far ∙ rw (is, append-nil) refl
 
 -- the same by one step of the code
-pub run_step : {X : Type 0} (opt : Opt) (form : Word → Bool) (value : ℕ → Word → Option X) (front : List X) (place : ℕ) (ws rest : List Word) (x : X) (all : Result (List X × List Word) TcFault)
+pub run_continues : {X : Type 0} (opt : Opt) (form : Word → Bool) (value : ℕ → Word → Option X) (front : List X) (place : ℕ) (ws rest : List Word) (x : X) (all : Result (List X × List Word) TcFault)
     → begins form ws ≡ true → value_at opt (value place) place ws ≡ Ok (x, rest) → with_front front (run_at form value place ws) ≡ all → with_front (front ++ x ∷ []) (run_at form value (place + 1) rest) ≡ all
-run_step opt form value front place [] rest x all is read so_far = absurd cc
-run_step opt form value front place (w ∷ ws) rest x all is read so_far = run_goes_on opt form value front place w ws rest x all is read so_far
+run_continues opt form value front place [] rest x all is read so_far = absurd cc
+run_continues opt form value front place (w ∷ ws) rest x all is read so_far = run_goes_on opt form value front place w ws rest x all is read so_far
 
-pub run_step_fails : {X : Type 0} (opt : Opt) (form : Word → Bool) (value : ℕ → Word → Option X) (front : List X) (place : ℕ) (ws : List Word) (f : TcFault) (all : Result (List X × List Word) TcFault)
+pub run_continues_fails : {X : Type 0} (opt : Opt) (form : Word → Bool) (value : ℕ → Word → Option X) (front : List X) (place : ℕ) (ws : List Word) (f : TcFault) (all : Result (List X × List Word) TcFault)
     → begins form ws ≡ true → value_at opt (value place) place ws ≡ Err f → with_front front (run_at form value place ws) ≡ all → all ≡ Err f
-run_step_fails opt form value front place [] f all is read so_far = absurd cc
-run_step_fails opt form value front place (w ∷ ws) f all is read so_far = run_fails opt form value front place w ws f all is read so_far
+run_continues_fails opt form value front place [] f all is read so_far = absurd cc
+run_continues_fails opt form value front place (w ∷ ws) f all is read so_far = run_fails opt form value front place w ws f all is read so_far
 
--- the first ones are kept
+-- the first ones are capped
 pub take-push : {X : Type 0} (cap : ℕ) (front : List X) (n : X) → take cap (take cap front ++ n ∷ []) ≡ take cap (front ++ n ∷ [])
 take-push cap front n = elim (cases_lt (length front) cap) [
   | inl lt ↦ ap (λ l. take cap (l ++ n ∷ [])) (take_all cap front (omega arith))
   | inr ge ↦ (let long : cap ≤ length (take cap front) = omega (arith, length-take cap front) in
       take-append-le cap (take cap front) (n ∷ []) long ∙ take-take cap cap front (omega arith) ∙ sym (take-append-le cap front (n ∷ []) ge))
 ]
+
+-- where nothing is kept nothing was read
+pub some_at-none : {X : Type 0} (n : ℕ) (opt : Opt) (read : Result (List X × List Word) TcFault) (items : List X) (rest : List Word) → 0 < n → length items ≡ 0 → first_ones n read ≡ Ok (items, rest)
+    → (read >>= λ found. if length found.0 == 0 then Err (faults.MissingWord opt) else Ok found) ≡ Err (faults.MissingWord opt)
+some_at-none n opt (Ok ([], ws)) items rest some none e = refl
+some_at-none {X = X} n opt (Ok (x ∷ xs, ws)) items rest some none e =
+    let p = ok_is (take n (x ∷ xs), ws) (items, rest) e in
+    let short = ap (λ (q : List X × List Word). length q.0) p in
+    absurd (omega (arith, length-take n (x ∷ xs)))
+some_at-none n opt (Err f) items rest some none e = absurd cc

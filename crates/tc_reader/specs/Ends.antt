@@ -11,6 +11,7 @@ use Rattle.abstract_port.specs.declared.Change.{Change}
 use Rattle.tc_reader.specs.declared.fault.Opt.TheVariants.{Dev, Parent, NumTc, Map}
 use Rattle.tc_reader.specs.declared.fault.TcFault.{TcFault}
 use Rattle.tc_reader.specs.declared.fault.TcFault.TheVariants as faults
+use Rattle.wire_time.specs.declared.TheConstants.{CLASSES}
 use Rattle.tc_reader.specs.Options.{Options, ◌>>=◌}
 
 -- the fault of a part, as one of the line
@@ -31,18 +32,18 @@ classes_of None (Some ns) rs = Err (faults.MissingWord NumTc)
 classes_of (Some n) None rs = Err (faults.MissingWord Map)
 classes_of (Some n) (Some ns) rs = in_line faults.Map (map_of n ns) >>= λ map. ranges_of n rs >>= λ queues. Ok (Some map, queues)
 
-abbrev pub list_of : List Entry → Result GateList TcFault
-list_of entries = in_line faults.Gates (ok_unless (gate_fault entries) entries)
+abbrev pub list_given : List Entry → Result GateList TcFault
+list_given entries = in_line faults.Gates (ok_unless (gate_fault entries) entries)
 
 -- the limits of the eight classes: those past the eighth have no effect, and missing ones are 0
 abbrev pub eight_limits : List ℕ → List ℕ
-eight_limits ns = take 8 ns ++ replicate (8 - length (take 8 ns)) 0
+eight_limits ns = take CLASSES ns ++ replicate (CLASSES - length (take CLASSES ns)) 0
 
 -- the change that the options give; times that are not given are 0
-abbrev pub change_of : Options → Result Change TcFault
-change_of g =
+abbrev pub change_given : Options → Result Change TcFault
+change_given g =
     classes_of g.num_tc g.priorities g.ranges >>= λ classes.
-    list_of g.entries >>= λ list.
+    list_given g.entries >>= λ list.
     Ok (record {
       map = classes.0;
       queues = classes.1;

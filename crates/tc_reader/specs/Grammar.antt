@@ -6,6 +6,7 @@ use Rattle.abstract_port.specs.declared.Command.{Command}
 use Rattle.abstract_port.specs.declared.Command.TheVariants as commands
 use Rattle.abstract_port.specs.declared.Change.{Change}
 use Rattle.tc_reader.specs.Cursor.{Word}
+use Rattle.tc_reader.specs.declared.values.TheConstants.{MAX_SDU_VALUES}
 use Rattle.tc_reader.specs.Names.{word_of}
 use Rattle.tc_reader.specs.Values.{hex_in, range_of, is_clock}
 use Rattle.tc_reader.specs.declared.fault.Opt.{Opt}
@@ -13,7 +14,7 @@ use Rattle.tc_reader.specs.declared.fault.Opt.TheVariants.{NumTc, Map, Queues, B
 use Rattle.tc_reader.specs.Options.{Item, num_tc, priorities, ranges, base_time, cycle_time, extension, sched_entry, clock, flags, limits, Options, no_options, with_item, is_given}
 use Rattle.tc_reader.specs.Reads.{given_by}
 use Rattle.tc_reader.specs.Heads.{Head, dev, root, parent, handle, is_dev, is_parent, is_handle}
-use Rattle.tc_reader.specs.Ends.{change_of}
+use Rattle.tc_reader.specs.Ends.{change_given}
 
 -- ---- options
 
@@ -48,24 +49,24 @@ AreNumbers most [] (n ∷ ns) = ⊥
 AreNumbers most (w ∷ ws) [] = ⊥
 
 -- the words are ranges, count@offset
-abbrev pub AreRanges : List Word → List (ℕ × ℕ) → Type 0
-AreRanges [] [] = Unit {0}
-AreRanges (w ∷ ws) (r ∷ rs) = (range_of w ≡ Some r) × AreRanges ws rs
-AreRanges [] (r ∷ rs) = ⊥
-AreRanges (w ∷ ws) [] = ⊥
+abbrev pub AreQueueRanges : List Word → List (ℕ × ℕ) → Type 0
+AreQueueRanges [] [] = Unit {0}
+AreQueueRanges (w ∷ ws) (r ∷ rs) = (range_of w ≡ Some r) × AreQueueRanges ws rs
+AreQueueRanges [] (r ∷ rs) = ⊥
+AreQueueRanges (w ∷ ws) [] = ⊥
 
 -- the words behind the option word
 abbrev pub AreValues : Item → List Word → Type 0
 AreValues (num_tc n) ws = IsOne 255 ws n
 AreValues (priorities ns) ws = (0 < length ns) × AreNumbers 255 ws ns
-AreValues (ranges rs) ws = (0 < length rs) × AreRanges ws rs
+AreValues (ranges rs) ws = (0 < length rs) × AreQueueRanges ws rs
 AreValues (base_time n) ws = IsOne (2 ^ 64 - 1) ws n
 AreValues (cycle_time n) ws = IsOne (2 ^ 64 - 1) ws n
 AreValues (extension n) ws = IsOne (2 ^ 64 - 1) ws n
 AreValues (sched_entry mask interval) ws = (v w : Word) × (ws ≡ codes "S" ∷ v ∷ w ∷ []) × IsHex 255 v mask × IsNumber (2 ^ 32 - 1) w interval
 AreValues clock ws = (w : Word) × (ws ≡ w ∷ []) × (is_clock w ≡ true)
 AreValues (flags n) ws = (w : Word) × (ws ≡ w ∷ []) × IsHex (2 ^ 32 - 1) w n × ((n ≡ 0) ⊎ (n ≡ 2))
-AreValues (limits ns) ws = (0 < length ns) × (length ns ≤ 16) × AreNumbers (2 ^ 32 - 1) ws ns
+AreValues (limits ns) ws = (0 < length ns) × (length ns ≤ MAX_SDU_VALUES) × AreNumbers (2 ^ 32 - 1) ws ns
 
 -- options in any order
 abbrev pub AreOptions : List Item → List Word → Type 0
@@ -125,7 +126,7 @@ pub record IsReplacement (line : List Word) (change : Change) : Type 0 where
   pub heads_are : AreHeads heads
   pub options_are : AreOptions items ws
   pub once : AreNew no_options items
-  pub change_is : change_of (given_by items) ≡ Ok change
+  pub change_is : change_given (given_by items) ≡ Ok change
 
 -- a line that deletes; `taprio` may end it
 pub record IsDeletion (line : List Word) : Type 0 where

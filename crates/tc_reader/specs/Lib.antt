@@ -2,10 +2,11 @@ pub mod Cursor
 pub mod Names
 pub mod Values
 pub mod Options
-pub mod Given
+pub mod Capped
 pub mod Reads
 pub mod Heads
 pub mod Seen
 pub mod Ends
 pub mod Lines
 pub mod Grammar
+pub mod Reader

@@ -12,7 +12,7 @@ use Rattle.tc_reader.specs.declared.fault.TcFault.TheVariants as faults
 use Rattle.tc_reader.specs.Options.{◌>>=◌, Item, Options, no_options}
 use Rattle.tc_reader.specs.Reads.{Reads, given_by}
 use Rattle.tc_reader.specs.Heads.{Head, is_dev, is_parent, ReadsHeads}
-use Rattle.tc_reader.specs.Ends.{change_of, heads_missing}
+use Rattle.tc_reader.specs.Ends.{change_given, heads_missing}
 
 -- what a verb does
 abbrev pub verb_of : Word → Option Verb
@@ -21,18 +21,18 @@ verb_of w =
     else if bytes_eq w (codes "del") then Some Delete
     else None
 
-abbrev pub with_rest : Option Verb → List Word → Option (Verb × List Word)
-with_rest None ws = None
-with_rest (Some v) ws = Some (v, ws)
+abbrev pub verb_with_rest : Option Verb → List Word → Option (Verb × List Word)
+verb_with_rest None ws = None
+verb_with_rest (Some v) ws = Some (v, ws)
 
 -- the verb, and the words behind it
 abbrev pub verb_at : List Word → Option (Verb × List Word)
-verb_at (a ∷ b ∷ verb ∷ ws) = if bytes_eq a (codes "tc") && bytes_eq b (codes "qdisc") then with_rest (verb_of verb) ws else None
+verb_at (a ∷ b ∷ verb ∷ ws) = if bytes_eq a (codes "tc") && bytes_eq b (codes "qdisc") then verb_with_rest (verb_of verb) ws else None
 verb_at _ = None
 
 -- the command of options, of a line that has a device and a parent or not
 abbrev pub replacement_of : Bool → Bool → Options → Result Command TcFault
-replacement_of has_dev has_parent g = heads_missing has_dev has_parent >>= λ _. change_of g >>= λ change. Ok (commands.Replace change)
+replacement_of has_dev has_parent g = heads_missing has_dev has_parent >>= λ _. change_given g >>= λ change. Ok (commands.Replace change)
 
 abbrev pub deletion_of : Bool → Bool → Result Command TcFault
 deletion_of has_dev has_parent = heads_missing has_dev has_parent >>= λ _. Ok commands.Delete
@@ -50,17 +50,17 @@ deletion_before count has_dev has_parent (Some []) = deletion_of has_dev has_par
 deletion_before count has_dev has_parent (Some (w ∷ ws)) = Err (faults.UnknownOption (count - length (w ∷ ws)))
 
 -- what the line is, of which the heads are read
-abbrev pub GoesOn : ℕ → Verb → List Head → Result (Option (List Word)) TcFault → Result Command TcFault → Type 0
-GoesOn count verb heads (Err fault) result = result ≡ Err fault
-GoesOn count Replace heads (Ok None) result = result ≡ Err faults.NotTaprio
-GoesOn count Replace heads (Ok (Some ws)) result = ReadsOptions count (list_any is_dev heads) (list_any is_parent heads) ws result
-GoesOn count Delete heads (Ok rest) result = result ≡ deletion_before count (list_any is_dev heads) (list_any is_parent heads) rest
+abbrev pub ReadsRest : ℕ → Verb → List Head → Result (Option (List Word)) TcFault → Result Command TcFault → Type 0
+ReadsRest count verb heads (Err fault) result = result ≡ Err fault
+ReadsRest count Replace heads (Ok None) result = result ≡ Err faults.NotTaprio
+ReadsRest count Replace heads (Ok (Some ws)) result = ReadsOptions count (list_any is_dev heads) (list_any is_parent heads) ws result
+ReadsRest count Delete heads (Ok rest) result = result ≡ deletion_before count (list_any is_dev heads) (list_any is_parent heads) rest
 
 -- what a line is, read from the left: a command, or the first fault
 abbrev pub ReadsLine : List Word → Result Command TcFault → Type 0
 ReadsLine line result =
     MatchOption (verb_at line) (result ≡ Err faults.NotTaprio)
-    (λ x. (heads : List Head) × (end : Result (Option (List Word)) TcFault) × ReadsHeads [] x.1 heads end × GoesOn (length line) x.0 heads end result)
+    (λ x. (heads : List Head) × (end : Result (Option (List Word)) TcFault) × ReadsHeads [] x.1 heads end × ReadsRest (length line) x.0 heads end result)
 
 -- the fault of a line without a command: the first one, from the left
 abbrev pub HasFault : List Word → TcFault → Type 0

@@ -112,8 +112,8 @@ entry_at place ws =
 unfoldable pub flags_at : ℕ → List Word → Result (Item × List Word) TcFault
 flags_at place ws = value_at Flags (hex_in (2 ^ 32 - 1)) place ws >>= λ n. if n.0 == 0 || n.0 == 2 then Ok (flags n.0, n.1) else Err (faults.Unsupported Flags)
 
-abbrev pub clock_of : Word → Option Item
-clock_of w = if is_clock w then Some clock else None
+abbrev pub clock_item : Word → Option Item
+clock_item w = if is_clock w then Some clock else None
 
 -- what was read, as an option
 abbrev pub as_item : {X : Type 0} → (X → Item) → Result (X × List Word) TcFault → Result (Item × List Word) TcFault
@@ -129,7 +129,7 @@ values_at BaseTime place ws = as_item base_time (value_at BaseTime (number_in 10
 values_at CycleTime place ws = as_item cycle_time (value_at CycleTime (number_in 10 (2 ^ 64 - 1)) place ws)
 values_at CycleTimeExtension place ws = as_item extension (value_at CycleTimeExtension (number_in 10 (2 ^ 64 - 1)) place ws)
 values_at SchedEntry place ws = entry_at place ws
-values_at Clockid place ws = value_at Clockid clock_of place ws
+values_at Clockid place ws = value_at Clockid clock_item place ws
 values_at Flags place ws = flags_at place ws
 values_at MaxSdu place ws = as_item limits (some_at MaxSdu is_digits (limit_at place) place ws)
 values_at opt place ws = Err (faults.Unsupported opt)

@@ -5,9 +5,9 @@ use Rattle.tc_reader.specs.Cursor.{Word}
 use Rattle.tc_reader.specs.Options.{Item, Options, no_options, with_item, item_at}
 
 -- an option stands in front, of a line of so many words, and leaves the rest
-abbrev pub Stands : Options → ℕ → List Word → Item → List Word → Type 0
-Stands g count [] i rest = ⊥
-Stands g count (w ∷ ws) i rest = item_at g (count - length (w ∷ ws)) w ws ≡ Ok (i, rest)
+abbrev pub OptionInFront : Options → ℕ → List Word → Item → List Word → Type 0
+OptionInFront g count [] i rest = ⊥
+OptionInFront g count (w ∷ ws) i rest = item_at g (count - length (w ∷ ws)) w ws ≡ Ok (i, rest)
 
 -- the line ends, or goes on with a fault
 abbrev pub Ends : Options → ℕ → List Word → Option TcFault → Type 0
@@ -17,7 +17,7 @@ Ends g count (w ∷ ws) end = (f : TcFault) × (end ≡ Some f) × (item_at g (c
 -- these options stand there, and then the line ends or goes on with the first fault
 abbrev pub Reads : Options → ℕ → List Word → List Item → Option TcFault → Type 0
 Reads g count ws [] end = Ends g count ws end
-Reads g count ws (i ∷ is) end = (rest : List Word) × Stands g count ws i rest × Reads (with_item g i) count rest is end
+Reads g count ws (i ∷ is) end = (rest : List Word) × OptionInFront g count ws i rest × Reads (with_item g i) count rest is end
 
 -- what options give together
 abbrev pub given_by : List Item → Options

@@ -14,17 +14,17 @@ use Rattle.tc_reader.specs.Heads.{Head, is_dev, is_parent, is_handle}
 abbrev pub seen_of : List Head → Seen
 seen_of heads = record { dev = list_any is_dev heads; parent = list_any is_parent heads; handle = list_any is_handle heads }
 
-abbrev pub skip : Opt → Seen → List Word → Result (Seen × List Word) TcFault
-skip opt seen [] = Err (faults.MissingWord opt)
-skip opt seen (w ∷ ws) = Ok (seen, ws)
+abbrev pub head_word : Opt → Seen → List Word → Result (Seen × List Word) TcFault
+head_word opt seen [] = Err (faults.MissingWord opt)
+head_word opt seen (w ∷ ws) = Ok (seen, ws)
 
 -- the same of what was seen alone
 abbrev pub seen_at : Seen → Word → List Word → Result (Seen × List Word) TcFault
 seen_at s w ws =
-    if bytes_eq w (codes "dev") then (if s.dev then Err (faults.Repeated Dev) else skip Dev (record s { dev = true }) ws)
+    if bytes_eq w (codes "dev") then (if s.dev then Err (faults.Repeated Dev) else head_word Dev (record s { dev = true }) ws)
     else if bytes_eq w (codes "root") then (if s.parent then Err (faults.Repeated Parent) else Ok (record s { parent = true }, ws))
-    else if bytes_eq w (codes "parent") then (if s.parent then Err (faults.Repeated Parent) else skip Parent (record s { parent = true }) ws)
-    else if bytes_eq w (codes "handle") then (if s.handle then Err (faults.Repeated Handle) else skip Handle (record s { handle = true }) ws)
+    else if bytes_eq w (codes "parent") then (if s.parent then Err (faults.Repeated Parent) else head_word Parent (record s { parent = true }) ws)
+    else if bytes_eq w (codes "handle") then (if s.handle then Err (faults.Repeated Handle) else head_word Handle (record s { handle = true }) ws)
     else Err faults.NotTaprio
 
 abbrev pub HeadTakes : {X : Type 0} → Seen → Word → List Word → Result X TcFault → Seen → List Word → Type 0

@@ -4,6 +4,7 @@ use Rattle.std.specs.Str.{bytes_eq, str_eq_ignore_ascii_case}
 use Rattle.std.specs.List.{list_any, before_first, after_first}
 use Rattle.words.specs.Numbers.{number_in, is_digits}
 use Rattle.tc_reader.specs.Cursor.{Word}
+use Rattle.tc_reader.specs.declared.values.TheConstants.{MAX_SDU_VALUES}
 
 -- a word without a 0x in front
 abbrev pub after_0x : Word → Word
@@ -35,6 +36,10 @@ clock_names = codes "REALTIME" ∷ codes "MONOTONIC" ∷ codes "BOOTTIME" ∷ co
 abbrev pub is_clock : Word → Bool
 is_clock w = list_any (λ name. str_eq_ignore_ascii_case w name) clock_names
 
--- a size limit at a place, of which there are at most 16 from the first one on
+-- a size limit behind so many of them
+abbrev pub limit_in : ℕ → Word → Option ℕ
+limit_in before w = if nat_lt before MAX_SDU_VALUES then number_in 10 (2 ^ 32 - 1) w else None
+
+-- the same by places, where the first one stands at another
 abbrev pub limit_at : ℕ → ℕ → Word → Option ℕ
-limit_at first place w = if nat_lt (place - first) 16 then number_in 10 (2 ^ 32 - 1) w else None
+limit_at first place = limit_in (place - first)

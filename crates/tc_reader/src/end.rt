@@ -1,15 +1,16 @@
 //! What is looked at in the end.
 
 ghost use Rattle.std.specs.Prelude.{◌≡◌, option_map};
-ghost use Rattle.tc_reader.specs.Given.{view};
-ghost use Rattle.tc_reader.specs.Ends.{ranges_of, classes_of, list_of, eight_limits, change_of, heads_missing};
+ghost use Rattle.tc_reader.specs.Capped.{view};
+ghost use Rattle.tc_reader.specs.Ends.{ranges_of, classes_of, list_given, eight_limits, change_given, heads_missing};
 
+use crate::capped::CappedOptions;
 use crate::fault::{Opt, TcFault};
-use crate::given::Given;
 use crate::heads::Seen;
 use abstract_port::Change;
 use class_map::{ClassMap, Queues};
 use gate_list::{Entry, GateList};
+use wire_time::CLASSES;
 
 /// Whether the heads are there that every line has.
 pub fn check_heads(seen: Seen) -> Result<(), TcFault>
@@ -24,7 +25,7 @@ pub fn check_heads(seen: Seen) -> Result<(), TcFault>
     Ok(())
 }
 
-fn ranges_of(num_tc: u8, given: &Given) -> Result<Option<Queues>, TcFault>
+fn ranges_of(num_tc: u8, given: &CappedOptions) -> Result<Option<Queues>, TcFault>
     ensures { result ≡ ranges_of num_tc (view given.now).ranges }
 {
     let Some(ranges) = &given.ranges else {
@@ -37,7 +38,7 @@ fn ranges_of(num_tc: u8, given: &Given) -> Result<Option<Queues>, TcFault>
 }
 
 // The map and the ranges.
-fn classes_of(given: &Given) -> Result<(Option<ClassMap>, Option<Queues>), TcFault>
+fn classes_of(given: &CappedOptions) -> Result<(Option<ClassMap>, Option<Queues>), TcFault>
     ensures { let g = view given.now in result ≡ classes_of g.num_tc g.priorities g.ranges }
 {
     match (given.num_tc, &given.priorities) {
@@ -60,8 +61,8 @@ fn classes_of(given: &Given) -> Result<(Option<ClassMap>, Option<Queues>), TcFau
     }
 }
 
-fn list_of(entries: &[Entry]) -> Result<GateList, TcFault>
-    ensures { result ≡ list_of entries.now }
+fn list_given(entries: &[Entry]) -> Result<GateList, TcFault>
+    ensures { result ≡ list_given entries.now }
 {
     match GateList::new(entries) {
         Ok(list) => Ok(list),
@@ -69,17 +70,17 @@ fn list_of(entries: &[Entry]) -> Result<GateList, TcFault>
     }
 }
 
-// The limits of the eight classes, 0 for those that are missing.
-fn eight_limits(limits: &[u32]) -> [u32; 8]
+// The limits of all classes, in octets, 0 for those that are missing.
+fn eight_limits(limits: &[u32]) -> [u32; CLASSES]
     ensures { result ≡ eight_limits limits.now }
 {
-    let mut eight = [0; 8];
-    let count = limits.len().min(8);
+    let mut eight = [0; CLASSES];
+    let count = limits.len().min(CLASSES);
     eight[..count].copy_from_slice(&limits[..count]);
     eight
 }
 
-fn limits_of(given: &Given) -> Option<[u32; 8]>
+fn limits_of(given: &CappedOptions) -> Option<[u32; CLASSES]>
     ensures { result ≡ option_map eight_limits (view given.now).limits }
 {
     match &given.limits {
@@ -89,11 +90,11 @@ fn limits_of(given: &Given) -> Option<[u32; 8]>
 }
 
 /// The change that the options give.
-pub fn change_of(given: &Given) -> Result<Change, TcFault>
-    ensures { result ≡ change_of (view given.now) }
+pub fn change_given(given: &CappedOptions) -> Result<Change, TcFault>
+    ensures { result ≡ change_given (view given.now) }
 {
     let (map, queues) = classes_of(given)?;
-    let list = list_of(&given.entries)?;
+    let list = list_given(&given.entries)?;
     Ok(Change {
         map,
         queues,

@@ -9,21 +9,35 @@ use gate_list::GateFault;
 /// What a line names before and after `taprio`.
 #[derive(Clone, Copy, Debug, PartialEq, Eq)]
 pub enum Opt {
+    /// The device: `dev`.
     Dev,
-    /// `parent`, or `root`.
+    /// The parent: `parent`, or `root`.
     Parent,
+    /// The handle of the discipline: `handle`.
     Handle,
+    /// The number of classes: `num_tc`.
     NumTc,
+    /// The class of each priority: `map`.
     Map,
+    /// The queues of each class: `queues`.
     Queues,
+    /// The base time, in nanoseconds: `base-time`.
     BaseTime,
+    /// The cycle time, in nanoseconds: `cycle-time`.
     CycleTime,
+    /// The extension of the last cycle of a schedule, in nanoseconds: `cycle-time-extension`.
     CycleTimeExtension,
+    /// An entry: its command, its mask and its interval in nanoseconds: `sched-entry`.
     SchedEntry,
+    /// The clock of the times: `clockid`.
     Clockid,
+    /// Launch time and offload: `flags`.
     Flags,
+    /// How early frames are handed over for launch times: `txtime-delay`.
     TxtimeDelay,
+    /// The greatest service data unit of each class, in octets: `max-sdu`.
     MaxSdu,
+    /// Which classes are preemptible: `fp`.
     Fp,
 }
 

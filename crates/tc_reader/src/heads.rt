@@ -12,8 +12,11 @@ use words::Words;
 /// Which heads a line has.
 #[derive(Clone, Copy, Debug, PartialEq, Eq)]
 pub struct Seen {
+    /// A device.
     pub dev: bool,
+    /// A parent, or `root`.
     pub parent: bool,
+    /// A handle.
     pub handle: bool,
 }
 

@@ -1,11 +1,13 @@
-//! What the commands and the faults of lines have to do with each other. Nothing to run.
+//! What the commands and the faults of lines have to do with each other. The functions run nothing: the contract of each is
+//! its law.
 
-ghost use Rattle.std.specs.Prelude.{◌≡◌, ◌⊎◌, List};
+ghost use Rattle.std.specs.Prelude.{◌≡◌, ◌⊎◌, List, Result};
 ghost use Rattle.abstract_port.specs.declared.Command.{Command};
 ghost use Rattle.tc_reader.specs.Cursor.{Word};
 ghost use Rattle.tc_reader.specs.declared.fault.TcFault.{TcFault};
 ghost use Rattle.tc_reader.specs.Grammar.{IsCommand};
 ghost use Rattle.tc_reader.specs.Lines.{HasFault};
+ghost use Rattle.tc_reader.specs.Reader.{IsReader};
 
 /// Every list of words says a command or has a first fault, never both, and never two of either.
 pub fn one_reading()
@@ -13,4 +15,10 @@ pub fn one_reading()
     ensures not_both { (line : List Word) (c : Command) (f : TcFault) → IsCommand line c → HasFault line f → ⊥ }
     ensures command { (line : List Word) (c d : Command) → IsCommand line c → IsCommand line d → c ≡ d }
     ensures fault { (line : List Word) (f g : TcFault) → HasFault line f → HasFault line g → f ≡ g }
+{}
+
+/// There is a function that answers each line of words with its command or its first fault, and just one.
+pub fn one_reader()
+    ensures some { (read : List Word → Result Command TcFault) × IsReader read }
+    ensures one { (read other : List Word → Result Command TcFault) → IsReader read → IsReader other → (line : List Word) → read line ≡ other line }
 {}

@@ -1,9 +1,9 @@
 //! Schedule commands in the words of tc-taprio(8): `tc qdisc replace dev eth0 root taprio ..`.
 #![tactic(auto)]
 
+mod capped;
 mod end;
 mod fault;
-mod given;
 mod heads;
 pub mod laws;
 mod line;

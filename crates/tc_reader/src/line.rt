@@ -8,7 +8,7 @@ ghost use Rattle.tc_reader.specs.Seen.{behind_heads};
 ghost use Rattle.tc_reader.specs.Lines.{verb_of, verb_at, ReadsOptions, deletion_before, ReadsLine, HasFault};
 ghost use Rattle.tc_reader.specs.Grammar.{IsCommand};
 
-use crate::end::{change_of, check_heads};
+use crate::end::{change_given, check_heads};
 use crate::fault::TcFault;
 use crate::heads::{Seen, read_heads};
 use crate::reading::read_options;
@@ -18,7 +18,9 @@ use words::Words;
 /// What a verb does.
 #[derive(Clone, Copy, Debug, PartialEq, Eq)]
 pub enum Verb {
+    /// It gives the port a new schedule: `add`, `replace` and `change`.
     Replace,
+    /// It takes the schedule away: `del`.
     Delete,
 }
 
@@ -55,7 +57,7 @@ fn read_replacement(words: Words<'_>, seen: Seen) -> Result<Command, TcFault>
 {
     let given = read_options(words)?;
     check_heads(seen)?;
-    Ok(Command::Replace(change_of(&given)?))
+    Ok(Command::Replace(change_given(&given)?))
 }
 
 // A deletion, whose line ends behind `taprio` or without it.

@@ -1,131 +1,173 @@
 //! Options with a list of values: the longest run of words of their form.
 
-ghost use Rattle.std.specs.Prelude.{◌≡◌, ◌≤◌, ◌+◌, ◌^◌, Ok, Err, [], ◌∷◌, ◌++◌, take, MatchResult};
+ghost use Rattle.std.specs.Prelude.{◌≡◌, ◌≤◌, ◌<◌, ◌+◌, ◌-◌, ◌^◌, ℕ, Bool, List, Option, Ok, Err, [], ◌∷◌, ◌++◌, take, IfOk, MatchResult};
 ghost use Rattle.words.specs.Numbers.{number_in, is_digits};
 ghost use Rattle.words.specs.WordsLeft.{words_left, words_taken};
 ghost use Rattle.tc_reader.specs.Cursor.{Moves};
-ghost use Rattle.tc_reader.specs.Values.{is_range, range_of, limit_at};
-ghost use Rattle.tc_reader.specs.Options.{begins, run_at, some_at};
-ghost use Rattle.tc_reader.specs.Given.{first_ones};
+ghost use Rattle.tc_reader.specs.Values.{is_range, range_of, limit_in};
+ghost use Rattle.tc_reader.specs.Options.{begins, run_at, some_at, value_at};
+ghost use Rattle.tc_reader.specs.Capped.{first_ones};
+ghost use Rattle.tc_reader.specs.declared.fault.Opt.{Opt};
+ghost use Rattle.tc_reader.specs.declared.fault.Opt.TheVariants.{Map, Queues, MaxSdu};
 
 use crate::fault::{Opt, TcFault};
-use crate::values::{is_range, take_limit, take_number, take_range};
+use crate::values::{is_range, limit_in, range_of};
 use arrayvec::ArrayVec;
-use words::{Words, is_digits};
+use words::{Words, is_digits, number};
 
-/// Keeps the value, unless there is no more room.
-pub fn keep<T: Copy, const N: usize>(kept: &mut ArrayVec<T, N>, value: T)
-    ensures { kept.new.items ≡ take N (kept.old.items ++ value ∷ []) }
-{
-    if !kept.is_full() {
-        kept.push(value);
+/// A value of an option that has a list of them.
+pub trait ListValue: Copy + Default {
+    ghost option: { Opt };
+
+    ghost form: { List ℕ → Bool };
+    // The value that a word is, behind so many values.
+    ghost value: { ℕ → List ℕ → Option Self };
+
+    /// The option.
+    fn option() -> Opt
+        ensures { result ≡ option };
+
+    /// Whether a word has the form of a value.
+    fn has_form(word: &[u8]) -> bool
+        ensures { result ≡ form word.now };
+
+    /// The value that a word is, behind so many values.
+    fn value_in(word: &[u8], before: usize) -> Option<Self>
+        ensures { result ≡ value before word.now };
+}
+
+// The class of a priority.
+impl ListValue for u8 {
+    ghost option = { Map };
+
+    ghost form = { is_digits };
+
+    ghost value = { λ _. number_in 10 255 };
+
+    fn option() -> Opt {
+        Opt::Map
+    }
+
+    fn has_form(word: &[u8]) -> bool {
+        is_digits(word)
+    }
+
+    fn value_in(word: &[u8], _before: usize) -> Option<u8> {
+        let class = number(word, 255)?;
+        Some(class as u8)
     }
 }
 
-fn begins_number(words: &Words<'_>) -> bool
-    ensures { result ≡ begins is_digits (words_left words.now) }
+// The count and the offset of a range of queues.
+impl ListValue for (u16, u16) {
+    ghost option = { Queues };
+
+    ghost form = { is_range };
+
+    ghost value = { λ _. range_of };
+
+    fn option() -> Opt {
+        Opt::Queues
+    }
+
+    fn has_form(word: &[u8]) -> bool {
+        is_range(word)
+    }
+
+    fn value_in(word: &[u8], _before: usize) -> Option<(u16, u16)> {
+        range_of(word)
+    }
+}
+
+// The size limit of a class, in octets.
+impl ListValue for u32 {
+    ghost option = { MaxSdu };
+
+    ghost form = { is_digits };
+
+    ghost value = { limit_in };
+
+    fn option() -> Opt {
+        Opt::MaxSdu
+    }
+
+    fn has_form(word: &[u8]) -> bool {
+        is_digits(word)
+    }
+
+    fn value_in(word: &[u8], before: usize) -> Option<u32> {
+        limit_in(word, before)
+    }
+}
+
+/// Adds the value, unless there are N already.
+pub fn push_capped<T: Copy + Default, const N: usize>(values: &mut ArrayVec<T, N>, value: T)
+    ensures { values.new.items ≡ take N (values.old.items ++ value ∷ []) }
+{
+    if !values.is_full() {
+        values.push(value);
+    }
+}
+
+fn begins<T: ListValue>(words: &Words<'_>) -> bool
+    ensures { result ≡ begins T.form (words_left words.now) }
 {
     let mut after = *words;
     match after.next_word() {
-        Some(word) => is_digits(word),
+        Some(word) => T::has_form(word),
         None => false,
     }
 }
 
-fn begins_range(words: &Words<'_>) -> bool
-    ensures { result ≡ begins is_range (words_left words.now) }
-{
-    let mut after = *words;
-    match after.next_word() {
-        Some(word) => is_range(word),
-        None => false,
-    }
-}
-
-fn priority_run(words: &mut Words<'_>) -> Result<ArrayVec<u8, 17>, TcFault>
+// The next value of a list, of which the first stands at a place.
+#[tactic(auto, unfolding(crate::specs::Options::value_at))]
+fn take_next<T: ListValue>(words: &mut Words<'_>, first: usize) -> Result<T, TcFault>
+    requires { first ≤ words_taken words.old }
     ensures value { MatchResult result
-        (λ v. first_ones 17 (run_at is_digits (λ p. number_in 10 255) (words_taken words.old) (words_left words.old)) ≡ Ok (v.items, words_left words.new))
-        (λ f. run_at is_digits (λ p. number_in 10 255) (words_taken words.old) (words_left words.old) ≡ Err f) }
+        (λ x. value_at T.option (T.value (words_taken words.old - first)) (words_taken words.old) (words_left words.old) ≡ Ok (x, words_left words.new))
+        (λ f. value_at T.option (T.value (words_taken words.old - first)) (words_taken words.old) (words_left words.old) ≡ Err f) }
+    ensures place { IfOk result (λ _. words_taken words.new ≡ words_taken words.old + 1) }
     ensures moves { Moves words.old words.new }
 {
-    let mut found = ArrayVec::new();
-    while begins_number(words) {
-        let class = take_number(words, Opt::Map, 255)? as u8;
-        keep(&mut found, class);
+    let place = words.place();
+    let Some(word) = words.next_word() else {
+        return Err(TcFault::MissingWord(T::option()));
+    };
+    match T::value_in(word, place - first) {
+        Some(value) => Ok(value),
+        None => Err(TcFault::BadNumber(place)),
     }
-    Ok(found)
 }
 
-/// The classes of the priorities, or the first ones where there are more than may stand.
-#[tactic(auto, unfolding(crate::specs::Options::some_at))]
-pub fn take_priorities(words: &mut Words<'_>) -> Result<ArrayVec<u8, 17>, TcFault>
+fn take_run<T: ListValue, const N: usize>(words: &mut Words<'_>) -> Result<ArrayVec<T, N>, TcFault>
     ensures value { MatchResult result
-        (λ v. first_ones 17 (some_at Opt.Map is_digits (λ p. number_in 10 255) (words_taken words.old) (words_left words.old)) ≡ Ok (v.items, words_left words.new))
-        (λ f. some_at Opt.Map is_digits (λ p. number_in 10 255) (words_taken words.old) (words_left words.old) ≡ Err f) }
-    ensures moves { Moves words.old words.new }
-{
-    let found = priority_run(words)?;
-    if found.is_empty() {
-        return Err(TcFault::MissingWord(Opt::Map));
-    }
-    Ok(found)
-}
-
-fn range_run(words: &mut Words<'_>) -> Result<ArrayVec<(u16, u16), 9>, TcFault>
-    ensures value { MatchResult result
-        (λ v. first_ones 9 (run_at is_range (λ p. range_of) (words_taken words.old) (words_left words.old)) ≡ Ok (v.items, words_left words.new))
-        (λ f. run_at is_range (λ p. range_of) (words_taken words.old) (words_left words.old) ≡ Err f) }
-    ensures moves { Moves words.old words.new }
-{
-    let mut found = ArrayVec::new();
-    while begins_range(words) {
-        let range = take_range(words)?;
-        keep(&mut found, range);
-    }
-    Ok(found)
-}
-
-/// The ranges of queues, or the first ones where there are more than may stand.
-#[tactic(auto, unfolding(crate::specs::Options::some_at))]
-pub fn take_ranges(words: &mut Words<'_>) -> Result<ArrayVec<(u16, u16), 9>, TcFault>
-    ensures value { MatchResult result
-        (λ v. first_ones 9 (some_at Opt.Queues is_range (λ p. range_of) (words_taken words.old) (words_left words.old)) ≡ Ok (v.items, words_left words.new))
-        (λ f. some_at Opt.Queues is_range (λ p. range_of) (words_taken words.old) (words_left words.old) ≡ Err f) }
-    ensures moves { Moves words.old words.new }
-{
-    let found = range_run(words)?;
-    if found.is_empty() {
-        return Err(TcFault::MissingWord(Opt::Queues));
-    }
-    Ok(found)
-}
-
-fn limit_run(words: &mut Words<'_>) -> Result<ArrayVec<u32, 8>, TcFault>
-    ensures value { MatchResult result
-        (λ v. first_ones 8 (run_at is_digits (limit_at (words_taken words.old)) (words_taken words.old) (words_left words.old)) ≡ Ok (v.items, words_left words.new))
-        (λ f. run_at is_digits (limit_at (words_taken words.old)) (words_taken words.old) (words_left words.old) ≡ Err f) }
+        (λ v. first_ones N (run_at T.form (λ place. T.value (place - words_taken words.old)) (words_taken words.old) (words_left words.old)) ≡ Ok (v.items, words_left words.new))
+        (λ f. run_at T.form (λ place. T.value (place - words_taken words.old)) (words_taken words.old) (words_left words.old) ≡ Err f) }
     ensures moves { Moves words.old words.new }
 {
     let first = words.place();
     let mut found = ArrayVec::new();
-    while begins_number(words) {
-        let limit = take_limit(words, first)?;
-        keep(&mut found, limit);
+    while begins::<T>(words) {
+        let value = take_next(words, first)?;
+        push_capped(&mut found, value);
     }
     Ok(found)
 }
 
-/// The size limits by class, of which those past the eighth are not kept.
+/// The values of a list, or the first N where there are more.
 #[tactic(auto, unfolding(crate::specs::Options::some_at))]
-pub fn take_limits(words: &mut Words<'_>) -> Result<ArrayVec<u32, 8>, TcFault>
+pub fn take_list<T: ListValue, const N: usize>(
+    words: &mut Words<'_>,
+) -> Result<ArrayVec<T, N>, TcFault>
+    requires { 0 < N }
     ensures value { MatchResult result
-        (λ v. first_ones 8 (some_at Opt.MaxSdu is_digits (limit_at (words_taken words.old)) (words_taken words.old) (words_left words.old)) ≡ Ok (v.items, words_left words.new))
-        (λ f. some_at Opt.MaxSdu is_digits (limit_at (words_taken words.old)) (words_taken words.old) (words_left words.old) ≡ Err f) }
+        (λ v. first_ones N (some_at T.option T.form (λ place. T.value (place - words_taken words.old)) (words_taken words.old) (words_left words.old)) ≡ Ok (v.items, words_left words.new))
+        (λ f. some_at T.option T.form (λ place. T.value (place - words_taken words.old)) (words_taken words.old) (words_left words.old) ≡ Err f) }
     ensures moves { Moves words.old words.new }
 {
-    let found = limit_run(words)?;
+    let found = take_run(words)?;
     if found.is_empty() {
-        return Err(TcFault::MissingWord(Opt::MaxSdu));
+        return Err(TcFault::MissingWord(T::option()));
     }
     Ok(found)
 }

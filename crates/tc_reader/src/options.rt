@@ -5,12 +5,12 @@ ghost use Rattle.words.specs.WordsLeft.{words_left, words_taken};
 ghost use Rattle.tc_reader.specs.Cursor.{Moves};
 ghost use Rattle.tc_reader.specs.Names.{option_named};
 ghost use Rattle.tc_reader.specs.Options.{values_at};
-ghost use Rattle.tc_reader.specs.Given.{view, Takes};
+ghost use Rattle.tc_reader.specs.Capped.{view, Takes};
 
+use crate::capped::CappedOptions;
 use crate::fault::{Opt, TcFault};
-use crate::given::Given;
-use crate::lists::{keep, take_limits, take_priorities, take_ranges};
-use crate::values::{take_clock, take_entry, take_flags, take_number};
+use crate::lists::{push_capped, take_list};
+use crate::values::{take_clock_name, take_entry, take_flags, take_number};
 use words::Words;
 
 /// The option that a word names.
@@ -48,30 +48,34 @@ pub fn option_named(word: &[u8]) -> Option<Opt>
 
 /// The values of an option, behind its word.
 #[tactic(auto, unfolding(crate::specs::Options::values_at))]
-pub fn take_values(given: &mut Given, words: &mut Words<'_>, opt: Opt) -> Result<(), TcFault>
+pub fn take_values(
+    given: &mut CappedOptions,
+    words: &mut Words<'_>,
+    opt: Opt,
+) -> Result<(), TcFault>
     ensures value { Takes (view given.old) (values_at opt (words_taken words.old) (words_left words.old)) result (view given.new) (words_left words.new) }
     ensures moves { Moves words.old words.new }
 {
     match opt {
         Opt::NumTc => given.num_tc = Some(take_number(words, opt, 255)? as u8),
-        Opt::Map => given.priorities = Some(take_priorities(words)?),
-        Opt::Queues => given.ranges = Some(take_ranges(words)?),
+        Opt::Map => given.priorities = Some(take_list(words)?),
+        Opt::Queues => given.ranges = Some(take_list(words)?),
         Opt::BaseTime => given.base_time = Some(take_number(words, opt, u64::MAX)?),
         Opt::CycleTime => given.cycle_time = Some(take_number(words, opt, u64::MAX)?),
         Opt::CycleTimeExtension => given.extension = Some(take_number(words, opt, u64::MAX)?),
         Opt::SchedEntry => {
             let entry = take_entry(words)?;
-            keep(&mut given.entries, entry);
+            push_capped(&mut given.entries, entry);
         }
         Opt::Clockid => {
-            take_clock(words)?;
+            take_clock_name(words)?;
             given.clock = true;
         }
         Opt::Flags => {
             take_flags(words)?;
             given.flags = true;
         }
-        Opt::MaxSdu => given.limits = Some(take_limits(words)?),
+        Opt::MaxSdu => given.limits = Some(take_list(words)?),
         _ => return Err(TcFault::Unsupported(opt)),
     }
     Ok(())

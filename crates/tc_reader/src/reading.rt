@@ -4,15 +4,15 @@ ghost use Rattle.std.specs.Prelude.{◌≡◌, ◌+◌, List, Some, None, MatchR
 ghost use Rattle.words.specs.WordsLeft.{words_left, words_taken};
 ghost use Rattle.tc_reader.specs.Cursor.{total, Moves};
 ghost use Rattle.tc_reader.specs.Options.{Item, no_options, item_at, allowed};
-ghost use Rattle.tc_reader.specs.Given.{view, kept, Takes};
+ghost use Rattle.tc_reader.specs.Capped.{view, capped, Takes};
 ghost use Rattle.tc_reader.specs.Reads.{Reads, given_by};
 
+use crate::capped::CappedOptions;
 use crate::fault::{Opt, TcFault};
-use crate::given::Given;
 use crate::options::{option_named, take_values};
 use words::Words;
 
-fn allowed(given: &Given, place: usize, opt: Option<Opt>) -> Result<Opt, TcFault>
+fn allowed(given: &CappedOptions, place: usize, opt: Option<Opt>) -> Result<Opt, TcFault>
     ensures { result ≡ allowed (view given.now) place opt }
 {
     let Some(opt) = opt else {
@@ -29,7 +29,7 @@ fn allowed(given: &Given, place: usize, opt: Option<Opt>) -> Result<Opt, TcFault
 
 #[tactic(auto, unfolding(crate::specs::Options::item_at))]
 fn take_option(
-    given: &mut Given,
+    given: &mut CappedOptions,
     words: &mut Words<'_>,
     place: usize,
     word: &[u8],
@@ -43,12 +43,12 @@ fn take_option(
 }
 
 /// The options of the words after `taprio`, up to the end or the first fault.
-pub fn read_options(words: Words<'_>) -> Result<Given, TcFault>
+pub fn read_options(words: Words<'_>) -> Result<CappedOptions, TcFault>
     ensures { MatchResult result
-        (λ g. (items : List Item) × Reads no_options (total words.entry) (words_left words.entry) items None × (view g ≡ kept (given_by items)))
+        (λ g. (items : List Item) × Reads no_options (total words.entry) (words_left words.entry) items None × (view g ≡ capped (given_by items)))
         (λ f. (items : List Item) × Reads no_options (total words.entry) (words_left words.entry) items (Some f)) }
 {
-    let mut given = Given::none();
+    let mut given = CappedOptions::new();
     let mut rest = words;
     let mut place = rest.place();
     while let Some(word) = rest.next_word() {

@@ -5,12 +5,15 @@ ghost use Rattle.std.specs.List.{position, before_first, after_first};
 ghost use Rattle.words.specs.Numbers.{number_in};
 ghost use Rattle.words.specs.WordsLeft.{words_left, words_taken};
 ghost use Rattle.tc_reader.specs.Cursor.{Moves};
-ghost use Rattle.tc_reader.specs.Values.{after_0x, hex_in, is_sign, is_range, range_of, is_clock, limit_at};
-ghost use Rattle.tc_reader.specs.Options.{value_at, command_at, entry_at, flags_at, clock_of, sched_entry, clock, flags};
+ghost use Rattle.tc_reader.specs.Values.{after_0x, hex_in, is_sign, is_range, range_of, is_clock, limit_in};
+ghost use Rattle.tc_reader.specs.Options.{value_at, command_at, entry_at, flags_at, clock_item, sched_entry, clock, flags};
 
 use crate::fault::{Opt, TcFault};
 use gate_list::Entry;
 use words::{Words, hex_number, is_digits, number};
+
+/// The most values of `max-sdu` that may stand.
+pub const MAX_SDU_VALUES: usize = 16;
 
 fn after_0x(word: &[u8]) -> &[u8]
     ensures { result.now ≡ after_0x word.now }
@@ -119,10 +122,10 @@ fn is_clock(word: &[u8]) -> bool
 
 /// The name of a clock, which has no effect.
 #[tactic(auto, unfolding(crate::specs::Options::value_at))]
-pub fn take_clock(words: &mut Words<'_>) -> Result<(), TcFault>
+pub fn take_clock_name(words: &mut Words<'_>) -> Result<(), TcFault>
     ensures value { MatchResult result
-        (λ _. value_at Opt.Clockid clock_of (words_taken words.old) (words_left words.old) ≡ Ok (clock, words_left words.new))
-        (λ f. value_at Opt.Clockid clock_of (words_taken words.old) (words_left words.old) ≡ Err f) }
+        (λ _. value_at Opt.Clockid clock_item (words_taken words.old) (words_left words.old) ≡ Ok (clock, words_left words.new))
+        (λ f. value_at Opt.Clockid clock_item (words_taken words.old) (words_left words.old) ≡ Err f) }
     ensures moves { Moves words.old words.new }
 {
     let place = words.place();
@@ -161,7 +164,8 @@ pub fn is_range(word: &[u8]) -> bool
     is_digits(count) && is_digits(offset)
 }
 
-fn range_of(word: &[u8]) -> Option<(u16, u16)>
+/// The range of queues that a word is: its count and its offset.
+pub fn range_of(word: &[u8]) -> Option<(u16, u16)>
     ensures { result ≡ range_of word.now }
 {
     let (count, offset) = split_range(word);
@@ -170,41 +174,13 @@ fn range_of(word: &[u8]) -> Option<(u16, u16)>
     Some((count, offset))
 }
 
-/// A range of queues: its count and its offset.
-#[tactic(auto, unfolding(crate::specs::Options::value_at))]
-pub fn take_range(words: &mut Words<'_>) -> Result<(u16, u16), TcFault>
-    ensures value { MatchResult result
-        (λ r. value_at Opt.Queues range_of (words_taken words.old) (words_left words.old) ≡ Ok (r, words_left words.new))
-        (λ f. value_at Opt.Queues range_of (words_taken words.old) (words_left words.old) ≡ Err f) }
-    ensures place { IfOk result (λ _. words_taken words.new ≡ words_taken words.old + 1) }
-    ensures moves { Moves words.old words.new }
+/// The size limit that a word is, in octets, behind so many limits, of which no more than `MAX_SDU_VALUES` may stand.
+pub fn limit_in(word: &[u8], before: usize) -> Option<u32>
+    ensures { result ≡ limit_in before word.now }
 {
-    let place = words.place();
-    let Some(word) = words.next_word() else {
-        return Err(TcFault::MissingWord(Opt::Queues));
-    };
-    range_of(word).ok_or(TcFault::BadNumber(place))
-}
-
-/// A size limit, of which the first stands at a place, and no more than 16 may stand.
-#[tactic(auto, unfolding(crate::specs::Options::value_at))]
-pub fn take_limit(words: &mut Words<'_>, first: usize) -> Result<u32, TcFault>
-    requires { first ≤ words_taken words.old }
-    ensures value { MatchResult result
-        (λ n. value_at Opt.MaxSdu (limit_at first (words_taken words.old)) (words_taken words.old) (words_left words.old) ≡ Ok (n, words_left words.new))
-        (λ f. value_at Opt.MaxSdu (limit_at first (words_taken words.old)) (words_taken words.old) (words_left words.old) ≡ Err f) }
-    ensures place { IfOk result (λ _. words_taken words.new ≡ words_taken words.old + 1) }
-    ensures moves { Moves words.old words.new }
-{
-    let place = words.place();
-    let Some(word) = words.next_word() else {
-        return Err(TcFault::MissingWord(Opt::MaxSdu));
-    };
-    if place - first >= 16 {
-        return Err(TcFault::BadNumber(place));
+    if before >= MAX_SDU_VALUES {
+        return None;
     }
-    match number(word, 0xffff_ffff) {
-        Some(n) => Ok(n as u32),
-        None => Err(TcFault::BadNumber(place)),
-    }
+    let limit = number(word, 0xffff_ffff)?;
+    Some(limit as u32)
 }

@@ -14,9 +14,9 @@ unfolding value_behind
 at_digit base n i word h = at_drop_more (value_behind base n) word i 0 h
 
 -- digits after a number make no less of it
-later : (base n : ℕ) (bs : List ℕ) (m : ℕ) → 0 < base → ((k : ℕ) → value_behind base k bs ≡ Some m → k ≤ m) → (o : Option ℕ) → option_and_then (λ d. value_behind base (n * base + d) bs) o ≡ Some m → n ≤ m
-later base n bs m some after None e = absurd cc
-later base n bs m some after (Some d) e =
+digits_more : (base n : ℕ) (bs : List ℕ) (m : ℕ) → 0 < base → ((k : ℕ) → value_behind base k bs ≡ Some m → k ≤ m) → (o : Option ℕ) → option_and_then (λ d. value_behind base (n * base + d) bs) o ≡ Some m → n ≤ m
+digits_more base n bs m some after None e = absurd cc
+digits_more base n bs m some after (Some d) e =
     let more : n * base + d ≤ m = after (n * base + d) e in
     let least : n ≤ n * base = le-mul_of_pos_right n some in
     omega arith
@@ -24,7 +24,7 @@ later base n bs m some after (Some d) e =
 pub grows : (base n : ℕ) (bs : List ℕ) (m : ℕ) → 0 < base → value_behind base n bs ≡ Some m → n ≤ m
 unfolding value_behind
 grows base n [] m some e = (let same : n ≡ m = cc in omega arith)
-grows base n (b ∷ bs) m some e = later base n bs m some (λ k. grows base k bs m some) (digit_in base b) e
+grows base n (b ∷ bs) m some e = digits_more base n bs m some (λ k. grows base k bs m some) (digit_in base b) e
 
 -- what is too large stays so
 pub too_large : (base most n : ℕ) (bs : List ℕ) → 0 < base → most < n → at_most most (value_behind base n bs) ≡ None
@@ -55,3 +55,7 @@ pub read_all : (base most n i : ℕ) (word : List ℕ) → eqb (length word) 0 �
 unfolding value_behind
 read_all base most n i word some end whole =
     ap (λ t. if t then None else at_most most (value_behind base 0 word)) some ∙ ap (at_most most) (whole ∙ ap (λ (l : List ℕ). value_behind base n l) (drop_of_length-le word end))
+
+pub value_at_end : (base n i : ℕ) (word : List ℕ) → length word ≤ i → value_behind base n (drop i word) ≡ Some n
+unfolding value_behind
+value_at_end base n i word end = ap (λ (l : List ℕ). value_behind base n l) (drop_of_length-le word end)

@@ -1,3 +1,4 @@
 pub mod Words
 pub mod WordsLeft
 pub mod Numbers
+pub mod Joined

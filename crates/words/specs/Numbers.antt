@@ -27,6 +27,7 @@ at_most most n = option_and_then (λ n. if nat_le n most then Some n else None) 
 abbrev pub number_in : ℕ → ℕ → List ℕ → Option ℕ
 number_in base most word = if length word == 0 then None else at_most most (value_behind base 0 word)
 
+-- whether an octet is a digit of this base
 abbrev pub is_digit : ℕ → Bool
 is_digit octet = nat_le 48 octet && nat_le octet 57
 

@@ -1,6 +1,7 @@
 //! The words of a line, and the numbers that words are.
 #![tactic(auto)]
 
+pub mod laws;
 mod numbers;
 mod words;
 

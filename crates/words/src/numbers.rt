@@ -1,8 +1,8 @@
 //! Words that are numbers.
 
-ghost use Rattle.std.specs.Prelude.{◌≡◌, ◌<◌, ◌≤◌, IfSome};
+ghost use Rattle.std.specs.Prelude.{◌≡◌, ◌<◌, ◌≤◌, Some, IfSome};
 ghost use Rattle.std.specs.List.{list_all};
-ghost use Rattle.words.specs.Numbers.{digit_in, number_in, is_digit, is_digits};
+ghost use Rattle.words.specs.Numbers.{digit_in, number_in, value_behind, is_digit, is_digits};
 
 fn digit_in(base: u8, octet: u8) -> Option<u8>
     ensures { result ≡ digit_in base octet }
@@ -16,6 +16,19 @@ fn digit_in(base: u8, octet: u8) -> Option<u8>
     if digit < base { Some(digit) } else { None }
 }
 
+// The number that decimal digits are, where a word has no other octet and its value fits 64 bits.
+fn short_number(word: &[u8]) -> Option<u64>
+    ensures { IfSome result (λ n. value_behind 10 0 word.now ≡ Some n) }
+{
+    let mut number = 0u64;
+    for octet in word {
+        let digit = digit_in(10, *octet)?;
+        number = number.checked_mul(10)?.checked_add(u64::from(digit))?;
+    }
+    Some(number)
+}
+
+// The number of at most `most` that digits of a base are.
 fn number_in(base: u8, most: u128, word: &[u8]) -> Option<u128>
     requires { 0 < base }
     ensures number { result ≡ number_in base most word.now }
@@ -39,7 +52,14 @@ pub fn number(word: &[u8], most: u128) -> Option<u128>
     ensures number { result ≡ number_in 10 most word.now }
     ensures bound { IfSome result (λ n. n ≤ most) }
 {
-    number_in(10, most, word)
+    if word.is_empty() {
+        return None;
+    }
+    match short_number(word) {
+        Some(number) if u128::from(number) <= most => Some(u128::from(number)),
+        Some(_) => None,
+        None => number_in(10, most, word),
+    }
 }
 
 /// A hexadecimal number of at most `most`: one digit or more, of either case, with no prefix.

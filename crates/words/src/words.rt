@@ -7,6 +7,8 @@ fn starts_blank(octets: &[u8]) -> bool
     ensures { result ≡ starts_blank octets.now }
 {
     match octets {
+        // Most octets of a line.
+        [octet, ..] if *octet > b' ' && *octet != b'\\' => false,
         [] | [b' ' | b'\t' | b'\r' | b'\n', ..] => true,
         [b'\\', b'\n', ..] | [b'\\', b'\r', b'\n', ..] => true,
         _ => false,

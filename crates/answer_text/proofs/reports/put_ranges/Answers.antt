@@ -1,7 +1,7 @@
 use Rattle.std.proofs.Common.{sym}
 use Rattle.std.proofs.lemmas.Result.{err_from_is_err_and}
 use Rattle.answer_text.specs.Reports.{range_text}
-use Rattle.answer_text.proofs.Fronts.{sent_more, sent_exit}
+use Rattle.octet_writer.proofs.Fronts.{sent_more, sent_exit}
 use Rattle.answer_text.proofs.Places.{text_at}
 use Rattle.answer_text.proofs.reports.put_ranges.Goals as goal
 

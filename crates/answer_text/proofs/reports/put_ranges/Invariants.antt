@@ -1,7 +1,7 @@
 use Rattle.std.proofs.Common.{drop}
 use Rattle.std.specs.List.{flat_map}
 use Rattle.answer_text.specs.Reports.{ranges_text, range_text}
-use Rattle.answer_text.specs.Writes.{Sent}
+use Rattle.octet_writer.specs.Writes.{Sent}
 use Rattle.answer_text.proofs.reports.put_ranges.Given as goal
 
 abbrev pub invariant-loop-class : goal.invariant-loop-class

@@ -1,7 +1,7 @@
 use Rattle.std.proofs.Common.{refl, codes}
 use Rattle.std.proofs.lemmas.Result.{err_from_is_err_and}
 use Rattle.answer_text.specs.Reports.{now_line, classes_line, schedule_line}
-use Rattle.answer_text.proofs.Fronts.{sent_none, sent_more, sent_exit, sent_last}
+use Rattle.octet_writer.proofs.Fronts.{sent_none, sent_more, sent_exit, sent_last}
 use Rattle.answer_text.proofs.reports.put_report.Goals as goal
 
 pub returns-in_err-put_now : goal.returns-in_err-put_now

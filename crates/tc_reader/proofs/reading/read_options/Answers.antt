@@ -2,7 +2,7 @@ use Rattle.std.proofs.Common.{◌≡◌, ◌+◌, ◌-◌, ◌∷◌, [], length
 use Rattle.std.proofs.lemmas.Result.{err_from_is_err_and}
 use Rattle.words.specs.WordsLeft.{words_left}
 use Rattle.tc_reader.specs.Cursor.{total}
-use Rattle.tc_reader.specs.Given.{view}
+use Rattle.tc_reader.specs.Capped.{view}
 use Rattle.tc_reader.proofs.ReadsLemmas.{SoFar, SoFar-begin, SoFar-more, SoFar-fault, SoFar-end}
 use Rattle.tc_reader.proofs.reading.read_options.Goals as goal
 
@@ -10,7 +10,7 @@ pub loop-word-init : goal.loop-word-init
 loop-word-init c = record {
   place = c.place-place.ensures;
   count = search rules;
-  so_far = SoFar-begin (total c.args.words) (words_left c.args.words) (view c.none-given.result) c.none-given.ensures;
+  so_far = SoFar-begin (total c.args.words) (words_left c.args.words) (view c.new-given.result) c.new-given.ensures;
 }
 
 pub take_option-requires : goal.take_option-requires

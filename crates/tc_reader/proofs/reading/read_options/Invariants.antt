@@ -1,7 +1,7 @@
 use Rattle.std.proofs.Common.{◌≡◌, length}
 use Rattle.words.specs.WordsLeft.{words_left, words_taken}
 use Rattle.tc_reader.specs.Cursor.{total}
-use Rattle.tc_reader.specs.Given.{view}
+use Rattle.tc_reader.specs.Capped.{view}
 use Rattle.tc_reader.proofs.ReadsLemmas.{SoFar}
 use Rattle.tc_reader.proofs.reading.read_options.Given as goal
 

@@ -1,7 +1,7 @@
 use Rattle.std.proofs.Common.{◌≡◌, ◌∷◌, ◌+◌, true, false, take, drop, ap, ◌∙◌, add-one, arith}
 use Rattle.std.proofs.lemmas.List.{take_rest}
 use Rattle.words.specs.Words.{starts_blank, words_of}
-use Rattle.words.proofs.FirstWord.{word_length, word_length_blank, first_word, not_at_end, one_more}
+use Rattle.words.proofs.FirstWord.{word_length, word_length_blank, first_word, within_word, word_length_more}
 use Rattle.words.proofs.words.split_word.Goals as goal
 
 pub loop-end-preserved : goal.loop-end-preserved
@@ -10,8 +10,8 @@ loop-end-preserved c =
     let end = c.loop-end.end in
     let part = take_rest rest end in
     let more : starts_blank (drop end rest) ≡ false = cc in
-    let next : word_length (drop end rest) ≡ 1 + word_length (drop (end + 1) rest) = rw (add-one end) (rw (one_more end rest more) (omega arith)) in
-    record { within = omega (arith, not_at_end end rest more); word = omega arith }
+    let next : word_length (drop end rest) ≡ 1 + word_length (drop (end + 1) rest) = rw (add-one end) (rw (word_length_more end rest more) (omega arith)) in
+    record { within = omega (arith, within_word end rest more); word = omega arith }
 
 pub returns-clause-word : goal.returns-clause-word
 returns-clause-word c =

@@ -1,0 +1,5 @@
+use Rattle.line_reader.proofs.SpellingLaws.{spelling}
+use Rattle.line_reader.proofs.laws.spelling_law.Goals as goal
+
+pub returns : goal.returns
+returns c = spelling

@@ -1,0 +1,16 @@
+-- The line so far and what is to come are what was to come.
+use Rattle.line_reader.specs.declared.lines.TheConstants.{MAX_LINE_OCTETS}
+use Rattle.std.proofs.Common.{◌≡◌, ◌≤◌, ◌<◌, false, ◌-◌, vec_len}
+use Rattle.line_reader.specs.LineReader.{script_ahead, script_within, Stays}
+use Rattle.line_reader.proofs.lines.LineReader.next_line.Given as goal
+
+abbrev pub invariant-octets : goal.invariant-octets
+invariant-octets g l = record {
+  script : Stays (script_ahead g.R.Read.remaining l.fn.self) (script_within g.R.Read.remaining l.self);
+  breaks : l.fn.self.breaks ≤ l.self.breaks;
+  is_open : 0 < vec_len l.self.line → l.self.source.ended ≡ false;
+  ended : l.self.source.ended ≡ l.fn.self.source.ended;
+}
+
+abbrev pub decreases-octets : goal.decreases-octets
+decreases-octets g l = MAX_LINE_OCTETS - vec_len l.self.line

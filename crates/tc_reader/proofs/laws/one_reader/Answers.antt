@@ -1,0 +1,8 @@
+use Rattle.tc_reader.proofs.ReadingLaws.{a_reader, same_readers}
+use Rattle.tc_reader.proofs.laws.one_reader.Goals as goal
+
+pub returns-clause-some : goal.returns-clause-some
+returns-clause-some c = a_reader
+
+pub returns-clause-one : goal.returns-clause-one
+returns-clause-one c = same_readers

@@ -1,0 +1,12 @@
+use Rattle.std.proofs.Common.{◌≡◌, length, sym, ◌∙◌}
+use Rattle.std.proofs.lemmas.Bool.{eqb-true}
+use Rattle.words.specs.WordsLeft.{words_left}
+use Rattle.tc_reader.specs.Options.{some_at}
+use Rattle.tc_reader.proofs.RunLemmas.{some_at-none}
+use Rattle.tc_reader.proofs.lists.take_list.Goals as goal
+
+pub returns-then-is_empty-clause-value : goal.returns-then-is_empty-clause-value
+unfolding some_at
+returns-then-is_empty-clause-value g c =
+    let none : length c.in_ok-found.found.items ≡ 0 = eqb-true (length c.in_ok-found.found.items) 0 (sym c.is_empty.ensures ∙ c.if-is_empty.true) in
+    rw c.option.ensures (some_at-none g.row.N g.T.ListValue.option _ c.in_ok-found.found.items (words_left c.take_run.new.words) c.requires none c.in_ok-found.ensures.value)

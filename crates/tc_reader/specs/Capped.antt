@@ -1,0 +1,49 @@
+-- The options that the code has read.
+use Rattle.std.specs.Prelude.{◌≡◌, ℕ, List, [], ◌∷◌, ◌++◌, take, Some, Result, Ok, Err, option_map}
+use Rattle.tc_reader.specs.declared.fault.TcFault.{TcFault}
+use Rattle.tc_reader.specs.declared.capped.CappedOptions.{CappedOptions}
+use Rattle.tc_reader.specs.declared.capped.TheConstants.{KEPT_PRIORITIES, KEPT_RANGES, KEPT_ENTRIES}
+use Rattle.wire_time.specs.declared.TheConstants.{CLASSES}
+use Rattle.tc_reader.specs.Cursor.{Word}
+use Rattle.tc_reader.specs.Options.{Options, Item, priorities, ranges, sched_entry, limits, with_item}
+
+abbrev pub view : CappedOptions → Options
+view g = record {
+  num_tc = g.num_tc;
+  priorities = option_map (λ v. v.items) g.priorities;
+  ranges = option_map (λ v. v.items) g.ranges;
+  base_time = g.base_time;
+  cycle_time = g.cycle_time;
+  extension = g.extension;
+  entries = g.entries.items;
+  clock = g.clock;
+  flags = g.flags;
+  limits = option_map (λ v. v.items) g.limits;
+}
+
+-- the same, of which only so many values are capped as show that there are too many, or as count
+abbrev pub capped_with : Options → Item → Options
+capped_with g (priorities ns) = record g { priorities = Some (take KEPT_PRIORITIES ns) }
+capped_with g (ranges rs) = record g { ranges = Some (take KEPT_RANGES rs) }
+capped_with g (sched_entry mask interval) = record g { entries = take KEPT_ENTRIES (g.entries ++ record { mask = mask; interval = interval } ∷ []) }
+capped_with g (limits ns) = record g { limits = Some (take CLASSES ns) }
+capped_with g i = with_item g i
+
+-- of the values that were read only the first ones are capped
+abbrev pub first_ones : {X : Type 0} → ℕ → Result (List X × List Word) TcFault → Result (List X × List Word) TcFault
+first_ones n (Ok x) = Ok (take n x.0, x.1)
+first_ones n (Err f) = Err f
+
+-- the option that was read is capped
+abbrev pub with_read : Options → Result (Item × List Word) TcFault → Result (Options × List Word) TcFault
+with_read g (Ok x) = Ok (capped_with g x.0, x.1)
+with_read g (Err f) = Err f
+
+-- an option was taken from the words
+abbrev pub Takes : {X : Type 0} → Options → Result (Item × List Word) TcFault → Result X TcFault → Options → List Word → Type 0
+Takes old read (Ok _) new rest = with_read old read ≡ Ok (new, rest)
+Takes old read (Err f) new rest = read ≡ Err f
+
+-- all that was given, of which only so much is capped
+abbrev pub capped : Options → Options
+capped g = record g { priorities = option_map (take KEPT_PRIORITIES) g.priorities; ranges = option_map (take KEPT_RANGES) g.ranges; entries = take KEPT_ENTRIES g.entries; limits = option_map (take CLASSES) g.limits }
