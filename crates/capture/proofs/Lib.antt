@@ -1,0 +1,6 @@
+pub mod Slices
+pub mod RecordLemmas
+pub mod HeaderLemmas
+pub mod WriterLemmas
+pub mod CaptureLaws
+pub mod SpellingLaws

@@ -1,0 +1,5 @@
+use Rattle.capture.proofs.SpellingLaws.{spelling_law}
+use Rattle.capture.proofs.laws.spelling_law.Goals as goal
+
+pub returns : goal.returns
+returns c = spelling_law

@@ -1,0 +1,20 @@
+//! Classic pcap files (pcap-savefile(5)): captures of Ethernet frames, read record by record, and written.
+#![tactic(auto)]
+
+mod fault;
+mod format;
+mod header;
+pub mod laws;
+mod reader;
+mod record;
+mod window;
+mod writer;
+
+pub use fault::CapFault;
+pub use format::{Endian, Format, LONGEST_RECORD, MOST_RECORDS, Resolution};
+pub use reader::{CaptureReader, End};
+pub use record::{Record, frame_of};
+pub use writer::{CAPTURE_END, CaptureWriter};
+
+#[cfg(test)]
+mod tests;

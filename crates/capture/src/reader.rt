@@ -1,0 +1,167 @@
+//! Reading a capture record by record, out of one buffer.
+
+ghost use Rattle.std.specs.Prelude.{◌≡◌, ◌≢◌, ◌≤◌, ◌<◌, ◌+◌, length, Ok, Err, Some, true, false, IsTrue, IfOk, IfErr, IsSome, IfSome};
+ghost use Rattle.std.specs.Io.KnownBytes.{Keeps, IsAtEnd, prepend_known};
+ghost use Rattle.std.specs.Io.BufRead.{Rests};
+ghost use Rattle.std.specs.Borrow.{sem};
+ghost use Rattle.capture.specs.Window.{held};
+ghost use Rattle.capture.specs.Step.{Step, is_record_fault};
+ghost use Rattle.capture.specs.Records.{fault_at, fractions_of};
+
+use crate::fault::CapFault;
+use crate::format::{Format, RecordHeader, check_header, moment, read_header};
+use crate::header::read_file_header;
+use crate::record::Record;
+use crate::window::{RECORD_HEADER, Window};
+use std::alloc::{Allocator, Global};
+use std::io::Read;
+
+/// How a capture ended.
+#[derive(Clone, Copy, Debug, PartialEq, Eq)]
+pub enum End {
+    /// After its last record.
+    Whole,
+    /// With a fault.
+    Broken(CapFault),
+}
+
+/// A capture's records, one after another.
+///
+/// What follows the header is read into one buffer, made once, with room for one record. A read is made only where the octets
+/// in hand don't hold the next record whole; it asks for as much as the buffer then has room for.
+#[derive(Drop)]
+pub struct CaptureReader<R, A: Allocator = Global> {
+    source: R,
+    window: Window<A>,
+    format: Format,
+    number: u32,
+    ended: Option<End>,
+}
+
+// Reads until so many octets are held, and no further. False: the input ends before.
+fn fetch<R: Read, A: Allocator>(
+    window: &mut Window<A>,
+    source: &mut R,
+    need: usize,
+) -> Result<bool, CapFault>
+    requires { need ≤ 262160 }
+    ensures octets { Keeps (prepend_known (held window.old) (R.remaining source.old)) (prepend_known (held window.new) (R.remaining source.new)) }
+    ensures enough { result ≡ Ok true → need ≤ length (held window.new) }
+    ensures ended { result ≡ Ok false → (length (held window.new) < need) × IsAtEnd (R.remaining source.new) }
+    ensures fault { IfErr result (λ f. f ≡ CapFault.Read) }
+    ensures in_hand { need ≤ length (held window.old) → (result ≡ Ok true) × (source.new ≡ source.old) × (held window.new ≡ held window.old) }
+{
+    while window.len() < need {
+        window.pull();
+        match window.fill(source) {
+            Ok(0) => return Ok(false),
+            Ok(_) => {}
+            Err(_) => return Err(CapFault::Read),
+        }
+    }
+    Ok(true)
+}
+
+// The next record, which the window then has given, or None at the end of the input.
+fn read_record<R: Read, A: Allocator>(
+    window: &mut Window<A>,
+    source: &mut R,
+    format: Format,
+    number: u32,
+) -> Result<Option<RecordHeader>, CapFault>
+    ensures step { IfSome (prepend_known (held window.old) (R.remaining source.old)) (λ octets.
+        Step format number octets result window.new (prepend_known (held window.new) (R.remaining source.new))) }
+    ensures start { IfOk result (λ o. IfSome o (λ header. header.captured ≤ window.new.start)) }
+    ensures short { IfOk result (λ o. IfSome o (λ header. header.captured ≤ 262144)) }
+    ensures fraction { IfOk result (λ o. IfSome o (λ header. header.fraction < fractions_of format.resolution)) }
+    ensures few { IfOk result (λ o. IsSome o → number < 4000000) }
+    ensures fault { IfErr result (λ f. IsTrue (is_record_fault f)) }
+    ensures read { result ≡ Err CapFault.Read → fault_at format number (held window.old) ≡ Some CapFault.ShortRecord }
+    ensures unread { fault_at format number (held window.old) ≢ Some CapFault.ShortRecord → source.new ≡ source.old }
+{
+    if !fetch(window, source, RECORD_HEADER)? {
+        return if window.len() == 0 {
+            Ok(None)
+        } else {
+            Err(CapFault::ShortRecord)
+        };
+    }
+    let header = read_header(format, window.octets());
+    check_header(format, number, header)?;
+    let captured = header.captured as usize;
+    if !fetch(window, source, RECORD_HEADER + captured)? {
+        return Err(CapFault::ShortRecord);
+    }
+    window.give(RECORD_HEADER);
+    window.give(captured);
+    Ok(Some(header))
+}
+
+impl<R: Read, A: Allocator> CaptureReader<R, A> {
+    ghost use Rattle.capture.specs.contracts.reader.CaptureReader.{the_row};
+    ghost use Rattle.capture.specs.FileHeader.{IsHeaderFault};
+    ghost use Rattle.capture.specs.CaptureReader.{IsBegun, left, answer, shown, Next};
+
+    /// Reads the file header and no octet more, and then takes the room for one record. No later call wants memory.
+    pub fn new(alloc: A, reader: R) -> Result<CaptureReader<R, A>, CapFault>
+    where
+        R: Drop,
+        ensures ok { IfOk result (λ r. IsBegun R.remaining (R.remaining reader) (left r)) }
+        ensures fault { IfErr result (λ f. IsHeaderFault (R.remaining reader) f) }
+    {
+        let mut source = reader;
+        let format = read_file_header(&mut source)?;
+        let window = match Window::new(alloc) {
+            Ok(window) => window,
+            Err(_) => return Err(CapFault::Memory),
+        };
+        Ok(CaptureReader {
+            source,
+            window,
+            format,
+            number: 0,
+            ended: None,
+        })
+    }
+
+    /// The next record, or None at the end. After None it answers None, after a fault that fault.
+    pub fn next(&mut self) -> Result<Option<Record<'_>>, CapFault>
+        ensures* next { sem 𝓛 (Rests (the_row R.row A.row A.Allocator) self.entry (λ new. Next R.remaining (left self.old) (answer result) (left new))) }
+    {
+        match self.advance() {
+            Ok(None) => Ok(None),
+            Err(fault) => Err(fault),
+            Ok(Some(header)) => Ok(Some(Record {
+                moment: moment(self.format, header),
+                captured: header.captured,
+                original: header.original,
+                octets: self.window.given(header.captured as usize),
+            })),
+        }
+    }
+
+    fn advance(&mut self) -> Result<Option<RecordHeader>, CapFault>
+        ensures next { Next R.remaining (left self.old) (shown self.new result) (left self.new) }
+        ensures start { IfOk result (λ o. IfSome o (λ header. header.captured ≤ self.new.window.start)) }
+    {
+        match self.ended {
+            Some(End::Whole) => return Ok(None),
+            Some(End::Broken(fault)) => return Err(fault),
+            None => {}
+        }
+        match read_record(&mut self.window, &mut self.source, self.format, self.number) {
+            Ok(Some(header)) => {
+                self.number += 1;
+                Ok(Some(header))
+            }
+            Ok(None) => {
+                self.ended = Some(End::Whole);
+                Ok(None)
+            }
+            Err(fault) => {
+                self.ended = Some(End::Broken(fault));
+                Err(fault)
+            }
+        }
+    }
+}
