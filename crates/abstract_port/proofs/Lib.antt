@@ -6,3 +6,5 @@ pub mod ScanLaws
 pub mod StartsLaws
 pub mod TallyLaws
 pub mod TurnLaws
+pub mod AskedLaws
+pub mod Started

@@ -15,6 +15,7 @@ pub record StartsOneByOne (p : AbstractPort) (upto : ℕ) : Type 0 where
   pub some : (s : Start) → (next_start p upto).0 ≡ Some s → starts_until p upto ≡ (s ∷ (starts_until (next_start p upto).1 upto).0, (starts_until (next_start p upto).1 upto).1)
   pub fewer : (s : Start) → (next_start p upto).0 ≡ Some s → waiting (next_start p upto).1 + 1 ≡ waiting p
 
+-- the starts before a moment come one by one
 abbrev pub StartsLaw : Type 0
 StartsLaw = (p : AbstractPort) (upto : ℕ) → StartsOneByOne p upto
 
@@ -35,6 +36,7 @@ pub record StartInTurn (p : AbstractPort) (upto : ℕ) : Type 0 where
   pub in_turn : AreInTurn p.history p.free (starts_until p upto).0
   pub wire : (starts_until p upto).1.free ≡ wire_after p.free (starts_until p upto).0
 
+-- each start of a clock event is when the wire is free, by a gate that is open up to its end
 abbrev pub TurnLaw : Type 0
 TurnLaw = (p : AbstractPort) (upto : ℕ) → StartInTurn p upto
 

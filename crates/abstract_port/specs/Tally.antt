@@ -12,7 +12,7 @@ use Rattle.abstract_port.specs.declared.Answer.{Answer}
 use Rattle.abstract_port.specs.declared.Answer.TheVariants as Answered
 use Rattle.abstract_port.specs.AbstractPort.{AbstractPort, queue_of, counts_at, class_for, verdict, waiting, next_start}
 use Rattle.abstract_port.specs.Answers.{arrival_answer, answers_to, answers_of, port_after}
-use Rattle.abstract_port.specs.Counting.{add_capped}
+use Rattle.abstract_port.specs.Counting.{add_capped, greatest_count}
 
 -- 1. What happens
 
@@ -27,6 +27,7 @@ started None queue later = []
 started (Some s) [] later = []
 started (Some s) (f ∷ rest) later = Started s f ∷ later
 
+-- the frames of the class that starts
 abbrev pub first_of_class : AbstractPort → Option Start → List Frame
 first_of_class p None = []
 first_of_class p (Some s) = queue_of p s.class
@@ -37,6 +38,7 @@ departures zero upto p = []
 departures (suc n) upto p =
     started (next_start p upto).0 (first_of_class p (next_start p upto).0) (departures n upto (next_start p upto).1)
 
+-- what happens at an event
 abbrev pub happened : Event → AbstractPort → List Happening
 happened (Arrive f) p = Arrived f (class_for p f.priority) (verdict p f) ∷ []
 happened (Clock m) p = if nat_lt m p.now || nat_lt greatest_moment m then [] else departures (waiting p + 1) m p
@@ -61,6 +63,7 @@ pub data Counter : Type 0 where
   OverSdus : Counter
   Fulls : Counter
 
+-- the value of a counter
 abbrev pub value_of : Counter → Counts → ℕ
 value_of Accepted c = c.accepted
 value_of Sent c = c.sent
@@ -89,6 +92,7 @@ by_drop OverSdus OverSdu = 1
 by_drop Fulls Full = 1
 by_drop _ _ = 0
 
+-- a number, where the class is the one that is asked for
 abbrev pub only_in : ℕ → ℕ → ℕ → ℕ
 only_in class d n = if d == class then n else 0
 
@@ -100,9 +104,6 @@ growth counter class (Arrived f None (Err why)) = 0
 growth counter class (Started s f) = only_in class s.class (by_start counter f)
 
 -- 3. The law
-
-abbrev pub greatest_count : ℕ
-greatest_count = 2 ^ 64 - 1
 
 -- After a run each counter of a class is the number at its beginning plus how much it grows by what happens, at most the
 -- greatest u64.
@@ -116,11 +117,13 @@ abbrev pub told : Happening → Answer
 told (Arrived f o v) = arrival_answer f v
 told (Started s f) = Answered.Start s
 
+-- whether an answer tells of an arrival or a start
 abbrev pub is_told : Answer → Bool
 is_told (Answered.Queued id class) = true
 is_told (Answered.Dropped id why) = true
 is_told (Answered.Start s) = true
 is_told _ = false
 
+-- what happens in a run is what is answered to arrivals, and the starts
 abbrev pub ToldLaw : Type 0
 ToldLaw = (p : AbstractPort) (events : List Event) → map told (happenings events p) ≡ filter is_told (answers_of events p)

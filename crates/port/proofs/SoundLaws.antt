@@ -3,12 +3,17 @@ use Rattle.std.proofs.Common.{◌≡◌, ◌<◌, ◌≤◌, ℕ, zero, suc, ◌
 use Rattle.std.specs.Prelude.{All, slice_index_or, slice_get, slice_set}
 use Rattle.wire_time.specs.declared.Frame.{Frame}
 use Rattle.wire_time.specs.Wire.{lead_of, occupancy_of}
-use Rattle.class_queue.specs.Queue.{Queue}
+use Rattle.class_queue.specs.Queue.{IsRoom, Queue}
 use Rattle.list_config.specs.Current.{IsCurrent}
 use Rattle.abstract_port.specs.AbstractPort.{AbstractPort}
-use Rattle.abstract_port.specs.Sound.{FitsLead, IsSoundPort}
-use Rattle.std.proofs.lemmas.List.{length-set}
-use Rattle.std.proofs.lemmas.List.Elements.{All-set, All-drop, All-append}
+use Rattle.abstract_port.specs.Counting.{AreCapped, AreCounted, add_capped, count_dropped, greatest_count}
+use Rattle.abstract_port.specs.declared.Counts.{Counts}
+use Rattle.abstract_port.specs.declared.Dropped.{Dropped}
+use Rattle.abstract_port.specs.declared.Dropped.TheVariants.{NoClass, Runt, TooLong, OverSdu, Full}
+use Rattle.abstract_port.specs.Sound.{FitsLead, IsMtu, IsSoundPort}
+use Rattle.std.proofs.lemmas.List.{length-set, length-map}
+use Rattle.std.specs.List.{AllByRecursion}
+use Rattle.std.proofs.lemmas.List.Elements.{All-from_recursion, All-set, All-drop, All-append}
 use Rattle.port.proofs.HeadLaws.{frames_of-at}
 use Rattle.port.specs.View.{frames_of, queue_at, no_queue, with_frames, HaveRoom, IsKept}
 
@@ -18,10 +23,13 @@ fits_at ps mtu [] h class = λ k d lt. absurd (omega arith)
 fits_at ps mtu (q ∷ qs) h zero = h 0 q (omega arith)
 fits_at ps mtu (q ∷ qs) h (suc class) = fits_at ps mtu qs (λ k d lt. h (suc k) d (omega arith)) class
 
-pub sound_by : (p : AbstractPort) (room : ℕ) (queues : List Queue) → IsCurrent p.history p.now → IsKept p.ps p.mtu room p.now p.free queues → p.queues ≡ frames_of queues → IsSoundPort p
-sound_by p room queues current kept same = record {
+pub sound_by : (p : AbstractPort) (queues : List Queue) → IsCurrent p.history p.now → IsKept p.ps p.mtu p.room p.now p.free queues → AreCounted p.counts p.no_class → p.queues ≡ frames_of queues → IsSoundPort p
+sound_by p queues current kept counts same = record {
   rate = kept.rate;
-  mtu = kept.least_mtu;
+  mtu = kept.mtu_within;
+  room = kept.room_within;
+  queues = ap length same ∙ (length-map queues (λ (q : Queue). q.frames) ∙ kept.eight);
+  counts = counts;
   current = current;
   fits = λ class. subst (λ qs. All (FitsLead p.ps p.mtu) (slice_index_or qs class [])) (sym same) (fits_at p.ps p.mtu queues kept.fits class);
   wire = kept.wire;
@@ -30,7 +38,7 @@ sound_by p room queues current kept same = record {
 -- a later moment
 pub kept_later : (ps mtu room now now' free : ℕ) (queues : List Queue) → IsKept ps mtu room now free queues → now ≤ now' → IsKept ps mtu room now' free queues
 kept_later ps mtu room now now' free queues k l =
-    record { eight = k.eight; rooms = k.rooms; rate = k.rate; least_mtu = k.least_mtu; greatest_mtu = k.greatest_mtu; fits = k.fits; wire = let w = k.wire in omega arith }
+    record { eight = k.eight; rooms = k.rooms; rate = k.rate; mtu_within = k.mtu_within; room_within = k.room_within; fits = k.fits; wire = let w = k.wire in omega arith }
 
 -- other frames of a class
 kept_set : (ps mtu room now free free' class : ℕ) (queues : List Queue) (frames : List Frame) → IsKept ps mtu room now free queues → class < 8
@@ -41,8 +49,8 @@ kept_set ps mtu room now free free' class queues frames k less fits wire =
       eight = length-set queues class (with_frames (queue_at queues class) frames) ∙ k.eight;
       rooms = All-set (λ q. q.room ≡ room) queues class (with_frames (queue_at queues class) frames) (k.rooms class no_queue within) k.rooms;
       rate = k.rate;
-      least_mtu = k.least_mtu;
-      greatest_mtu = k.greatest_mtu;
+      mtu_within = k.mtu_within;
+      room_within = k.room_within;
       fits = All-set (λ q. All (FitsLead ps mtu) q.frames) queues class (with_frames (queue_at queues class) frames) fits k.fits;
       wire = wire;
     }
@@ -91,16 +99,52 @@ none_at : (queues : List Queue) → frames_of queues ≡ [] ∷ [] ∷ [] ∷ []
 none_at queues empty k d l = sym (frames_of-at queues k d l) ∙ (ap (λ qs. get_or qs k []) empty ∙ empty_at k)
 
 -- a new port
-pub kept_new : (ps mtu room now : ℕ) (queues : List Queue) → 80 ≤ ps → 68 ≤ mtu → mtu ≤ 9216 → HaveRoom room queues
+pub kept_new : (ps mtu room now : ℕ) (queues : List Queue) → 80 ≤ ps → IsMtu mtu → IsRoom room → HaveRoom room queues
     → frames_of queues ≡ [] ∷ [] ∷ [] ∷ [] ∷ [] ∷ [] ∷ [] ∷ [] ∷ [] → IsKept ps mtu room now 0 queues
-kept_new ps mtu room now queues rate least greatest have empty = record {
+kept_new ps mtu room now queues rate mtu_within room_within have empty = record {
   eight = have.eight;
   rooms = have.rooms;
   rate = rate;
-  least_mtu = least;
-  greatest_mtu = greatest;
+  mtu_within = mtu_within;
+  room_within = room_within;
   fits = λ k d l.
       let none = none_at queues empty k d l in
       subst (All (FitsLead ps mtu)) (sym none) (λ j e m. absurd (omega arith));
   wire = omega arith;
 }
+
+-- ---- what is counted
+
+-- a new port: each class has the same counts
+pub counted_new : (c : Counts) → AreCapped c → AreCounted (c ∷ c ∷ c ∷ c ∷ c ∷ c ∷ c ∷ c ∷ []) 0
+counted_new c k =
+    let each : AllByRecursion AreCapped (c ∷ c ∷ c ∷ c ∷ c ∷ c ∷ c ∷ c ∷ []) = (k, (k, (k, (k, (k, (k, (k, (k, tt)))))))) in
+    record { eight = refl; capped = All-from_recursion AreCapped (c ∷ c ∷ c ∷ c ∷ c ∷ c ∷ c ∷ c ∷ []) each; unclassed = omega arith }
+
+pub counts_capped : (counts : List Counts) (no_class class : ℕ) (d : Counts) → AreCounted counts no_class → class < 8 → AreCapped (slice_index_or counts class d)
+counts_capped counts no_class class d k less = k.capped class d (let e = k.eight in omega arith)
+
+-- other counts of a class
+pub counted_set : (counts : List Counts) (no_class class : ℕ) (c : Counts) → AreCounted counts no_class → AreCapped c → AreCounted (slice_set counts class c) no_class
+counted_set counts no_class class c k capped = record {
+  eight = length-set counts class c ∙ k.eight;
+  capped = All-set AreCapped counts class c capped k.capped;
+  unclassed = k.unclassed;
+}
+
+pub capped_accepted : (c : Counts) → AreCapped c → AreCapped (record c { accepted = add_capped c.accepted 1 })
+capped_accepted c k = record { accepted = omega arith; sent = k.sent; sent_octets = k.sent_octets; runt = k.runt; too_long = k.too_long; over_sdu = k.over_sdu; full = k.full }
+
+pub capped_sent : (c : Counts) (len : ℕ) → AreCapped c → AreCapped (record c { sent = add_capped c.sent 1; sent_octets = add_capped c.sent_octets len })
+capped_sent c len k = record { accepted = k.accepted; sent = omega arith; sent_octets = omega arith; runt = k.runt; too_long = k.too_long; over_sdu = k.over_sdu; full = k.full }
+
+pub capped_dropped : (why : Dropped) (c : Counts) → AreCapped c → AreCapped (count_dropped why c)
+capped_dropped NoClass c k = k
+capped_dropped Runt c k = record { accepted = k.accepted; sent = k.sent; sent_octets = k.sent_octets; runt = omega arith; too_long = k.too_long; over_sdu = k.over_sdu; full = k.full }
+capped_dropped TooLong c k = record { accepted = k.accepted; sent = k.sent; sent_octets = k.sent_octets; runt = k.runt; too_long = omega arith; over_sdu = k.over_sdu; full = k.full }
+capped_dropped OverSdu c k = record { accepted = k.accepted; sent = k.sent; sent_octets = k.sent_octets; runt = k.runt; too_long = k.too_long; over_sdu = omega arith; full = k.full }
+capped_dropped Full c k = record { accepted = k.accepted; sent = k.sent; sent_octets = k.sent_octets; runt = k.runt; too_long = k.too_long; over_sdu = k.over_sdu; full = omega arith }
+
+-- other frames of no class
+pub counted_unclassed : (counts : List Counts) (no_class n : ℕ) → AreCounted counts no_class → n ≡ add_capped no_class 1 → AreCounted counts n
+counted_unclassed counts no_class n k e = record { eight = k.eight; capped = k.capped; unclassed = omega (arith, e) }

@@ -12,8 +12,8 @@ returns-clause-port g c = (delete_taken _ c.args.self.now.port c.args.e (ap (λ 
 
 pub returns-clause-sound : goal.returns-clause-sound
 returns-clause-sound g c =
-    sound_by _ _ _ (g.met.G.Gates.is_current c.delete.new.self c.delete.ensures.sound)
-    (subst (λ m. IsKept c.self.inside.rate c.self.inside.mtu c.self.inside.room m c.self.inside.free c.self.inside.queues) (sym c.delete.ensures.moment) c.self.invariant.1) refl
+    sound_by _ _ (g.met.G.Gates.is_current c.delete.new.self c.delete.ensures.sound)
+    (subst (λ m. IsKept c.self.inside.rate c.self.inside.mtu c.self.inside.room m c.self.inside.free c.self.inside.queues) (sym c.delete.ensures.moment) c.self.invariant.1) c.self.invariant.2 refl
 
 pub returns-in-Err-clause-answer : goal.returns-in-Err-clause-answer
 returns-in-Err-clause-answer g c = ap Err c.busy_of.ensures ∙ (delete_busy _ c.args.self.now.port c.args.e (ap (λ q. q.port) c.self.view_is) c.requires.lead _ c.in-Err.not_now _ (sym c.in-Err.is ∙ c.delete.ensures.answer) c.delete.ensures.history c.delete.ensures.moment).0
@@ -23,5 +23,5 @@ returns-in-Err-clause-port g c = (delete_busy _ c.args.self.now.port c.args.e (a
 
 pub returns-in-Err-clause-sound : goal.returns-in-Err-clause-sound
 returns-in-Err-clause-sound g c =
-    sound_by _ _ _ (g.met.G.Gates.is_current c.delete.new.self c.delete.ensures.sound)
-    (subst (λ m. IsKept c.self.inside.rate c.self.inside.mtu c.self.inside.room m c.self.inside.free c.self.inside.queues) (sym c.delete.ensures.moment) c.self.invariant.1) refl
+    sound_by _ _ (g.met.G.Gates.is_current c.delete.new.self c.delete.ensures.sound)
+    (subst (λ m. IsKept c.self.inside.rate c.self.inside.mtu c.self.inside.room m c.self.inside.free c.self.inside.queues) (sym c.delete.ensures.moment) c.self.invariant.1) c.self.invariant.2 refl

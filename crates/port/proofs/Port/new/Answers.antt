@@ -1,10 +1,18 @@
 use Rattle.std.proofs.Common.{◌≤◌, arith}
-use Rattle.port.proofs.SoundLaws.{kept_new}
+use Rattle.abstract_port.specs.Counting.{AreCapped}
+use Rattle.abstract_port.specs.Sound.{IsMtu}
+use Rattle.class_queue.specs.Queue.{IsRoom}
+use Rattle.port.proofs.SoundLaws.{kept_new, counted_new}
 use Rattle.port.proofs.Port.new.Goals as goal
 
 pub invariant_of-result : goal.invariant_of-result
 invariant_of-result g c =
-    let rate : 80 ≤ c.args.rate = let w = c.ps_per_octet-ps.ensures.within.0 in omega (arith, w, c.ps_per_octet-ps.ensures.value) in (
+    let rate : 80 ≤ c.args.rate = let w = c.ps_per_octet-ps.ensures.within.0 in omega (arith, w, c.ps_per_octet-ps.ensures.value) in
+    let mtu : IsMtu c.args.mtu = c.is_mtu.ensures.within.0 c.if-not-is_mtu.false in
+    let room : IsRoom c.args.room = c.is_room.ensures.within.0 c.if-not-is_room.false in
+    let n = c.default.ensures in
+    let capped : AreCapped c.default.result = record { accepted = omega arith; sent = omega arith; sent_octets = omega arith; runt = omega arith; too_long = omega arith; over_sdu = omega arith; full = omega arith } in (
       c.begin.ensures.sound,
-      kept_new c.args.rate c.args.mtu c.args.room _ c.in-Ok.queues rate (omega arith) (omega arith) c.in-Ok.ensures.1 c.in-Ok.ensures.0,
+      kept_new c.args.rate c.args.mtu c.args.room _ c.in-Ok.queues rate mtu room c.in-Ok.ensures.1 c.in-Ok.ensures.0,
+      counted_new c.default.result capped,
     )

@@ -30,5 +30,5 @@ returns-clause-room g c =
 
 pub returns-clause-fits : goal.returns-clause-fits
 returns-clause-fits g c =
-    let mtu : 68 ≤ c.args.self.now.port.mtu = rw (← c.self.view_is) c.self.invariant.1.least_mtu in
+    let mtu : 68 ≤ c.args.self.now.port.mtu = rw (← c.self.view_is) c.self.invariant.1.mtu_within.0 in
     fits_on c.judge.result c.args.self.now.port c.args.frame.now (omega (arith, mtu)) (returns-clause-verdict g c)

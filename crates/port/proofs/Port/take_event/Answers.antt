@@ -1,0 +1,44 @@
+use Rattle.std.proofs.Common.{◌++◌, ◌∷◌, [], List, arith, sym, ap, ◌∙◌, subst}
+use Rattle.abstract_port.specs.declared.Answer.{Answer}
+use Rattle.abstract_port.specs.Answers.{IsBegun}
+use Rattle.abstract_port.proofs.RunLaws.{timely-sound}
+use Rattle.abstract_port.specs.Asked.{IsStopped}
+use Rattle.abstract_port.proofs.AskedLaws.{going_begins, going_more, going_fewer, gone_begun, gone_stopped, asked_some, on_err_of}
+use Rattle.port.proofs.Port.take_event.Goals as goal
+
+pub loop-asked-init : goal.loop-asked-init
+loop-asked-init g c = (c.now-now.ensures.sound, going_begins _ _ _ c.now-now.ensures.sound)
+
+pub returns-in_err-reserve-clause-err : goal.returns-in_err-reserve-clause-err
+returns-in_err-reserve-clause-err g c =
+    let e = asked_some _ (sym c.is_some.ensures ∙ c.loop-asked-test.true) in
+    let P : List Answer → Type 0 = λ items. IsBegun c.args.event.now c.args.answers.now.items c.args.self.now.port items c.loop-asked.self.port in
+    on_err_of c.from_residual.result _ (subst P (sym c.reserve.ensures.items) (gone_begun _ _ _ _ _ _ c.loop-asked.invariant.1 e.0 e.1))
+
+pub returns-in_err-reserve-clause-stopped : goal.returns-in_err-reserve-clause-stopped
+returns-in_err-reserve-clause-stopped g c =
+    let e = asked_some _ (sym c.is_some.ensures ∙ c.loop-asked-test.true) in
+    let P : List Answer → Type 0 = λ items. IsStopped c.args.event.now c.args.answers.now.items c.args.self.now.port items c.loop-asked.self.port in
+    on_err_of c.from_residual.result _ (subst P (sym c.reserve.ensures.items) (gone_stopped _ _ _ _ _ _ c.loop-asked.invariant.1 e.0 e.1))
+
+pub loop-asked-smaller-in-Continue-branch-2 : goal.loop-asked-smaller-in-Continue-branch-2
+loop-asked-smaller-in-Continue-branch-2 g c =
+    let e = asked_some _ (sym c.is_some.ensures ∙ c.loop-asked-test.true) in
+    let n = c.next_answer.ensures in
+    let fewer = going_fewer e.0 _ _ c.next_answer.result _ _ e.1 (record { answers = n.answers; port = n.port; none = n.none; more = n.more }) in
+    omega (arith, fewer)
+
+pub loop-asked-preserved-in-Continue-branch-2 : goal.loop-asked-preserved-in-Continue-branch-2
+loop-asked-preserved-in-Continue-branch-2 g c =
+    let n = c.next_answer.ensures in (
+      n.sound,
+      going_more _ _ _ _ _ _ c.loop-asked.invariant.1 (timely-sound _ c.now-now.ensures.sound) c.next_answer.result _ _ (record { answers = n.answers; port = n.port; none = n.none; more = n.more })
+          c.in-Some.answer c.in-Some.is _ (c.in_ok-push-in-Some.ensures.items ∙ ap (λ x. x ++ c.in-Some.answer ∷ []) c.reserve.ensures.items),
+    )
+
+pub loop-asked-smaller : goal.loop-asked-smaller
+loop-asked-smaller g c =
+    let e = asked_some _ (sym c.is_some.ensures ∙ c.loop-asked-test.true) in
+    let n = c.next_answer.ensures in
+    let fewer = going_fewer e.0 _ _ c.next_answer.result _ _ e.1 (record { answers = n.answers; port = n.port; none = n.none; more = n.more }) in
+    omega (arith, fewer)

@@ -1,0 +1,5 @@
+use Rattle.separation.proofs.Keeping.{keeping}
+use Rattle.separation.proofs.keeping_promises.Goals as goal
+
+pub returns : goal.returns
+returns c = keeping
