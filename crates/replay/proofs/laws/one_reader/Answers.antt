@@ -1,8 +1,0 @@
-use Rattle.replay.proofs.OneReader.{a_reader, same_readers}
-use Rattle.replay.proofs.laws.one_reader.Goals as goal
-
-pub returns-clause-some : goal.returns-clause-some
-returns-clause-some c = a_reader
-
-pub returns-clause-one : goal.returns-clause-one
-returns-clause-one c = same_readers

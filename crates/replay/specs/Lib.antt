@@ -1,5 +1,0 @@
-pub mod Settings
-pub mod Requests
-pub mod Responses
-pub mod Outcome
-pub mod Texts

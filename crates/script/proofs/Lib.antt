@@ -1,0 +1,6 @@
+mod OutputLaws
+mod StartsLaws
+mod LeftLaws
+mod ReaderLaws
+mod Going
+mod EndingLaws

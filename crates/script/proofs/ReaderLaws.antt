@@ -1,0 +1,19 @@
+-- A line that begins with tc has just one command or fault.
+use Rattle.std.proofs.Common.{◌≡◌, ℕ, List, Option, Some, None, Result, Ok, Err, ap, subst}
+use Rattle.std.specs.Prelude.{IfSome, MatchResult, option_map}
+use Rattle.abstract_port.specs.declared.Command.{Command}
+use Rattle.tc_reader.specs.Grammar.{IsCommand}
+use Rattle.tc_reader.specs.Lines.{HasFault}
+use Rattle.tc_reader.specs.declared.fault.TcFault.{TcFault}
+use Rattle.line_reader.specs.Script.{Script, script_of}
+
+pub says_command : (line : List (List ℕ)) (command : Command) (read : Result Command TcFault)
+    → ((c d : Command) → IsCommand line c → IsCommand line d → c ≡ d) → ((c : Command) (f : TcFault) → IsCommand line c → HasFault line f → ⊥)
+    → IsCommand line command → MatchResult read (IsCommand line) (HasFault line) → ◌≡◌ {A = Result Command TcFault} (Ok command) read
+says_command line command (Ok other) one never is reads = ap Ok (one command other is reads)
+says_command line command (Err fault) one never is reads = absurd (never command fault is reads)
+
+-- what holds of the lines of a known input
+pub of_input : (input : Option (List ℕ)) (lines : Option Script) (P : Script → Type 0) → lines ≡ option_map script_of input → IfSome lines P → IfSome input (λ octets. P (script_of octets))
+of_input None lines P e h = tt
+of_input (Some octets) lines P e h = let Q : Option Script → Type 0 = λ o. IfSome o P in subst Q e h

@@ -1,0 +1,32 @@
+use Rattle.std.proofs.Common.{◌≡◌, ℕ, Option, Err, refl, ap, ◌∙◌, subst}
+use Rattle.std.specs.Prelude.{IfSome}
+use Rattle.std.proofs.lemmas.Result.{err_from_is_err_and}
+use Rattle.abstract_port.specs.AbstractPort.{AbstractPort, PortState, new_port}
+use Rattle.line_reader.specs.LineReader.{script_left}
+use Rattle.script.specs.Setup.{Setup}
+use Rattle.script.specs.Outcome.{Runs, outcome_from, outcome_of}
+use Rattle.script.proofs.Going.{memory_exit}
+use Rattle.script.proofs.ReaderLaws.{of_input}
+use Rattle.script.proofs.running.run_script.Goals as goal
+
+pub returns-in_default-clause-script : goal.returns-in_default-clause-script
+returns-in_default-clause-script g c = λ read is. memory_exit read {T = Unit {0}} (outcome_of read c.args.settings) _ _ refl
+
+pub returns-in_err-lines-clause-script : goal.returns-in_err-lines-clause-script
+returns-in_err-lines-clause-script g c = λ read is.
+    let p = err_from_is_err_and c.from_residual.result c.from_residual.ensures.1 in
+    memory_exit read {T = Unit {0}} (outcome_of read c.args.settings) _ _ (p.1 ∙ ap Err p.2)
+
+-- what holds of a port that is made by these numbers holds of one that the settings make
+by_settings : (P : AbstractPort → Option ℕ → Type 0) (s : Setup) (rate mtu room : ℕ) (until : Option ℕ) → rate ≡ s.rate → mtu ≡ s.mtu → room ≡ s.room → until ≡ s.until
+    → P (new_port rate mtu room) until → P (new_port s.rate s.mtu s.room) s.until
+by_settings P s rate mtu room until a b d e h =
+    subst (λ x. P (new_port s.rate s.mtu s.room) x) e (subst (λ x. P (new_port s.rate s.mtu x) until) d (subst (λ x. P (new_port s.rate x room) until) b (subst (λ x. P (new_port x mtu room) until) a h)))
+
+pub returns-clause-script : goal.returns-clause-script
+returns-clause-script g c = λ read is.
+    let s = c.args.settings in
+    let W : AbstractPort → Option ℕ → Type 0 = λ p until. IfSome (script_left g.R.Read.remaining c.in_ok-lines.lines) (λ script. Runs c.run_lines.result (g.W.Write.contents c.args.writer.now) (g.W.Write.contents c.run_lines.new.writer) (outcome_from read until script p)) in
+    let P : PortState → Type 0 = λ p. W p.port c.until.result in
+    let whole = by_settings W s c.rate-rate.result c.mtu-mtu.result c.room.result c.until.result c.rate-rate.ensures c.mtu-mtu.ensures.value c.room.ensures.value c.until.ensures.value (subst P c.in-Ok.ensures.ok (c.run_lines.ensures read is)) in
+    of_input (g.R.Read.remaining c.args.reader) _ _ c.in_ok-lines.ensures.left whole

@@ -1,0 +1,66 @@
+-- What a run of the program on a script leaves: its exit status, what the writer got, and the text of a fault.
+use Rattle.std.specs.Prelude.{◌≡◌, ◌⊎◌, ⊤, List, ℕ, [], Bool, true, false, Option, Some, None, Result, Ok, Err, IfSome, MatchResult, unwrap_or, codes}
+use Rattle.std.specs.Io.KnownBytes.{Appends, append_known}
+use Rattle.wire_time.specs.Moment.{greatest_moment}
+use Rattle.abstract_port.specs.declared.Command.{Command}
+use Rattle.tc_reader.specs.declared.fault.TcFault.{TcFault}
+use Rattle.octet_writer.specs.Writes.{AppendsFront, FallsShort}
+use Rattle.tc_reader.specs.Reader.{IsReader}
+use Rattle.script.specs.Setup.{Setup}
+use Rattle.script.specs.Settings.{settings_of}
+use Rattle.script.specs.Outcome.{Outcome, Runs, outcome_of}
+use Rattle.script.specs.Texts.{fault_text, status_of, value_text}
+use Rattle.script.specs.declared.settings.BadValue.{BadValue}
+use Rattle.script.specs.declared.faults.Ended.{Ended}
+use Rattle.script.specs.declared.faults.RunFault.{RunFault}
+use Rattle.script.specs.declared.faults.RunFault.TheVariants as Faults
+
+-- The settings of the values that are given: 1000 Mb/s, an mtu of 1500 octets and room for 128 frames a class where none is.
+abbrev pub settings_given : Option (List ℕ) → Option (List ℕ) → Option (List ℕ) → Option (List ℕ) → Result Setup BadValue
+settings_given rate mtu room until = settings_of (unwrap_or rate (codes "1000")) (unwrap_or mtu (codes "1500")) (unwrap_or room (codes "128")) until greatest_moment
+
+-- whether a text was told: all of it was written; or not all of it, but a front
+abbrev pub IsTold : Bool → Option (List ℕ) → Option (List ℕ) → List ℕ → Type 0
+IsTold true old new text = Appends old new text
+IsTold false old new text = FallsShort old new text
+
+-- the exit status of a run, and what is told of it: nothing where there is no fault
+abbrev pub run_status : {T : Type 0} → Result T RunFault → ℕ
+run_status (Ok x) = 0
+run_status (Err fault) = status_of fault
+
+-- what is told of a run: nothing where there is no fault
+abbrev pub run_text : {T : Type 0} → Result T RunFault → List ℕ
+run_text (Ok x) = []
+run_text (Err fault) = fault_text fault
+
+-- what is written where the answers go through a buffer: after a failed write a front, which the buffer's octets end
+abbrev pub RunsOut : {T : Type 0} → Result T RunFault → Option (List ℕ) → Option (List ℕ) → Outcome → Type 0
+RunsOut (Err Faults.Write) old new whole = AppendsFront old new whole.text
+RunsOut (Ok x) old new whole = Runs (Ok x) old new whole
+RunsOut (Err (Faults.Script number fault)) old new whole = Runs {T = ⊤} (Err (Faults.Script number fault)) old new whole
+RunsOut (Err Faults.Read) old new whole = Runs {T = ⊤} (Err Faults.Read) old new whole
+RunsOut (Err Faults.Memory) old new whole = Runs {T = ⊤} (Err Faults.Memory) old new whole
+
+-- The end of a run on good settings: the status and the told text are those of a result of the run; what the writer got, with
+-- what no write let out, is the output of the octets, or after a fault of the call's a front of it; and all is let out but after
+-- a failed write.
+pub record IsRunEnding (setup : Setup) (input : Option (List ℕ)) (ended : Ended) (old got : Option (List ℕ)) (errors_old errors_new : Option (List ℕ)) : Type 0 where
+  pub run : Result (Unit {0}) RunFault
+  pub unwritten : List ℕ
+  pub status : ended.status ≡ run_status run
+  pub told : IsTold ended.told errors_old errors_new (run_text run)
+  pub let_out : (unwritten ≡ []) ⊎ (run ≡ Err Faults.Write)
+  pub wrote : (read : List (List ℕ) → Result Command TcFault) → IsReader read → IfSome input (λ octets. RunsOut run old (append_known got unwritten) (outcome_of read setup octets))
+
+-- The end where a value is bad: status 2, its text is told, and nothing is answered.
+pub record IsRefusal (value : BadValue) (ended : Ended) (old got : Option (List ℕ)) (errors_old errors_new : Option (List ℕ)) : Type 0 where
+  pub status : ended.status ≡ 2
+  pub told : IsTold ended.told errors_old errors_new (value_text value)
+  pub unwritten : List ℕ
+  pub wrote : append_known got unwritten ≡ old
+
+-- by the settings of the values
+abbrev pub IsEnding : Result Setup BadValue → Option (List ℕ) → Ended → (old got errors_old errors_new : Option (List ℕ)) → Type 0
+IsEnding (Ok setup) input ended old got errors_old errors_new = IsRunEnding setup input ended old got errors_old errors_new
+IsEnding (Err value) input ended old got errors_old errors_new = IsRefusal value ended old got errors_old errors_new

@@ -1,0 +1,7 @@
+pub mod Setup
+pub mod Settings
+pub mod Requests
+pub mod Responses
+pub mod Outcome
+pub mod Texts
+pub mod Ending

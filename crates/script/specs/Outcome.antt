@@ -1,0 +1,117 @@
+-- What is written for a script, and the fault that ends it.
+use Rattle.std.specs.Prelude.{◌≡◌, List, ℕ, [], ◌∷◌, ◌++◌, Option, Some, None, Result, Ok, Err}
+use Rattle.std.specs.Io.KnownBytes.{Appends}
+use Rattle.abstract_port.specs.AbstractPort.{AbstractPort, new_port}
+use Rattle.abstract_port.specs.Answers.{answers_of, port_after}
+use Rattle.abstract_port.specs.declared.Command.{Command}
+use Rattle.abstract_port.specs.declared.Event.TheVariants.{Clock}
+use Rattle.separation.specs.Promises.{KeepsPromises}
+use Rattle.tc_reader.specs.declared.fault.TcFault.{TcFault}
+use Rattle.octet_writer.specs.Writes.{AppendsFront, FallsShort}
+use Rattle.line_reader.specs.Script.{Script, End, Broken, Line, script_of}
+use Rattle.line_reader.specs.declared.lines.Limit.{Limit}
+use Rattle.line_reader.specs.declared.lines.Limit.TheVariants as Limits
+use Rattle.line_reader.specs.declared.lines.LineFault.{LineFault}
+use Rattle.line_reader.specs.declared.lines.LineFault.TheVariants as LineFaults
+use Rattle.script.specs.Requests.{Request, Asks, request_of}
+use Rattle.script.specs.Responses.{answers_in, events_of, left_lines, lines_of, responses_of}
+use Rattle.script.specs.Setup.{Setup}
+use Rattle.script.specs.declared.faults.ScriptFault.{ScriptFault}
+use Rattle.script.specs.declared.faults.ScriptFault.TheVariants as ScriptFaults
+use Rattle.script.specs.declared.faults.RunFault.{RunFault}
+use Rattle.script.specs.declared.faults.RunFault.TheVariants as Faults
+
+-- the fault of a line that passes a limit
+abbrev pub limit_fault : Limit → ScriptFault
+limit_fault Limits.LongLine = ScriptFaults.LongLine
+limit_fault Limits.TooManyLines = ScriptFaults.TooManyLines
+
+-- the fault of a run whose line can not be read
+abbrev pub fault_of_line : LineFault → RunFault
+fault_of_line (LineFaults.Limit number limit) = Faults.Script number (limit_fault limit)
+fault_of_line LineFaults.Read = Faults.Read
+
+-- 1. What a script says
+
+-- what the lines ask, up to the first fault, and that fault with the number of its line
+pub record Reading : Type 0 where
+  pub requests : List Request
+  pub fault : Option (ℕ × ScriptFault)
+
+-- a line before the rest of a script
+abbrev pub with_line : ℕ → Result (Option Request) ScriptFault → Reading → Reading
+with_line number (Err fault) rest = record { requests = []; fault = Some (number, fault) }
+with_line number (Ok None) rest = rest
+with_line number (Ok (Some request)) rest = record { requests = request ∷ rest.requests; fault = rest.fault }
+
+-- what the lines of a script say
+abbrev pub reading_of : (List (List ℕ) → Result Command TcFault) → Script → Reading
+reading_of read End = record { requests = []; fault = None }
+reading_of read (Broken number limit) = record { requests = []; fault = Some (number, limit_fault limit) }
+reading_of read (Line number octets rest) = with_line number (request_of read octets) (reading_of read rest)
+
+-- the clock event after a script, if one is given
+abbrev pub clock_after : Option ℕ → List Request
+clock_after None = []
+clock_after (Some moment) = Asks (Clock moment) ∷ []
+
+-- all that is asked: what the lines ask, and where there is no fault the clock event after them
+abbrev pub asked_with : Option ℕ → List Request → Option (ℕ × ScriptFault) → List Request
+asked_with until requests None = requests ++ clock_after until
+asked_with until requests (Some fault) = requests
+
+-- the same of what lines say
+abbrev pub asked_in : Option ℕ → Reading → List Request
+asked_in until reading = asked_with until reading.requests reading.fault
+
+-- 2. What is written
+
+-- how many frames each class still has, where there is no fault
+abbrev pub left_unless : Option (ℕ × ScriptFault) → AbstractPort → List ℕ
+left_unless None p = left_lines p
+left_unless (Some fault) p = []
+
+-- the whole output, and the fault of the script with its line
+pub record Outcome : Type 0 where
+  pub text : List ℕ
+  pub fault : Option (ℕ × ScriptFault)
+
+-- the lines of what the port answers, with the tc faults at their places, and then of the frames that are left
+abbrev pub outcome_after : Option ℕ → Reading → AbstractPort → Outcome
+outcome_after until reading p = record {
+  text = lines_of (responses_of (asked_in until reading) p) ++ left_unless reading.fault (port_after (events_of (asked_in until reading)) p);
+  fault = reading.fault;
+}
+
+-- what is written after the lines of a script without a fault
+abbrev pub ending_text : Option ℕ → AbstractPort → List ℕ
+ending_text until p = (outcome_after until (record { requests = []; fault = None }) p).text
+
+-- the outcome of the lines to come, from a port
+abbrev pub outcome_from : (List (List ℕ) → Result Command TcFault) → Option ℕ → Script → AbstractPort → Outcome
+outcome_from read until script p = outcome_after until (reading_of read script) p
+
+-- the octets of an input, on a new port
+abbrev pub outcome_of : (List (List ℕ) → Result Command TcFault) → Setup → List ℕ → Outcome
+outcome_of read s input = outcome_from read s.until (script_of input) (new_port s.rate s.mtu s.room)
+
+-- At Ok and at a script's fault the whole output is written, and the fault is the script's; at the other faults a front of
+-- the output, and after a failed write not all of it.
+abbrev pub Runs : {T : Type 0} → Result T RunFault → Option (List ℕ) → Option (List ℕ) → Outcome → Type 0
+Runs (Ok x) old new whole = (whole.fault ≡ None) × Appends old new whole.text
+Runs (Err (Faults.Script number fault)) old new whole = (whole.fault ≡ Some (number, fault)) × Appends old new whole.text
+Runs (Err Faults.Read) old new whole = AppendsFront old new whole.text
+Runs (Err Faults.Write) old new whole = FallsShort old new whole.text
+Runs (Err Faults.Memory) old new whole = AppendsFront old new whole.text
+
+-- 3. What holds of every output
+
+-- The answers among what is told are those of the abstract port to the events of the script, and such a run keeps what every
+-- run of a new port keeps: each start by an open gate, one frame on the wire at a time, counters that are the counts.
+pub record IsFaithful (requests : List Request) (p : AbstractPort) : Type 0 where
+  pub answers : answers_in (responses_of requests p) ≡ answers_of (events_of requests) p
+  pub promises : KeepsPromises p (events_of requests)
+
+-- the same of the output of an input
+abbrev pub IsFaithfulTo : (List (List ℕ) → Result Command TcFault) → Setup → List ℕ → Type 0
+IsFaithfulTo read s input = IsFaithful (asked_in s.until (reading_of read (script_of input))) (new_port s.rate s.mtu s.room)

@@ -1,0 +1,118 @@
+-- What a line of a script says.
+use Rattle.std.specs.Prelude.{◌==◌, ◌^◌, ◌-◌, nat_lt, List, ℕ, Bool, true, false, [], ◌∷◌, Option, Some, None, Result, Ok, Err, codes, if◌then◌else◌}
+use Rattle.std.specs.Str.{bytes_eq}
+use denote.Bor.{Bor}
+use Rattle.wire_time.specs.Moment.{greatest_moment}
+use Rattle.abstract_port.specs.declared.Command.{Command}
+use Rattle.abstract_port.specs.declared.Event.{Event}
+use Rattle.abstract_port.specs.declared.Event.TheVariants.{Arrive, Install, Clock, Query, Count}
+use Rattle.tc_reader.specs.declared.fault.TcFault.{TcFault}
+use Rattle.words.specs.Words.{words_of}
+use Rattle.words.specs.Numbers.{number_in}
+use Rattle.script.specs.declared.reading.Said.{Said}
+use Rattle.script.specs.declared.reading.Said.TheVariants as Says
+use Rattle.script.specs.declared.faults.ScriptFault.{ScriptFault}
+use Rattle.script.specs.declared.faults.ScriptFault.TheVariants.{UnknownLine, WordCount, BadNumber, ClockTooLate}
+
+-- 1. Lines that ask something of the port
+
+-- clock M
+abbrev pub clock_at : Option ℕ → Result Event ScriptFault
+clock_at None = Err BadNumber
+clock_at (Some m) = if nat_lt greatest_moment m then Err ClockTooLate else Ok (Clock m)
+
+-- the same of words
+abbrev pub clock_of : List (List ℕ) → Result Event ScriptFault
+clock_of [] = Err WordCount
+clock_of (m ∷ []) = clock_at (number_in 10 (2 ^ 128 - 1) m)
+clock_of (m ∷ more ∷ ws) = Err WordCount
+
+-- frame ID PRIORITY LEN, and tagged where the frame is
+abbrev pub frame_at : Option ℕ → Option ℕ → Option ℕ → Bool → Result Event ScriptFault
+frame_at (Some id) (Some priority) (Some len) tagged = Ok (Arrive (record { id = id; priority = priority; len = len; tagged = tagged }))
+frame_at None priority len tagged = Err BadNumber
+frame_at (Some id) None len tagged = Err BadNumber
+frame_at (Some id) (Some priority) None tagged = Err BadNumber
+
+-- the same of words, each a number of its width
+abbrev pub frame_of_words : List ℕ → List ℕ → List ℕ → Bool → Result Event ScriptFault
+frame_of_words id priority len tagged =
+    frame_at (number_in 10 (2 ^ 64 - 1) id) (number_in 10 (2 ^ 8 - 1) priority) (number_in 10 (2 ^ 32 - 1) len) tagged
+
+-- the same of all words
+abbrev pub frame_of : List (List ℕ) → Result Event ScriptFault
+frame_of (id ∷ priority ∷ len ∷ []) = frame_of_words id priority len false
+frame_of (id ∷ priority ∷ len ∷ tag ∷ []) = if bytes_eq tag (codes "tagged") then frame_of_words id priority len true else Err WordCount
+frame_of (id ∷ priority ∷ len ∷ tag ∷ more ∷ ws) = Err WordCount
+frame_of (id ∷ priority ∷ []) = Err WordCount
+frame_of (id ∷ []) = Err WordCount
+frame_of [] = Err WordCount
+
+-- query
+abbrev pub query_of : List (List ℕ) → Result Event ScriptFault
+query_of [] = Ok Query
+query_of (more ∷ ws) = Err WordCount
+
+-- count C
+abbrev pub count_at : Option ℕ → Result Event ScriptFault
+count_at None = Err BadNumber
+count_at (Some class) = Ok (Count class)
+
+-- the same of words
+abbrev pub count_of : List (List ℕ) → Result Event ScriptFault
+count_of [] = Err WordCount
+count_of (class ∷ []) = count_at (number_in 10 7 class)
+count_of (class ∷ more ∷ ws) = Err WordCount
+
+-- whether a word begins with #
+abbrev pub is_comment : List ℕ → Bool
+is_comment [] = false
+is_comment (b ∷ bs) = b == 35
+
+-- what a line asks, as what it says
+abbrev pub said : Result Event ScriptFault → Result (Option Said) ScriptFault
+said (Ok event) = Ok (Some (Says.Asked event))
+said (Err fault) = Err fault
+
+-- what the words of a line say, by the first of them; a line without words and a comment say nothing
+abbrev pub said_in_words : List (List ℕ) → Result (Option Said) ScriptFault
+said_in_words [] = Ok None
+said_in_words (w ∷ ws) =
+    if is_comment w then Ok None
+    else if bytes_eq w (codes "clock") then said (clock_of ws)
+    else if bytes_eq w (codes "frame") then said (frame_of ws)
+    else if bytes_eq w (codes "query") then said (query_of ws)
+    else if bytes_eq w (codes "count") then said (count_of ws)
+    else if bytes_eq w (codes "tc") then Ok (Some Says.Tc)
+    else Err UnknownLine
+
+-- what a line says
+abbrev pub said_in : List ℕ → Result (Option Said) ScriptFault
+said_in line = said_in_words (words_of line)
+
+-- 2. Requests
+
+-- what a line asks: an event for the port; or nothing, since it begins with tc and is no command
+pub data Request : Type 0 where
+  Asks : Event → Request
+  NoCommand : TcFault → Request
+
+-- a command as an event has it
+abbrev pub lent : Command → Bor Command
+lent command = record { ref_ptr = (0, 0); now = command }
+
+-- what a line that begins with tc asks
+abbrev pub tc_request : Result Command TcFault → Request
+tc_request (Ok command) = Asks (Install (lent command))
+tc_request (Err fault) = NoCommand fault
+
+-- what is said, where the line reads as this command or fault if it begins with tc
+abbrev pub request_said : Result Command TcFault → Result (Option Said) ScriptFault → Result (Option Request) ScriptFault
+request_said command (Err fault) = Err fault
+request_said command (Ok None) = Ok None
+request_said command (Ok (Some (Says.Asked event))) = Ok (Some (Asks event))
+request_said command (Ok (Some Says.Tc)) = Ok (Some (tc_request command))
+
+-- what a line asks, if anything, or its fault
+abbrev pub request_of : (List (List ℕ) → Result Command TcFault) → List ℕ → Result (Option Request) ScriptFault
+request_of read line = request_said (read (words_of line)) (said_in line)

@@ -1,0 +1,44 @@
+-- The texts of faults, and the exit statuses that go with them.
+use Rattle.std.specs.Prelude.{List, ℕ, [], ◌∷◌, decimal, codes}
+use Rattle.std.specs.List.{concat}
+use Rattle.script.specs.declared.settings.BadValue.{BadValue}
+use Rattle.script.specs.declared.settings.BadValue.TheVariants as Values
+use Rattle.script.specs.declared.faults.ScriptFault.{ScriptFault}
+use Rattle.script.specs.declared.faults.ScriptFault.TheVariants.{LongLine, TooManyLines, UnknownLine, WordCount, BadNumber, ClockTooLate}
+use Rattle.script.specs.declared.faults.RunFault.{RunFault}
+use Rattle.script.specs.declared.faults.RunFault.TheVariants as Faults
+
+-- the name of a fault
+abbrev pub script_fault_name : ScriptFault → List ℕ
+script_fault_name LongLine = codes "LongLine"
+script_fault_name TooManyLines = codes "TooManyLines"
+script_fault_name UnknownLine = codes "UnknownLine"
+script_fault_name WordCount = codes "WordCount"
+script_fault_name BadNumber = codes "BadNumber"
+script_fault_name ClockTooLate = codes "ClockTooLate"
+
+-- the option whose value is bad
+abbrev pub option_name : BadValue → List ℕ
+option_name Values.Rate = codes "--rate"
+option_name Values.Mtu = codes "--mtu"
+option_name Values.Room = codes "--room"
+option_name Values.Until = codes "--until"
+
+-- the text of a bad value
+abbrev pub value_text : BadValue → List ℕ
+value_text value = concat (codes "taprio_port: bad value of " ∷ option_name value ∷ codes "\n" ∷ [])
+
+-- the text of a fault
+abbrev pub fault_text : RunFault → List ℕ
+fault_text (Faults.Script line fault) =
+    concat (codes "taprio_port: script line " ∷ decimal line ∷ codes ": " ∷ script_fault_name fault ∷ codes "\n" ∷ [])
+fault_text Faults.Read = codes "taprio_port: read failed\n"
+fault_text Faults.Write = codes "taprio_port: write failed\n"
+fault_text Faults.Memory = codes "taprio_port: out of memory\n"
+
+-- 3: the input is refused; 4: a read, a write or memory failed
+abbrev pub status_of : RunFault → ℕ
+status_of (Faults.Script line fault) = 3
+status_of Faults.Read = 4
+status_of Faults.Write = 4
+status_of Faults.Memory = 4

@@ -1,0 +1,106 @@
+//! What a port answers to the lines of a script, written as it comes.
+
+ghost use Rattle.std.specs.Prelude.{ℕ, List, Result, ◌≡◌, ◌<◌, length, OnOk};
+ghost use Rattle.abstract_port.specs.AbstractPort.{queue_of, settled};
+ghost use Rattle.abstract_port.specs.Answers.{answers_to};
+ghost use Rattle.abstract_port.specs.Sound.{IsSoundPort};
+ghost use Rattle.abstract_port.specs.declared.Command.{Command};
+ghost use Rattle.abstract_port.specs.declared.Event.TheVariants as Events;
+ghost use Rattle.octet_writer.specs.Writes.{Writes};
+ghost use Rattle.tc_reader.specs.declared.fault.TcFault.{TcFault};
+ghost use Rattle.words.specs.Words.{words_of};
+ghost use Rattle.script.specs.Requests.{Asks, tc_request};
+ghost use Rattle.tc_reader.specs.Reader.{IsReader};
+ghost use Rattle.script.specs.Responses.{left_lines, left_text, lines_of, responses_to};
+
+use crate::reading::read_tc;
+use abstract_port::{Command, Event};
+use answer_text::{WriteFault, put_answer, put_left, put_tc_fault};
+use port::Port;
+use std::alloc::Allocator;
+use std::io::Write;
+use stepped::Stepped;
+use tc_reader::TcFault;
+
+/// The port that runs. Another implementation of the gates takes the place of this one here.
+pub type RunningPort<A> = Port<Stepped, A>;
+
+/// Takes an event, and writes the answers to it as they come. At a fault a front of them is written.
+pub fn put_answers<A: Allocator, W: Write>(
+    port: &mut RunningPort<A>,
+    event: &Event<'_>,
+    writer: &mut W,
+) -> Result<(), WriteFault>
+    ensures text { Writes result (W.contents writer.old) (W.contents writer.new) (lines_of (responses_to (Asks event.now) port.old.port).0) }
+    ensures port { OnOk result (port.new.port ≡ settled (answers_to event.now port.old.port).1) }
+    ensures sound { OnOk result (IsSoundPort port.new.port) }
+{
+    let _now = port.now();
+    let mut asked = Some(*event);
+    while let Some(answer) = port.next_answer(&mut asked) {
+        put_answer(writer, &answer)?;
+    }
+    Ok(())
+}
+
+// Gives a command to the port and writes its answer, or writes why there is none.
+fn put_command<A: Allocator, W: Write>(
+    port: &mut RunningPort<A>,
+    read: Result<Command, TcFault>,
+    writer: &mut W,
+) -> Result<(), WriteFault>
+    ensures text { Writes result (W.contents writer.old) (W.contents writer.new) (lines_of (responses_to (tc_request read) port.old.port).0) }
+    ensures port { OnOk result (port.new.port ≡ settled (responses_to (tc_request read) port.old.port).1) }
+    ensures sound { OnOk result (IsSoundPort port.new.port) }
+{
+    let _now = port.now();
+    match read {
+        Ok(command) => put_answers(port, &Event::Install(&command), writer),
+        Err(fault) => put_tc_fault(writer, fault),
+    }
+}
+
+/// Takes a line that begins with `tc`, and writes what is told of it. At a fault a front of that is written.
+pub fn put_tc<A: Allocator, W: Write>(
+    port: &mut RunningPort<A>,
+    line: &[u8],
+    writer: &mut W,
+) -> Result<(), WriteFault>
+    ensures text { (read : List (List ℕ) → Result Command TcFault) → IsReader read →
+        Writes result (W.contents writer.old) (W.contents writer.new) (lines_of (responses_to (tc_request (read (words_of line.now))) port.old.port).0) }
+    ensures port { (read : List (List ℕ) → Result Command TcFault) → IsReader read →
+        OnOk result (port.new.port ≡ settled (responses_to (tc_request (read (words_of line.now))) port.old.port).1) }
+    ensures sound { OnOk result (IsSoundPort port.new.port) }
+{
+    put_command(port, read_tc(line), writer)
+}
+
+// Writes how many frames a class still has, where it has some.
+fn put_left_in<A: Allocator, W: Write>(
+    port: &RunningPort<A>,
+    class: u8,
+    writer: &mut W,
+) -> Result<(), WriteFault>
+    requires { class < 8 }
+    ensures { Writes result (W.contents writer.old) (W.contents writer.new) (left_text class (length (queue_of port.now.port class))) }
+{
+    let waiting = port.counters(class).waiting;
+    if waiting == 0 {
+        Ok(())
+    } else {
+        put_left(writer, class, waiting)
+    }
+}
+
+/// Writes how many frames each class still has, where it has some.
+pub fn put_all_left<A: Allocator, W: Write>(
+    port: &RunningPort<A>,
+    writer: &mut W,
+) -> Result<(), WriteFault>
+    ensures { Writes result (W.contents writer.old) (W.contents writer.new) (left_lines port.now.port) }
+{
+    for class in 0..8u8 {
+        put_left_in(port, class, writer)?;
+    }
+    Ok(())
+}

@@ -1,0 +1,15 @@
+//! Laws of scripts. The functions run nothing: the contract of each is its law.
+
+ghost use Rattle.std.specs.Prelude.{◌≤◌, ℕ, List, Result};
+ghost use Rattle.abstract_port.specs.declared.Command.{Command};
+ghost use Rattle.tc_reader.specs.declared.fault.TcFault.{TcFault};
+ghost use Rattle.script.specs.Outcome.{IsFaithfulTo};
+ghost use Rattle.script.specs.Setup.{Setup};
+ghost use Rattle.wire_time.specs.declared.TheConstants.{MIN_MTU, MIN_PS_PER_OCTET};
+
+/// What is told of a script are the abstract port's answers to its events. In each output every `start` line has its gate open
+/// from its start to its end, by the history of its time and by that at the script's end; no two frames are on the wire at
+/// once; and the `count` lines are the counts over the events before them.
+pub fn faithful()
+    ensures { (read : List (List ℕ) → Result Command TcFault) (s : Setup) (input : List ℕ) → MIN_PS_PER_OCTET ≤ s.rate → MIN_MTU ≤ s.mtu → IsFaithfulTo read s input }
+{}

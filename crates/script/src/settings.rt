@@ -1,0 +1,170 @@
+//! What a port runs with, as numbers or as words.
+
+ghost use Rattle.std.specs.Prelude.{◌≡◌, ◌≤◌, option_map};
+ghost use Rattle.std.specs.Option.{ForSome};
+ghost use Rattle.abstract_port.specs.Sound.{IsMtu};
+ghost use Rattle.class_queue.specs.Queue.{IsRoom};
+ghost use Rattle.script.specs.Settings.{is_in_time, mtu_in, rate_in, room_in, settings_of, settings_with};
+
+use port::{is_mtu, is_room};
+use std::marker::Model;
+use wire_time::{MAX_MOMENT, Rate};
+use words::number;
+
+/// What a port runs with, each value within its limits: a line rate, an mtu of 68 to 9216 octets, room for 1 to 4096 frames a
+/// class, and, where it is given, the moment in picoseconds, at most `MAX_MOMENT`, up to which the port runs after the input.
+#[derive(Clone, Copy, Debug, PartialEq, Eq)]
+pub struct Settings {
+    rate: Rate,
+    mtu: u32,
+    room: u32,
+    until: Option<u128>,
+}
+
+/// A contract sees the four values, which are within their limits.
+impl Model for Settings {
+    ghost use Rattle.script.specs.Setup.{Setup, AreGood};
+
+    ghost Value = { Setup };
+
+    ghost view = { λ s. record { rate = s.rate; mtu = s.mtu; room = s.room; until = s.until } };
+
+    ghost invariant = { λ s. AreGood s.mtu s.room s.until };
+
+    ghost inverse = { λ v. record { rate = v.rate; mtu = v.mtu; room = v.room; until = v.until } };
+}
+
+/// The first value that is no decimal number or out of its limits, by the option that gives it.
+#[derive(Clone, Copy, Debug, PartialEq, Eq)]
+pub enum BadValue {
+    /// The line rate is none of the ten, in Mb/s.
+    Rate,
+    /// The mtu is not 68 to 9216 octets.
+    Mtu,
+    /// The room is not 1 to 4096 frames a class.
+    Room,
+    /// The moment to run to is over the greatest, in picoseconds.
+    Until,
+}
+
+fn read_rate(text: &str) -> Option<Rate>
+    ensures { result ≡ rate_in text.now }
+{
+    let mbps = number(text.as_bytes(), u128::from(u32::MAX))?;
+    Rate::from_mbps(mbps as u32).ok()
+}
+
+fn read_mtu(text: &str) -> Option<u32>
+    ensures { result ≡ mtu_in text.now }
+{
+    let mtu = number(text.as_bytes(), u128::from(u32::MAX))? as u32;
+    if is_mtu(mtu) { Some(mtu) } else { None }
+}
+
+fn read_room(text: &str) -> Option<u32>
+    ensures { result ≡ room_in text.now }
+{
+    let room = number(text.as_bytes(), u128::from(u32::MAX))? as u32;
+    if is_room(room) { Some(room) } else { None }
+}
+
+/// Whether a moment, where there is one, is at most the greatest.
+fn is_in_time(until: Option<u128>) -> bool
+    ensures { result ≡ is_in_time until }
+{
+    match until {
+        None => true,
+        Some(moment) => moment <= MAX_MOMENT,
+    }
+}
+
+impl Settings {
+    /// The settings of a rate, an mtu in octets, a room in frames a class, and a moment in picoseconds to run to. The first that
+    /// is out of its limits is the fault.
+    pub fn new(rate: Rate, mtu: u32, room: u32, until: Option<u128>) -> Result<Settings, BadValue>
+        ensures { result ≡ settings_with rate mtu room until }
+    {
+        if !is_mtu(mtu) {
+            return Err(BadValue::Mtu);
+        }
+        if !is_room(room) {
+            return Err(BadValue::Room);
+        }
+        if !is_in_time(until) {
+            return Err(BadValue::Until);
+        }
+        Ok(Settings {
+            rate,
+            mtu,
+            room,
+            until,
+        })
+    }
+
+    /// Reads a rate in Mb/s, an mtu in octets, a room in frames a class, and the moment in picoseconds up to which a port runs, at
+    /// most `greatest`, in this order. The first bad value is the fault.
+    pub fn read(
+        rate: &str,
+        mtu: &str,
+        room: &str,
+        until: Option<&str>,
+        greatest: u128,
+    ) -> Result<Settings, BadValue>
+        requires { greatest ≤ MAX_MOMENT }
+        ensures { result ≡ settings_of rate.now mtu.now room.now (option_map (λ text. text.now) until.entry) greatest }
+    {
+        let Some(rate) = read_rate(rate) else {
+            return Err(BadValue::Rate);
+        };
+        let Some(mtu) = read_mtu(mtu) else {
+            return Err(BadValue::Mtu);
+        };
+        let Some(room) = read_room(room) else {
+            return Err(BadValue::Room);
+        };
+        let until = match until {
+            None => None,
+            Some(text) => match number(text.as_bytes(), greatest) {
+                None => return Err(BadValue::Until),
+                Some(moment) => Some(moment),
+            },
+        };
+        Ok(Settings {
+            rate,
+            mtu,
+            room,
+            until,
+        })
+    }
+
+    /// The line rate.
+    pub fn rate(&self) -> Rate
+        ensures { result ≡ self.now.rate }
+    {
+        self.rate
+    }
+
+    /// The mtu, in octets.
+    pub fn mtu(&self) -> u32
+        ensures value { result ≡ self.now.mtu }
+        ensures within { IsMtu result }
+    {
+        self.mtu
+    }
+
+    /// How many frames a class has room for.
+    pub fn room(&self) -> u32
+        ensures value { result ≡ self.now.room }
+        ensures within { IsRoom result }
+    {
+        self.room
+    }
+
+    /// The moment up to which the port runs after the input, in picoseconds, where it is given.
+    pub fn until(&self) -> Option<u128>
+        ensures value { result ≡ self.now.until }
+        ensures within { ForSome result (λ moment. moment ≤ MAX_MOMENT) }
+    {
+        self.until
+    }
+}
