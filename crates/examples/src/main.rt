@@ -1,7 +1,7 @@
 //! Runs each example script and the worked scripts, and says whether their answers are those that lie beside them.
 #![tactic(auto)]
 
-use replay::{Settings, run_script};
+use script::{Settings, run_script};
 use std::rt::Files;
 use std::{fs, io};
 use wire_time::Rate;
@@ -21,11 +21,8 @@ fn answers_with<R: AllocGlobal>(rt: &R, script: &[u8], answers: &[u8]) -> bool {
     let Ok(rate) = Rate::from_mbps(1000) else {
         return false;
     };
-    let settings = Settings {
-        rate,
-        mtu: 1500,
-        room: 128,
-        until: None,
+    let Ok(settings) = Settings::new(rate, 1500, 128, None) else {
+        return false;
     };
     let mut got = Vec::new(rt.alloc());
     run_script(rt.alloc(), script, &mut got, settings).is_ok() && got.as_slice() == answers

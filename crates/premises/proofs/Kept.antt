@@ -6,11 +6,11 @@ use Rattle.abstract_port.specs.declared.Event.{Event}
 use Rattle.abstract_port.specs.declared.Event.TheVariants.{Arrive, Install, Clock, Query, Count}
 use Rattle.abstract_port.specs.AbstractPort.{AbstractPort, settled}
 use Rattle.abstract_port.specs.Answers.{answers_to, port_after}
-use Rattle.abstract_port.proofs.RunLaws.{IsFit, fit-after, refusal-settled, settled-after, port_after-append}
+use Rattle.abstract_port.proofs.RunLaws.{IsTimely, timely-after, refusal-settled, settled-after, port_after-append}
 use Rattle.separation.specs.Separation.{IsApartAt, IsKeptApart}
 
 -- what is asked at an event is asked alike of a port that keeps only what counts
-pub apart-settled : (class : ℕ) (event : Event) (p : AbstractPort) → IsFit p → IsApartAt class event (settled p) → IsApartAt class event p
+pub apart-settled : (class : ℕ) (event : Event) (p : AbstractPort) → IsTimely p → IsApartAt class event (settled p) → IsApartAt class event p
 apart-settled class (Arrive f) p fit asked = λ here. subst (λ a. IsTrue (is_some a)) (kept_force 0 p.now p.history fit.rising fit.past p.now (le_refl p.now)) (asked here)
 apart-settled class (Install c) p fit asked = λ accepted. asked (refusal-settled c.now p fit ∙ accepted)
 apart-settled class (Clock m) p fit asked = asked
@@ -27,11 +27,11 @@ pub record RunsApart (class taken : ℕ) (events : List Event) (p q : AbstractPo
   pub apart : IsKeptApart class (take taken events) p
 
 -- one more
-pub runs-on : (class taken : ℕ) (events : List Event) (p q r : AbstractPort) (event : Event) → IsFit p → RunsApart class taken events p q → taken < length events → event ≡ get_or events taken event → IsApartAt class event q → r ≡ settled (port_after (event ∷ []) q) → RunsApart class (taken + 1) events p r
+pub runs-on : (class taken : ℕ) (events : List Event) (p q r : AbstractPort) (event : Event) → IsTimely p → RunsApart class taken events p q → taken < length events → event ≡ get_or events taken event → IsApartAt class event q → r ≡ settled (port_after (event ∷ []) q) → RunsApart class (taken + 1) events p r
 runs-on class taken events p q r event fit so_far within is_event here then =
     let done : List Event = take taken events in
     let one_more : take (taken + 1) events ≡ done ++ event ∷ [] = take_more events taken event within ∙ ap (λ e. done ++ e ∷ []) (sym is_event) in
-    let there : IsFit (port_after done p) = fit-after done p fit in
+    let there : IsTimely (port_after done p) = timely-after done p fit in
     record {
       port =
           then

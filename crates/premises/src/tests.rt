@@ -1,8 +1,10 @@
 use super::apart::separated;
+use super::scripts::answered;
 use super::*;
 use abstract_port::{Answer, Change, Command, Event, Start};
 use class_map::ClassMap;
 use gate_list::{Entry, GateList};
+use script::Settings;
 use std::test::Fail;
 use wire_time::Frame;
 
@@ -101,5 +103,21 @@ fn no_class_is_separated_without_a_schedule(rt: HostRuntime) -> Result<(), Fail>
 fn a_port_is_made(rt: HostRuntime) -> Result<(), Fail> {
     let rate = Rate::from_mbps(1000).ok().ok_or("a rate")?;
     assert!(rt; counted(rt.alloc(), rate).is_ok());
+    Ok(())
+}
+
+/// A script is answered in memory, so the law of its output speaks of one that is there.
+#[test]
+fn a_script_is_answered(rt: HostRuntime) -> Result<(), Fail> {
+    let rate = Rate::from_mbps(1000).ok().ok_or("a rate")?;
+    let settings = Settings::new(rate, 1500, 128, Some(1))
+        .ok()
+        .ok_or("settings")?;
+    let mut output = Vec::new(rt.alloc());
+    assert!(rt; answered(rt.alloc(), settings, b"frame 1 0 60", &mut output).is_ok());
+    assert_eq!(rt;
+        output.as_slice(),
+        b"queued 1 class 0\nstart 1 class 0 at 0 end 672000\n".as_slice()
+    );
     Ok(())
 }

@@ -1,6 +1,6 @@
 use Rattle.std.proofs.Common.{refl, sym, subst}
 use Rattle.std.proofs.lemmas.List.{take_all}
-use Rattle.abstract_port.proofs.RunLaws.{fit-sound, settled-current}
+use Rattle.abstract_port.proofs.RunLaws.{timely-sound, settled-current}
 use Rattle.separation.specs.Separation.{IsKeptApart}
 use Rattle.premises.proofs.Kept.{runs-on}
 use Rattle.premises.proofs.apart.run_apart.Goals as goal
@@ -14,7 +14,7 @@ loop-event-init g c = (
 pub loop-event-preserved : goal.loop-event-preserved
 loop-event-preserved g c = (
   c.run.ensures.sound,
-  runs-on _ _ _ _ _ _ _ (fit-sound _ c.now.ensures.sound) c.loop-event.invariant.1 c.loop-event-test.true c.event-item.is (c.if-not-is_apart.ensures refl) c.in-Ok.ensures.port,
+  runs-on _ _ _ _ _ _ _ (timely-sound _ c.now.ensures.sound) c.loop-event.invariant.1 c.loop-event-test.true c.event-item.is (c.if-not-is_apart.ensures refl) c.in-Ok.ensures.port,
 )
 
 pub returns : goal.returns
