@@ -18,7 +18,8 @@ by_sdu p f d class (Some sdu) is mtu e =
     let within = by_length (nat_lt p.mtu sdu) _ class e in
     occupancy_within p.ps p.mtu f sdu mtu is (grind (arith, within))
 
-abbrev verdict_with : AbstractPort → Frame → Option ℕ → Result ℕ Dropped
+-- the verdict, by the class that a frame's priority has
+abbrev pub verdict_with : AbstractPort → Frame → Option ℕ → Result ℕ Dropped
 verdict_with p f o = elim o [ Some class ↦ verdict_in p class (sdu_of f) | None ↦ Err NoClass ]
 
 by_class : (p : AbstractPort) (f : Frame) (class : ℕ) (o : Option ℕ) → 42 ≤ p.mtu → verdict_with p f o ≡ Ok class → occupancy_of p.ps f.len ≤ lead_of p.ps p.mtu

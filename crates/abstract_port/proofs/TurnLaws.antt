@@ -22,7 +22,8 @@ pub record Started (p : AbstractPort) (m : ℕ) (s : Start) (q : AbstractPort) :
   pub opens : open_through p.history s.class s.at (s.«end» - s.at) ≡ true
   pub port : q ≡ record p { now = s.at; free = s.«end»; queues = slice_set p.queues s.class rest; counts = slice_set p.counts s.class (count_sent frame (counts_at p s.class)) }
 
-both : (a b : Bool) → (a && b) ≡ true → (a ≡ true) × (b ≡ true)
+-- each half of a conjunction that holds
+pub both : (a b : Bool) → (a && b) ≡ true → (a ≡ true) × (b ≡ true)
 both true b h = (refl, h)
 both false b h = absurd (cc)
 

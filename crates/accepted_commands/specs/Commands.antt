@@ -25,9 +25,11 @@ pub record Commands : Type 0 where
   pub pending : Option Accepted
   pub announced : Option Accepted
 
+-- at moment 0, before the first command
 abbrev pub no_commands : Commands
 no_commands = record { moment = 0; in_force = None; pending = None; announced = None }
 
+-- the history that the three slots stand for, oldest first
 abbrev pub history_of : Commands → List Accepted
 history_of c = three c.in_force c.pending c.announced
 
@@ -50,9 +52,11 @@ pub record AreCommands (c : Commands) : Type 0 where
 abbrev pub in_force_by : Option Accepted → Option Accepted → Option Accepted → ℕ → Option Accepted
 in_force_by f p x n = or_else (only_if (λ a. nat_le a.change n) x) (or_else (only_if (λ a. nat_le a.change n && is_in_time a (cons_some x [])) p) f)
 
+-- the command that is pending at n, of those in force, pending and announced at an earlier moment
 abbrev pub pending_by : Option Accepted → Option Accepted → Option Accepted → ℕ → Option Accepted
 pending_by f p x n = only_if (λ a. nat_lt n a.change) (or_else (only_if (λ a. nat_le a.lead n) x) (or_else p f))
 
+-- the command that is still announced at n
 abbrev pub announced_by : Option Accepted → ℕ → Option Accepted
 announced_by x n = only_if (λ a. nat_lt n a.lead) x
 

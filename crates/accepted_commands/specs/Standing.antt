@@ -18,6 +18,7 @@ abbrev pub hold_for : Option Plan → ℕ → Option Accepted → Option ℕ
 hold_for plan start None = None
 hold_for plan start (Some next) = hold_of plan start next
 
+-- a position is where the plan since start stands at n with a change pending; without a plan there is none
 abbrev pub StandsUnder : Option Plan → ℕ → Option Accepted → ℕ → Option Position → Type 0
 StandsUnder None start next n position = position ≡ None
 StandsUnder (Some plan) start next n None = ⊥
@@ -33,6 +34,7 @@ boundary_under None start next position = None
 boundary_under (Some plan) start next None = None
 boundary_under (Some plan) start next (Some position) = boundary_of (hold_for (Some plan) start next) position
 
+-- the next boundary of the command in force, with a change pending
 abbrev pub boundary_in_force : Option Accepted → Option Accepted → Option Position → Option ℕ
 boundary_in_force now next position = boundary_under (plan_of now) (start_of now) next position
 
@@ -79,14 +81,17 @@ abbrev pub position_in : AcceptedCommand → Option Position
 position_in (Install list) = Some list.position
 position_in (Delete lead) = None
 
+-- the position that a command in force carries, if there is a command
 abbrev pub option_position : Option AcceptedCommand → Option Position
 option_position None = None
 option_position (Some command) = position_in command
 
+-- the same of a command that is lent
 abbrev pub position_lent : Option (Bor AcceptedCommand) → Option Position
 position_lent None = None
 position_lent (Some command) = position_in command.now
 
+-- what an accepted list is in a history
 abbrev pub accepted_list : AcceptedList → Accepted
 accepted_list list = accepted_in (Install list)
 
@@ -101,6 +106,7 @@ EndsBy None position = Unit {0}
 EndsBy (Some plan) None = Unit {0}
 EndsBy (Some plan) (Some position) = position.last_mask ≡ last_mask plan.entries
 
+-- a position ends where the plan of the command in force says
 abbrev pub EndsSo : Option Accepted → Option Position → Type 0
 EndsSo command position = EndsBy (plan_of command) position
 

@@ -11,22 +11,28 @@ use Rattle.tc_reader.specs.declared.fault.TcFault.{TcFault}
 use Rattle.answer_text.specs.Names.{dropped_name, refused_name, refused_number, tc_fault_name, tc_fault_word, tc_fault_place}
 use Rattle.answer_text.specs.Reports.{report_lines}
 
+-- a frame was queued for a class
 abbrev pub queued_line : ℕ → ℕ → List ℕ
 queued_line id class = concat (codes "queued " ∷ decimal id ∷ codes " class " ∷ decimal class ∷ codes "\n" ∷ [])
 
+-- a frame was dropped, and why
 abbrev pub dropped_line : ℕ → Dropped → List ℕ
 dropped_line id why = concat (codes "dropped " ∷ decimal id ∷ codes " " ∷ dropped_name why ∷ codes "\n" ∷ [])
 
+-- a command was accepted, with the change moment in picoseconds
 abbrev pub installed_line : ℕ → List ℕ
 installed_line change = concat (codes "installed change " ∷ decimal change ∷ codes "\n" ∷ [])
 
+-- a space and the number, if there is one
 abbrev pub number_text : Option ℕ → List ℕ
 number_text None = []
 number_text (Some n) = codes " " ++ decimal n
 
+-- a command was refused, and why
 abbrev pub refused_line : Refused → List ℕ
 refused_line why = concat (codes "refused " ∷ refused_name why ∷ number_text (refused_number why) ∷ codes "\n" ∷ [])
 
+-- a frame starts: its class, its start and its end in picoseconds
 abbrev pub start_line : Start → List ℕ
 start_line s = concat (
     codes "start " ∷ decimal s.id
@@ -35,6 +41,7 @@ start_line s = concat (
     ∷ codes " end " ∷ decimal s.«end»
     ∷ codes "\n" ∷ [])
 
+-- a class's counters
 abbrev pub count_line : ℕ → Counters → List ℕ
 count_line class c = concat (
     codes "count class " ∷ decimal class

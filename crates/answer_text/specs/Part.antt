@@ -11,6 +11,7 @@ hex_digit value = if nat_lt value 10 then 48 + value else 87 + value
 abbrev pub mask_text : ℕ → List ℕ
 mask_text mask = hex_digit (mask / 16) ∷ hex_digit (mask % 16) ∷ []
 
+-- the octets of a part of a line
 abbrev pub text_of : Part → List ℕ
 text_of (Text text) = text.now
 text_of (Number n) = decimal n

@@ -8,7 +8,7 @@ use Rattle.capture.specs.declared.format.Format.{Format}
 use Rattle.capture.specs.declared.reader.End.{End}
 use Rattle.capture.specs.declared.reader.End.TheVariants.{Whole, Broken}
 use Rattle.capture.specs.Records.{Entry, entry_at, rest_after, fault_at}
-use Rattle.capture.specs.CaptureReader.{Left, octets_left, again, IsWanting, Reads, Next}
+use Rattle.capture.specs.CaptureReader.{Left, octets_left, again, IsWanting, ReadsNext, Next}
 use Rattle.capture.specs.Captures.{AreRecords, HasOneReading, Calls, AreFailed, AreAnswers, AnswersRecords}
 
 -- nothing is no record
@@ -66,10 +66,10 @@ read_or_not Memory = inr (λ e. cc)
 
 -- what `next` says of a reader that has met no end
 going : {R : Type 0} (remaining : R → Option (List ℕ)) (l after : Left R) (a : Result (Option Entry) CapFault) → l.ended ≡ None → Next remaining l a after
-    → Reads remaining l a after × (after.format ≡ l.format) × ((IsWanting l → ⊥) → after.source ≡ l.source)
+    → ReadsNext remaining l a after × (after.format ≡ l.format) × ((IsWanting l → ⊥) → after.source ≡ l.source)
 going remaining l after a e p =
     let P : Option End → Type 0 = λ o. MatchOption o
-    (Reads remaining l a after × (after.format ≡ l.format) × ((IsWanting l → ⊥) → after.source ≡ l.source))
+    (ReadsNext remaining l a after × (after.format ≡ l.format) × ((IsWanting l → ⊥) → after.source ≡ l.source))
     (λ end. (a ≡ again end) × (after ≡ l)) in
     subst P e p
 
@@ -78,7 +78,7 @@ stopped : {R : Type 0} (remaining : R → Option (List ℕ)) (l after : Left R) 
     → (a ≡ again end) × (after ≡ l)
 stopped remaining l after a end e p =
     let P : Option End → Type 0 = λ o. MatchOption o
-    (Reads remaining l a after × (after.format ≡ l.format) × ((IsWanting l → ⊥) → after.source ≡ l.source))
+    (ReadsNext remaining l a after × (after.format ≡ l.format) × ((IsWanting l → ⊥) → after.source ≡ l.source))
     (λ end. (a ≡ again end) × (after ≡ l)) in
     subst P e p
 
@@ -103,7 +103,7 @@ known_at P known octets e p = let Q : Option (List ℕ) → Type 0 = λ o. IfSom
 -- a record was answered
 at_record : {R : Type 0} (remaining : R → Option (List ℕ)) (l after : Left R) (e : Entry) (octets : List ℕ) (es : List Entry) (end : End) (later : List (Result (Option Entry) CapFault))
     → octets_left remaining l ≡ Some octets → AreRecords l.format l.number octets es end
-    → Reads remaining l (Ok (Some e)) after → after.format ≡ l.format
+    → ReadsNext remaining l (Ok (Some e)) after → after.format ≡ l.format
     → (AreRecords after.format after.number (rest_after l.format octets) (drop 1 es) end → octets_left remaining after ≡ Some (rest_after l.format octets) → AreAnswers (drop 1 es) end later)
     → AreAnswers es end (Ok (Some e) ∷ later)
 at_record remaining l after e octets [] Whole later known p r same more =
@@ -121,7 +121,7 @@ at_record remaining l after e octets (x ∷ es) end later known p r same more =
 -- the end was answered
 at_end : {R : Type 0} (remaining : R → Option (List ℕ)) (l after : Left R) (octets : List ℕ) (es : List Entry) (end : End) (later : List (Result (Option Entry) CapFault))
     → octets_left remaining l ≡ Some octets → AreRecords l.format l.number octets es end
-    → Reads remaining l (Ok None) after → Calls remaining after later → AreAnswers es end (Ok None ∷ later)
+    → ReadsNext remaining l (Ok None) after → Calls remaining after later → AreAnswers es end (Ok None ∷ later)
 at_end remaining l after octets [] Whole later known p r more = inl (refl, after_end remaining after Whole later r.0 more)
 at_end remaining l after octets [] (Broken f) later known p r more = absurd (p.0 (known_at _ (octets_left remaining l) octets known r.2))
 at_end remaining l after octets (x ∷ es) end later known p r more =

@@ -18,6 +18,7 @@ use Rattle.capture.specs.Records.{Entry, IsWithin, fraction_of, fractions_of, mo
 use Rattle.capture.specs.Captures.{AreRecords}
 use Rattle.capture.proofs.WriterLemmas.{length-spelled_record_header}
 use Rattle.capture.specs.Spelling.{spelled_header, spelled_record_header, spelled_record, spelled_records, rounded, AreWithin, IsSpelling}
+use Rattle.capture.specs.declared.format.TheConstants.{MAX_RECORDS, MAX_RECORD_OCTETS}
 
 -- a number that is spelled is read back, and what stands behind it follows
 u32_at-octets : (e : Endian) (x : ℕ) (rest : List ℕ) → x < 4294967296 → u32_at e (u32_octets e x ++ rest) ≡ x
@@ -81,7 +82,7 @@ pub record IsReadBack (format : Format) (number : ℕ) (e : Entry) (tail : List 
   pub entry : rounded format.resolution e ≡ entry_at format (spelled_record format e ++ tail)
   pub rest : rest_after format (spelled_record format e ++ tail) ≡ tail
 
-read_back : (format : Format) (number : ℕ) (e : Entry) (tail : List ℕ) → IsWithin e → number < 4000000 → IsReadBack format number e tail
+read_back : (format : Format) (number : ℕ) (e : Entry) (tail : List ℕ) → IsWithin e → number < MAX_RECORDS → IsReadBack format number e tail
 read_back format number e tail w few =
     let r = format.resolution in
     let a : ℕ = e.moment / 1000000000000 in
@@ -104,9 +105,9 @@ read_back format number e tail w few =
       w.whole,
     ) in
     let t1 : ltb (length x) 16 ≡ false = le-ltb _ _ (omega arith) in
-    let t2 : ltb 262144 e.captured ≡ false = le-ltb _ _ w.short in
+    let t2 : ltb MAX_RECORD_OCTETS e.captured ≡ false = le-ltb _ _ w.short in
     let t3 : leb (fractions_of r) b ≡ false = lt-leb _ _ within in
-    let t4 : leb 4000000 number ≡ false = lt-leb _ _ few in
+    let t4 : leb MAX_RECORDS number ≡ false = lt-leb _ _ few in
     let t5 : ltb (length x) (16 + e.captured) ≡ false = le-ltb _ _ (omega arith) in
     let taken : take e.captured (e.octets ++ tail) ≡ e.octets = ap (λ (k : ℕ). take k (e.octets ++ tail)) (sym w.whole) ∙ take-append_seam e.octets tail in
     let rounded_is : rounded r e ≡ entry_with format header (e.octets ++ tail) = rw (moment-rounded r e.moment, taken) refl in
@@ -117,7 +118,7 @@ read_back format number e tail w few =
           ∙ ap (λ (k : ℕ). drop k (e.octets ++ tail)) (sym w.whole) ∙ drop-append_seam e.octets tail;
     }
 
-AreRecords-spelled : (format : Format) (number : ℕ) (es : List Entry) → AreWithin es → number + length es ≤ 4000000
+AreRecords-spelled : (format : Format) (number : ℕ) (es : List Entry) → AreWithin es → number + length es ≤ MAX_RECORDS
     → AreRecords format number (spelled_records format es) (map (rounded format.resolution) es) Whole
 AreRecords-spelled format number [] w few = refl
 AreRecords-spelled format number (e ∷ es) w few =

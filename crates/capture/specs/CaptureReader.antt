@@ -14,6 +14,7 @@ use Rattle.capture.specs.Window.{held, last_given}
 use Rattle.capture.specs.Step.{is_record_fault}
 use Rattle.capture.specs.Record.{entry}
 use Rattle.capture.specs.Records.{Entry, IsWithin, moment_of, entry_at, rest_after, fault_at}
+use Rattle.capture.specs.declared.format.TheConstants.{MAX_RECORDS}
 
 -- a reader as its user sees it: how many records it gave, the octets that it read and hasn't given, and how it ended
 pub record Left (R : Type 0) : Type 0 where
@@ -23,6 +24,7 @@ pub record Left (R : Type 0) : Type 0 where
   pub source : R
   pub ended : Option End
 
+-- what a contract sees of a reader
 abbrev pub left : {R A : Type 0} → CaptureReader R A → Left R
 left r = record { format = r.format; number = r.number; in_hand = held r.window; source = r.source; ended = r.ended }
 
@@ -31,14 +33,15 @@ abbrev pub octets_left : {R : Type 0} → (R → Option (List ℕ)) → Left R �
 octets_left remaining l = prepend_known l.in_hand (remaining l.source)
 
 -- a reader behind the header of these octets
-abbrev pub IsBegun : {R : Type 0} → (R → Option (List ℕ)) → Option (List ℕ) → Left R → Type 0
-IsBegun remaining known l = (l.number ≡ 0) × (l.ended ≡ None) × (l.in_hand ≡ [])
+abbrev pub IsNewReader : {R : Type 0} → (R → Option (List ℕ)) → Option (List ℕ) → Left R → Type 0
+IsNewReader remaining known l = (l.number ≡ 0) × (l.ended ≡ None) × (l.in_hand ≡ [])
     × IfSome known (λ octets. (format_of octets ≡ Ok l.format) × (remaining l.source ≡ Some (drop 24 octets)))
 
 -- the octets in hand end before the next record does, so that they don't tell the next answer
 abbrev pub IsWanting : {R : Type 0} → Left R → Type 0
 IsWanting l = fault_at l.format l.number l.in_hand ≡ Some ShortRecord
 
+-- an answer of `next`, with the record's octets in place of the loan
 abbrev pub answer : Result (Option Record) CapFault → Result (Option Entry) CapFault
 answer (Ok o) = Ok (option_map entry o)
 answer (Err f) = Err f
@@ -59,19 +62,19 @@ again Whole = Ok None
 again (Broken f) = Err f
 
 -- the answer of a reader that has not met its end, and what it leaves
-abbrev pub Reads : {R : Type 0} → (R → Option (List ℕ)) → Left R → Result (Option Entry) CapFault → Left R → Type 0
-Reads remaining old (Ok (Some e)) new = (new.ended ≡ None) × (new.number ≡ old.number + 1) × (old.number < 4000000) × IsWithin e
+abbrev pub ReadsNext : {R : Type 0} → (R → Option (List ℕ)) → Left R → Result (Option Entry) CapFault → Left R → Type 0
+ReadsNext remaining old (Ok (Some e)) new = (new.ended ≡ None) × (new.number ≡ old.number + 1) × (old.number < MAX_RECORDS) × IsWithin e
     × IfSome (octets_left remaining old) (λ octets.
     (fault_at old.format old.number octets ≡ None) × (e ≡ entry_at old.format octets)
     × (octets_left remaining new ≡ Some (rest_after old.format octets)))
-Reads remaining old (Ok None) new = (new.ended ≡ Some Whole) × (new.number ≡ old.number)
+ReadsNext remaining old (Ok None) new = (new.ended ≡ Some Whole) × (new.number ≡ old.number)
     × IfSome (octets_left remaining old) (λ octets. octets ≡ [])
-Reads remaining old (Err f) new = (new.ended ≡ Some (Broken f)) × (new.number ≡ old.number) × IsTrue (is_record_fault f)
+ReadsNext remaining old (Err f) new = (new.ended ≡ Some (Broken f)) × (new.number ≡ old.number) × IsTrue (is_record_fault f)
     × (f ≡ Read → IsWanting old)
     × IfSome (octets_left remaining old) (λ octets. f ≢ Read → (octets ≢ []) × (fault_at old.format old.number octets ≡ Some f))
 
 -- the next answer; a read is made only where it is wanted, and the same answer comes for ever once the end was met
 abbrev pub Next : {R : Type 0} → (R → Option (List ℕ)) → Left R → Result (Option Entry) CapFault → Left R → Type 0
 Next remaining old result new = MatchOption old.ended
-    (Reads remaining old result new × (new.format ≡ old.format) × ((IsWanting old → ⊥) → new.source ≡ old.source))
+    (ReadsNext remaining old result new × (new.format ≡ old.format) × ((IsWanting old → ⊥) → new.source ≡ old.source))
     (λ e. (result ≡ again e) × (new ≡ old))

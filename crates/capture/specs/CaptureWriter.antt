@@ -5,18 +5,21 @@ use Rattle.capture.specs.declared.format.Resolution.TheVariants.{Nanos}
 use Rattle.capture.specs.declared.format.Format.{Format}
 use Rattle.capture.specs.declared.writer.CaptureWriter.{CaptureWriter}
 use Rattle.capture.specs.Spelling.{spelled_header, spelled_record}
+use Rattle.capture.specs.declared.format.TheConstants.{MAX_RECORD_OCTETS}
 
 -- whether a write of it failed
 abbrev pub has_failed : CaptureWriter → Bool
 has_failed w = w.failed
 
+-- what is written is little-endian, with nanoseconds
 abbrev pub written_format : Format
 written_format = record { endian = Little; resolution = Nanos }
 
 -- no zone, no accuracy, and the most octets of a record as snapshot length
 abbrev pub written_header : List ℕ
-written_header = spelled_header written_format 0 0 262144
+written_header = spelled_header written_format 0 0 MAX_RECORD_OCTETS
 
+-- a record as it is written
 abbrev pub written_record : ℕ → ℕ → List ℕ → List ℕ
 written_record moment original octets = spelled_record written_format (record {
   moment = moment;

@@ -16,6 +16,7 @@ AreRecords format number octets [] (Broken fault) = (octets ≢ []) × (fault_at
 AreRecords format number octets (e ∷ es) end = (fault_at format number octets ≡ None) × (e ≡ entry_at format octets)
     × AreRecords format (number + 1) (rest_after format octets) es end
 
+-- octets are a file header of this format, these whole records, and an end
 abbrev pub IsCapture : List ℕ → Format → List Entry → End → Type 0
 IsCapture octets format es end = (format_of octets ≡ Ok format) × AreRecords format 0 (drop 24 octets) es end
 
@@ -34,6 +35,7 @@ abbrev pub next_answer : List Entry → End → Result (Option Entry) CapFault
 next_answer [] end = again end
 next_answer (e ∷ es) end = Ok (Some e)
 
+-- all answers are that a read failed
 abbrev pub AreFailed : List (Result (Option Entry) CapFault) → Type 0
 AreFailed [] = Unit {0}
 AreFailed (a ∷ later) = (a ≡ Err Read) × AreFailed later

@@ -21,6 +21,7 @@ format_in (Some resolution) little = Some (record { endian = Big; resolution = r
 format_in None (Some resolution) = Some (record { endian = Little; resolution = resolution })
 format_in None None = None
 
+-- the format that the first four octets say, read in either order
 abbrev pub format_by_magic : List ℕ → Option Format
 format_by_magic octets = format_in (resolution_of (u32_at Big octets)) (resolution_of (u32_at Little octets))
 

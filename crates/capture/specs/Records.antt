@@ -7,6 +7,7 @@ use Rattle.capture.specs.declared.format.Resolution.TheVariants.{Micros, Nanos}
 use Rattle.capture.specs.declared.format.Format.{Format}
 use Rattle.capture.specs.declared.format.RecordHeader.{RecordHeader}
 use Rattle.capture.specs.Numbers.{u32_at}
+use Rattle.capture.specs.declared.format.TheConstants.{MAX_RECORDS, MAX_RECORD_OCTETS}
 
 -- a record: when the frame came in picoseconds, how many of its octets were captured, how many it had, and those captured
 pub record Entry : Type 0 where
@@ -18,7 +19,7 @@ pub record Entry : Type 0 where
 -- what a record may hold: its octets are as many as it says and at most 262,144, and its time stamp has 32 bits of seconds
 pub record IsWithin (e : Entry) : Type 0 where
   pub whole : length e.octets ≡ e.captured
-  pub short : e.captured ≤ 262144
+  pub short : e.captured ≤ MAX_RECORD_OCTETS
   pub fits : e.original < 2 ^ 32
   pub early : e.moment < 4294967296000000000000
 
@@ -41,21 +42,24 @@ header_at format octets = record {
   original = u32_at format.endian (drop 12 octets);
 }
 
+-- a record's moment in picoseconds: its seconds, and its fraction by the resolution
 abbrev pub moment_of : Format → RecordHeader → ℕ
 moment_of format header = header.seconds * 1000000000000 + header.fraction * fraction_of format.resolution
 
 -- what is wrong with the header of the record with this number, from 0
 abbrev pub header_fault : Format → ℕ → RecordHeader → Option CapFault
 header_fault format number header =
-    if nat_lt 262144 header.captured then Some LongRecord
+    if nat_lt MAX_RECORD_OCTETS header.captured then Some LongRecord
     else if nat_le (fractions_of format.resolution) header.fraction then Some BadFraction
-    else if nat_le 4000000 number then Some TooManyRecords
+    else if nat_le MAX_RECORDS number then Some TooManyRecords
     else None
 
+-- done, unless there is a fault
 abbrev pub ok_unless : Option CapFault → Result (Unit {0}) CapFault
 ok_unless None = Ok tt
 ok_unless (Some fault) = Err fault
 
+-- the first fault that there is
 abbrev pub or_else : Option CapFault → Option CapFault → Option CapFault
 or_else None other = other
 or_else (Some fault) other = Some fault

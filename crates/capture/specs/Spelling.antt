@@ -7,7 +7,9 @@ use Rattle.capture.specs.declared.reader.End.TheVariants.{Whole}
 use Rattle.capture.specs.Numbers.{u16_octets, u32_octets}
 use Rattle.capture.specs.Records.{Entry, IsWithin, fraction_of}
 use Rattle.capture.specs.Captures.{IsCapture}
+use Rattle.capture.specs.declared.format.TheConstants.{MAX_RECORDS}
 
+-- the magic number of each resolution
 abbrev pub magic_of : Resolution → ℕ
 magic_of Micros = 0xa1b2c3d4
 magic_of Nanos = 0xa1b23c4d
@@ -24,9 +26,11 @@ spelled_record_header format moment captured original = let e = format.endian in
     u32_octets e (moment / 1000000000000) ++ (u32_octets e (moment % 1000000000000 / fraction_of format.resolution)
     ++ (u32_octets e captured ++ u32_octets e original))
 
+-- a record as octets
 abbrev pub spelled_record : Format → Entry → List ℕ
 spelled_record format e = spelled_record_header format e.moment e.captured e.original ++ e.octets
 
+-- records as octets, one after another
 abbrev pub spelled_records : Format → List Entry → List ℕ
 spelled_records format [] = []
 spelled_records format (e ∷ es) = spelled_record format e ++ spelled_records format es
@@ -35,6 +39,7 @@ spelled_records format (e ∷ es) = spelled_record format e ++ spelled_records f
 abbrev pub rounded : Resolution → Entry → Entry
 rounded resolution e = record e { moment = e.moment / fraction_of resolution * fraction_of resolution }
 
+-- each record fits its fields
 abbrev pub AreWithin : List Entry → Type 0
 AreWithin [] = Unit {0}
 AreWithin (e ∷ es) = IsWithin e × AreWithin es
@@ -42,5 +47,5 @@ AreWithin (e ∷ es) = IsWithin e × AreWithin es
 -- a header and records that are spelled are read as those records, in either order and resolution, whatever zone, accuracy and
 -- snapshot length the header has
 abbrev pub IsSpelling : Type 0
-IsSpelling = (format : Format) (zone accuracy snapshot : ℕ) (es : List Entry) → AreWithin es → length es ≤ 4000000
+IsSpelling = (format : Format) (zone accuracy snapshot : ℕ) (es : List Entry) → AreWithin es → length es ≤ MAX_RECORDS
     → IsCapture (spelled_header format zone accuracy snapshot ++ spelled_records format es) format (map (rounded format.resolution) es) Whole

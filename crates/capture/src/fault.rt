@@ -15,11 +15,11 @@ pub enum CapFault {
     BadLink,
     /// The input ends within a record.
     ShortRecord,
-    /// A record has more than `LONGEST_RECORD` octets.
+    /// A record has more than `MAX_RECORD_OCTETS` octets.
     LongRecord,
     /// The fraction of a time stamp is a second or more.
     BadFraction,
-    /// There are more than `MOST_RECORDS` records.
+    /// There are more than `MAX_RECORDS` records.
     TooManyRecords,
     /// A read failed. It isn't tried again.
     Read,

@@ -8,10 +8,10 @@ use crate::fault::CapFault;
 use byteorder::{BigEndian, ByteOrder, LittleEndian};
 
 /// The most octets of a record that a capture may hold.
-pub const LONGEST_RECORD: u32 = 262_144;
+pub const MAX_RECORD_OCTETS: u32 = 262_144;
 
 /// The most records of a capture.
-pub const MOST_RECORDS: u32 = 4_000_000;
+pub const MAX_RECORDS: u32 = 4_000_000;
 
 /// In which order the octets of a capture's numbers stand.
 #[derive(Clone, Copy, Debug, PartialEq, Eq)]
@@ -53,6 +53,7 @@ pub struct RecordHeader {
     pub original: u32,
 }
 
+/// The first two octets as a number.
 pub fn read_u16(endian: Endian, octets: &[u8]) -> u16
     requires { 2 ≤ length octets.now }
     ensures { result ≡ u16_at endian octets.now }
@@ -63,6 +64,7 @@ pub fn read_u16(endian: Endian, octets: &[u8]) -> u16
     }
 }
 
+/// The first four octets as a number.
 pub fn read_u32(endian: Endian, octets: &[u8]) -> u32
     requires { 4 ≤ length octets.now }
     ensures { result ≡ u32_at endian octets.now }
@@ -73,6 +75,7 @@ pub fn read_u32(endian: Endian, octets: &[u8]) -> u32
     }
 }
 
+/// The 16 octets of a record header as its fields.
 pub fn read_header(format: Format, octets: &[u8]) -> RecordHeader
     requires { 16 ≤ length octets.now }
     ensures { result ≡ header_at format octets.now }
@@ -97,16 +100,16 @@ fn fractions_in(resolution: Resolution) -> u32
 /// The faults that a record's header shows, where so many records came before.
 pub fn check_header(format: Format, number: u32, header: RecordHeader) -> Result<(), CapFault>
     ensures fault { result ≡ ok_unless (header_fault format number header) }
-    ensures short { IsOk result → header.captured ≤ 262144 }
-    ensures few { IsOk result → number < 4000000 }
+    ensures short { IsOk result → header.captured ≤ MAX_RECORD_OCTETS }
+    ensures few { IsOk result → number < MAX_RECORDS }
 {
-    if header.captured > LONGEST_RECORD {
+    if header.captured > MAX_RECORD_OCTETS {
         return Err(CapFault::LongRecord);
     }
     if header.fraction >= fractions_in(format.resolution) {
         return Err(CapFault::BadFraction);
     }
-    if number >= MOST_RECORDS {
+    if number >= MAX_RECORDS {
         return Err(CapFault::TooManyRecords);
     }
     Ok(())

@@ -11,7 +11,7 @@ mod window;
 mod writer;
 
 pub use fault::CapFault;
-pub use format::{Endian, Format, LONGEST_RECORD, MOST_RECORDS, Resolution};
+pub use format::{Endian, Format, MAX_RECORD_OCTETS, MAX_RECORDS, Resolution};
 pub use reader::{CaptureReader, End};
 pub use record::{Record, frame_of};
 pub use writer::{CAPTURE_END, CaptureWriter};

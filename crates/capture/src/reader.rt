@@ -4,6 +4,7 @@ ghost use Rattle.std.specs.Prelude.{◌≡◌, ◌≢◌, ◌≤◌, ◌<◌, �
 ghost use Rattle.std.specs.Io.KnownBytes.{Keeps, IsAtEnd, prepend_known};
 ghost use Rattle.std.specs.Io.BufRead.{Rests};
 ghost use Rattle.std.specs.Borrow.{sem};
+ghost use Rattle.capture.specs.declared.format.TheConstants.{MAX_RECORDS, MAX_RECORD_OCTETS};
 ghost use Rattle.capture.specs.Window.{held};
 ghost use Rattle.capture.specs.Step.{Step, is_record_fault};
 ghost use Rattle.capture.specs.Records.{fault_at, fractions_of};
@@ -72,9 +73,9 @@ fn read_record<R: Read, A: Allocator>(
     ensures step { IfSome (prepend_known (held window.old) (R.remaining source.old)) (λ octets.
         Step format number octets result window.new (prepend_known (held window.new) (R.remaining source.new))) }
     ensures start { IfOk result (λ o. IfSome o (λ header. header.captured ≤ window.new.start)) }
-    ensures short { IfOk result (λ o. IfSome o (λ header. header.captured ≤ 262144)) }
+    ensures short { IfOk result (λ o. IfSome o (λ header. header.captured ≤ MAX_RECORD_OCTETS)) }
     ensures fraction { IfOk result (λ o. IfSome o (λ header. header.fraction < fractions_of format.resolution)) }
-    ensures few { IfOk result (λ o. IsSome o → number < 4000000) }
+    ensures few { IfOk result (λ o. IsSome o → number < MAX_RECORDS) }
     ensures fault { IfErr result (λ f. IsTrue (is_record_fault f)) }
     ensures read { result ≡ Err CapFault.Read → fault_at format number (held window.old) ≡ Some CapFault.ShortRecord }
     ensures unread { fault_at format number (held window.old) ≢ Some CapFault.ShortRecord → source.new ≡ source.old }
@@ -100,13 +101,13 @@ fn read_record<R: Read, A: Allocator>(
 impl<R: Read, A: Allocator> CaptureReader<R, A> {
     ghost use Rattle.capture.specs.contracts.reader.CaptureReader.{the_row};
     ghost use Rattle.capture.specs.FileHeader.{IsHeaderFault};
-    ghost use Rattle.capture.specs.CaptureReader.{IsBegun, left, answer, shown, Next};
+    ghost use Rattle.capture.specs.CaptureReader.{IsNewReader, left, answer, shown, Next};
 
     /// Reads the file header and no octet more, and then takes the room for one record. No later call wants memory.
     pub fn new(alloc: A, reader: R) -> Result<CaptureReader<R, A>, CapFault>
     where
         R: Drop,
-        ensures ok { IfOk result (λ r. IsBegun R.remaining (R.remaining reader) (left r)) }
+        ensures ok { IfOk result (λ r. IsNewReader R.remaining (R.remaining reader) (left r)) }
         ensures fault { IfErr result (λ f. IsHeaderFault (R.remaining reader) f) }
     {
         let mut source = reader;

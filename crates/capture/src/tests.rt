@@ -5,7 +5,7 @@ mod readers;
 mod reading;
 mod writing;
 
-use crate::{CapFault, CaptureReader, End, MOST_RECORDS};
+use crate::{CapFault, CaptureReader, End, MAX_RECORDS};
 use std::alloc::Global;
 use std::io::{self, Read, Write};
 
@@ -107,7 +107,7 @@ impl Write for Narrow {
 /// How many records a reader gives, and its end, which it gives again.
 pub fn count_records<R: Read>(reader: &mut CaptureReader<R>) -> (u32, End) {
     let mut count = 0u32;
-    for _ in 0..=MOST_RECORDS {
+    for _ in 0..=MAX_RECORDS {
         match reader.next() {
             Ok(Some(_)) => count = count.saturating_add(1),
             Ok(None) => return (count, End::Whole),

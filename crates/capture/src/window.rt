@@ -3,7 +3,7 @@
 ghost use Rattle.std.specs.Prelude.{◌≡◌, ◌≤◌, ◌+◌, ◌-◌, ◌<◌, [], length, take, drop, IfOk, OnErr, MatchResult, vec_len};
 ghost use Rattle.std.specs.Io.KnownBytes.{Keeps, Consumes, IsAtEnd, prepend_known};
 
-use crate::format::LONGEST_RECORD;
+use crate::format::MAX_RECORD_OCTETS;
 use std::alloc::{AllocError, Allocator, Global};
 use std::io;
 use std::io::Read;
@@ -12,9 +12,9 @@ use std::io::Read;
 pub const RECORD_HEADER: usize = 16;
 
 /// The octets of the longest record, its header among them.
-pub const ROOM: usize = RECORD_HEADER + LONGEST_RECORD as usize;
+pub const ROOM: usize = RECORD_HEADER + MAX_RECORD_OCTETS as usize;
 
-// `buffer[start..end]` is read and not yet given.
+/// The one buffer of a reader: `buffer[start..end]` is read and not yet given.
 #[derive(Drop)]
 pub struct Window<A: Allocator = Global> {
     buffer: Vec<u8, A>,

@@ -7,7 +7,7 @@ ghost use Rattle.capture.specs.Spelling.{spelled_record_header};
 ghost use Rattle.capture.specs.CaptureWriter.{written_format, written_header};
 
 use crate::fault::CapFault;
-use crate::format::LONGEST_RECORD;
+use crate::format::MAX_RECORD_OCTETS;
 use crate::header::{ETHERNET, FILE_HEADER, MAJOR_VERSION, MINOR_VERSION, NANOS_MAGIC};
 use crate::window::RECORD_HEADER;
 use byteorder::{ByteOrder, LittleEndian};
@@ -44,7 +44,7 @@ fn file_header() -> [u8; FILE_HEADER]
     LittleEndian::write_u32(&mut header, NANOS_MAGIC);
     LittleEndian::write_u16(&mut header[4..], MAJOR_VERSION);
     LittleEndian::write_u16(&mut header[6..], MINOR_VERSION);
-    LittleEndian::write_u32(&mut header[16..], LONGEST_RECORD);
+    LittleEndian::write_u32(&mut header[16..], MAX_RECORD_OCTETS);
     LittleEndian::write_u32(&mut header[20..], ETHERNET);
     header
 }
@@ -68,7 +68,7 @@ fn record_header(moment: u128, captured: u32, original: u32) -> [u8; RECORD_HEAD
 impl CaptureWriter {
     ghost use Rattle.capture.specs.CaptureWriter.{has_failed, written_record};
 
-    /// Writes the file header: no zone, no accuracy, a snapshot length of `LONGEST_RECORD`, Ethernet.
+    /// Writes the file header: no zone, no accuracy, a snapshot length of `MAX_RECORD_OCTETS`, Ethernet.
     pub fn begin<W: Write>(writer: &mut W) -> Result<CaptureWriter, CapFault>
         ensures octets { Writes result (W.contents writer.old) (W.contents writer.new) written_header }
         ensures goes_on { IfOk result (λ w. has_failed w ≡ false) }
@@ -88,7 +88,7 @@ impl CaptureWriter {
         octets: &[u8],
     ) -> Result<(), CapFault>
         requires moment { moment < 4294967296000000000000 }
-        requires size { length octets.now ≤ 262144 }
+        requires size { length octets.now ≤ MAX_RECORD_OCTETS }
         ensures octets { Writes result (W.contents writer.old) (W.contents writer.new) (written_record moment original octets.now) }
         ensures goes_on { OnOk result (has_failed self.new ≡ false) }
         ensures fails { OnErr result (has_failed self.new ≡ true) }

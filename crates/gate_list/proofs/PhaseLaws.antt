@@ -57,10 +57,17 @@ mask (f ∷ g ∷ es) p (suc i) e h there =
     let rest = in_rest f (g ∷ es) p i h in
     rw (le-ltb p (in_ps f.interval) rest.0) (mask (g ∷ es) (p - in_ps f.interval) i e rest.1 there)
 
+-- the last mask is that of the last entry
+pub last_mask_at_end : (es : List Entry) (i : ℕ) (e : Entry) → slice_get es i ≡ Some e → i + 1 ≡ length es → last_mask es ≡ e.mask
+last_mask_at_end [] i e there last = absurd (omega arith)
+last_mask_at_end (d ∷ []) zero e there last = ap (λ (t : Entry). t.mask) (same_Some d e there)
+last_mask_at_end (d ∷ []) (suc i) e there last = absurd (omega arith)
+last_mask_at_end (d ∷ f ∷ es) zero e there last = absurd (omega arith)
+last_mask_at_end (d ∷ f ∷ es) (suc i) e there last = last_mask_at_end (f ∷ es) i e there (omega arith)
+
 pub last : (es : List Entry) (e : Entry) → slice_get es (length es - 1) ≡ Some e → last_mask es ≡ e.mask
 last [] e there = cc
-last (f ∷ []) e there = ap (λ x. x.mask) (same_Some f e there)
-last (f ∷ g ∷ es) e there = last (g ∷ es) e (ap (λ n. slice_get (f ∷ g ∷ es) n) (let s : suc (length (g ∷ es) - 1) ≡ length (f ∷ g ∷ es) - 1 = omega arith in s) ∙ there)
+last (f ∷ es) e there = last_mask_at_end (f ∷ es) (length (f ∷ es) - 1) e there (omega arith)
 
 pub phase_is : (es : List Entry) → PhaseLaw es
 phase_is es = record { found = found es; alone = alone es; mask = mask es; last = last es }

@@ -7,7 +7,7 @@ use Rattle.std.proofs.lemmas.List.{drop_more}
 use Rattle.gate_list.specs.Gate.{opens}
 use Rattle.gate_list.specs.Stay.{length_of, run_of, is_open_in_all, stay}
 use Rattle.gate_list.specs.declared.Slot.{Slot}
-use Rattle.gate_list.specs.Table.{forever, number_of, number_in}
+use Rattle.gate_list.specs.Table.{forever, number_of, number_told}
 use Rattle.gate_list.proofs.StayLaws.{length_both}
 
 pub run_le : (r : List Slot) (class : ℕ) → run_of r class ≤ length_of r
@@ -47,7 +47,7 @@ run_more cyc tail left class run next d b l r is test now =
     now ∙ (ap (λ t. cond t (run + span) 0) test ∙ (ap (λ n. cond (opens (get_or cyc (left - 1) d).mask class) n 0) turned ∙ sym (run_back cyc tail left class d l r)))
 
 -- what the table gets at a slot
-pub number_is : (cyc : List Slot) (i class run : ℕ) (all : Bool) (v : ℕ) → i < length cyc → all ≡ is_open_in_all cyc class → run ≡ run_of (drop i cyc ++ cyc) class → v ≡ cond all forever run → v ≡ number_in cyc i class
+pub number_is : (cyc : List Slot) (i class run : ℕ) (all : Bool) (v : ℕ) → i < length cyc → all ≡ is_open_in_all cyc class → run ≡ run_of (drop i cyc ++ cyc) class → v ≡ cond all forever run → v ≡ number_told cyc i class
 number_is cyc i class run all v l a r is =
     is
     ∙ (ap (λ n. cond all forever n) r
@@ -67,7 +67,7 @@ zeros n i =
       | inr past ↦ get_or-eq_default (replicate n none) none (let size = length-replicate n none in omega arith)
     ]
 
-pub number_none : (cyc : List Slot) (i class : ℕ) → length cyc ≤ i → number_in cyc i class ≡ 0
+pub number_none : (cyc : List Slot) (i class : ℕ) → length cyc ≤ i → number_told cyc i class ≡ 0
 number_none cyc i class l = ap (λ b. cond b (number_of (stay cyc i class)) 0) (le-ltb i (length cyc) l)
 
 pub written_more : (vs : List ℕ) (f : ℕ → ℕ) (left v : ℕ) → 0 < left → left ≤ length vs → v ≡ f (left - 1) → ((i : ℕ) → left ≤ i → get_or vs i 0 ≡ f i) → (i : ℕ) → left - 1 ≤ i → get_or (set vs (left - 1) v) i 0 ≡ f i

@@ -5,7 +5,7 @@ ghost use Rattle.std.specs.Prelude.{◌≡◌, ℕ, ◌<◌, ◌≤◌, ◌^◌,
 ghost use Rattle.gate_list.specs.Gate.{in_ps};
 ghost use Rattle.gate_list.specs.declared.TheConstants.{MAX_CYCLE_NS};
 ghost use Rattle.gate_list.specs.Stay.{slots, length_of, run_of, is_open_in_all};
-ghost use Rattle.gate_list.specs.Table.{number_in, number_at, stay_of, HasStays};
+ghost use Rattle.gate_list.specs.Table.{number_told, number_at, stay_of, HasStays};
 
 use crate::{Entry, MAX_ENTRIES, Slot, Stay, is_open};
 use arrayvec::ArrayVec;
@@ -70,7 +70,7 @@ fn column_of(slots: &[Slot], class: u8) -> [u64; MAX_ENTRIES]
     requires room { length slots.now ≤ MAX_ENTRIES }
     requires low { class < CLASSES }
     requires fits { length_of slots.now < 2 ^ 62 }
-    ensures { (i : ℕ) → slice_index result i ≡ number_in slots.now i class }
+    ensures { (i : ℕ) → slice_index result i ≡ number_told slots.now i class }
 {
     let (all, mut run) = first_run(slots, class);
     let mut stays = [0; MAX_ENTRIES];

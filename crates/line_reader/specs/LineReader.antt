@@ -28,6 +28,7 @@ in_hand r = ahead r.source
 abbrev pub IsAtEnd : {R A : Type 0} → LineReader R A → Type 0
 IsAtEnd r = (r.source.ended ≡ true) × (r.line.items ≡ [])
 
+-- what is read of a line so far
 abbrev pub progress_of : {R A : Type 0} → LineReader R A → Progress
 progress_of r = record { octets = r.line.items; first = r.first; breaks = r.breaks }
 
@@ -46,6 +47,7 @@ script_behind remaining (Ok false) r = Some End
 script_behind remaining (Err (Limit number limit)) r = Some (Broken number limit)
 script_behind remaining (Err Read) r = script_within remaining r
 
+-- the lines to come, by how the reader ended, if it has
 abbrev pub script_after : {R A : Type 0} → (R → Option (List ℕ)) → Option (Result (Unit {0}) LineFault) → LineReader R A → Option Script
 script_after remaining None r = script_ahead remaining r
 script_after remaining (Some ended) r = script_behind remaining (answer_of ended) r

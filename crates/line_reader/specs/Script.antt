@@ -25,12 +25,15 @@ abbrev pub joins : List ℕ → Bool
 joins octets = let n = length octets in
     (slice_index octets (n - 1) == 92) || ((slice_index octets (n - 1) == 13) && (slice_index octets (n - 2) == 92))
 
+-- a line feed ends a line that does not ask to be joined with the next
 abbrev pub ends : List ℕ → ℕ → Bool
 ends octets b = (b == 10) && not (joins octets)
 
+-- how many line feeds were read, one octet on
 abbrev pub breaks_after : ℕ → ℕ → ℕ
 breaks_after breaks b = if b == 10 then breaks + 1 else breaks
 
+-- the lines of octets, from what is read of the first
 abbrev pub script_from : Progress → List ℕ → Script
 script_from p [] = if length p.octets == 0 then End else Line p.first p.octets End
 script_from p (b ∷ bs) =

@@ -27,6 +27,7 @@ front_text (j ∷ js) = joined_text j ++ (10 ∷ front_text js)
 abbrev pub line_text : SpelledLine → List ℕ
 line_text line = front_text line.joined ++ line.last
 
+-- there is no line feed among the octets
 abbrev pub is_unbroken : List ℕ → Bool
 is_unbroken octets = list_all (λ octet. not (octet == 10)) octets
 
@@ -37,6 +38,7 @@ pub record IsSpelled (line : SpelledLine) : Type 0 where
   pub unjoined : joins (line_text line) ≡ false
   pub short : length (line_text line) ≤ MAX_LINE_OCTETS
 
+-- each line is spelled as a line can be
 abbrev pub AreSpelled : List SpelledLine → Type 0
 AreSpelled [] = Unit {0}
 AreSpelled (line ∷ rest) = IsSpelled line × AreSpelled rest
@@ -46,9 +48,11 @@ abbrev pub spelled : List SpelledLine → List ℕ
 spelled [] = []
 spelled (line ∷ rest) = line_text line ++ (10 ∷ spelled rest)
 
+-- how many line feeds a line has, its own and those that join it
 abbrev pub physical_lines : SpelledLine → ℕ
 physical_lines line = length line.joined + 1
 
+-- how many line feeds the lines have together
 abbrev pub all_physical_lines : List SpelledLine → ℕ
 all_physical_lines [] = 0
 all_physical_lines (line ∷ rest) = physical_lines line + all_physical_lines rest

@@ -40,14 +40,6 @@ until_ahead es began phase i listed begun still = record {
 
 -- ---- masks
 
--- the last mask is that of the last entry
-pub last_mask_at_end : (es : List Entry) (i : ℕ) (e : Entry) → slice_get es i ≡ Some e → i + 1 ≡ length es → last_mask es ≡ e.mask
-last_mask_at_end [] i e there last = absurd (omega arith)
-last_mask_at_end (d ∷ []) zero e there last = ap (λ (t : Entry). t.mask) (same_Some d e there)
-last_mask_at_end (d ∷ []) (suc i) e there last = absurd (omega arith)
-last_mask_at_end (d ∷ f ∷ es) zero e there last = absurd (omega arith)
-last_mask_at_end (d ∷ f ∷ es) (suc i) e there last = last_mask_at_end (f ∷ es) i e there (omega arith)
-
 -- the entry that is shown at a phase has the mask of the phase
 pub shown_mask : (es : List Entry) (p i : ℕ) (e : Entry) → slice_get es i ≡ Some e → IsShownAt es p i → mask_at es p ≡ e.mask
 shown_mask [] p i e there shown = cc

@@ -16,7 +16,8 @@ use Rattle.abstract_port.specs.declared.Refused.TheVariants.{Schedule}
 use Rattle.abstract_port.specs.declared.Command.{Command}
 use Rattle.abstract_port.specs.declared.Command.TheVariants.{Replace, Delete}
 use Rattle.port.specs.View.{busy_of}
-use Rattle.abstract_port.specs.AbstractPort.{AbstractPort, plan_of, first_of, map_refusal, limit_refusal, own_refusal, refusal, busy_by, busy_refusal, new_command, after_command, installs, installs_by, classes_after}
+use Rattle.abstract_port.specs.AbstractPort.{AbstractPort, plan_asked, first_of, map_refusal, limit_refusal, own_refusal, refusal, busy_by, busy_refusal, new_command, after_command, installs, installs_by, classes_after}
+use Rattle.abstract_port.proofs.RunLaws.{refused_for}
 
 pub made : {T E : Type 0} (o : Option E) (wanted x : T) → Ok x ≡ ok_unless o wanted → (x ≡ wanted) × (o ≡ None)
 made None wanted x e = ((cc), refl)
@@ -26,18 +27,15 @@ pub refused : {T E : Type 0} (o : Option E) (wanted : T) (f : E) → Err f ≡ o
 refused None wanted f e = absurd (cc)
 refused (Some g) wanted f e = (cc)
 
-abbrev refused_for : Option PlanFault → Option Refused
-refused_for o = elim o [ Some fault ↦ Some (Schedule fault) | None ↦ None ]
-
 first_last : (a b last c : Option Refused) → first_of a b ≡ None → last ≡ c → first_of a (first_of b last) ≡ c
 first_last None None last c e is = is
 first_last None (Some r) last c e is = absurd (cc)
 first_last (Some r) b last c e is = absurd (cc)
 
-pub own_none : (p : AbstractPort) (c : Change) → first_of (map_refusal p c) (limit_refusal p c) ≡ None → plan_fault p.ps (plan_of c) ≡ None → own_refusal p c ≡ None
+pub own_none : (p : AbstractPort) (c : Change) → first_of (map_refusal p c) (limit_refusal p c) ≡ None → plan_fault p.ps (plan_asked c) ≡ None → own_refusal p c ≡ None
 own_none p c early is = first_last (map_refusal p c) (limit_refusal p c) _ None early (ap refused_for is)
 
-pub own_some : (p : AbstractPort) (c : Change) (f : PlanFault) → first_of (map_refusal p c) (limit_refusal p c) ≡ None → plan_fault p.ps (plan_of c) ≡ Some f → own_refusal p c ≡ Some (Schedule f)
+pub own_some : (p : AbstractPort) (c : Change) (f : PlanFault) → first_of (map_refusal p c) (limit_refusal p c) ≡ None → plan_fault p.ps (plan_asked c) ≡ Some f → own_refusal p c ≡ Some (Schedule f)
 own_some p c f early is = first_last (map_refusal p c) (limit_refusal p c) _ (Some (Schedule f)) early (ap refused_for is)
 
 -- a command that only the gates may refuse, as they answer it
@@ -91,7 +89,7 @@ same_port q p now h same is_now is_h =
     ap (λ n. record q { now = n; history = h }) is_now ∙ (ap (λ x. record q { history = x }) (is_h ∙ ap (λ y. y.history) (sym same)) ∙ same)
 
 -- what the gates answer to a change, said of the port
-module _ (q p : AbstractPort) (c : Change) (e : ℕ) (s : Plan) (same : q ≡ p) (is_e : e ≡ p.now + lead_of p.ps p.mtu) (is_s : s ≡ plan_of c) where
+module _ (q p : AbstractPort) (c : Change) (e : ℕ) (s : Plan) (same : q ≡ p) (is_e : e ≡ p.now + lead_of p.ps p.mtu) (is_s : s ≡ plan_asked c) where
   is_command : accepted_at e s ≡ new_command p (Replace c)
   is_command = ap (λ n. accepted_at n s) is_e ∙ ap (λ x. accepted_at (p.now + lead_of p.ps p.mtu) x) is_s
 

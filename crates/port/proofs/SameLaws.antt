@@ -5,10 +5,7 @@ use Rattle.std.proofs.Math.Seq.{take-append_seam}
 use lib.Pointwise.{pointwise, pointwise_decides}
 use Rattle.class_map.specs.Ranges.{with_no_more, no_range}
 use Rattle.abstract_port.specs.AbstractPort.{same_ranges}
-
-both : (a b : Bool) → (a && b) ≡ true → (a ≡ true) × (b ≡ true)
-both true b h = (refl, h)
-both false b h = absurd (cc)
+use Rattle.abstract_port.proofs.TurnLaws.{both}
 
 and_of : (a b : Bool) → a ≡ true → b ≡ true → (a && b) ≡ true
 and_of true b h k = k

@@ -8,7 +8,7 @@ use list_config::Installed;
 
 /// An accepted command: no gate changes by it before its lead moment. One with no schedule is a deletion.
 #[derive(Default, Drop)]
-pub struct AcceptedCommand {
+pub struct RecordedCommand {
     /// The lead moment, in picoseconds.
     pub lead: u128,
     /// The change moment, in picoseconds.
@@ -17,7 +17,7 @@ pub struct AcceptedCommand {
     pub schedule: Option<Schedule>,
 }
 
-impl AcceptedCommand {
+impl RecordedCommand {
     /// The command as it is reported.
     pub fn report(&self) -> Installed
         ensures { result ≡ installed_of (accepted_in self.now) }

@@ -4,12 +4,12 @@ ghost use Rattle.gate_list.specs.Gate.{mask_at, last_mask};
 ghost use Rattle.list_config.specs.History.{announced, gates, in_force, is_held, is_in_time, kept, last, latest, mask_under, pending, planned_mask};
 ghost use Rattle.reference.specs.Plain.{accepted_in, command_of, counts, AreSound};
 
-use crate::accepted::AcceptedCommand;
+use crate::accepted::RecordedCommand;
 use arrayvec::ArrayVec;
 use gate_list::{Schedule, Visits};
 
 /// Whether a command is in time: with a follower, only where its change moment is at or before the follower's lead.
-fn is_in_time(command: &AcceptedCommand, rest: &[AcceptedCommand]) -> bool
+fn is_in_time(command: &RecordedCommand, rest: &[RecordedCommand]) -> bool
     ensures { result ≡ is_in_time (accepted_in command.now) (map accepted_in rest.now) }
 {
     match rest {
@@ -19,7 +19,7 @@ fn is_in_time(command: &AcceptedCommand, rest: &[AcceptedCommand]) -> bool
 }
 
 /// The last command that has come into force by a moment.
-pub fn in_force(history: &[AcceptedCommand], m: u128) -> Option<&AcceptedCommand>
+pub fn in_force(history: &[RecordedCommand], m: u128) -> Option<&RecordedCommand>
     ensures { command_of result ≡ in_force (map accepted_in history.now) m }
 {
     match history {
@@ -39,7 +39,7 @@ pub fn in_force(history: &[AcceptedCommand], m: u128) -> Option<&AcceptedCommand
 }
 
 /// The last command whose lead moment has come.
-fn latest(history: &[AcceptedCommand], m: u128) -> Option<&AcceptedCommand>
+fn latest(history: &[RecordedCommand], m: u128) -> Option<&RecordedCommand>
     ensures { command_of result ≡ latest (map accepted_in history.now) m }
 {
     match history {
@@ -55,7 +55,7 @@ fn latest(history: &[AcceptedCommand], m: u128) -> Option<&AcceptedCommand>
 }
 
 /// The last command whose lead moment has come, if its change moment has not.
-pub fn pending(history: &[AcceptedCommand], m: u128) -> Option<&AcceptedCommand>
+pub fn pending(history: &[RecordedCommand], m: u128) -> Option<&RecordedCommand>
     ensures { command_of result ≡ pending (map accepted_in history.now) m }
 {
     match latest(history, m) {
@@ -69,7 +69,7 @@ pub fn pending(history: &[AcceptedCommand], m: u128) -> Option<&AcceptedCommand>
 }
 
 /// The last command.
-fn last(history: &[AcceptedCommand]) -> Option<&AcceptedCommand>
+fn last(history: &[RecordedCommand]) -> Option<&RecordedCommand>
     ensures { command_of result ≡ last (map accepted_in history.now) }
 {
     match history {
@@ -85,7 +85,7 @@ fn last(history: &[AcceptedCommand]) -> Option<&AcceptedCommand>
 }
 
 /// The last command, if its lead moment has not come.
-pub fn announced(history: &[AcceptedCommand], m: u128) -> Option<&AcceptedCommand>
+pub fn announced(history: &[RecordedCommand], m: u128) -> Option<&RecordedCommand>
     ensures { command_of result ≡ announced (map accepted_in history.now) m }
 {
     match last(history) {
@@ -99,7 +99,7 @@ pub fn announced(history: &[AcceptedCommand], m: u128) -> Option<&AcceptedComman
 }
 
 /// Whether a command counts at a moment, where these follow it: as the one announced, pending or in force.
-fn counts(command: &AcceptedCommand, rest: &[AcceptedCommand], m: u128) -> bool
+fn counts(command: &RecordedCommand, rest: &[RecordedCommand], m: u128) -> bool
     ensures { result ≡ counts (accepted_in command.now) (map accepted_in rest.now) m }
 {
     if m < command.lead {
@@ -112,7 +112,7 @@ fn counts(command: &AcceptedCommand, rest: &[AcceptedCommand], m: u128) -> bool
 }
 
 /// What is left of a history at a moment: the commands in force, pending and announced.
-pub fn kept(mut history: ArrayVec<AcceptedCommand, 3>, m: u128) -> ArrayVec<AcceptedCommand, 3>
+pub fn kept(mut history: ArrayVec<RecordedCommand, 3>, m: u128) -> ArrayVec<RecordedCommand, 3>
     requires { AreSound (map accepted_in history.items) }
     ensures { map accepted_in result.items ≡ kept (map accepted_in history.items) m }
 {
@@ -126,7 +126,7 @@ pub fn kept(mut history: ArrayVec<AcceptedCommand, 3>, m: u128) -> ArrayVec<Acce
 }
 
 /// Whether the last state is held at a boundary for the change that is pending. All are in picoseconds.
-fn is_held(start: u128, extension: u128, boundary: u128, pending: Option<&AcceptedCommand>) -> bool
+fn is_held(start: u128, extension: u128, boundary: u128, pending: Option<&RecordedCommand>) -> bool
     ensures { result ≡ is_held start extension boundary (command_of pending.entry) }
 {
     match pending {
@@ -163,7 +163,7 @@ fn last_mask(schedule: &Schedule) -> u8
 }
 
 /// What a schedule in force since `start` shows at a moment, with this change pending. All are in picoseconds.
-fn planned_mask(schedule: &Schedule, start: u128, pending: Option<&AcceptedCommand>, m: u128) -> u8
+fn planned_mask(schedule: &Schedule, start: u128, pending: Option<&RecordedCommand>, m: u128) -> u8
     ensures { result ≡ planned_mask schedule.now start (command_of pending.entry) m }
 {
     let cycle = 1000 * u128::from(schedule.cycle_ns());
@@ -177,7 +177,7 @@ fn planned_mask(schedule: &Schedule, start: u128, pending: Option<&AcceptedComma
 }
 
 /// What the command in force shows at a moment, in picoseconds, with this change pending.
-fn mask_under(in_force: Option<&AcceptedCommand>, pending: Option<&AcceptedCommand>, m: u128) -> u8
+fn mask_under(in_force: Option<&RecordedCommand>, pending: Option<&RecordedCommand>, m: u128) -> u8
     ensures { result ≡ mask_under (command_of in_force.entry) (command_of pending.entry) m }
 {
     match in_force {
@@ -190,7 +190,7 @@ fn mask_under(in_force: Option<&AcceptedCommand>, pending: Option<&AcceptedComma
 }
 
 /// The classes that are open at a moment, in picoseconds: bit c is class c.
-pub fn gates(history: &[AcceptedCommand], m: u128) -> u8
+pub fn gates(history: &[RecordedCommand], m: u128) -> u8
     ensures { result ≡ gates (map accepted_in history.now) m }
 {
     mask_under(in_force(history, m), pending(history, m), m)

@@ -4,7 +4,7 @@ ghost use Rattle.list_config.specs.History.{IsSound, announced, gates};
 ghost use Rattle.list_config.specs.Current.{IsCurrent};
 ghost use Rattle.reference.specs.Plain.{accepted_in};
 
-use crate::accepted::AcceptedCommand;
+use crate::accepted::RecordedCommand;
 use crate::history::{announced, gates, in_force, kept, pending};
 use arrayvec::ArrayVec;
 use gate_list::{Schedule, Visits, is_open};
@@ -17,7 +17,7 @@ use wire_time::CLASSES;
 #[derive(Drop)]
 pub struct Plain {
     moment: u128,
-    history: ArrayVec<AcceptedCommand, 3>,
+    history: ArrayVec<RecordedCommand, 3>,
 }
 
 /// A contract sees the history, and the moment.
@@ -50,7 +50,7 @@ impl Plain {
 
     /// Adds a command to the list.
     #[tactic(auto, using(crate::proofs::PlainLaws::room_for_one))]
-    fn announce(&mut self, command: AcceptedCommand)
+    fn announce(&mut self, command: RecordedCommand)
         requires free { announced self.old.history self.old.moment ≡ None }
         requires ahead { self.old.moment < command.lead }
         requires sound { IsSound (accepted_in command) }
@@ -129,7 +129,7 @@ impl Gates for Plain {
             return Err(NotNow::Busy(command.lead));
         }
         let change = schedule.change_moment(lead);
-        self.announce(AcceptedCommand {
+        self.announce(RecordedCommand {
             lead,
             change,
             schedule: Some(schedule),
@@ -141,7 +141,7 @@ impl Gates for Plain {
         if let Some(command) = announced(self.history.as_slice(), self.moment) {
             return Err(NotNow::Busy(command.lead));
         }
-        self.announce(AcceptedCommand {
+        self.announce(RecordedCommand {
             lead,
             change: lead,
             schedule: None,

@@ -17,52 +17,52 @@ use Rattle.script.specs.declared.faults.ScriptFault.TheVariants.{UnknownLine, Wo
 -- 1. Lines that ask something of the port
 
 -- clock M
-abbrev pub clock_at : Option ℕ → Result Event ScriptFault
-clock_at None = Err BadNumber
-clock_at (Some m) = if nat_lt greatest_moment m then Err ClockTooLate else Ok (Clock m)
+abbrev pub clock_with : Option ℕ → Result Event ScriptFault
+clock_with None = Err BadNumber
+clock_with (Some m) = if nat_lt greatest_moment m then Err ClockTooLate else Ok (Clock m)
 
 -- the same of words
-abbrev pub clock_of : List (List ℕ) → Result Event ScriptFault
-clock_of [] = Err WordCount
-clock_of (m ∷ []) = clock_at (number_in 10 (2 ^ 128 - 1) m)
-clock_of (m ∷ more ∷ ws) = Err WordCount
+abbrev pub clock_event : List (List ℕ) → Result Event ScriptFault
+clock_event [] = Err WordCount
+clock_event (m ∷ []) = clock_with (number_in 10 (2 ^ 128 - 1) m)
+clock_event (m ∷ more ∷ ws) = Err WordCount
 
 -- frame ID PRIORITY LEN, and tagged where the frame is
-abbrev pub frame_at : Option ℕ → Option ℕ → Option ℕ → Bool → Result Event ScriptFault
-frame_at (Some id) (Some priority) (Some len) tagged = Ok (Arrive (record { id = id; priority = priority; len = len; tagged = tagged }))
-frame_at None priority len tagged = Err BadNumber
-frame_at (Some id) None len tagged = Err BadNumber
-frame_at (Some id) (Some priority) None tagged = Err BadNumber
+abbrev pub frame_with : Option ℕ → Option ℕ → Option ℕ → Bool → Result Event ScriptFault
+frame_with (Some id) (Some priority) (Some len) tagged = Ok (Arrive (record { id = id; priority = priority; len = len; tagged = tagged }))
+frame_with None priority len tagged = Err BadNumber
+frame_with (Some id) None len tagged = Err BadNumber
+frame_with (Some id) (Some priority) None tagged = Err BadNumber
 
 -- the same of words, each a number of its width
-abbrev pub frame_of_words : List ℕ → List ℕ → List ℕ → Bool → Result Event ScriptFault
-frame_of_words id priority len tagged =
-    frame_at (number_in 10 (2 ^ 64 - 1) id) (number_in 10 (2 ^ 8 - 1) priority) (number_in 10 (2 ^ 32 - 1) len) tagged
+abbrev pub frame_in_words : List ℕ → List ℕ → List ℕ → Bool → Result Event ScriptFault
+frame_in_words id priority len tagged =
+    frame_with (number_in 10 (2 ^ 64 - 1) id) (number_in 10 (2 ^ 8 - 1) priority) (number_in 10 (2 ^ 32 - 1) len) tagged
 
 -- the same of all words
-abbrev pub frame_of : List (List ℕ) → Result Event ScriptFault
-frame_of (id ∷ priority ∷ len ∷ []) = frame_of_words id priority len false
-frame_of (id ∷ priority ∷ len ∷ tag ∷ []) = if bytes_eq tag (codes "tagged") then frame_of_words id priority len true else Err WordCount
-frame_of (id ∷ priority ∷ len ∷ tag ∷ more ∷ ws) = Err WordCount
-frame_of (id ∷ priority ∷ []) = Err WordCount
-frame_of (id ∷ []) = Err WordCount
-frame_of [] = Err WordCount
+abbrev pub frame_event : List (List ℕ) → Result Event ScriptFault
+frame_event (id ∷ priority ∷ len ∷ []) = frame_in_words id priority len false
+frame_event (id ∷ priority ∷ len ∷ tag ∷ []) = if bytes_eq tag (codes "tagged") then frame_in_words id priority len true else Err WordCount
+frame_event (id ∷ priority ∷ len ∷ tag ∷ more ∷ ws) = Err WordCount
+frame_event (id ∷ priority ∷ []) = Err WordCount
+frame_event (id ∷ []) = Err WordCount
+frame_event [] = Err WordCount
 
 -- query
-abbrev pub query_of : List (List ℕ) → Result Event ScriptFault
-query_of [] = Ok Query
-query_of (more ∷ ws) = Err WordCount
+abbrev pub query_event : List (List ℕ) → Result Event ScriptFault
+query_event [] = Ok Query
+query_event (more ∷ ws) = Err WordCount
 
 -- count C
-abbrev pub count_at : Option ℕ → Result Event ScriptFault
-count_at None = Err BadNumber
-count_at (Some class) = Ok (Count class)
+abbrev pub count_with : Option ℕ → Result Event ScriptFault
+count_with None = Err BadNumber
+count_with (Some class) = Ok (Count class)
 
 -- the same of words
-abbrev pub count_of : List (List ℕ) → Result Event ScriptFault
-count_of [] = Err WordCount
-count_of (class ∷ []) = count_at (number_in 10 7 class)
-count_of (class ∷ more ∷ ws) = Err WordCount
+abbrev pub count_event : List (List ℕ) → Result Event ScriptFault
+count_event [] = Err WordCount
+count_event (class ∷ []) = count_with (number_in 10 7 class)
+count_event (class ∷ more ∷ ws) = Err WordCount
 
 -- whether a word begins with #
 abbrev pub is_comment : List ℕ → Bool
@@ -79,10 +79,10 @@ abbrev pub said_in_words : List (List ℕ) → Result (Option Said) ScriptFault
 said_in_words [] = Ok None
 said_in_words (w ∷ ws) =
     if is_comment w then Ok None
-    else if bytes_eq w (codes "clock") then said (clock_of ws)
-    else if bytes_eq w (codes "frame") then said (frame_of ws)
-    else if bytes_eq w (codes "query") then said (query_of ws)
-    else if bytes_eq w (codes "count") then said (count_of ws)
+    else if bytes_eq w (codes "clock") then said (clock_event ws)
+    else if bytes_eq w (codes "frame") then said (frame_event ws)
+    else if bytes_eq w (codes "query") then said (query_event ws)
+    else if bytes_eq w (codes "count") then said (count_event ws)
     else if bytes_eq w (codes "tc") then Ok (Some Says.Tc)
     else Err UnknownLine
 

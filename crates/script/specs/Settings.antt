@@ -10,14 +10,14 @@ use Rattle.script.specs.declared.settings.BadValue.{BadValue}
 use Rattle.script.specs.declared.settings.BadValue.TheVariants.{Rate, Mtu, Room, Until}
 
 -- a moment, if there is one, is at most the greatest
-abbrev pub is_in_time : Option ℕ → Bool
-is_in_time None = true
-is_in_time (Some moment) = nat_le moment greatest_moment
+abbrev pub is_until : Option ℕ → Bool
+is_until None = true
+is_until (Some moment) = nat_le moment greatest_moment
 
 -- the settings of four numbers, or the first that is out of its limits
 abbrev pub settings_with : ℕ → ℕ → ℕ → Option ℕ → Result Setup BadValue
 settings_with rate mtu room until =
-    if is_mtu mtu then (if is_room room then (if is_in_time until then Ok (record { rate = rate; mtu = mtu; room = room; until = until })
+    if is_mtu mtu then (if is_room room then (if is_until until then Ok (record { rate = rate; mtu = mtu; room = room; until = until })
     else Err Until)
     else Err Room)
     else Err Mtu

@@ -5,7 +5,7 @@ ghost use Rattle.abstract_port.specs.declared.Command.{Command};
 ghost use Rattle.tc_reader.specs.declared.fault.TcFault.{TcFault};
 ghost use Rattle.words.specs.Words.{words_of};
 ghost use Rattle.words.specs.WordsLeft.{words_left};
-ghost use Rattle.script.specs.Requests.{clock_of, count_of, frame_of, frame_of_words, query_of, said_in};
+ghost use Rattle.script.specs.Requests.{clock_event, count_event, frame_event, frame_in_words, query_event, said_in};
 ghost use Rattle.tc_reader.specs.Reader.{IsReader};
 
 use crate::faults::ScriptFault;
@@ -26,7 +26,7 @@ pub enum Said {
 }
 
 fn read_clock(mut words: Words<'_>) -> Result<Event<'static>, ScriptFault>
-    ensures { result ≡ clock_of (words_left words.entry) }
+    ensures { result ≡ clock_event (words_left words.entry) }
 {
     let Some(moment) = words.next_word() else {
         return Err(ScriptFault::WordCount);
@@ -41,13 +41,13 @@ fn read_clock(mut words: Words<'_>) -> Result<Event<'static>, ScriptFault>
     }
 }
 
-fn frame_of_words(
+fn frame_in_words(
     id: &[u8],
     priority: &[u8],
     len: &[u8],
     tagged: bool,
 ) -> Result<Event<'static>, ScriptFault>
-    ensures { result ≡ frame_of_words id.now priority.now len.now tagged }
+    ensures { result ≡ frame_in_words id.now priority.now len.now tagged }
 {
     let Some(id) = number(id, u128::from(u64::MAX)) else {
         return Err(ScriptFault::BadNumber);
@@ -67,7 +67,7 @@ fn frame_of_words(
 }
 
 fn read_frame(mut words: Words<'_>) -> Result<Event<'static>, ScriptFault>
-    ensures { result ≡ frame_of (words_left words.entry) }
+    ensures { result ≡ frame_event (words_left words.entry) }
 {
     let Some(id) = words.next_word() else {
         return Err(ScriptFault::WordCount);
@@ -79,16 +79,16 @@ fn read_frame(mut words: Words<'_>) -> Result<Event<'static>, ScriptFault>
         return Err(ScriptFault::WordCount);
     };
     let Some(tag) = words.next_word() else {
-        return frame_of_words(id, priority, len, false);
+        return frame_in_words(id, priority, len, false);
     };
     if words.next_word().is_some() || tag != b"tagged".as_slice() {
         return Err(ScriptFault::WordCount);
     }
-    frame_of_words(id, priority, len, true)
+    frame_in_words(id, priority, len, true)
 }
 
 fn read_query(mut words: Words<'_>) -> Result<Event<'static>, ScriptFault>
-    ensures { result ≡ query_of (words_left words.entry) }
+    ensures { result ≡ query_event (words_left words.entry) }
 {
     match words.next_word() {
         None => Ok(Event::Query),
@@ -97,7 +97,7 @@ fn read_query(mut words: Words<'_>) -> Result<Event<'static>, ScriptFault>
 }
 
 fn read_count(mut words: Words<'_>) -> Result<Event<'static>, ScriptFault>
-    ensures { result ≡ count_of (words_left words.entry) }
+    ensures { result ≡ count_event (words_left words.entry) }
 {
     let Some(class) = words.next_word() else {
         return Err(ScriptFault::WordCount);

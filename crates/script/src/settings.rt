@@ -4,7 +4,7 @@ ghost use Rattle.std.specs.Prelude.{◌≡◌, ◌≤◌, option_map};
 ghost use Rattle.std.specs.Option.{ForSome};
 ghost use Rattle.abstract_port.specs.Sound.{IsMtu};
 ghost use Rattle.class_queue.specs.Queue.{IsRoom};
-ghost use Rattle.script.specs.Settings.{is_in_time, mtu_in, rate_in, room_in, settings_of, settings_with};
+ghost use Rattle.script.specs.Settings.{is_until, mtu_in, rate_in, room_in, settings_of, settings_with};
 
 use port::{is_mtu, is_room};
 use std::marker::Model;
@@ -69,8 +69,8 @@ fn read_room(text: &str) -> Option<u32>
 }
 
 /// Whether a moment, where there is one, is at most the greatest.
-fn is_in_time(until: Option<u128>) -> bool
-    ensures { result ≡ is_in_time until }
+fn is_until(until: Option<u128>) -> bool
+    ensures { result ≡ is_until until }
 {
     match until {
         None => true,
@@ -90,7 +90,7 @@ impl Settings {
         if !is_room(room) {
             return Err(BadValue::Room);
         }
-        if !is_in_time(until) {
+        if !is_until(until) {
             return Err(BadValue::Until);
         }
         Ok(Settings {

@@ -20,7 +20,7 @@ use Rattle.abstract_port.specs.Answers.{answers_to, answers_of, arrival_answer, 
 use Rattle.abstract_port.specs.Counting.{no_counts}
 use Rattle.abstract_port.specs.Laws.{AreInTurn}
 use Rattle.abstract_port.specs.Tally.{Counter, value_of}
-use Rattle.abstract_port.specs.Counting.{greatest_count}
+use Rattle.gate_list.specs.Visits.{greatest_count}
 use Rattle.abstract_port.specs.Tally as Tallied
 use Rattle.abstract_port.proofs.RunLaws.{answers_of-append, clock_by}
 use Rattle.abstract_port.proofs.RunTurns.{turns, wires, telling}

@@ -7,6 +7,7 @@ use Rattle.wire_time.specs.declared.TheConstants.{CLASSES}
 use Rattle.tc_reader.specs.Cursor.{Word}
 use Rattle.tc_reader.specs.Options.{Options, Item, priorities, ranges, sched_entry, limits, with_item}
 
+-- the options that are kept, as lists
 abbrev pub view : CappedOptions → Options
 view g = record {
   num_tc = g.num_tc;

@@ -3,6 +3,7 @@ use Rattle.std.specs.Prelude.{◌≡◌, ℕ, ◌+◌, ◌≤◌, List, length}
 use Rattle.words.specs.declared.words.Words.{Words}
 use Rattle.words.specs.WordsLeft.{words_left, words_taken}
 
+-- a word is octets
 abbrev pub Word : Type 0
 Word = List ℕ
 

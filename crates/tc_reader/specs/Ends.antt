@@ -32,6 +32,7 @@ classes_of None (Some ns) rs = Err (faults.MissingWord NumTc)
 classes_of (Some n) None rs = Err (faults.MissingWord Map)
 classes_of (Some n) (Some ns) rs = in_line faults.Map (map_of n ns) >>= λ map. ranges_of n rs >>= λ queues. Ok (Some map, queues)
 
+-- the gate list of the entries given, or its fault
 abbrev pub list_given : List Entry → Result GateList TcFault
 list_given entries = in_line faults.Gates (ok_unless (gate_fault entries) entries)
 

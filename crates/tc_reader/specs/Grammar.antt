@@ -18,6 +18,7 @@ use Rattle.tc_reader.specs.Ends.{change_given}
 
 -- ---- options
 
+-- the option that an item was given by
 abbrev pub kind_of : Item → Opt
 kind_of (num_tc n) = NumTc
 kind_of (priorities ns) = Map
@@ -42,6 +43,7 @@ IsOne most ws n = (w : Word) × (ws ≡ w ∷ []) × IsNumber most w n
 abbrev pub IsHex : ℕ → Word → ℕ → Type 0
 IsHex most w n = hex_in most w ≡ Some n
 
+-- each word is a number of at most so much, and these are the numbers
 abbrev pub AreNumbers : ℕ → List Word → List ℕ → Type 0
 AreNumbers most [] [] = Unit {0}
 AreNumbers most (w ∷ ws) (n ∷ ns) = IsNumber most w n × AreNumbers most ws ns
@@ -112,6 +114,7 @@ pub record AreHeads (heads : List Head) : Type 0 where
 
 -- ---- lines
 
+-- the verbs that put a schedule: add, replace and change mean the same
 abbrev pub ReplacesBy : Word → Type 0
 ReplacesBy verb = (verb ≡ codes "add") ⊎ (verb ≡ codes "replace") ⊎ (verb ≡ codes "change")
 

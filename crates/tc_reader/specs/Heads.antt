@@ -8,12 +8,14 @@ use Rattle.tc_reader.specs.declared.fault.Opt.TheVariants.{Dev, Parent, Handle}
 use Rattle.tc_reader.specs.declared.fault.TcFault.{TcFault}
 use Rattle.tc_reader.specs.declared.fault.TcFault.TheVariants as faults
 
+-- what may stand between the verb and `taprio`: a device, `root`, a parent, a handle
 pub data Head : Type 0 where
   dev : Word → Head
   root : Head
   parent : Word → Head
   handle : Word → Head
 
+-- a device is named
 abbrev pub is_dev : Head → Bool
 is_dev (dev w) = true
 is_dev root = false
@@ -27,6 +29,7 @@ is_parent root = true
 is_parent (parent w) = true
 is_parent (handle w) = false
 
+-- a handle is given
 abbrev pub is_handle : Head → Bool
 is_handle (dev w) = false
 is_handle root = false

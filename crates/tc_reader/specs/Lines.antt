@@ -21,6 +21,7 @@ verb_of w =
     else if bytes_eq w (codes "del") then Some Delete
     else None
 
+-- a verb, if there is one, with the words after it
 abbrev pub verb_with_rest : Option Verb → List Word → Option (Verb × List Word)
 verb_with_rest None ws = None
 verb_with_rest (Some v) ws = Some (v, ws)
@@ -34,6 +35,7 @@ verb_at _ = None
 abbrev pub replacement_of : Bool → Bool → Options → Result Command TcFault
 replacement_of has_dev has_parent g = heads_missing has_dev has_parent >>= λ _. change_given g >>= λ change. Ok (commands.Replace change)
 
+-- the deletion that a line asks for, if a device and a parent are named
 abbrev pub deletion_of : Bool → Bool → Result Command TcFault
 deletion_of has_dev has_parent = heads_missing has_dev has_parent >>= λ _. Ok commands.Delete
 

@@ -5,6 +5,7 @@ use Rattle.tc_reader.specs.Cursor.{Word}
 use Rattle.tc_reader.specs.declared.fault.Opt.{Opt}
 use Rattle.tc_reader.specs.declared.fault.Opt.TheVariants.{Dev, Parent, Handle, NumTc, Map, Queues, BaseTime, CycleTime, CycleTimeExtension, SchedEntry, Clockid, Flags, TxtimeDelay, MaxSdu, Fp}
 
+-- the word that names an option
 abbrev pub word_of : Opt → Word
 word_of Dev = codes "dev"
 word_of Parent = codes "parent"
@@ -22,6 +23,7 @@ word_of TxtimeDelay = codes "txtime-delay"
 word_of MaxSdu = codes "max-sdu"
 word_of Fp = codes "fp"
 
+-- the first of the options that the word names
 abbrev pub first_named : List Opt → Word → Option Opt
 first_named [] w = None
 first_named (o ∷ os) w = if bytes_eq w (word_of o) then Some o else first_named os w

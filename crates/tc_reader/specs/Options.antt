@@ -12,6 +12,7 @@ use Rattle.tc_reader.specs.declared.fault.TcFault.{TcFault}
 use Rattle.tc_reader.specs.declared.fault.TcFault.TheVariants as faults
 
 infixl 10 ◌>>=◌
+-- go on with a value, or end with the fault
 abbrev pub ◌>>=◌ : {A B : Type 0} → Result A TcFault → (A → Result B TcFault) → Result B TcFault
 (Ok x) >>= f = f x
 (Err e) >>= f = Err e
@@ -42,9 +43,11 @@ pub record Options : Type 0 where
   pub flags : Bool
   pub limits : Option (List ℕ)
 
+-- no option was given
 abbrev pub no_options : Options
 no_options = record { num_tc = None; priorities = None; ranges = None; base_time = None; cycle_time = None; extension = None; entries = []; clock = false; flags = false; limits = None }
 
+-- the options with one more
 abbrev pub with_item : Options → Item → Options
 with_item g (num_tc n) = record g { num_tc = Some n }
 with_item g (priorities ns) = record g { priorities = Some ns }
@@ -112,6 +115,7 @@ entry_at place ws =
 unfoldable pub flags_at : ℕ → List Word → Result (Item × List Word) TcFault
 flags_at place ws = value_at Flags (hex_in (2 ^ 32 - 1)) place ws >>= λ n. if n.0 == 0 || n.0 == 2 then Ok (flags n.0, n.1) else Err (faults.Unsupported Flags)
 
+-- the option of a clock, if the word names one
 abbrev pub clock_item : Word → Option Item
 clock_item w = if is_clock w then Some clock else None
 

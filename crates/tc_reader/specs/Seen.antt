@@ -14,6 +14,7 @@ use Rattle.tc_reader.specs.Heads.{Head, is_dev, is_parent, is_handle}
 abbrev pub seen_of : List Head → Seen
 seen_of heads = record { dev = list_any is_dev heads; parent = list_any is_parent heads; handle = list_any is_handle heads }
 
+-- an option that takes one word of its own
 abbrev pub head_word : Opt → Seen → List Word → Result (Seen × List Word) TcFault
 head_word opt seen [] = Err (faults.MissingWord opt)
 head_word opt seen (w ∷ ws) = Ok (seen, ws)
@@ -27,6 +28,7 @@ seen_at s w ws =
     else if bytes_eq w (codes "handle") then (if s.handle then Err (faults.Repeated Handle) else head_word Handle (record s { handle = true }) ws)
     else Err faults.NotTaprio
 
+-- what is seen after a word and the words that belong to it
 abbrev pub HeadTakes : {X : Type 0} → Seen → Word → List Word → Result X TcFault → Seen → List Word → Type 0
 HeadTakes old w ws (Ok _) new rest = seen_at old w ws ≡ Ok (new, rest)
 HeadTakes old w ws (Err f) new rest = seen_at old w ws ≡ Err f

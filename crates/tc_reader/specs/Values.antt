@@ -33,6 +33,7 @@ abbrev pub clock_names : List Word
 clock_names = codes "REALTIME" ∷ codes "MONOTONIC" ∷ codes "BOOTTIME" ∷ codes "TAI"
     ∷ codes "CLOCK_REALTIME" ∷ codes "CLOCK_MONOTONIC" ∷ codes "CLOCK_BOOTTIME" ∷ codes "CLOCK_TAI" ∷ []
 
+-- the word names a clock, in any case of its letters
 abbrev pub is_clock : Word → Bool
 is_clock w = list_any (λ name. str_eq_ignore_ascii_case w name) clock_names
 

@@ -1,7 +1,7 @@
 //! Readers that give little at a time, give without end, or fail.
 
 use super::{Pieces, TWO_RECORDS, summary};
-use crate::{CapFault, CaptureReader, End, LONGEST_RECORD, MOST_RECORDS};
+use crate::{CapFault, CaptureReader, End, MAX_RECORD_OCTETS, MAX_RECORDS};
 use linked_list_allocator::LocalHeap;
 use std::io::{self, Read};
 use std::test::Fail;
@@ -69,7 +69,7 @@ impl Read for Asked<'_> {
 
 #[test]
 fn asks_for_all_the_room(rt: HostRuntime) -> Result<(), Fail> {
-    let room = EMPTY_RECORD + LONGEST_RECORD as usize;
+    let room = EMPTY_RECORD + MAX_RECORD_OCTETS as usize;
     // The header alone; then both records but for 4 octets of the second; its rest; and the end.
     let source = Asked {
         octets: TWO_RECORDS.as_slice(),
@@ -110,13 +110,13 @@ fn long_record(captured: u32) -> [u8; 40] {
 
 #[test]
 fn longest_record(rt: HostRuntime) -> Result<(), Fail> {
-    let head = long_record(LONGEST_RECORD);
+    let head = long_record(MAX_RECORD_OCTETS);
     let mut source = Pieces::new(head.as_slice(), 65_521);
-    source.zeros = LONGEST_RECORD as usize + EMPTY_RECORD;
+    source.zeros = MAX_RECORD_OCTETS as usize + EMPTY_RECORD;
     let mut reader = CaptureReader::new(rt.alloc(), source).map_err(|_| "header")?;
     let record = reader.next().map_err(|_| "record")?.ok_or("record")?;
-    assert_eq!(rt; record.captured, LONGEST_RECORD);
-    assert_eq!(rt; record.octets.len(), LONGEST_RECORD as usize);
+    assert_eq!(rt; record.captured, MAX_RECORD_OCTETS);
+    assert_eq!(rt; record.octets.len(), MAX_RECORD_OCTETS as usize);
     assert!(rt; record.octets.iter().all(|octet| *octet == 0));
     // Behind it a record without octets.
     let record = reader.next().map_err(|_| "record")?.ok_or("record")?;
@@ -124,17 +124,17 @@ fn longest_record(rt: HostRuntime) -> Result<(), Fail> {
     assert_eq!(rt; record.octets.len(), 0);
     assert!(rt; matches!(reader.next(), Ok(None)));
 
-    let head = long_record(LONGEST_RECORD);
+    let head = long_record(MAX_RECORD_OCTETS);
     let mut source = Pieces::new(head.as_slice(), 65_521);
-    source.zeros = LONGEST_RECORD as usize - 1;
+    source.zeros = MAX_RECORD_OCTETS as usize - 1;
     assert_eq!(rt;
         summary(rt.alloc(), source),
         (0, End::Broken(CapFault::ShortRecord))
     );
 
-    let head = long_record(LONGEST_RECORD + 1);
+    let head = long_record(MAX_RECORD_OCTETS + 1);
     let mut source = Pieces::new(head.as_slice(), 65_521);
-    source.zeros = LONGEST_RECORD as usize + 1;
+    source.zeros = MAX_RECORD_OCTETS as usize + 1;
     assert_eq!(rt;
         summary(rt.alloc(), source),
         (0, End::Broken(CapFault::LongRecord))
@@ -144,17 +144,17 @@ fn longest_record(rt: HostRuntime) -> Result<(), Fail> {
 
 #[test]
 fn most_records(rt: HostRuntime) -> Result<(), Fail> {
-    let most = EMPTY_RECORD * MOST_RECORDS as usize;
+    let most = EMPTY_RECORD * MAX_RECORDS as usize;
     let mut source = Pieces::new(&TWO_RECORDS[..HEADER], usize::MAX);
     source.zeros = most;
-    assert_eq!(rt; summary(rt.alloc(), source), (MOST_RECORDS, End::Whole));
+    assert_eq!(rt; summary(rt.alloc(), source), (MAX_RECORDS, End::Whole));
 
     // A reader without end.
     let mut source = Pieces::new(&TWO_RECORDS[..HEADER], usize::MAX);
     source.zeros = usize::MAX;
     assert_eq!(rt;
         summary(rt.alloc(), source),
-        (MOST_RECORDS, End::Broken(CapFault::TooManyRecords))
+        (MAX_RECORDS, End::Broken(CapFault::TooManyRecords))
     );
     Ok(())
 }

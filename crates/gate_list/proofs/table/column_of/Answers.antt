@@ -1,6 +1,6 @@
 use Rattle.std.proofs.Common.{◌≡◌, ◌-◌, ◌++◌, length, drop, cond, length-set, arith, refl, sym, ◌∙◌}
 use Rattle.gate_list.specs.Stay.{run_of}
-use Rattle.gate_list.specs.Table.{forever, number_in}
+use Rattle.gate_list.specs.Table.{forever, number_told}
 use Rattle.gate_list.proofs.TableLaws.{run_room, run_more, number_is, number_none, zeros, written_more}
 use Rattle.gate_list.proofs.StayLaws.{run_round}
 use Rattle.gate_list.proofs.table.column_of.Goals as goal
@@ -30,7 +30,7 @@ loop-left-preserved c =
       size = rw length-set c.loop-left.invariant.size;
       within = omega arith;
       run_is = run_now;
-      written = written_more c.loop-left.stays (λ i. number_in c.args.slots.now i c.args.class) c.loop-left.left c.if-all.stays (omega arith) (let size = c.loop-left.invariant.size in let few = c.requires.room in omega arith)
+      written = written_more c.loop-left.stays (λ i. number_told c.args.slots.now i c.args.class) c.loop-left.left c.if-all.stays (omega arith) (let size = c.loop-left.invariant.size in let few = c.requires.room in omega arith)
           (number_is c.args.slots.now (c.loop-left.left - 1) c.args.class c.if-is_open.run c.first_run-all.result.0 c.if-all.stays (omega arith) c.first_run-all.ensures.all run_now value_now)
           c.loop-left.invariant.written;
     }

@@ -1,7 +1,7 @@
 use Rattle.std.proofs.Common.{◌≡◌, ◌+◌, ◌-◌, ◌*◌, None, length, ap, sym, ◌∙◌, subst, arith}
 use Rattle.gate_list.specs.Gate.{in_ps}
 use Rattle.cycle_timer.specs.Cycle.{Cycle}
-use Rattle.list_execute.proofs.WalkLaws.{last_mask_at_end}
+use Rattle.gate_list.proofs.PhaseLaws.{last_mask_at_end}
 use Rattle.list_position.specs.Position.{IsPlaced}
 use Rattle.list_position.proofs.Position.first.Goals as goal
 

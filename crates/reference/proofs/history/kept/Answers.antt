@@ -1,7 +1,7 @@
 use Rattle.std.proofs.Common.{◌≡◌, ◌≤◌, ◌+◌, length, map, sym, ap, ◌∙◌, subst, arith}
 use Rattle.list_config.specs.History.{Accepted}
 use Rattle.std.proofs.Common.{List}
-use Rattle.reference.specs.declared.accepted.AcceptedCommand.{AcceptedCommand}
+use Rattle.reference.specs.declared.accepted.RecordedCommand.{RecordedCommand}
 use Rattle.reference.specs.Plain.{AreSound, accepted_in, counts}
 use Rattle.reference.proofs.PlainLaws.{first_of, told_less, told_more}
 use Rattle.reference.proofs.history.kept.Goals as goal
@@ -9,9 +9,9 @@ use Rattle.reference.proofs.history.kept.Goals as goal
 pub loop-first-preserved-then-counts : goal.loop-first-preserved-then-counts
 loop-first-preserved-then-counts c =
     let is = first_of c.loop-first.history.items c.in-Some.first c.pop_at.new.self.items (sym c.in-Some.ensures.value) c.in-Some.ensures.items in
-    let sound = subst (λ (h : List AcceptedCommand). AreSound (map accepted_in h)) is c.loop-first.invariant.sound in
-    let counted = ap (λ (r : List AcceptedCommand). counts (accepted_in c.in-Some.first) (map accepted_in r) c.args.m) (sym c.as_slice.ensures.value) ∙ (sym c.counts.ensures ∙ c.if-counts.true) in
-    let size = ap (λ (h : List AcceptedCommand). length h) is in
+    let sound = subst (λ (h : List RecordedCommand). AreSound (map accepted_in h)) is c.loop-first.invariant.sound in
+    let counted = ap (λ (r : List RecordedCommand). counts (accepted_in c.in-Some.first) (map accepted_in r) c.args.m) (sym c.as_slice.ensures.value) ∙ (sym c.counts.ensures ∙ c.if-counts.true) in
+    let size = ap (λ (h : List RecordedCommand). length h) is in
     let grown = c.push.ensures.len in
     let few = c.loop-first.invariant.room in
     record {
@@ -23,9 +23,9 @@ loop-first-preserved-then-counts c =
 pub loop-first-preserved : goal.loop-first-preserved
 loop-first-preserved c =
     let is = first_of c.loop-first.history.items c.in-Some.first c.pop_at.new.self.items (sym c.in-Some.ensures.value) c.in-Some.ensures.items in
-    let sound = subst (λ (h : List AcceptedCommand). AreSound (map accepted_in h)) is c.loop-first.invariant.sound in
-    let counted = ap (λ (r : List AcceptedCommand). counts (accepted_in c.in-Some.first) (map accepted_in r) c.args.m) (sym c.as_slice.ensures.value) ∙ (sym c.counts.ensures ∙ c.if-counts.false) in
-    let size = ap (λ (h : List AcceptedCommand). length h) is in
+    let sound = subst (λ (h : List RecordedCommand). AreSound (map accepted_in h)) is c.loop-first.invariant.sound in
+    let counted = ap (λ (r : List RecordedCommand). counts (accepted_in c.in-Some.first) (map accepted_in r) c.args.m) (sym c.as_slice.ensures.value) ∙ (sym c.counts.ensures ∙ c.if-counts.false) in
+    let size = ap (λ (h : List RecordedCommand). length h) is in
     let few = c.loop-first.invariant.room in
     record {
       told = told_less c.args.m c.loop-first.kept.items c.in-Some.first c.pop_at.new.self.items c.loop-first.history.items is sound counted _ c.loop-first.invariant.told;
