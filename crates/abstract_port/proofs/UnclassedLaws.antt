@@ -21,7 +21,7 @@ use Rattle.abstract_port.proofs.StartsLaws.{next_start-unmoved, starts_from-unmo
 use Rattle.abstract_port.proofs.TallyLaws.{add_twice, capped_within, same_capped}
 
 -- the count grows from one port to another by what happens between
-Grows : AbstractPort → AbstractPort → List Happening → Type 0
+abbrev Grows : AbstractPort → AbstractPort → List Happening → Type 0
 Grows p q hs = q.no_class ≡ add_capped p.no_class (sum_by unclassed hs)
 
 grows_none : (p q : AbstractPort) (hs : List Happening) → p.no_class ≤ greatest_count → q.no_class ≡ p.no_class → sum_by unclassed hs ≡ 0 → Grows p q hs
@@ -38,7 +38,7 @@ grows_on p q r hs js a b =
 departing : (o : Option Start) (queue : List Frame) (later : List Happening) → sum_by unclassed later ≡ 0 → sum_by unclassed (started o queue later) ≡ 0
 departing None queue later e = refl
 departing (Some s) [] later e = refl
-departing (Some s) (f ∷ rest) later e = sum_by-cons unclassed (Started s f) later ∙ e
+departing (Some s) (f ∷ rest) later e = sum_by-cons unclassed (Started s f) later ∙ ap (λ n. 0 + n) e
 
 departed : (n upto : ℕ) (p : AbstractPort) → sum_by unclassed (departures n upto p) ≡ 0
 unfolding departures
@@ -53,7 +53,8 @@ starts_kept p upto =
     starts_from-unmoved (λ q. q.no_class) unmoved (waiting p + 1) upto (next_start p upto).0 (next_start p upto).1 ∙ next_start-unmoved (λ q. q.no_class) unmoved p upto
 
 arrived : (p : AbstractPort) (f : Frame) (o : Option ℕ) (v : Result ℕ Dropped) → p.no_class ≤ greatest_count → class_for p f.priority ≡ o → Grows p (after_arrival p f v) (Arrived f o v ∷ [])
-arrived p f o (Ok d) least is = grows_none p (after_arrival p f (Ok d)) (Arrived f o (Ok d) ∷ []) least refl (sum_by-cons unclassed (Arrived f o (Ok d)) [])
+arrived p f None (Ok d) least is = grows_none p (after_arrival p f (Ok d)) (Arrived f None (Ok d) ∷ []) least refl (sum_by-cons unclassed (Arrived f None (Ok d)) [])
+arrived p f (Some k) (Ok d) least is = grows_none p (after_arrival p f (Ok d)) (Arrived f (Some k) (Ok d) ∷ []) least refl (sum_by-cons unclassed (Arrived f (Some k) (Ok d)) [])
 arrived p f (Some d) (Err why) least is =
     grows_none p (after_arrival p f (Err why)) (Arrived f (Some d) (Err why) ∷ []) least (ap (λ x. (drop_in p why x).no_class) is) (sum_by-cons unclassed (Arrived f (Some d) (Err why)) [])
 arrived p f None (Err why) least is =

@@ -115,13 +115,12 @@ fn longest_record(rt: HostRuntime) -> Result<(), Fail> {
     source.zeros = MAX_RECORD_OCTETS as usize + EMPTY_RECORD;
     let mut reader = CaptureReader::new(rt.alloc(), source).map_err(|_| "header")?;
     let record = reader.next().map_err(|_| "record")?.ok_or("record")?;
-    assert_eq!(rt; record.captured, MAX_RECORD_OCTETS);
-    assert_eq!(rt; record.octets.len(), MAX_RECORD_OCTETS as usize);
+    assert!(rt; record.captured == MAX_RECORD_OCTETS);
+    assert!(rt; record.octets.len() == MAX_RECORD_OCTETS as usize);
     assert!(rt; record.octets.iter().all(|octet| *octet == 0));
     // Behind it a record without octets.
     let record = reader.next().map_err(|_| "record")?.ok_or("record")?;
-    assert_eq!(rt; record.captured, 0);
-    assert_eq!(rt; record.octets.len(), 0);
+    assert!(rt; record.captured == 0 && record.octets.is_empty());
     assert!(rt; matches!(reader.next(), Ok(None)));
 
     let head = long_record(MAX_RECORD_OCTETS);
