@@ -5,7 +5,7 @@ mod readers;
 mod reading;
 mod writing;
 
-use crate::{CapFault, CaptureReader, End, MAX_RECORDS};
+use capture::{CapFault, CaptureReader, End, MAX_RECORDS};
 use std::alloc::Global;
 use std::io::{self, Read, Write};
 

@@ -1,6 +1,6 @@
 //! The frames that records are of.
 
-use crate::{Record, frame_of};
+use capture::{Record, frame_of};
 use std::test::Fail;
 use wire_time::Frame;
 

@@ -1,8 +1,10 @@
-use super::*;
+//! Lines, and what they are read as.
+
 use abstract_port::{Change, Command};
 use class_map::{MapFault, QueueFault};
 use gate_list::GateFault;
 use std::test::Fail;
+use tc_reader::{Opt, TcFault, read_command};
 
 fn fault(line: &[u8]) -> Option<TcFault> {
     read_command(line).err()

@@ -1,7 +1,7 @@
 //! What is written, and what is left in writers that fail.
 
 use super::{Narrow, WRITTEN};
-use crate::{CAPTURE_END, CapFault, CaptureReader, CaptureWriter};
+use capture::{CAPTURE_END, CapFault, CaptureReader, CaptureWriter};
 use std::alloc::Global;
 use std::io::Write;
 use std::test::Fail;

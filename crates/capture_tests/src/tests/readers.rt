@@ -1,7 +1,7 @@
 //! Readers that give little at a time, give without end, or fail.
 
 use super::{Pieces, TWO_RECORDS, summary};
-use crate::{CapFault, CaptureReader, End, MAX_RECORD_OCTETS, MAX_RECORDS};
+use capture::{CapFault, CaptureReader, End, MAX_RECORD_OCTETS, MAX_RECORDS};
 use linked_list_allocator::LocalHeap;
 use std::io::{self, Read};
 use std::test::Fail;

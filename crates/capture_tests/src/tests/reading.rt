@@ -1,8 +1,7 @@
 //! What is read of captures that lie in memory.
 
 use super::{TWO_RECORDS, WRITTEN, summary};
-use crate::{CapFault, CaptureReader, End, Record};
-use std::process::Abort;
+use capture::{CapFault, CaptureReader, End, Record};
 use std::test::Fail;
 
 const HEADER: usize = 24;

@@ -1,5 +1,10 @@
-use super::*;
+//! Scripts, readers and writers, and what comes out.
+
 use linked_list_allocator::LocalHeap;
+use script::{
+    BadValue, Ended, RunFault, ScriptFault, Settings, Values, answer_script, run_script, say_fault,
+    say_value,
+};
 use std::io::{self, BufWriter, Read, Write};
 use std::process::Abort;
 use std::test::Fail;
