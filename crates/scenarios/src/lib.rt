@@ -126,3 +126,5 @@ pub mod random;
 pub mod tables;
 #[cfg(test)]
 mod tests;
+#[cfg(test)]
+mod visits;
