@@ -129,3 +129,5 @@ mod random;
 mod tables;
 #[cfg(test)]
 mod tests;
+#[cfg(test)]
+mod visits;

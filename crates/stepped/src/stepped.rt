@@ -1,8 +1,9 @@
 //! The gates, which go from boundary to boundary.
-ghost use Rattle.std.specs.Prelude.{◌≡◌, ℕ, ◌+◌, ◌<◌, ◌≤◌, Some, None, false, option_map};
+ghost use Rattle.std.specs.Prelude.{◌≡◌, ℕ, ◌+◌, ◌<◌, ◌≤◌, Some, None, false, option_map, IfSome};
 ghost use Rattle.wire_time.specs.Moment.{greatest_moment, greatest_lead};
 ghost use Rattle.list_config.specs.History.{gates, kept};
 ghost use Rattle.list_config.specs.Current.{IsCurrent};
+ghost use Rattle.list_config.specs.Event.{IsGateEvent};
 ghost use Rattle.list_position.specs.Position.{IsFlat};
 ghost use Rattle.accepted_commands.specs.Commands.{AreCommands, accepted_in, command_of, history_of};
 ghost use Rattle.accepted_commands.specs.Standing.{Stands, earlier, edge_at};
@@ -78,6 +79,7 @@ fn edge_of(slots: &Slots) -> Option<u128>
     requires stands { Stands slots.now.commands.in_force slots.now.commands.pending slots.now.commands.moment slots.now.position }
     ensures edge { result ≡ edge_at slots.now.commands slots.now.position }
     ensures flat { IsFlat (gates (history_of slots.now.commands)) slots.now.commands.moment result }
+    ensures event { IfSome result (IsGateEvent (history_of slots.now.commands)) }
 {
     let listed = until_under(slots.in_force(), slots.pending());
     earlier(
