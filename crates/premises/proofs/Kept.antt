@@ -1,6 +1,7 @@
 -- What is asked of a list of events for a class that is kept apart, event by event.
-use Rattle.std.proofs.Common.{◌≡◌, ◌<◌, ℕ, ◌+◌, Bool, true, false, ◌&&◌, List, [], ◌∷◌, ◌++◌, length, get_or, take, is_some, IsTrue, sym, ap, ◌∙◌, subst, le_refl}
+use Rattle.std.proofs.Common.{◌≡◌, ◌<◌, ℕ, ◌+◌, Bool, true, false, ◌&&◌, List, [], ◌∷◌, ◌++◌, length, get_or, take, is_some, IsTrue, refl, sym, ap, ◌∙◌, subst, le_refl}
 use Rattle.std.specs.Prelude.{◌↔◌}
+use Rattle.std.proofs.lemmas.Bool.{false≢true}
 use Rattle.std.proofs.lemmas.List.{take_more}
 use Rattle.list_config.proofs.HistoryLaws.{kept_force}
 use Rattle.abstract_port.specs.declared.Event.{Event}
@@ -34,30 +35,32 @@ kept-append class (x ∷ xs) event p =
 
 -- two tests, each true just where something holds
 both-hold : {P Q : Type 0} (a b : Bool) → IsTrue a ↔ P → IsTrue b ↔ Q → IsTrue (a && b) ↔ (P × Q)
-both-hold true true p q = (λ yes. (p.0 yes, q.0 yes), λ both. q.1 both.1)
-both-hold true false p q = (λ yes. (p.0 tt, q.0 yes), λ both. q.1 both.1)
-both-hold false b p q = (λ yes. absurd yes, λ both. p.1 both.0)
+both-hold true b p q = (λ t. (p.0 refl, q.0 t), λ both. q.1 both.1)
+both-hold false b p q = (λ t. absurd (false≢true t), λ both. p.1 both.0)
 
 -- A run of so many events, so far: the port, and whether they are all as is asked.
-pub record RunsApart (class taken : ℕ) (events : List Event) (p q : AbstractPort) (yes : Bool) : Type 0 where
+pub record RunsApart (class taken : ℕ) (events : List Event) (p q : AbstractPort) (held : Bool) : Type 0 where
   pub port : q ≡ settled (port_after (take taken events) p)
-  pub apart : IsTrue yes ↔ IsKeptApart class (take taken events) p
+  pub apart : IsTrue held ↔ IsKeptApart class (take taken events) p
 
 -- one more
-pub runs-on : (class taken : ℕ) (events : List Event) (p q r : AbstractPort) (event : Event) (yes here : Bool) → IsTimely p → RunsApart class taken events p q yes → taken < length events → event ≡ get_or events taken event → IsTrue here ↔ IsApartAt class event q → r ≡ settled (answers_to event q).1 → RunsApart class (taken + 1) events p r (yes && here)
-runs-on class taken events p q r event yes here fit so_far within is_event apart then =
+pub runs-on : (class taken : ℕ) (events : List Event) (p q r : AbstractPort) (event : Event) (held here both : Bool) → IsTimely p → RunsApart class taken events p q held → taken < length events → event ≡ get_or events taken event → IsTrue here ↔ IsApartAt class event q → r ≡ settled (answers_to event q).1 → both ≡ (held && here) → RunsApart class (taken + 1) events p r both
+runs-on class taken events p q r event held here both fit so_far within is_event apart then is_both =
     let done : List Event = take taken events in
     let one_more : take (taken + 1) events ≡ done ++ event ∷ [] = take_more events taken event within ∙ ap (λ e. done ++ e ∷ []) (sym is_event) in
     let there : IsTimely (port_after done p) = timely-after done p fit in
     let asked : IsTrue here ↔ IsApartAt class event (settled (port_after done p)) = subst (λ x. IsTrue here ↔ IsApartAt class event x) so_far.port apart in
     let same = apart-settled class event (port_after done p) there in
     let more = kept-append class done event p in
-    let both = both-hold yes here so_far.apart (λ t. same.0 (asked.0 t), λ a. asked.1 (same.1 a)) in
+    let hold = both-hold held here so_far.apart (λ t. same.0 (asked.0 t), λ a. asked.1 (same.1 a)) in
     record {
       port =
           then
           ∙ (ap (λ x. settled (port_after (event ∷ []) x)) so_far.port
           ∙ (settled-after (event ∷ []) (port_after done p) there
           ∙ ap settled (sym (port_after-append done (event ∷ []) p) ∙ ap (λ x. port_after x p) (sym one_more))));
-      apart = subst (λ x. IsTrue (yes && here) ↔ IsKeptApart class x p) (sym one_more) (λ t. more.1 (both.0 t), λ kept. both.1 (more.0 kept));
+      apart = subst (λ x. IsTrue both ↔ IsKeptApart class x p) (sym one_more) (
+        λ t. more.1 (hold.0 (sym is_both ∙ t)),
+        λ kept. is_both ∙ hold.1 (more.0 kept),
+      );
     }

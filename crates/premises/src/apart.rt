@@ -82,11 +82,7 @@ fn take<G: Gates, A: Allocator>(port: &mut Port<G, A>, event: &Event<'_>)
 }
 
 /// Takes an event, and answers whether it is as the law of separation asks of the class.
-fn take_apart<G: Gates, A: Allocator>(
-    port: &mut Port<G, A>,
-    class: u8,
-    event: &Event<'_>,
-) -> bool
+fn take_apart<G: Gates, A: Allocator>(port: &mut Port<G, A>, class: u8, event: &Event<'_>) -> bool
     requires { class < 8 }
     ensures apart { IsTrue result ↔ IsApartAt class event.now port.old.port }
     ensures port { port.new.port ≡ settled (answers_to event.now port.old.port).1 }
