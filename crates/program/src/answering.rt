@@ -1,9 +1,10 @@
 //! What is answered to the words of the program.
 
-ghost use Rattle.std.specs.Prelude.{◌≡◌, ◌⊎◌, IfErr, codes};
+ghost use Rattle.std.specs.Prelude.{◌≡◌, IfErr};
 ghost use Rattle.std.specs.Io.Buffered.{writer_contents};
-ghost use Rattle.clap.specs.Matches.{first_value, found_of};
-ghost use Rattle.script.specs.Ending.{IsEnding, settings_given};
+ghost use Rattle.clap.specs.Matches.{found_of};
+ghost use Rattle.program.specs.Given.{settings_in};
+ghost use Rattle.script.specs.Ending.{IsEnding};
 
 use crate::end_without_memory;
 use crate::options::{command, values_of};
@@ -22,9 +23,9 @@ pub fn answer_given<B: Allocator, R: Read, W: Write + Drop, E: Write>(
     answers: BufWriter<W, B>,
     errors: &mut E,
 ) -> (Ended, W)
-    ensures ending { IsEnding (settings_given (first_value (found_of matches.now) (codes "rate")) (first_value (found_of matches.now) (codes "mtu")) (first_value (found_of matches.now) (codes "room")) (first_value (found_of matches.now) (codes "until")))
+    ensures ending { IsEnding (settings_in (found_of matches.now))
         (R.remaining reader.old) result.0 (writer_contents W.contents answers) (W.contents result.1) (E.contents errors.old) (E.contents errors.new) }
-    ensures unread { IfErr (settings_given (first_value (found_of matches.now) (codes "rate")) (first_value (found_of matches.now) (codes "mtu")) (first_value (found_of matches.now) (codes "room")) (first_value (found_of matches.now) (codes "until"))) (λ _. reader.new ≡ reader.old) }
+    ensures unread { IfErr (settings_in (found_of matches.now)) (λ _. reader.new ≡ reader.old) }
 {
     answer_script(alloc, values_of(matches), reader, answers, errors)
 }

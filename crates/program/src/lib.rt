@@ -35,6 +35,3 @@ pub fn run(rt: &HostRuntime) -> ExitCode {
     let (ended, _stdout) = answer_words(rt.alloc(), words, &mut reader, answers, &mut errors);
     ExitCode::from(ended.status)
 }
-
-#[cfg(test)]
-mod tests;

@@ -1,6 +1,7 @@
-use super::*;
+use program::answer_words;
+use script::Ended;
 use std::alloc::Global;
-use std::io;
+use std::io::{self, BufWriter};
 use std::test::Fail;
 
 /// A script of two lines, of which the second is no line of a script.
