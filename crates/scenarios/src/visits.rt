@@ -14,9 +14,10 @@ fn entry(mask: u8, interval: u32) -> Entry {
 /// A new port at 1 Gb/s with stepped gates.
 fn new_port<R: Abort + AllocGlobal>(rt: &R) -> Result<Port<Stepped>, Fail> {
     let rate = Rate::from_mbps(1000).ok().ok_or("a rate")?;
-    Port::<Stepped>::new(rt.alloc(), rate, 1500, 8)
+    let port = Port::<Stepped>::new(rt.alloc(), rate, 1500, 8)
         .ok()
-        .ok_or("a port".into())
+        .ok_or("a port")?;
+    Ok(port)
 }
 
 /// Three entries of 20 us in a cycle of 60 us, with an extension of 30 us. Given at 0 it is in force from 60 us on.
@@ -105,11 +106,11 @@ fn each_start_has_its_own_count(rt: HostRuntime) -> Result<(), Fail> {
         at: 100_000_000,
         end: 100_672_000,
     };
-    assert_eq!(&rt; port.next_answer(&mut asked), Some(Answer::Start(start)));
-    assert_eq!(&rt; port.visits(), 2);
+    assert_eq!(rt; port.next_answer(&mut asked), Some(Answer::Start(start)));
+    assert_eq!(rt; port.visits(), 2);
     // The first entry of the cycle from 120 us on.
-    assert_eq!(&rt; port.next_answer(&mut asked), None);
-    assert_eq!(&rt; port.visits(), 1);
+    assert_eq!(rt; port.next_answer(&mut asked), None);
+    assert_eq!(rt; port.visits(), 1);
     Ok(())
 }
 
