@@ -152,7 +152,7 @@ impl ListExecute {
     }
 
     /// Shows the last mask.
-    #[tactic(auto, using(crate::proofs::WalkLaws::last_mask_at_end))]
+    #[tactic(auto, using(gate_list::proofs::PhaseLaws::last_mask_at_end))]
     pub fn hold(&mut self, schedule: &Schedule, visits: &mut Visits)
         requires { IsOf schedule.now self.old }
         ensures hold { ShowsHold schedule.now self.old.began self.new }
