@@ -1,5 +1,5 @@
 //! What the command in force shows: its list, or else all classes open.
-ghost use Rattle.std.specs.Prelude.{◌≡◌, ℕ, ◌*◌, ◌<◌, ◌≤◌, ◌↔◌, IsTrue, Some, None};
+ghost use Rattle.std.specs.Prelude.{◌≡◌, ℕ, ◌*◌, ◌<◌, ◌≤◌, ◌↔◌, ◌+◌, IsTrue, Some, None, length};
 ghost use Rattle.std.specs.Option.{ForSome};
 ghost use Rattle.wire_time.specs.Moment.{greatest_moment};
 ghost use Rattle.gate_list.specs.Gate.{IsSchedule, last_mask, mask_since};
@@ -42,6 +42,7 @@ impl AcceptedList {
         requires within { t ≤ 2 * greatest_moment }
         ensures placed { IsPlaced self.now.schedule self.now.change (hold_for (Some self.now.schedule) self.now.change (command_of pending.entry)) t result }
         ensures counted { visits.old ≤ visits.new }
+        ensures visits { visits.new ≤ visits.old + (length self.now.schedule.entries + 1) }
     {
         self.position.at(
             &self.schedule,
