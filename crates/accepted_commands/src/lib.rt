@@ -7,7 +7,7 @@ mod command;
 mod slots;
 mod under;
 
-pub use ahead::{stays_open_past, stays_open_through, stays_open_to};
+pub use ahead::{after, before, stays_open_past, stays_open_through, stays_open_to};
 pub use command::{AcceptedCommand, AcceptedList, installed};
 pub use slots::Slots;
 pub use under::{list_in, mask_under, stays_open_under, until_under};

@@ -1,0 +1,4 @@
+pub mod SteadyLaws
+pub mod SearchLaws
+pub mod RepeatLaws
+pub mod LegLaws

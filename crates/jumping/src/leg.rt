@@ -1,0 +1,120 @@
+//! What the gates show for a while: a list or none, and what comes after it.
+ghost use Rattle.std.specs.Prelude.{◌≡◌, ◌*◌, ◌<◌, ◌≤◌, ◌∷◌, [], Some, None};
+ghost use Rattle.std.specs.Option.{ForSome};
+ghost use Rattle.wire_time.specs.Moment.{greatest_moment};
+ghost use Rattle.gate_list.specs.Open.{open_while};
+ghost use Rattle.list_config.specs.Stretch.{mask_of, mask_in};
+ghost use Rattle.jumping.specs.Leg.{IsReady, AreReady, DoFollow, from_of, until_of, stretch_of, stretch_in, stretches_ahead};
+
+use accepted_commands::{after, before};
+use gate_list::Schedule;
+use list_position::{Need, Position};
+use wire_time::CLASSES;
+
+/// A list that stands so at a moment. All moments are in picoseconds.
+#[derive(Clone, Copy)]
+pub struct ListedLeg<'a> {
+    /// The list.
+    pub schedule: &'a Schedule,
+    /// When its first cycle began.
+    pub start: u128,
+    /// The moment from which its last state is held; none: from no moment on.
+    pub held_from: Option<u128>,
+    /// The moment at which it stands so.
+    pub from: u128,
+    /// Where it stands then.
+    pub position: Position,
+    /// The moment at which another takes its place; none: it goes on for ever.
+    pub until: Option<u128>,
+}
+
+/// No list: all classes are open. All moments are in picoseconds.
+#[derive(Clone, Copy)]
+pub struct OpenLeg {
+    /// Since when there is none.
+    pub start: u128,
+    /// The moment from which it is looked at.
+    pub from: u128,
+    /// The moment at which a list begins; none: it goes on for ever.
+    pub until: Option<u128>,
+}
+
+/// What the gates show from a moment on, up to the next command.
+#[derive(Clone, Copy)]
+pub enum Leg<'a> {
+    /// A list.
+    Listed(ListedLeg<'a>),
+    /// No list.
+    Open(OpenLeg),
+}
+
+/// What comes after a leg: one leg, two or none.
+#[derive(Clone, Copy)]
+pub struct Rest<'a> {
+    /// The leg after.
+    pub next: Option<Leg<'a>>,
+    /// The one after that, if there is a leg before it.
+    pub last: Option<Leg<'a>>,
+}
+
+impl Leg<'_> {
+    /// The moment from which the leg is looked at, in picoseconds.
+    pub fn from(&self) -> u128
+        ensures { result ≡ from_of self.now }
+    {
+        match self {
+            Leg::Listed(leg) => leg.from,
+            Leg::Open(leg) => leg.from,
+        }
+    }
+
+    /// Whether a class stays open in the leg, where it went on for ever.
+    fn stays_open(&self, need: Need) -> bool
+        requires ready { IsReady self.now }
+        requires at { need.from ≡ from_of self.now }
+        requires class { need.class < CLASSES }
+        requires within { need.length ≤ greatest_moment }
+        ensures { result ≡ open_while (mask_of (stretch_of self.now)) need.class need.from need.length }
+    {
+        match self {
+            Leg::Listed(leg) => leg.position.stays_open(leg.held_from, need),
+            Leg::Open(_) => true,
+        }
+    }
+
+    /// Whether a class stays open from the leg on, through the last one, if there is one.
+    fn stays_open_into(&self, next: &Option<Leg<'_>>, need: Need) -> bool
+        requires ready { IsReady self.now }
+        requires follows { DoFollow self.now next.now }
+        requires last { ForSome next.now (λ g. until_of g ≡ None) }
+        requires at { need.from ≡ from_of self.now }
+        requires class { need.class < CLASSES }
+        requires within { need.length ≤ greatest_moment }
+        ensures { result ≡ open_while (mask_in (stretch_of self.now ∷ stretch_in next.now)) need.class need.from need.length }
+    {
+        match next {
+            None => self.stays_open(need),
+            Some(next) => {
+                self.stays_open(before(need, next.from()))
+                    && next.stays_open(after(need, next.from()))
+            }
+        }
+    }
+
+    /// Whether a class stays open from the leg on, through what follows.
+    pub fn stays_open_ahead(&self, rest: &Rest<'_>, need: Need) -> bool
+        requires ready { AreReady self.now rest.now }
+        requires at { need.from ≡ from_of self.now }
+        requires class { need.class < CLASSES }
+        requires within { need.length ≤ greatest_moment }
+        ensures { result ≡ open_while (mask_in (stretches_ahead self.now rest.now)) need.class need.from need.length }
+    {
+        match &rest.next {
+            None => self.stays_open(need),
+            Some(next) => {
+                self.stays_open(before(need, next.from()))
+                    && next.stays_open_into(&rest.last, after(need, next.from()))
+            }
+        }
+    }
+}

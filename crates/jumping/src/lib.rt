@@ -1,0 +1,6 @@
+//! The gates of a port that pass whole cycles by division: what a step looks at doesn't grow with how far the clock goes.
+#![tactic(auto)]
+
+mod leg;
+
+pub use leg::{Leg, ListedLeg, OpenLeg, Rest};
