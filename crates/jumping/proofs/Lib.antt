@@ -2,3 +2,4 @@ pub mod SteadyLaws
 pub mod SearchLaws
 pub mod RepeatLaws
 pub mod LegLaws
+pub mod ListedLaws

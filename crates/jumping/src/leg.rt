@@ -12,7 +12,7 @@ use list_position::{Need, Position};
 use wire_time::CLASSES;
 
 /// A list that stands so at a moment. All moments are in picoseconds.
-#[derive(Clone, Copy)]
+#[derive(Drop)]
 pub struct ListedLeg<'a> {
     /// The list.
     pub schedule: &'a Schedule,
@@ -29,7 +29,7 @@ pub struct ListedLeg<'a> {
 }
 
 /// No list: all classes are open. All moments are in picoseconds.
-#[derive(Clone, Copy)]
+#[derive(Drop)]
 pub struct OpenLeg {
     /// Since when there is none.
     pub start: u128,
@@ -40,7 +40,7 @@ pub struct OpenLeg {
 }
 
 /// What the gates show from a moment on, up to the next command.
-#[derive(Clone, Copy)]
+#[derive(Drop)]
 pub enum Leg<'a> {
     /// A list.
     Listed(ListedLeg<'a>),
@@ -49,12 +49,25 @@ pub enum Leg<'a> {
 }
 
 /// What comes after a leg: one leg, two or none.
-#[derive(Clone, Copy)]
+#[derive(Drop)]
 pub struct Rest<'a> {
     /// The leg after.
     pub next: Option<Leg<'a>>,
     /// The one after that, if there is a leg before it.
     pub last: Option<Leg<'a>>,
+}
+
+impl<'a> ListedLeg<'a> {
+    /// The same list where it stands at another moment, in picoseconds.
+    pub fn at(&self, from: u128, position: Position) -> ListedLeg<'a>
+        ensures { result ≡ record self.now { from = from; position = position } }
+    {
+        ListedLeg {
+            from,
+            position,
+            ..*self
+        }
+    }
 }
 
 impl Leg<'_> {

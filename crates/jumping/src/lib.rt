@@ -2,5 +2,6 @@
 #![tactic(auto)]
 
 mod leg;
+mod search;
 
 pub use leg::{Leg, ListedLeg, OpenLeg, Rest};

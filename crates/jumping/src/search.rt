@@ -1,0 +1,83 @@
+//! The search for the first moment at which some class with a need stays open through it.
+ghost use Rattle.std.specs.Prelude.{◌≡◌, ℕ, ◌+◌, ◌-◌, ◌*◌, ◌<◌, ◌≤◌, Some, None, true, false, All, length, min, slice_get};
+ghost use Rattle.std.specs.Option.{ForSome};
+ghost use Rattle.wire_time.specs.Moment.{greatest_moment};
+ghost use Rattle.gate_list.specs.Open.{open_while};
+ghost use Rattle.list_config.specs.Stretch.{mask_in};
+ghost use Rattle.list_execute.specs.Walk.{end_of};
+ghost use Rattle.list_position.specs.Position.{boundary_in};
+ghost use Rattle.jumping.specs.declared.leg.Leg.TheVariants.{Listed};
+ghost use Rattle.jumping.specs.Leg.{AreReady, from_of, stretches_ahead};
+ghost use Rattle.jumping.specs.Search.{Fits, Searched};
+
+use crate::leg::{Leg, ListedLeg, Rest};
+use gate_list::Visits;
+use list_position::{Need, Position};
+use wire_time::CLASSES;
+
+/// Whether some class with a need, in picoseconds, stays open through it from a leg on.
+fn fits(leg: &Leg<'_>, rest: &Rest<'_>, needs: &[Option<u128>; CLASSES]) -> bool
+    requires ready { AreReady leg.now rest.now }
+    requires needs { All (λ need. ForSome need (λ d. d ≤ greatest_moment)) needs.now }
+    ensures some { result ≡ true → Fits (mask_in (stretches_ahead leg.now rest.now)) needs.now (from_of leg.now) }
+    ensures none { result ≡ false → (class d : ℕ) → slice_get needs.now class ≡ Some (Some d) → open_while (mask_in (stretches_ahead leg.now rest.now)) class (from_of leg.now) d ≡ false }
+{
+    let from = leg.from();
+    for class in 0..CLASSES as u8 {
+        if let Some(length) = needs[class as usize] {
+            let need = Need {
+                class,
+                from,
+                length,
+            };
+            if leg.stays_open_ahead(rest, need) {
+                return true;
+            }
+        }
+    }
+    false
+}
+
+/// The end of the entry that is shown, or of the cycle, in picoseconds.
+fn boundary(position: &Position) -> u128
+    ensures { result ≡ boundary_in position.now.timer.next_start (end_of position.now.walk) }
+{
+    let cycle_end = position.timer.next_start();
+    match position.walk.entry_end() {
+        Some(entry_end) => entry_end.min(cycle_end),
+        None => cycle_end,
+    }
+}
+
+/// The first such moment from where a list stands, before `stop` and before the end of its cycle, in picoseconds. It is in
+/// force and in no hold up to `stop`. Each further entry is a visit.
+fn search_cycle(
+    leg: &ListedLeg<'_>,
+    rest: &Rest<'_>,
+    needs: &[Option<u128>; CLASSES],
+    stop: u128,
+    visits: &mut Visits,
+) -> Option<u128>
+    requires ready { AreReady (Listed leg.now) rest.now }
+    requires needs { All (λ need. ForSome need (λ d. d ≤ greatest_moment)) needs.now }
+    requires some { leg.now.from < stop }
+    requires within { stop ≤ 2 * greatest_moment }
+    requires unheld { ForSome leg.now.held_from (λ h. stop ≤ h) }
+    requires unended { ForSome leg.now.until (λ u. stop ≤ u) }
+    ensures searched { Searched (mask_in (stretches_ahead (Listed leg.now) rest.now)) needs.now leg.now.from (min stop leg.now.position.timer.next_start) result }
+    ensures counted { visits.old ≤ visits.new }
+    ensures visits { visits.new ≤ visits.old + (length leg.now.schedule.now.entries - 1 - leg.now.position.walk.index) }
+{
+    let limit = stop.min(leg.position.timer.next_start());
+    let mut from = leg.from;
+    let mut position = leg.position;
+    while !fits(&Leg::Listed(leg.at(from, position)), rest, needs) {
+        let end = boundary(&position);
+        if limit <= end {
+            return None;
+        }
+        position = position.next_entry(leg.schedule, visits);
+        from = end;
+    }
+    Some(from)
+}
