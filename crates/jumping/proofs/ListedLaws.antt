@@ -1,5 +1,5 @@
 -- A list before its hold and its end.
-use Rattle.std.proofs.Common.{◌≡◌, ◌<◌, ◌≤◌, ℕ, ◌+◌, ◌-◌, ◌*◌, min, Bool, true, false, List, ◌∷◌, slice_get, length, Option, Some, None, IsSome, refl, sym, ap, ◌∙◌, subst, arith, le_refl}
+use Rattle.std.proofs.Common.{◌≡◌, ◌<◌, ◌≤◌, ℕ, ◌+◌, ◌-◌, ◌*◌, min, Bool, true, false, List, ◌∷◌, slice_get, length, Option, Some, None, IsSome, refl, sym, ap, ◌∙◌, subst, arith, le_refl, le_trans}
 use Rattle.std.proofs.lemmas.Bool.{lt-leb, false≢true}
 use Rattle.std.specs.Option.{ForSome}
 use Rattle.wire_time.specs.Moment.{greatest_moment}
@@ -16,7 +16,7 @@ use Rattle.jumping.specs.declared.leg.ListedLeg.{ListedLeg}
 use Rattle.jumping.specs.declared.leg.Rest.{Rest}
 use Rattle.jumping.specs.Leg.{IsReady, AreReady, DoFollow, from_of, until_of, stretch_of, stretches_in, stretches_ahead}
 use Rattle.jumping.specs.Search.{NoneFits}
-use Rattle.jumping.proofs.RepeatLaws.{shows_own}
+use Rattle.jumping.proofs.RepeatLaws.{shows_own, stretch_repeats}
 use Rattle.jumping.proofs.SearchLaws.{fits_flat}
 
 -- what comes at a stop or later has not come before it
@@ -101,3 +101,15 @@ module _ (leg : ListedLeg) (rest : Rest) (ready : AreReady (Listed leg) rest) (s
   none_here needs at is u l k fails =
       none_on (record leg { from = m; position = position }) rest ready_here stop some unheld unended needs u l k
       (λ class d there. ap (λ (g : ListedLeg). open_while (mask_in (stretches_ahead (Listed g) rest)) class g.from d) (sym is) ∙ fails class d there)
+
+-- a list stands at or after its start
+pub placed_after : (plan : Plan) (start : ℕ) (held : Option ℕ) (n : ℕ) (position : Position) → IsPlaced plan start held n position → start ≤ n
+placed_after plan start held n position p = let at = p.started_is in let begun = p.begun in omega arith
+
+-- what a list shows repeats, up to a stop
+pub leg_repeats : (leg : ListedLeg) (rest : Rest) → AreReady (Listed leg) rest → (stop : ℕ) → ForSome leg.held_from (λ h. stop ≤ h) → ForSome leg.until (λ u. stop ≤ u) → (m : ℕ) → leg.from ≤ m → m + in_ps leg.schedule.now.cycle < stop → mask_in (stretches_ahead (Listed leg) rest) (m + in_ps leg.schedule.now.cycle) ≡ mask_in (stretches_ahead (Listed leg) rest) m
+leg_repeats leg rest ready stop unheld unended m from below =
+    stretch_repeats (stretch_of (Listed leg)) (stretches_in rest.next rest.last) leg.schedule.now m refl
+    (le_trans (placed_after leg.schedule.now leg.start leg.held_from leg.from leg.position ((ready.first).stands).1) from)
+    (not_yet leg.until (m + in_ps leg.schedule.now.cycle) stop below unended)
+    (not_yet leg.held_from (m + in_ps leg.schedule.now.cycle) stop below unheld)

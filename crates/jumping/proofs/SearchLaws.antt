@@ -1,5 +1,6 @@
 -- How searches are put together.
-use Rattle.std.proofs.Common.{◌≡◌, ◌<◌, ◌≤◌, ℕ, ◌+◌, ◌*◌, true, false, List, ◌∷◌, slice_get, Option, Some, None, inl, inr, refl, sym, ap, ◌∙◌, arith}
+use Rattle.std.proofs.Common.{◌≡◌, ◌<◌, ◌≤◌, ℕ, ◌+◌, ◌-◌, ◌*◌, max, true, false, List, ◌∷◌, slice_get, Option, Some, None, inl, inr, refl, sym, ap, ◌∙◌, arith}
+use Rattle.std.proofs.lemmas.Bool.{cases_lt}
 use Rattle.gate_list.specs.Gate.{has_come}
 use Rattle.gate_list.specs.Open.{open_while}
 use Rattle.gate_list.specs.Stay.{NoneFrom}
@@ -53,7 +54,15 @@ searched_over s rest needs t stop (Some u) over found =
       },
     )
 
--- one cycle from a on, and the rest from p on, where p is at most one cycle before the end e
-pub searched_jump : (f : ℕ → ℕ) (needs : List (Option ℕ)) (cycle a e p stop : ℕ) (r : Option ℕ) → 0 < cycle → ((m : ℕ) → a ≤ m → m + cycle < e → f (m + cycle) ≡ f m) → NoneFits f needs a (a + cycle) → a ≤ p → p + cycle ≤ e → Searched f needs p stop r → Searched f needs a stop r
-searched_jump f needs cycle a e p stop r above same none l fits s =
-    searched_join f needs a p stop r l (λ class d there n from below. none_steady f class d cycle a e above same (none class d there) n from (omega arith)) s
+-- one cycle from a on, and what repeats up to a cycle before the stop
+pub none_jump : (f : ℕ → ℕ) (needs : List (Option ℕ)) (cycle a stop p : ℕ) → 0 < cycle → ((m : ℕ) → a ≤ m → m + cycle < stop → f (m + cycle) ≡ f m) → NoneFits f needs a (a + cycle) → p ≤ max (a + cycle) (stop - cycle) → NoneFits f needs a p
+none_jump f needs cycle a stop p above same none l class d there n from below =
+    elim (cases_lt n (a + cycle)) [
+      | inl first ↦ none class d there n from first
+      | inr later ↦ none_steady f class d cycle a stop above same (none class d there) n from (omega arith)
+    ]
+
+-- a search that found none
+pub searched_none : (f : ℕ → ℕ) (needs : List (Option ℕ)) (t stop : ℕ) (r : Option ℕ) → ((u : ℕ) → r ≡ Some u → ⊥) → Searched f needs t stop r → NoneFits f needs t stop
+searched_none f needs t stop None never s = s
+searched_none f needs t stop (Some u) never s = absurd (never u refl)

@@ -1,13 +1,17 @@
 //! What the gates show for a while: a list or none, and what comes after it.
-ghost use Rattle.std.specs.Prelude.{◌≡◌, ◌*◌, ◌<◌, ◌≤◌, ◌∷◌, [], Some, None};
+ghost use Rattle.std.specs.Prelude.{◌≡◌, ◌+◌, ◌*◌, ◌<◌, ◌≤◌, ◌∷◌, [], Some, None};
 ghost use Rattle.std.specs.Option.{ForSome};
 ghost use Rattle.wire_time.specs.Moment.{greatest_moment};
+ghost use Rattle.gate_list.specs.Gate.{in_ps};
+ghost use Rattle.gate_list.specs.Visits.{one_more};
 ghost use Rattle.gate_list.specs.Open.{open_while};
 ghost use Rattle.list_config.specs.Stretch.{mask_of, mask_in};
-ghost use Rattle.jumping.specs.Leg.{IsReady, AreReady, DoFollow, from_of, until_of, stretch_of, stretch_in, stretches_ahead};
+ghost use Rattle.jumping.specs.declared.leg.Rest.{Rest};
+ghost use Rattle.jumping.specs.declared.leg.Leg.TheVariants.{Listed};
+ghost use Rattle.jumping.specs.Leg.{IsStanding, IsReady, AreReady, DoFollow, from_of, until_of, stretch_of, stretch_in, stretches_ahead};
 
 use accepted_commands::{after, before};
-use gate_list::Schedule;
+use gate_list::{Schedule, Visits};
 use list_position::{Need, Position};
 use wire_time::CLASSES;
 
@@ -67,6 +71,30 @@ impl<'a> ListedLeg<'a> {
             position,
             ..*self
         }
+    }
+
+    /// The same list at the start of the cycle that holds `t`, in picoseconds, where it is in force and in no hold.
+    pub fn cycle_at(&self, t: u128, visits: &mut Visits) -> ListedLeg<'a>
+        requires stands { IsStanding (Listed self.now) }
+        requires later { self.now.from ≤ t }
+        requires within { t ≤ 2 * greatest_moment }
+        requires unheld { ForSome self.now.held_from (λ h. t < h) }
+        requires unended { ForSome self.now.until (λ u. t < u) }
+        ensures ready { (rest : Rest) → AreReady (Listed self.now) rest → AreReady (Listed result) rest }
+        ensures same { result ≡ record self.now { from = result.from; position = result.position } }
+        ensures from { result.from ≡ result.position.timer.started }
+        ensures reached { result.from ≤ t }
+        ensures holds { t < result.position.timer.next_start }
+        ensures cycle { result.position.timer.next_start ≡ result.from + in_ps self.now.schedule.now.cycle }
+        ensures onto { self.now.position.timer.next_start ≤ t → self.now.position.timer.next_start ≤ result.from }
+        ensures index { result.position.walk.index ≡ 0 }
+        ensures visit { visits.new ≡ one_more visits.old }
+        ensures counted { visits.old ≤ visits.new }
+    {
+        let position = self
+            .position
+            .cycle_at(self.schedule, self.held_from, t, visits);
+        self.at(position.timer.started(), position)
     }
 }
 

@@ -2,6 +2,7 @@
 ghost use Rattle.std.specs.Prelude.{◌≡◌, ℕ, ◌+◌, ◌-◌, ◌*◌, ◌<◌, ◌≤◌, Some, None, true, false, All, length, min, slice_get};
 ghost use Rattle.std.specs.Option.{ForSome};
 ghost use Rattle.wire_time.specs.Moment.{greatest_moment};
+ghost use Rattle.gate_list.specs.Gate.{in_ps};
 ghost use Rattle.gate_list.specs.Open.{open_while};
 ghost use Rattle.list_config.specs.Stretch.{mask_in};
 ghost use Rattle.list_execute.specs.Walk.{end_of};
@@ -66,7 +67,7 @@ fn search_cycle(
     requires unended { ForSome leg.now.until (λ u. stop ≤ u) }
     ensures searched { Searched (mask_in (stretches_ahead (Listed leg.now) rest.now)) needs.now leg.now.from (min stop leg.now.position.timer.next_start) result }
     ensures counted { visits.old ≤ visits.new }
-    ensures visits { visits.new ≤ visits.old + (length leg.now.schedule.now.entries - 1 - leg.now.position.walk.index) }
+    ensures visits { visits.new + leg.now.position.walk.index + 1 ≤ visits.old + length leg.now.schedule.now.entries }
 {
     let limit = stop.min(leg.position.timer.next_start());
     let mut from = leg.from;
@@ -80,4 +81,96 @@ fn search_cycle(
         from = end;
     }
     Some(from)
+}
+
+/// The first such moment from where a list stands and before `stop`, which is at most one cycle after the end of its cycle.
+fn search_two(
+    leg: &ListedLeg<'_>,
+    rest: &Rest<'_>,
+    needs: &[Option<u128>; CLASSES],
+    stop: u128,
+    visits: &mut Visits,
+) -> Option<u128>
+    requires ready { AreReady (Listed leg.now) rest.now }
+    requires needs { All (λ need. ForSome need (λ d. d ≤ greatest_moment)) needs.now }
+    requires some { leg.now.from < stop }
+    requires near { stop ≤ leg.now.position.timer.next_start + in_ps leg.now.schedule.now.cycle }
+    requires within { stop ≤ 2 * greatest_moment }
+    requires unheld { ForSome leg.now.held_from (λ h. stop ≤ h) }
+    requires unended { ForSome leg.now.until (λ u. stop ≤ u) }
+    ensures searched { Searched (mask_in (stretches_ahead (Listed leg.now) rest.now)) needs.now leg.now.from stop result }
+    ensures counted { visits.old ≤ visits.new }
+    ensures visits { visits.new + leg.now.position.walk.index + 1 ≤ visits.old + 2 * length leg.now.schedule.now.entries }
+{
+    if let Some(found) = search_cycle(leg, rest, needs, stop, visits) {
+        return Some(found);
+    }
+    let cycle_end = leg.position.timer.next_start();
+    if stop <= cycle_end {
+        return None;
+    }
+    let next = leg.cycle_at(cycle_end, visits);
+    search_cycle(&next, rest, needs, stop, visits)
+}
+
+/// The first such moment from where a cycle begins and before `stop`. Where there is none in that cycle, there is none
+/// up to a cycle before `stop`, since what is shown repeats: what lies between is passed by division.
+fn search_cycles(
+    leg: &ListedLeg<'_>,
+    rest: &Rest<'_>,
+    needs: &[Option<u128>; CLASSES],
+    stop: u128,
+    visits: &mut Visits,
+) -> Option<u128>
+    requires ready { AreReady (Listed leg.now) rest.now }
+    requires needs { All (λ need. ForSome need (λ d. d ≤ greatest_moment)) needs.now }
+    requires some { leg.now.from < stop }
+    requires begins { leg.now.from ≡ leg.now.position.timer.started }
+    requires within { stop ≤ 2 * greatest_moment }
+    requires unheld { ForSome leg.now.held_from (λ h. stop ≤ h) }
+    requires unended { ForSome leg.now.until (λ u. stop ≤ u) }
+    ensures searched { Searched (mask_in (stretches_ahead (Listed leg.now) rest.now)) needs.now leg.now.from stop result }
+    ensures counted { visits.old ≤ visits.new }
+    ensures visits { visits.new + leg.now.position.walk.index + 1 ≤ visits.old + 3 * length leg.now.schedule.now.entries }
+{
+    if let Some(found) = search_cycle(leg, rest, needs, stop, visits) {
+        return Some(found);
+    }
+    let cycle_end = leg.position.timer.next_start();
+    if stop <= cycle_end {
+        return None;
+    }
+    let cycle = cycle_end - leg.position.timer.started();
+    let near = leg.cycle_at(cycle_end.max(stop - cycle), visits);
+    search_two(&near, rest, needs, stop, visits)
+}
+
+/// The first such moment from where a list stands and before `stop`, in picoseconds. It is in force and in no hold up to
+/// `stop`.
+fn search_list(
+    leg: &ListedLeg<'_>,
+    rest: &Rest<'_>,
+    needs: &[Option<u128>; CLASSES],
+    stop: u128,
+    visits: &mut Visits,
+) -> Option<u128>
+    requires ready { AreReady (Listed leg.now) rest.now }
+    requires needs { All (λ need. ForSome need (λ d. d ≤ greatest_moment)) needs.now }
+    requires some { leg.now.from < stop }
+    requires within { stop ≤ 2 * greatest_moment }
+    requires unheld { ForSome leg.now.held_from (λ h. stop ≤ h) }
+    requires unended { ForSome leg.now.until (λ u. stop ≤ u) }
+    ensures searched { Searched (mask_in (stretches_ahead (Listed leg.now) rest.now)) needs.now leg.now.from stop result }
+    ensures counted { visits.old ≤ visits.new }
+    ensures visits { visits.new + leg.now.position.walk.index + 1 ≤ visits.old + 4 * length leg.now.schedule.now.entries }
+{
+    if let Some(found) = search_cycle(leg, rest, needs, stop, visits) {
+        return Some(found);
+    }
+    let cycle_end = leg.position.timer.next_start();
+    if stop <= cycle_end {
+        return None;
+    }
+    let next = leg.cycle_at(cycle_end, visits);
+    search_cycles(&next, rest, needs, stop, visits)
 }

@@ -62,5 +62,6 @@ loop-position-preserved c =
           (none_here leg rest c.requires.ready c.args.stop c.requires.within c.requires.unheld c.requires.unended from position inv.2 soon c.args.needs.now c.at.result c.at.ensures c.boundary-end.result
           (omega (arith, ends)) (omega (arith, before, limit)) (c.fits.ensures.none c.loop-position-test.true)),
       omega (arith, old, counted),
-      omega (arith, so_far, visit, index, listed),
+      omega (arith, so_far, visit, index),
+      listed,
     )

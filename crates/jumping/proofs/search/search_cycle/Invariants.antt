@@ -13,7 +13,8 @@ invariant-loop-position l =
     × (l.position.timer ≡ l.leg.position.timer)
     × NoneFits (mask_in (stretches_ahead (Listed l.leg) l.rest)) l.needs l.leg.from l.from
     × (l.initial.visits ≤ l.visits)
-    × (l.visits + (length l.leg.schedule.now.entries - 1 - l.position.walk.index) ≤ l.initial.visits + (length l.leg.schedule.now.entries - 1 - l.leg.position.walk.index))
+    × (l.visits + l.leg.position.walk.index ≤ l.initial.visits + l.position.walk.index)
+    × (l.position.walk.index < length l.leg.schedule.now.entries)
 
 abbrev pub decreases-loop-position : goal.decreases-loop-position
 decreases-loop-position l = l.limit - l.from
