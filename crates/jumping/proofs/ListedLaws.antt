@@ -1,6 +1,6 @@
 -- A list before its hold and its end.
 use Rattle.std.proofs.Common.{◌≡◌, ◌<◌, ◌≤◌, ℕ, ◌+◌, ◌-◌, ◌*◌, min, Bool, true, false, List, ◌∷◌, slice_get, length, Option, Some, None, IsSome, refl, sym, ap, ◌∙◌, subst, arith, le_refl, le_trans}
-use Rattle.std.proofs.lemmas.Bool.{lt-leb, false≢true}
+use Rattle.std.proofs.lemmas.Bool.{false≢true}
 use Rattle.std.specs.Option.{ForSome}
 use Rattle.wire_time.specs.Moment.{greatest_moment}
 use Rattle.gate_list.specs.Gate.{Plan, IsSchedule, has_come, in_ps, mask_since}
@@ -16,13 +16,8 @@ use Rattle.jumping.specs.declared.leg.ListedLeg.{ListedLeg}
 use Rattle.jumping.specs.declared.leg.Rest.{Rest}
 use Rattle.jumping.specs.Leg.{IsReady, AreReady, DoFollow, from_of, until_of, stretch_of, stretches_in, stretches_ahead}
 use Rattle.jumping.specs.Search.{NoneFits}
-use Rattle.jumping.proofs.RepeatLaws.{shows_own, stretch_repeats}
+use Rattle.jumping.proofs.RepeatLaws.{not_yet, shows_own, stretch_repeats}
 use Rattle.jumping.proofs.SearchLaws.{fits_flat}
-
--- what comes at a stop or later has not come before it
-pub not_yet : (t : Option ℕ) (n stop : ℕ) → n < stop → ForSome t (λ u. stop ≤ u) → has_come t n ≡ false
-not_yet None n stop l h = refl
-not_yet (Some t) n stop l h = let far : stop ≤ t = h t refl in lt-leb t n (omega arith)
 
 -- an entry that ends before its cycle has an end
 pub end_there : (c : ℕ) (ends : Option ℕ) → boundary_in c ends < c → ends ≡ Some (boundary_in c ends)

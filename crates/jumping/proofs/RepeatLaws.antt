@@ -2,6 +2,7 @@
 use Rattle.std.proofs.Common.{◌≡◌, ◌<◌, ◌≤◌, ℕ, ◌+◌, ◌-◌, ◌%◌, min, true, false, cond, ◌&&◌, List, [], ◌∷◌, Option, Some, None, refl, sym, ap, ◌∙◌, subst, arith}
 use Rattle.std.proofs.Math.Nat.{add-mod_left}
 use Rattle.std.proofs.lemmas.Bool.{lt-leb, leb-false}
+use Rattle.std.specs.Option.{ForSome}
 use Rattle.gate_list.specs.Gate.{Plan, in_ps, mask_at, last_mask, has_come, mask_since}
 use Rattle.gate_list.specs.Open.{open_while}
 use Rattle.list_config.specs.Stretch.{Stretch, mask_of, mask_in}
@@ -11,6 +12,11 @@ use Rattle.list_config.proofs.StretchLaws.{IsBy, first_while, stretch_parts}
 pub not_before : (t : Option ℕ) (m n : ℕ) → m ≤ n → has_come t n ≡ false → has_come t m ≡ false
 not_before None m n l e = refl
 not_before (Some t) m n l e = let b : n < t = leb-false t n e in lt-leb t m (omega arith)
+
+-- what comes at a stop or later has not come before it
+pub not_yet : (t : Option ℕ) (n stop : ℕ) → n < stop → ForSome t (λ u. stop ≤ u) → has_come t n ≡ false
+not_yet None n stop l h = refl
+not_yet (Some t) n stop l h = let far : stop ≤ t = h t refl in lt-leb t n (omega arith)
 
 -- before its end a stretch shows its own masks
 pub shows_own : (s : Stretch) (rest : List Stretch) (m : ℕ) → has_come s.until m ≡ false → mask_in (s ∷ rest) m ≡ mask_of s m

@@ -1,5 +1,5 @@
 -- What the gates show from a moment on, as legs (IEEE Std 802.1Q-2018, 8.6.9.3 List Config).
-use Rattle.std.specs.Prelude.{◌≡◌, ◌≤◌, ℕ, ◌*◌, List, [], ◌∷◌, Option, Some, None}
+use Rattle.std.specs.Prelude.{◌≡◌, ◌≤◌, ℕ, ◌+◌, ◌*◌, length, min, List, [], ◌∷◌, Option, Some, None}
 use Rattle.std.specs.Option.{ForSome}
 use Rattle.wire_time.specs.Moment.{greatest_moment}
 use Rattle.gate_list.specs.Gate.{IsSchedule}
@@ -37,6 +37,25 @@ stretches_in (Some next) last = stretch_of next ∷ stretch_in last
 -- what a leg and what follows it show
 abbrev pub stretches_ahead : Leg → Rest → List Stretch
 stretches_ahead leg rest = stretch_of leg ∷ stretches_in rest.next rest.last
+
+-- the earlier of a leg's end, if it has one, and a moment
+abbrev pub up_to : Option ℕ → ℕ → ℕ
+up_to None before = before
+up_to (Some until) before = min until before
+
+-- how many entries a leg's list has
+abbrev pub entries_in : Leg → ℕ
+entries_in (Listed leg) = length leg.schedule.now.entries
+entries_in (Open leg) = 0
+
+-- how many visits a search of a leg makes at most
+abbrev pub most_visits : Leg → ℕ
+most_visits leg = 4 * entries_in leg + 1
+
+-- the same of a leg that follows, if one does
+abbrev pub most_in : Option Leg → ℕ
+most_in None = 0
+most_in (Some leg) = most_visits leg
 
 -- a list stands so at the leg's moment
 abbrev pub IsStanding : Leg → Type 0

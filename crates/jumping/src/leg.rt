@@ -109,6 +109,16 @@ impl Leg<'_> {
         }
     }
 
+    /// The moment at which the leg is over, in picoseconds; none: it goes on for ever.
+    pub fn until(&self) -> Option<u128>
+        ensures { result ≡ until_of self.now }
+    {
+        match self {
+            Leg::Listed(leg) => leg.until,
+            Leg::Open(leg) => leg.until,
+        }
+    }
+
     /// Whether a class stays open in the leg, where it went on for ever.
     fn stays_open(&self, need: Need) -> bool
         requires ready { IsReady self.now }
@@ -157,5 +167,22 @@ impl Leg<'_> {
                     && next.stays_open_into(&rest.last, after(need, next.from()))
             }
         }
+    }
+}
+
+/// The same leg, if there is one.
+pub fn copied<'a>(leg: &Option<Leg<'a>>) -> Option<Leg<'a>>
+    ensures { result ≡ leg.now }
+{
+    match leg {
+        None => None,
+        Some(leg) => match leg {
+            Leg::Listed(listed) => Some(Leg::Listed(listed.at(listed.from, listed.position))),
+            Leg::Open(open) => Some(Leg::Open(OpenLeg {
+                start: open.start,
+                from: open.from,
+                until: open.until,
+            })),
+        },
     }
 }
