@@ -3,7 +3,9 @@ use Rattle.std.specs.Prelude.{◌≡◌, ◌≤◌, ℕ, ◌+◌, ◌*◌, lengt
 use Rattle.std.specs.Option.{ForSome}
 use Rattle.wire_time.specs.Moment.{greatest_moment}
 use Rattle.gate_list.specs.Gate.{IsSchedule}
+use Rattle.list_config.specs.History.{Accepted, plan_of, start_of}
 use Rattle.list_config.specs.Stretch.{Stretch}
+use Rattle.accepted_commands.specs.Standing.{hold_for}
 use Rattle.list_position.specs.Position.{IsPlaced}
 use Rattle.jumping.specs.declared.leg.Leg.{Leg}
 use Rattle.jumping.specs.declared.leg.Leg.TheVariants.{Listed, Open}
@@ -78,3 +80,10 @@ pub record AreReady (leg : Leg) (rest : Rest) : Type 0 where
   pub follows : DoFollow leg rest.next
   pub then : ForSome rest.next (λ next. DoFollow next rest.last)
   pub ends : ForSome rest.last (λ last. until_of last ≡ None)
+
+-- ---- the legs of commands
+
+-- what a command shows up to a moment, with a change pending
+abbrev pub stretch_under : Option Accepted → Option Accepted → Option ℕ → Stretch
+stretch_under now next until =
+    record { plan = plan_of now; start = start_of now; held_from = hold_for (plan_of now) (start_of now) next; until = until }
