@@ -86,3 +86,128 @@ fn leg_from_change<'a>(
     let position = position_of(Some(command));
     leg_at(Some(command), position, command.change(), pending, until)
 }
+
+/// The leg of the command in force, where nothing follows it.
+fn alone<'a>(in_force: Option<&'a AcceptedCommand>, moment: u128) -> Ahead<'a>
+    requires usable { ForSome (command_of in_force) IsUsable }
+    requires stands { Stands (command_of in_force) None moment (position_lent in_force) }
+    requires near { moment ≤ 2 * greatest_moment }
+    ensures shows { stretches_ahead result.leg result.rest ≡ stretches_from (command_of in_force.entry) [] }
+    ensures from { from_of result.leg ≡ moment }
+    ensures ready { AreReady result.leg result.rest }
+{
+    Ahead {
+        leg: leg_at(in_force, position_of(in_force), moment, None, None),
+        rest: Rest {
+            next: None,
+            last: None,
+        },
+    }
+}
+
+/// The legs of the command in force and of one that follows it.
+fn into_change<'a>(
+    in_force: Option<&'a AcceptedCommand>,
+    moment: u128,
+    command: &'a AcceptedCommand,
+) -> Ahead<'a>
+    requires usable { ForSome (command_of in_force) IsUsable }
+    requires command { IsUsable (accepted_in command.now) }
+    requires first { IsFirst command.now }
+    requires stands { Stands (command_of in_force) (Some (accepted_in command.now)) moment (position_lent in_force) }
+    requires near { moment ≤ (accepted_in command.now).change }
+    ensures shows { stretches_ahead result.leg result.rest ≡ stretches_from (command_of in_force.entry) (accepted_in command.now ∷ []) }
+    ensures from { from_of result.leg ≡ moment }
+    ensures ready { AreReady result.leg result.rest }
+{
+    Ahead {
+        leg: leg_at(
+            in_force,
+            position_of(in_force),
+            moment,
+            Some(command),
+            Some(command.change()),
+        ),
+        rest: Rest {
+            next: Some(leg_from_change(command, None, None)),
+            last: None,
+        },
+    }
+}
+
+/// The legs of the command in force, of the one that is pending and is in time, and of the one that is announced.
+fn through_change<'a>(
+    in_force: Option<&'a AcceptedCommand>,
+    moment: u128,
+    pending: &'a AcceptedCommand,
+    announced: &'a AcceptedCommand,
+) -> Ahead<'a>
+    requires usable { ForSome (command_of in_force) IsUsable }
+    requires pending { IsUsable (accepted_in pending.now) }
+    requires next { IsFirst pending.now }
+    requires announced { IsUsable (accepted_in announced.now) }
+    requires last { IsFirst announced.now }
+    requires stands { Stands (command_of in_force) (Some (accepted_in pending.now)) moment (position_lent in_force) }
+    requires near { moment ≤ (accepted_in pending.now).change }
+    requires timely { (accepted_in pending.now).change ≤ (accepted_in announced.now).lead }
+    ensures shows { stretches_ahead result.leg result.rest ≡ stretches_from (command_of in_force.entry) (accepted_in pending.now ∷ accepted_in announced.now ∷ []) }
+    ensures from { from_of result.leg ≡ moment }
+    ensures ready { AreReady result.leg result.rest }
+{
+    Ahead {
+        leg: leg_at(
+            in_force,
+            position_of(in_force),
+            moment,
+            Some(pending),
+            Some(pending.change()),
+        ),
+        rest: Rest {
+            next: Some(leg_from_change(pending, Some(announced), Some(announced.change()))),
+            last: Some(leg_from_change(announced, None, None)),
+        },
+    }
+}
+
+/// The legs of the command in force, with one pending that is replaced by the one that is announced: the list goes on at the
+/// lead moment where `resumed` says.
+fn through_lead<'a>(
+    in_force: Option<&'a AcceptedCommand>,
+    moment: u128,
+    pending: &AcceptedCommand,
+    announced: &'a AcceptedCommand,
+    resumed: Option<Position>,
+) -> Ahead<'a>
+    requires usable { ForSome (command_of in_force) IsUsable }
+    requires pending { IsUsable (accepted_in pending.now) }
+    requires announced { IsUsable (accepted_in announced.now) }
+    requires last { IsFirst announced.now }
+    requires stands { Stands (command_of in_force) (Some (accepted_in pending.now)) moment (position_lent in_force) }
+    requires resumes { Stands (command_of in_force) (Some (accepted_in announced.now)) (accepted_in announced.now).lead resumed }
+    requires near { moment ≤ (accepted_in announced.now).lead }
+    requires late { (accepted_in announced.now).lead < (accepted_in pending.now).change }
+    ensures shows { stretches_ahead result.leg result.rest ≡ stretches_from (command_of in_force.entry) (accepted_in pending.now ∷ accepted_in announced.now ∷ []) }
+    ensures from { from_of result.leg ≡ moment }
+    ensures ready { AreReady result.leg result.rest }
+{
+    let lead = announced.lead();
+    Ahead {
+        leg: leg_at(
+            in_force,
+            position_of(in_force),
+            moment,
+            Some(pending),
+            Some(lead),
+        ),
+        rest: Rest {
+            next: Some(leg_at(
+                in_force,
+                resumed,
+                lead,
+                Some(announced),
+                Some(announced.change()),
+            )),
+            last: Some(leg_from_change(announced, None, None)),
+        },
+    }
+}
