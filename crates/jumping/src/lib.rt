@@ -2,7 +2,8 @@
 #![tactic(auto)]
 
 mod ahead;
+mod jumping;
 mod leg;
 mod search;
 
-pub use leg::{Leg, ListedLeg, OpenLeg, Rest};
+pub use jumping::Jumping;
