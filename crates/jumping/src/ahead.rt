@@ -88,7 +88,7 @@ fn leg_from_change<'a>(
 }
 
 /// The leg of the command in force, where nothing follows it.
-fn alone<'a>(in_force: Option<&'a AcceptedCommand>, moment: u128) -> Ahead<'a>
+pub fn alone<'a>(in_force: Option<&'a AcceptedCommand>, moment: u128) -> Ahead<'a>
     requires usable { ForSome (command_of in_force) IsUsable }
     requires stands { Stands (command_of in_force) None moment (position_lent in_force) }
     requires near { moment ≤ 2 * greatest_moment }
@@ -106,7 +106,7 @@ fn alone<'a>(in_force: Option<&'a AcceptedCommand>, moment: u128) -> Ahead<'a>
 }
 
 /// The legs of the command in force and of one that follows it.
-fn into_change<'a>(
+pub fn into_change<'a>(
     in_force: Option<&'a AcceptedCommand>,
     moment: u128,
     command: &'a AcceptedCommand,
@@ -136,7 +136,7 @@ fn into_change<'a>(
 }
 
 /// The legs of the command in force, of the one that is pending and is in time, and of the one that is announced.
-fn through_change<'a>(
+pub fn through_change<'a>(
     in_force: Option<&'a AcceptedCommand>,
     moment: u128,
     pending: &'a AcceptedCommand,
@@ -171,7 +171,7 @@ fn through_change<'a>(
 
 /// The legs of the command in force, with one pending that is replaced by the one that is announced: the list goes on at the
 /// lead moment where `resumed` says.
-fn through_lead<'a>(
+pub fn through_lead<'a>(
     in_force: Option<&'a AcceptedCommand>,
     moment: u128,
     pending: &AcceptedCommand,
