@@ -3,3 +3,4 @@ pub mod SearchLaws
 pub mod RepeatLaws
 pub mod LegLaws
 pub mod ListedLaws
+pub mod QuietLaws

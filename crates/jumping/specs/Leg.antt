@@ -1,10 +1,11 @@
 -- What the gates show from a moment on, as legs (IEEE Std 802.1Q-2018, 8.6.9.3 List Config).
-use Rattle.std.specs.Prelude.{◌≡◌, ◌≤◌, ℕ, ◌+◌, ◌*◌, length, min, List, [], ◌∷◌, Option, Some, None}
+use Rattle.std.specs.Prelude.{◌≡◌, ◌≤◌, ℕ, ◌+◌, ◌*◌, min, List, [], ◌∷◌, Option, Some, None}
 use Rattle.std.specs.Option.{ForSome}
 use Rattle.wire_time.specs.Moment.{greatest_moment}
 use Rattle.gate_list.specs.Gate.{IsSchedule}
 use Rattle.list_config.specs.History.{Accepted, plan_of, start_of}
 use Rattle.list_config.specs.Stretch.{Stretch}
+use Rattle.list_config.specs.Current.{entry_count}
 use Rattle.accepted_commands.specs.Standing.{hold_for}
 use Rattle.list_position.specs.Position.{IsPlaced}
 use Rattle.jumping.specs.declared.leg.Leg.{Leg}
@@ -45,19 +46,14 @@ abbrev pub up_to : Option ℕ → ℕ → ℕ
 up_to None before = before
 up_to (Some until) before = min until before
 
--- how many entries a leg's list has
-abbrev pub entries_in : Leg → ℕ
-entries_in (Listed leg) = length leg.schedule.now.entries
-entries_in (Open leg) = 0
+-- how many visits a search of a stretch makes at most
+abbrev pub most_visits : Stretch → ℕ
+most_visits stretch = 4 * entry_count stretch.plan + 1
 
--- how many visits a search of a leg makes at most
-abbrev pub most_visits : Leg → ℕ
-most_visits leg = 4 * entries_in leg + 1
-
--- the same of a leg that follows, if one does
-abbrev pub most_in : Option Leg → ℕ
-most_in None = 0
-most_in (Some leg) = most_visits leg
+-- the same of stretches, one after another
+abbrev pub most_in : List Stretch → ℕ
+most_in [] = 0
+most_in (stretch ∷ rest) = most_visits stretch + most_in rest
 
 -- a list stands so at the leg's moment
 abbrev pub IsStanding : Leg → Type 0

@@ -255,7 +255,7 @@ fn search_leg(
     requires unended { ForSome (until_of leg.now) (λ u. stop ≤ u) }
     ensures searched { Searched (mask_in (stretches_ahead leg.now rest.now)) needs.now (from_of leg.now) stop result }
     ensures counted { visits.old ≤ visits.new }
-    ensures visits { visits.new ≤ visits.old + most_visits leg.now }
+    ensures visits { visits.new ≤ visits.old + most_visits (stretch_of leg.now) }
 {
     match leg {
         Leg::Listed(listed) => search_listed(listed, rest, needs, stop, visits),
@@ -276,7 +276,7 @@ fn search_to(
     requires within { before ≤ 2 * greatest_moment }
     ensures searched { Searched (mask_in (stretches_ahead leg.now rest.now)) needs.now (from_of leg.now) (up_to (until_of leg.now) before) result }
     ensures counted { visits.old ≤ visits.new }
-    ensures visits { visits.new ≤ visits.old + most_visits leg.now }
+    ensures visits { visits.new ≤ visits.old + most_visits (stretch_of leg.now) }
 {
     let stop = match leg.until() {
         Some(until) => until.min(before),
@@ -304,7 +304,7 @@ fn search_into(
     requires within { before ≤ 2 * greatest_moment }
     ensures searched { Searched (mask_in (stretch_of leg.now ∷ stretch_in last.now)) needs.now (from_of leg.now) before result }
     ensures counted { visits.old ≤ visits.new }
-    ensures visits { visits.new ≤ visits.old + (most_visits leg.now + most_in last.now) }
+    ensures visits { visits.new ≤ visits.old + most_in (stretch_of leg.now ∷ stretch_in last.now) }
 {
     let rest = Rest {
         next: copied(last),
@@ -339,7 +339,7 @@ pub fn search(
     requires within { before ≤ 2 * greatest_moment }
     ensures searched { Searched (mask_in (stretches_ahead leg.now rest.now)) needs.now (from_of leg.now) before result }
     ensures counted { visits.old ≤ visits.new }
-    ensures visits { visits.new ≤ visits.old + (most_visits leg.now + (most_in rest.now.next + most_in rest.now.last)) }
+    ensures visits { visits.new ≤ visits.old + most_in (stretches_ahead leg.now rest.now) }
 {
     if let Some(found) = search_to(leg, rest, needs, before, visits) {
         return Some(found);
