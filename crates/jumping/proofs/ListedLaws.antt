@@ -1,20 +1,20 @@
 -- A list before its hold and its end.
-use Rattle.std.proofs.Common.{◌≡◌, ◌<◌, ◌≤◌, ℕ, ◌+◌, ◌-◌, ◌*◌, min, Bool, true, false, List, ◌∷◌, slice_get, length, Option, Some, None, IsSome, refl, sym, ap, ◌∙◌, subst, arith, le_refl, le_trans}
+use Rattle.std.proofs.Common.{◌≡◌, ◌<◌, ◌≤◌, ℕ, ◌+◌, ◌*◌, min, Bool, true, false, List, slice_get, length, Option, Some, None, refl, sym, ap, ◌∙◌, subst, arith, le_trans}
 use Rattle.std.proofs.lemmas.Bool.{false≢true}
 use Rattle.std.specs.Option.{ForSome}
 use Rattle.wire_time.specs.Moment.{greatest_moment}
-use Rattle.gate_list.specs.Gate.{Plan, IsSchedule, has_come, in_ps, mask_since}
+use Rattle.gate_list.specs.Gate.{Plan, has_come, in_ps, mask_since}
 use Rattle.gate_list.specs.Open.{open_while}
-use Rattle.list_config.specs.Stretch.{mask_of, mask_in}
+use Rattle.list_config.specs.Stretch.{mask_in}
 use Rattle.list_execute.specs.Walk.{end_of}
 use Rattle.list_position.specs.declared.Position.{Position}
 use Rattle.list_position.specs.Position.{IsPlaced, IsFlat, Shows, boundary_in}
 use Rattle.list_position.proofs.PositionLaws.{placed_hold, flat_min, flat_cycle}
 use Rattle.jumping.specs.declared.leg.Leg.{Leg}
-use Rattle.jumping.specs.declared.leg.Leg.TheVariants.{Listed, Open}
+use Rattle.jumping.specs.declared.leg.Leg.TheVariants.{Listed}
 use Rattle.jumping.specs.declared.leg.ListedLeg.{ListedLeg}
 use Rattle.jumping.specs.declared.leg.Rest.{Rest}
-use Rattle.jumping.specs.Leg.{IsReady, AreReady, DoFollow, from_of, until_of, stretch_of, stretches_in, stretches_ahead}
+use Rattle.jumping.specs.Leg.{AreReady, DoFollow, from_of, stretch_of, stretches_in, stretches_ahead}
 use Rattle.jumping.specs.Search.{NoneFits}
 use Rattle.jumping.proofs.RepeatLaws.{not_yet, shows_own, stretch_repeats}
 use Rattle.jumping.proofs.SearchLaws.{fits_flat}

@@ -1,14 +1,12 @@
 -- From a search of legs to the choice of the gates.
-use Rattle.std.proofs.Common.{◌≡◌, ◌<◌, ◌≤◌, ℕ, zero, suc, ◌+◌, ◌*◌, length, get_or, slice_get, max, Bool, true, false, cond, leb, List, [], ◌∷◌, Option, Some, None, IsSome, inl, inr, refl, sym, ap, ◌∙◌, subst, arith, le_refl, le_trans}
+use Rattle.std.proofs.Common.{◌≡◌, ◌<◌, ◌≤◌, ℕ, zero, suc, ◌+◌, ◌*◌, length, get_or, slice_get, Bool, true, false, cond, leb, List, [], Option, Some, None, IsSome, inl, inr, refl, sym, ap, ◌∙◌, subst, arith, le_trans}
 use Rattle.std.proofs.lemmas.Bool.{cases_lt, cases_Bool}
 use Rattle.std.proofs.lemmas.Option.{slice_get-get_or, slice_get_within, get_or_from_slice_get}
-use Rattle.gate_list.specs.Open.{open_while}
-use Rattle.gate_list.specs.Stay.{NoneFrom}
 use Rattle.gate_list.proofs.OpenLaws.{same_while}
 use Rattle.gate_list.proofs.FirstLaws.{none_same}
 use Rattle.list_config.specs.Choice.{may_start, may_go, first_choice, greatest_below}
 use Rattle.list_config.specs.Current.{Clocked, entry_count, longest}
-use Rattle.list_config.specs.History.{Accepted, gates, cons_some, three, is_in_time, plan_of, pending, announced}
+use Rattle.list_config.specs.History.{Accepted, gates, cons_some, three, plan_of, pending, announced}
 use Rattle.list_config.specs.Stretch.{Stretch, mask_in, stretches_from}
 use Rattle.list_config.proofs.ChoiceLaws.{greatest_below-none, greatest_below-pass, greatest_below-fail}
 use Rattle.list_config.proofs.HistoryLaws.{settled_force, settled_pending, settled_announced, past_three}

@@ -1,5 +1,5 @@
-use Rattle.std.proofs.Common.{ℕ, ◌∷◌, min, List, Option, Some, sym, ap, subst}
-use Rattle.list_config.specs.Stretch.{Stretch, mask_in}
+use Rattle.std.proofs.Common.{ℕ, ◌∷◌, Option, Some, sym, subst}
+use Rattle.list_config.specs.Stretch.{mask_in}
 use Rattle.jumping.specs.Leg.{DoFollow, from_of, until_of, up_to, stretch_of, stretch_in, stretches_in}
 use Rattle.jumping.specs.Search.{NoneFits, Searched}
 use Rattle.jumping.proofs.LegLaws.{searched_then}

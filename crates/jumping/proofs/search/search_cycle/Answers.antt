@@ -1,4 +1,4 @@
-use Rattle.std.proofs.Common.{◌≡◌, ℕ, ◌+◌, ◌-◌, ◌<◌, ◌≤◌, Some, false, length, min, sym, ap, ◌∙◌, subst, arith}
+use Rattle.std.proofs.Common.{ℕ, ◌<◌, min, sym, ap, ◌∙◌, subst, arith}
 use Rattle.cycle_timer.specs.Cycle.{Cycle}
 use Rattle.list_config.specs.Stretch.{mask_in}
 use Rattle.list_execute.specs.Walk.{end_of}

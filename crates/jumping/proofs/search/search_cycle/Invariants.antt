@@ -1,4 +1,4 @@
-use Rattle.std.proofs.Common.{◌≡◌, ℕ, ◌+◌, ◌-◌, ◌<◌, ◌≤◌, length}
+use Rattle.std.proofs.Common.{◌≡◌, ◌+◌, ◌-◌, ◌<◌, ◌≤◌, length}
 use Rattle.list_config.specs.Stretch.{mask_in}
 use Rattle.list_position.specs.Position.{IsPlaced}
 use Rattle.jumping.specs.declared.leg.Leg.TheVariants.{Listed}

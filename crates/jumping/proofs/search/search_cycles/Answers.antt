@@ -1,4 +1,4 @@
-use Rattle.std.proofs.Common.{◌≡◌, ◌<◌, ◌≤◌, ℕ, ◌+◌, ◌-◌, max, min, List, ap, subst, arith}
+use Rattle.std.proofs.Common.{◌≡◌, ℕ, ◌+◌, min, List, ap, subst, arith}
 use Rattle.gate_list.specs.Gate.{in_ps}
 use Rattle.list_config.specs.Stretch.{Stretch, mask_in}
 use Rattle.jumping.specs.declared.leg.Leg.TheVariants.{Listed}

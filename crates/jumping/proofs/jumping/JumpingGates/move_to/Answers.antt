@@ -1,4 +1,4 @@
-use Rattle.std.proofs.Common.{◌≡◌, ◌≤◌, ap, sym, ◌∙◌, subst}
+use Rattle.std.proofs.Common.{◌≤◌, ap, sym, ◌∙◌, subst}
 use Rattle.list_config.specs.History.{kept}
 use Rattle.list_config.specs.Current.{Clocked}
 use Rattle.accepted_commands.specs.Commands.{history_of}

@@ -1,4 +1,4 @@
-use Rattle.std.proofs.Common.{◌≡◌, ◌≤◌, ◌∷◌, [], None, sym, ap, ◌∙◌, subst}
+use Rattle.std.proofs.Common.{◌≤◌, ◌∷◌, [], sym, ap, ◌∙◌, subst}
 use Rattle.gate_list.specs.Open.{open_while}
 use Rattle.list_config.specs.Stretch.{mask_in}
 use Rattle.jumping.specs.Leg.{DoFollow, from_of, stretch_of, stretch_in}

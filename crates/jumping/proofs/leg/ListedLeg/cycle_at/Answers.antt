@@ -1,4 +1,4 @@
-use Rattle.std.proofs.Common.{◌≡◌, ◌≤◌, ◌+◌, ◌*◌, ap, ◌∙◌, arith}
+use Rattle.std.proofs.Common.{ap, arith}
 use Rattle.jumping.specs.declared.leg.ListedLeg.{ListedLeg}
 use Rattle.jumping.proofs.leg.ListedLeg.cycle_at.Goals as goal
 
