@@ -1,4 +1,4 @@
 mod AheadLaws
 pub mod CommandLaws
 mod HoldLaws
-mod UnderLaws
+pub mod UnderLaws

@@ -5,13 +5,14 @@ use denote.Bor.{Bor}
 use Rattle.gate_list.specs.Gate.{Plan, last_mask, mask_since}
 use Rattle.list_config.specs.History.{Accepted, plan_of, start_of}
 use Rattle.list_config.specs.Stretch.{hold_of}
+use Rattle.list_config.specs.Current.{Clocked}
 use Rattle.list_execute.specs.Walk.{walk_mask}
 use Rattle.list_position.specs.declared.Position.{Position}
 use Rattle.list_position.specs.Position.{IsPlaced, boundary_of}
 use Rattle.accepted_commands.specs.declared.command.AcceptedList.{AcceptedList}
 use Rattle.accepted_commands.specs.declared.command.AcceptedCommand.{AcceptedCommand}
 use Rattle.accepted_commands.specs.declared.command.AcceptedCommand.TheVariants.{Install, Delete}
-use Rattle.accepted_commands.specs.Commands.{Commands, accepted_in}
+use Rattle.accepted_commands.specs.Commands.{Commands, accepted_in, history_of}
 
 -- the boundary from which the last state is held for the change that is pending, if one is
 abbrev pub hold_for : Option Plan → ℕ → Option Accepted → Option ℕ
@@ -118,3 +119,7 @@ IsFirst command = Stands (Some (accepted_in command)) None (accepted_in command)
 pub record Standing : Type 0 where
   pub commands : Commands
   pub position : Option Position
+
+-- the history and the moment of the commands that count
+abbrev pub clocked : Standing → Clocked
+clocked s = record { history = history_of s.commands; moment = s.commands.moment }

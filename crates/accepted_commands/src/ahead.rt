@@ -14,7 +14,7 @@ use list_position::Need;
 use wire_time::CLASSES;
 
 /// What is needed up to a moment, in picoseconds.
-fn before(need: Need, moment: u128) -> Need
+pub fn before(need: Need, moment: u128) -> Need
     requires { need.from ≤ moment }
     ensures { result ≡ record need { length = min need.length (moment - need.from) } }
 {
@@ -25,7 +25,7 @@ fn before(need: Need, moment: u128) -> Need
 }
 
 /// What is needed from a moment on, in picoseconds.
-fn after(need: Need, moment: u128) -> Need
+pub fn after(need: Need, moment: u128) -> Need
     requires { need.from ≤ moment }
     ensures { result ≡ record need { from = moment; length = need.length - (moment - need.from) } }
 {

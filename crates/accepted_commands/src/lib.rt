@@ -4,10 +4,12 @@
 
 mod ahead;
 mod command;
+mod edge;
 mod slots;
 mod under;
 
-pub use ahead::{stays_open_past, stays_open_through, stays_open_to};
+pub use ahead::{after, before, stays_open_past, stays_open_through, stays_open_to};
 pub use command::{AcceptedCommand, AcceptedList, installed};
+pub use edge::{edge_of, lead_moment};
 pub use slots::Slots;
 pub use under::{list_in, mask_under, stays_open_under, until_under};

@@ -1,8 +1,9 @@
 //! The commands that count, in three slots.
-ghost use Rattle.std.specs.Prelude.{◌≡◌, ◌<◌, ◌≤◌, None, Some, option_map};
+ghost use Rattle.std.specs.Prelude.{◌≡◌, ◌+◌, ◌<◌, ◌≤◌, None, Some, option_map};
 ghost use Rattle.std.specs.Option.{ForSome};
 ghost use Rattle.wire_time.specs.Moment.{greatest_moment};
-ghost use Rattle.list_config.specs.History.{IsSound};
+ghost use Rattle.list_config.specs.History.{IsSound, plan_of};
+ghost use Rattle.list_config.specs.Current.{entry_count};
 ghost use Rattle.accepted_commands.specs.Commands.{AreCommands, IsUsable, accepted_in, command_of, no_commands, settled_at};
 ghost use Rattle.accepted_commands.specs.Standing.{ComesTo, EndsSo, IsFirst, Stands, position_lent, option_position};
 
@@ -128,6 +129,18 @@ impl Slots {
     {
         if let Some(command) = &mut self.in_force {
             command.move_on(lent(&self.pending), self.moment, visits);
+        }
+    }
+
+    /// Lets the list in force stand where it stands now, wherever it stood.
+    pub fn place(&mut self, visits: &mut Visits)
+        ensures commands { self.new.commands ≡ self.old.commands }
+        ensures stands { Stands self.new.commands.in_force self.new.commands.pending self.new.commands.moment self.new.position }
+        ensures counted { visits.old ≤ visits.new }
+        ensures visits { visits.new ≤ visits.old + (entry_count (plan_of self.old.commands.in_force) + 1) }
+    {
+        if let Some(command) = &mut self.in_force {
+            command.place_at(lent(&self.pending), self.moment, visits);
         }
     }
 

@@ -1,9 +1,10 @@
 //! What the command in force shows: its list, or else all classes open.
-ghost use Rattle.std.specs.Prelude.{◌≡◌, ℕ, ◌*◌, ◌<◌, ◌≤◌, ◌↔◌, IsTrue, Some, None};
+ghost use Rattle.std.specs.Prelude.{◌≡◌, ℕ, ◌*◌, ◌<◌, ◌≤◌, ◌↔◌, ◌+◌, IsTrue, Some, None, length};
 ghost use Rattle.std.specs.Option.{ForSome};
 ghost use Rattle.wire_time.specs.Moment.{greatest_moment};
 ghost use Rattle.gate_list.specs.Gate.{IsSchedule, last_mask, mask_since};
 ghost use Rattle.gate_list.specs.Open.{open_while};
+ghost use Rattle.list_config.specs.Current.{entry_count};
 ghost use Rattle.list_position.specs.Position.{IsFlat, IsPlaced};
 ghost use Rattle.accepted_commands.specs.Commands.{IsUsable, accepted_in, command_of};
 ghost use Rattle.accepted_commands.specs.Standing.{ComesTo, EndsSo, IsLedAt, IsListOf, Stands, accepted_list, boundary_in_force, hold_for, position_in, position_lent, shown_by, shows_under};
@@ -42,6 +43,7 @@ impl AcceptedList {
         requires within { t ≤ 2 * greatest_moment }
         ensures placed { IsPlaced self.now.schedule self.now.change (hold_for (Some self.now.schedule) self.now.change (command_of pending.entry)) t result }
         ensures counted { visits.old ≤ visits.new }
+        ensures visits { visits.new ≤ visits.old + (length self.now.schedule.entries + 1) }
     {
         self.position.at(
             &self.schedule,
@@ -112,6 +114,26 @@ impl AcceptedCommand {
     {
         match self {
             AcceptedCommand::Install(list) => list.position = list.position_on(pending, t, visits),
+            AcceptedCommand::Delete(_) => {}
+        }
+    }
+}
+
+impl AcceptedCommand {
+    /// Lets the list of the command, if it is one, stand where it stands at `t`, in picoseconds.
+    pub fn place_at(&mut self, pending: Option<&AcceptedCommand>, t: u128, visits: &mut Visits)
+        requires usable { IsUsable (accepted_in self.old) }
+        requires pending { ForSome (command_of pending) IsUsable }
+        requires ends { EndsSo (Some (accepted_in self.old)) (position_in self.old) }
+        requires begun { (accepted_in self.old).change ≤ t }
+        requires within { t ≤ 2 * greatest_moment }
+        ensures same { accepted_in self.new ≡ accepted_in self.old }
+        ensures stands { Stands (Some (accepted_in self.old)) (command_of pending.entry) t (position_in self.new) }
+        ensures counted { visits.old ≤ visits.new }
+        ensures visits { visits.new ≤ visits.old + (entry_count (accepted_in self.old).plan + 1) }
+    {
+        match self {
+            AcceptedCommand::Install(list) => list.position = list.position_at(pending, t, visits),
             AcceptedCommand::Delete(_) => {}
         }
     }

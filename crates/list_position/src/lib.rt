@@ -1,12 +1,14 @@
 //! Where a gate control list stands: its cycle, and the entry or the hold that it shows.
 #![tactic(auto)]
 
-ghost use Rattle.std.specs.Prelude.{◌≡◌, ℕ, Option, ◌+◌, ◌*◌, ◌<◌, ◌≤◌, Some, None, false};
+ghost use Rattle.std.specs.Prelude.{◌≡◌, ℕ, Option, ◌+◌, ◌*◌, ◌<◌, ◌≤◌, Some, None, IsSome, false, true, length};
 ghost use Rattle.wire_time.specs.Moment.{greatest_moment};
 ghost use Rattle.gate_list.specs.Gate.{Plan, IsSchedule, has_come, in_ps, last_mask, mask_since};
 ghost use Rattle.gate_list.specs.Open.{open_while};
 ghost use Rattle.gate_list.specs.Stay.{stay_lasts};
+ghost use Rattle.gate_list.specs.Visits.{one_more};
 ghost use Rattle.cycle_timer.specs.Cycle.{begun_at};
+ghost use Rattle.list_execute.specs.Walk.{IsOf, end_of};
 ghost use Rattle.list_position.specs.Position.{IsPlaced, IsCycleStart, IsFlat, StandsSo, StoodBefore, boundary_of};
 
 use cycle_timer::CycleTimer;
@@ -79,6 +81,9 @@ fn begin_cycle(
     requires next { timer.next_start ≡ timer.started + in_ps schedule.now.cycle }
     requires last { end_mask ≡ last_mask schedule.now.entries }
     ensures placed { (start k : ℕ) → timer.started ≡ start + in_ps schedule.now.cycle * k → IsCycleStart schedule.now start held_from → IsPlaced schedule.now start held_from timer.started result }
+    ensures timer { result.timer ≡ timer }
+    ensures first { has_come held_from timer.started ≡ false → result.walk.index ≡ 0 }
+    ensures visit { has_come held_from timer.started ≡ false → visits.new ≡ one_more visits.old }
     ensures counted { visits.old ≤ visits.new }
 {
     let mut walk = ListExecute::begin(schedule, timer.started(), visits);
@@ -122,6 +127,8 @@ impl Position {
         requires last { self.now.last_mask ≡ last_mask schedule.now.entries }
         ensures placed { IsPlaced schedule.now start held_from t result }
         ensures counted { visits.old ≤ visits.new }
+        ensures visits { visits.new ≤ visits.old + (length schedule.now.entries + 1) }
+        ensures held { has_come held_from t ≡ true → visits.new ≤ visits.old + 2 }
     {
         let mut timer = timer_from(schedule, start);
         timer.jump_to(t);
@@ -247,5 +254,49 @@ impl Position {
             walk,
             last_mask: self.last_mask,
         }
+    }
+
+    /// The position of the same list at the end of its entry, where the next one begins in the same cycle. Its last state is
+    /// held from `held_from` on, in picoseconds; none: from no moment on.
+    pub fn next_entry(&self, schedule: &Schedule, visits: &mut Visits) -> Position
+        requires sound { IsSchedule schedule.now }
+        requires of { IsOf schedule.now self.now.walk }
+        requires ends { IsSome (end_of self.now.walk) }
+        ensures placed { (start n e : ℕ) (held : Option ℕ) → IsPlaced schedule.now start held n self.now → has_come held self.now.timer.started ≡ false → end_of self.now.walk ≡ Some e → n ≤ e → e < self.now.timer.next_start → IsPlaced schedule.now start held e result }
+        ensures timer { result.timer ≡ self.now.timer }
+        ensures index { result.walk.index ≡ self.now.walk.index + 1 }
+        ensures visit { visits.new ≡ one_more visits.old }
+        ensures counted { visits.old ≤ visits.new }
+    {
+        let mut walk = self.walk;
+        walk.next(schedule, visits);
+        Position { walk, ..*self }
+    }
+
+    /// The position of the same list at the start of the cycle that holds `t`, which is in no hold. Its last state is held
+    /// from `held_from` on; none: from no moment on. All are in picoseconds.
+    pub fn cycle_at(
+        &self,
+        schedule: &Schedule,
+        held_from: Option<u128>,
+        t: u128,
+        visits: &mut Visits,
+    ) -> Position
+        requires sound { IsSchedule schedule.now }
+        requires stands { (start n : ℕ) × IsPlaced schedule.now start held_from n self.now }
+        requires later { self.now.timer.started ≤ t }
+        requires within { t ≤ 2 * greatest_moment }
+        requires unheld { has_come held_from t ≡ false }
+        ensures placed { (start n : ℕ) → IsPlaced schedule.now start held_from n self.now → IsPlaced schedule.now start held_from result.timer.started result }
+        ensures reached { result.timer.started ≤ t }
+        ensures holds { t < result.timer.next_start }
+        ensures whole { (k : ℕ) → self.now.timer.started + self.now.timer.length * k ≤ t → self.now.timer.started + self.now.timer.length * k ≤ result.timer.started }
+        ensures index { result.walk.index ≡ 0 }
+        ensures visit { visits.new ≡ one_more visits.old }
+        ensures counted { visits.old ≤ visits.new }
+    {
+        let mut cycle = self.timer;
+        cycle.jump_to(t);
+        begin_cycle(schedule, cycle, self.last_mask, held_from, visits)
     }
 }

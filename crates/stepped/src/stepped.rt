@@ -9,8 +9,8 @@ ghost use Rattle.accepted_commands.specs.Commands.{AreCommands, accepted_in, com
 ghost use Rattle.accepted_commands.specs.Standing.{Stands, earlier, edge_at};
 
 use accepted_commands::{
-    AcceptedCommand, Slots, installed, mask_under, stays_open_through, stays_open_to,
-    stays_open_under, until_under,
+    AcceptedCommand, Slots, edge_of, installed, lead_moment, mask_under, stays_open_through,
+    stays_open_to, stays_open_under,
 };
 use gate_list::{Schedule, Visits};
 use list_config::{Gates, Installed, NotNow};
@@ -29,66 +29,14 @@ pub struct Stepped {
 /// A contract sees the history that the commands make, and the moment.
 impl Model for Stepped {
     ghost use Rattle.accepted_commands.specs.Commands.{AreCommands};
-    ghost use Rattle.accepted_commands.specs.Standing.{Stands};
+    ghost use Rattle.accepted_commands.specs.Standing.{Stands, clocked};
     ghost use Rattle.list_config.specs.Current.{Clocked};
-    ghost use Rattle.stepped.specs.Clocked.{clocked};
-
+    
     ghost Value = { Clocked };
 
     ghost view = { λ g. clocked g.slots };
 
     ghost invariant = { λ g. AreCommands g.slots.commands × Stands g.slots.commands.in_force g.slots.commands.pending g.slots.commands.moment g.slots.position };
-}
-
-/// The earlier of two moments, in picoseconds, if any.
-fn earlier(a: Option<u128>, b: Option<u128>) -> Option<u128>
-    ensures { result ≡ earlier a b }
-{
-    match a {
-        None => b,
-        Some(s) => match b {
-            None => Some(s),
-            Some(t) => Some(s.min(t)),
-        },
-    }
-}
-
-/// When a command changes the gates, in picoseconds.
-fn change_moment(command: Option<&AcceptedCommand>) -> Option<u128>
-    ensures { result ≡ option_map (λ a. a.change) (command_of command.entry) }
-{
-    match command {
-        None => None,
-        Some(command) => Some(command.change()),
-    }
-}
-
-/// The lead moment of a command, in picoseconds.
-fn lead_moment(command: Option<&AcceptedCommand>) -> Option<u128>
-    ensures { result ≡ option_map (λ a. a.lead) (command_of command.entry) }
-{
-    match command {
-        None => None,
-        Some(command) => Some(command.lead()),
-    }
-}
-
-/// The next moment at which a boundary of the list in force comes, or a command does, in picoseconds; none: there is none.
-fn edge_of(slots: &Slots) -> Option<u128>
-    requires sound { AreCommands slots.now.commands }
-    requires stands { Stands slots.now.commands.in_force slots.now.commands.pending slots.now.commands.moment slots.now.position }
-    ensures edge { result ≡ edge_at slots.now.commands slots.now.position }
-    ensures flat { IsFlat (gates (history_of slots.now.commands)) slots.now.commands.moment result }
-    ensures event { IfSome result (IsGateEvent (history_of slots.now.commands)) }
-{
-    let listed = until_under(slots.in_force(), slots.pending());
-    earlier(
-        listed,
-        earlier(
-            change_moment(slots.pending()),
-            lead_moment(slots.announced()),
-        ),
-    )
 }
 
 impl Stepped {

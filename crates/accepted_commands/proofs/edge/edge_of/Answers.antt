@@ -5,7 +5,7 @@ use Rattle.list_position.specs.declared.Position.{Position}
 use Rattle.list_position.specs.Position.{IsFlat}
 use Rattle.accepted_commands.specs.Standing.{Stands, boundary_in_force, earlier, position_lent, shows_under}
 use Rattle.accepted_commands.proofs.CommandLaws.{edge_events, flat_now}
-use Rattle.stepped.proofs.stepped.edge_of.Goals as goal
+use Rattle.accepted_commands.proofs.edge.edge_of.Goals as goal
 
 pub returns-clause-flat : goal.returns-clause-flat
 returns-clause-flat c =

@@ -1,0 +1,62 @@
+//! The next moment at which something comes.
+ghost use Rattle.std.specs.Prelude.{◌≡◌, IfSome, option_map};
+ghost use Rattle.list_config.specs.History.{gates};
+ghost use Rattle.list_config.specs.Event.{IsGateEvent};
+ghost use Rattle.list_position.specs.Position.{IsFlat};
+ghost use Rattle.accepted_commands.specs.Commands.{AreCommands, command_of, history_of};
+ghost use Rattle.accepted_commands.specs.Standing.{Stands, earlier, edge_at};
+
+use crate::command::AcceptedCommand;
+use crate::slots::Slots;
+use crate::under::until_under;
+
+/// The earlier of two moments, in picoseconds, if any.
+fn earlier(a: Option<u128>, b: Option<u128>) -> Option<u128>
+    ensures { result ≡ earlier a b }
+{
+    match a {
+        None => b,
+        Some(s) => match b {
+            None => Some(s),
+            Some(t) => Some(s.min(t)),
+        },
+    }
+}
+
+/// When a command changes the gates, in picoseconds.
+fn change_moment(command: Option<&AcceptedCommand>) -> Option<u128>
+    ensures { result ≡ option_map (λ a. a.change) (command_of command.entry) }
+{
+    match command {
+        None => None,
+        Some(command) => Some(command.change()),
+    }
+}
+
+/// The lead moment of a command, in picoseconds.
+pub fn lead_moment(command: Option<&AcceptedCommand>) -> Option<u128>
+    ensures { result ≡ option_map (λ a. a.lead) (command_of command.entry) }
+{
+    match command {
+        None => None,
+        Some(command) => Some(command.lead()),
+    }
+}
+
+/// The next moment at which a boundary of the list in force comes, or a command does, in picoseconds; none: there is none.
+pub fn edge_of(slots: &Slots) -> Option<u128>
+    requires sound { AreCommands slots.now.commands }
+    requires stands { Stands slots.now.commands.in_force slots.now.commands.pending slots.now.commands.moment slots.now.position }
+    ensures edge { result ≡ edge_at slots.now.commands slots.now.position }
+    ensures flat { IsFlat (gates (history_of slots.now.commands)) slots.now.commands.moment result }
+    ensures event { IfSome result (IsGateEvent (history_of slots.now.commands)) }
+{
+    let listed = until_under(slots.in_force(), slots.pending());
+    earlier(
+        listed,
+        earlier(
+            change_moment(slots.pending()),
+            lead_moment(slots.announced()),
+        ),
+    )
+}

@@ -1,0 +1,6 @@
+pub mod SteadyLaws
+pub mod SearchLaws
+pub mod RepeatLaws
+pub mod LegLaws
+pub mod ListedLaws
+pub mod QuietLaws

@@ -1,0 +1,130 @@
+-- From a search of legs to the choice of the gates.
+use Rattle.std.proofs.Common.{◌≡◌, ◌<◌, ◌≤◌, ℕ, zero, suc, ◌+◌, ◌*◌, length, get_or, slice_get, Bool, true, false, cond, leb, List, [], Option, Some, None, IsSome, inl, inr, refl, sym, ap, ◌∙◌, subst, arith, le_trans}
+use Rattle.std.proofs.lemmas.Bool.{cases_lt, cases_Bool}
+use Rattle.std.proofs.lemmas.Option.{slice_get-get_or, slice_get_within, get_or_from_slice_get}
+use Rattle.gate_list.proofs.OpenLaws.{same_while}
+use Rattle.gate_list.proofs.FirstLaws.{none_same}
+use Rattle.list_config.specs.Choice.{may_start, may_go, first_choice, greatest_below}
+use Rattle.list_config.specs.Current.{Clocked, entry_count, longest}
+use Rattle.list_config.specs.History.{Accepted, gates, cons_some, three, plan_of, pending, announced}
+use Rattle.list_config.specs.Stretch.{Stretch, mask_in, stretches_from}
+use Rattle.list_config.proofs.ChoiceLaws.{greatest_below-none, greatest_below-pass, greatest_below-fail}
+use Rattle.list_config.proofs.HistoryLaws.{settled_force, settled_pending, settled_announced, past_three}
+use Rattle.list_config.proofs.StretchLaws.{stretches_gates}
+use Rattle.accepted_commands.specs.Commands.{Commands, AreCommands, history_of}
+use Rattle.jumping.specs.Leg.{most_in}
+use Rattle.jumping.specs.Search.{NoneFits, Fits, Searched}
+
+-- masks that agree from a moment on
+pub searched_same : (f g : ℕ → ℕ) (needs : List (Option ℕ)) (t stop : ℕ) (r : Option ℕ) → ((n : ℕ) → t ≤ n → f n ≡ g n) → Searched g needs t stop r → Searched f needs t stop r
+searched_same f g needs t stop None e none = λ class d there. none_same f g class d t stop (λ n from before. e n from) (none class d there)
+searched_same f g needs t stop (Some u) e found =
+    let from : t ≤ u = found.0 in
+    let at : Fits g needs u = found.3 in (
+      found.0,
+      found.1,
+      λ class d there. none_same f g class d t u (λ n after before. e n after) (found.2 class d there),
+      record {
+        class = at.class;
+        need = at.need;
+        there = at.there;
+        through = same_while f g at.class u at.need (λ n after before. e n (le_trans from after)) ∙ at.through;
+      },
+    )
+
+-- the gates of commands from now on
+pub gates_ahead : (c : Commands) → AreCommands c → (n : ℕ) → c.moment ≤ n → gates (history_of c) n ≡ mask_in (stretches_from c.in_force (cons_some c.pending (cons_some c.announced []))) n
+gates_ahead c s n l =
+    stretches_gates 0 c.moment (history_of c) s.rising (past_three c.moment c.in_force c.pending c.announced s.settled) n l
+    ∙ (ap (λ f. mask_in (stretches_from f (cons_some (pending (history_of c) c.moment) (cons_some (announced (history_of c) c.moment) []))) n) (settled_force c.moment c.in_force c.pending c.announced s.settled)
+    ∙ (ap (λ q. mask_in (stretches_from c.in_force (cons_some q (cons_some (announced (history_of c) c.moment) []))) n) (settled_pending c.moment c.in_force c.pending c.announced s.settled)
+    ∙ ap (λ x. mask_in (stretches_from c.in_force (cons_some c.pending (cons_some x []))) n) (settled_announced c.moment c.in_force c.pending c.announced s.settled)))
+
+-- where no class with a need stays open through it, there is no choice
+pub no_choice : (h : List Accepted) (needs : List (Option ℕ)) (t u : ℕ) → length needs ≡ 8 → NoneFits (gates h) needs t u → (m : ℕ) → t ≤ m → m < u → first_choice h m needs ≡ None
+no_choice h needs t u eight none m from below =
+    greatest_below-none 8 (may_go h m needs) (λ k low. by k (get_or needs k None) (slice_get-get_or needs k None (omega arith)))
+  where
+    by : (k : ℕ) → (need : Option ℕ) → slice_get needs k ≡ Some need → may_start h m k need ≡ false
+    by k None there = refl
+    by k (Some d) there = none k d there m from below
+
+-- a number that passes
+greatest_there : (n : ℕ) (p : ℕ → Bool) (k : ℕ) → k < n → p k ≡ true → IsSome (greatest_below n p)
+greatest_there zero p k low pass = absurd (omega arith)
+greatest_there (suc n) p k low pass =
+    elim (cases_Bool (p n)) [
+      | inl here ↦ subst IsSome (sym (greatest_below-pass n p here)) refl
+      | inr other ↦ subst IsSome (sym (greatest_below-fail n p other)) (greatest_there n p k (below other) pass)
+    ]
+  where
+    below : p n ≡ false → k < n
+    below other =
+        elim (cases_lt k n) [
+          | inl l ↦ l
+          | inr l ↦ absurd (differ (sym (subst (λ j. p j ≡ true) (let same : k ≡ n = omega arith in same) pass) ∙ other))
+        ]
+      where
+        differ : true ≡ false → ⊥
+        differ e = cc
+
+-- where some class with a need stays open through it, there is a choice
+pub some_choice : (h : List Accepted) (needs : List (Option ℕ)) (u : ℕ) → length needs ≡ 8 → Fits (gates h) needs u → IsSome (first_choice h u needs)
+some_choice h needs u eight at =
+    greatest_there 8 (may_go h u needs) at.class (let l = slice_get_within needs at.class (Some at.need) at.there in omega arith)
+    (ap (may_start h u at.class) (get_or_from_slice_get needs at.class (Some at.need) None at.there) ∙ at.through)
+
+-- three stretches of lists that are at most so long
+pub most_ahead : (f p x : Option Accepted) → most_in (stretches_from f (cons_some p (cons_some x []))) ≤ 12 * (longest (three f p x) + 1)
+most_ahead f p x = by p x (in_force f p x) (in_pending f p x) (in_announced f p x)
+  where
+    in_announced : (f p x : Option Accepted) → entry_count (plan_of x) ≤ longest (three f p x)
+    in_announced None None None = omega arith
+    in_announced None None (Some x) = omega arith
+    in_announced None (Some p) None = omega arith
+    in_announced None (Some p) (Some x) = omega arith
+    in_announced (Some f) None None = omega arith
+    in_announced (Some f) None (Some x) = omega arith
+    in_announced (Some f) (Some p) None = omega arith
+    in_announced (Some f) (Some p) (Some x) = omega arith
+
+    in_pending : (f p x : Option Accepted) → entry_count (plan_of p) ≤ longest (three f p x)
+    in_pending None None x = omega arith
+    in_pending None (Some p) x = omega arith
+    in_pending (Some f) None x = omega arith
+    in_pending (Some f) (Some p) x = omega arith
+
+    in_force : (f p x : Option Accepted) → entry_count (plan_of f) ≤ longest (three f p x)
+    in_force None p x = omega arith
+    in_force (Some f) p x = omega arith
+
+    by : (p x : Option Accepted) → entry_count (plan_of f) ≤ longest (three f p x) → entry_count (plan_of p) ≤ longest (three f p x) → entry_count (plan_of x) ≤ longest (three f p x) → most_in (stretches_from f (cons_some p (cons_some x []))) ≤ 12 * (longest (three f p x) + 1)
+    by None None a b d = omega arith
+    by None (Some x) a b d = omega arith
+    by (Some p) None a b d = omega arith
+    by (Some p) (Some x) a b d =
+        let second : entry_count (plan_of (cond (leb p.change x.lead) (Some p) f)) ≤ longest (three f (Some p) (Some x)) = either (leb p.change x.lead) in
+        omega arith
+      where
+        either : (t : Bool) → entry_count (plan_of (cond t (Some p) f)) ≤ longest (three f (Some p) (Some x))
+        either true = b
+        either false = a
+
+-- the commands seen as a history and a moment, with the legs ahead
+module _ (c : Commands) (s : AreCommands c) (v : Clocked) (view : record { history = history_of c; moment = c.moment } ≡ v) (legs : List Stretch) (shows : legs ≡ stretches_from c.in_force (cons_some c.pending (cons_some c.announced []))) where
+  -- a search of the legs is one of the gates
+  pub searched_gates : (from : ℕ) → from ≡ c.moment → (needs : List (Option ℕ)) (before : ℕ) (r : Option ℕ) → Searched (mask_in legs) needs from before r → Searched (gates v.history) needs v.moment before r
+  searched_gates from at needs before r found =
+      let ahead : List Stretch = stretches_from c.in_force (cons_some c.pending (cons_some c.announced [])) in
+      subst (λ (w : Clocked). Searched (gates w.history) needs w.moment before r) view
+      (searched_same (gates (history_of c)) (mask_in ahead) needs c.moment before r (λ n l. gates_ahead c s n l)
+      (subst (λ n. Searched (mask_in ahead) needs n before r) at
+      (subst (λ (k : List Stretch). Searched (mask_in k) needs from before r) shows found)))
+
+  -- its visits are few
+  pub few_visits : (old new : ℕ) → new ≤ old + most_in legs → new ≤ old + 12 * (longest v.history + 1)
+  few_visits old new l =
+      let same = ap most_in shows in
+      let most = most_ahead c.in_force c.pending c.announced in
+      let seen = ap (λ (w : Clocked). longest w.history) view in
+      omega (arith, l, same, most, seen)

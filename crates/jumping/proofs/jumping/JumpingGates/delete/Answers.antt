@@ -1,0 +1,11 @@
+use Rattle.std.proofs.Common.{ap, sym, ◌∙◌, le_refl}
+use Rattle.list_config.specs.History.{gates}
+use Rattle.list_config.specs.Current.{Clocked}
+use Rattle.accepted_commands.proofs.CommandLaws.{announced_later, lead_none}
+use Rattle.jumping.proofs.jumping.JumpingGates.delete.Goals as goal
+
+pub returns-clause-hindsight : goal.returns-clause-hindsight
+returns-clause-hindsight c = λ n ahead.
+    let free = sym c.announced.ensures.command ∙ lead_none _ (sym c.lead_moment.ensures ∙ c.in_default.is) in
+    announced_later c.self.inside.slots.commands c.announce.new.self.commands _ c.announce.ensures.value free (le_refl c.args.lead) n ahead
+    ∙ ap (λ (v : Clocked). gates v.history n) c.self.view_is

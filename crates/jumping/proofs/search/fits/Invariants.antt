@@ -1,0 +1,8 @@
+use Rattle.std.proofs.Common.{◌≡◌, ℕ, ◌<◌, Some, false, slice_get}
+use Rattle.gate_list.specs.Open.{open_while}
+use Rattle.list_config.specs.Stretch.{mask_in}
+use Rattle.jumping.specs.Leg.{from_of, stretches_ahead}
+use Rattle.jumping.proofs.search.fits.Given as goal
+
+abbrev pub invariant-loop-class : goal.invariant-loop-class
+invariant-loop-class l = (k d : ℕ) → k < l.class → slice_get l.needs k ≡ Some (Some d) → open_while (mask_in (stretches_ahead l.leg l.rest)) k (from_of l.leg) d ≡ false

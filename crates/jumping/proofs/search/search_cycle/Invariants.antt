@@ -1,0 +1,20 @@
+use Rattle.std.proofs.Common.{◌≡◌, ◌+◌, ◌-◌, ◌<◌, ◌≤◌, length}
+use Rattle.list_config.specs.Stretch.{mask_in}
+use Rattle.list_position.specs.Position.{IsPlaced}
+use Rattle.jumping.specs.declared.leg.Leg.TheVariants.{Listed}
+use Rattle.jumping.specs.Leg.{stretches_ahead}
+use Rattle.jumping.specs.Search.{NoneFits}
+use Rattle.jumping.proofs.search.search_cycle.Given as goal
+
+abbrev pub invariant-loop-position : goal.invariant-loop-position
+invariant-loop-position l =
+    (l.from < l.limit) × (l.leg.from ≤ l.from)
+    × IsPlaced l.leg.schedule.now l.leg.start l.leg.held_from l.from l.position
+    × (l.position.timer ≡ l.leg.position.timer)
+    × NoneFits (mask_in (stretches_ahead (Listed l.leg) l.rest)) l.needs l.leg.from l.from
+    × (l.initial.visits ≤ l.visits)
+    × (l.visits + l.leg.position.walk.index ≤ l.initial.visits + l.position.walk.index)
+    × (l.position.walk.index < length l.leg.schedule.now.entries)
+
+abbrev pub decreases-loop-position : goal.decreases-loop-position
+decreases-loop-position l = l.limit - l.from

@@ -1,0 +1,11 @@
+use Rattle.std.proofs.Common.{None, sym, subst}
+use Rattle.list_config.specs.Stretch.{mask_of}
+use Rattle.list_position.specs.Position.{IsFlat}
+use Rattle.jumping.specs.Leg.{from_of, stretch_of}
+use Rattle.jumping.proofs.LegLaws.{flat_open}
+use Rattle.jumping.proofs.search.search_leg.Goals as goal
+
+pub returns-in-Open-clause-searched : goal.returns-in-Open-clause-searched
+returns-in-Open-clause-searched c =
+    c.search_flat.ensures c.args.stop c.requires.some c.requires.unended
+    (subst (λ g. IsFlat (mask_of (stretch_of g)) (from_of g) None) (sym c.in-Open.is) (flat_open c.in-Open.field-0))

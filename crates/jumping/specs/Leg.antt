@@ -1,0 +1,85 @@
+-- What the gates show from a moment on, as legs (IEEE Std 802.1Q-2018, 8.6.9.3 List Config).
+use Rattle.std.specs.Prelude.{◌≡◌, ◌≤◌, ℕ, ◌+◌, ◌*◌, min, List, [], ◌∷◌, Option, Some, None}
+use Rattle.std.specs.Option.{ForSome}
+use Rattle.wire_time.specs.Moment.{greatest_moment}
+use Rattle.gate_list.specs.Gate.{IsSchedule}
+use Rattle.list_config.specs.History.{Accepted, plan_of, start_of}
+use Rattle.list_config.specs.Stretch.{Stretch}
+use Rattle.list_config.specs.Current.{entry_count}
+use Rattle.accepted_commands.specs.Standing.{hold_for}
+use Rattle.list_position.specs.Position.{IsPlaced}
+use Rattle.jumping.specs.declared.leg.Leg.{Leg}
+use Rattle.jumping.specs.declared.leg.Leg.TheVariants.{Listed, Open}
+use Rattle.jumping.specs.declared.leg.Rest.{Rest}
+
+-- the moment from which a leg is looked at
+abbrev pub from_of : Leg → ℕ
+from_of (Listed leg) = leg.from
+from_of (Open leg) = leg.from
+
+-- the moment at which it is over, if ever
+abbrev pub until_of : Leg → Option ℕ
+until_of (Listed leg) = leg.until
+until_of (Open leg) = leg.until
+
+-- what a leg shows
+abbrev pub stretch_of : Leg → Stretch
+stretch_of (Listed leg) = record { plan = Some leg.schedule.now; start = leg.start; held_from = leg.held_from; until = leg.until }
+stretch_of (Open leg) = record { plan = None; start = leg.start; held_from = None; until = leg.until }
+
+-- what the last leg shows, if there is one
+abbrev pub stretch_in : Option Leg → List Stretch
+stretch_in None = []
+stretch_in (Some last) = stretch_of last ∷ []
+
+-- what follows shows
+abbrev pub stretches_in : Option Leg → Option Leg → List Stretch
+stretches_in None last = []
+stretches_in (Some next) last = stretch_of next ∷ stretch_in last
+
+-- what a leg and what follows it show
+abbrev pub stretches_ahead : Leg → Rest → List Stretch
+stretches_ahead leg rest = stretch_of leg ∷ stretches_in rest.next rest.last
+
+-- the earlier of a leg's end, if it has one, and a moment
+abbrev pub up_to : Option ℕ → ℕ → ℕ
+up_to None before = before
+up_to (Some until) before = min until before
+
+-- how many visits a search of a stretch makes at most
+abbrev pub most_visits : Stretch → ℕ
+most_visits stretch = 4 * entry_count stretch.plan + 1
+
+-- the same of stretches, one after another
+abbrev pub most_in : List Stretch → ℕ
+most_in [] = 0
+most_in (stretch ∷ rest) = most_visits stretch + most_in rest
+
+-- a list stands so at the leg's moment
+abbrev pub IsStanding : Leg → Type 0
+IsStanding (Listed leg) = IsSchedule leg.schedule.now × IsPlaced leg.schedule.now leg.start leg.held_from leg.from leg.position
+IsStanding (Open leg) = Unit {0}
+
+-- a leg stands so, at no moment that is too late
+pub record IsReady (leg : Leg) : Type 0 where
+  pub stands : IsStanding leg
+  pub near : from_of leg ≤ 2 * greatest_moment
+
+-- a leg is over where the next begins, and goes on for ever where none does
+abbrev pub DoFollow : Leg → Option Leg → Type 0
+DoFollow leg None = until_of leg ≡ None
+DoFollow leg (Some next) = (until_of leg ≡ Some (from_of next)) × (from_of leg ≤ from_of next) × IsReady next
+
+-- a leg and what follows it
+pub record AreReady (leg : Leg) (rest : Rest) : Type 0 where
+  pub first : IsReady leg
+  pub follows : DoFollow leg rest.next
+  pub then : ForSome rest.next (λ next. DoFollow next rest.last)
+  pub ends : ForSome rest.last (λ last. until_of last ≡ None)
+
+-- ---- the legs of commands
+
+-- what a command shows up to a moment, with a change pending
+abbrev pub stretch_under : Option Accepted → Option Accepted → Option ℕ → Stretch
+stretch_under now next until =
+    record { plan = plan_of now; start = start_of now; held_from = hold_for (plan_of now) (start_of now) next; until = until }

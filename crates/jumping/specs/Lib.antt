@@ -1,0 +1,3 @@
+pub mod Leg
+pub mod Search
+pub mod Resume

@@ -1,0 +1,20 @@
+-- The search for the first moment at which some class that needs the wire is open for as long as it needs.
+use Rattle.std.specs.Prelude.{◌≡◌, ◌<◌, ◌≤◌, ℕ, true, List, Option, Some, None, slice_get}
+use Rattle.gate_list.specs.Open.{open_while}
+use Rattle.gate_list.specs.Stay.{NoneFrom}
+
+-- no class with a need is open through it from t on and below u
+abbrev pub NoneFits : (ℕ → ℕ) → List (Option ℕ) → ℕ → ℕ → Type 0
+NoneFits mask needs t u = (class d : ℕ) → slice_get needs class ≡ Some (Some d) → NoneFrom mask class d t u
+
+-- at u one is
+pub record Fits (mask : ℕ → ℕ) (needs : List (Option ℕ)) (u : ℕ) : Type 0 where
+  pub class : ℕ
+  pub need : ℕ
+  pub there : slice_get needs class ≡ Some (Some need)
+  pub through : open_while mask class u need ≡ true
+
+-- the first such moment from t on and below stop
+abbrev pub Searched : (ℕ → ℕ) → List (Option ℕ) → ℕ → ℕ → Option ℕ → Type 0
+Searched mask needs t stop None = NoneFits mask needs t stop
+Searched mask needs t stop (Some u) = (t ≤ u) × (u < stop) × NoneFits mask needs t u × Fits mask needs u

@@ -1,0 +1,213 @@
+//! The legs of the commands that count.
+ghost use Rattle.std.specs.Prelude.{◌≡◌, ◌*◌, ◌<◌, ◌≤◌, ◌∷◌, [], Some, None, false};
+ghost use Rattle.std.specs.Option.{ForSome};
+ghost use Rattle.wire_time.specs.Moment.{greatest_moment};
+ghost use Rattle.list_config.specs.History.{start_of, is_in_time};
+ghost use Rattle.list_config.specs.Stretch.{stretches_from};
+ghost use Rattle.accepted_commands.specs.Commands.{IsUsable, accepted_in, command_of};
+ghost use Rattle.accepted_commands.specs.Standing.{IsFirst, Stands, position_in, position_lent};
+ghost use Rattle.jumping.specs.Leg.{AreReady, IsReady, from_of, until_of, stretch_of, stretch_under, stretches_ahead};
+
+use crate::leg::{Leg, ListedLeg, OpenLeg, Rest};
+use accepted_commands::{AcceptedCommand, list_in};
+use list_position::Position;
+
+/// A leg and what follows it.
+#[derive(Drop)]
+pub struct Ahead<'a> {
+    /// The leg from now on.
+    pub leg: Leg<'a>,
+    /// What follows.
+    pub rest: Rest<'a>,
+}
+
+/// Where the list of a command stands, if it has one.
+fn position_of(command: Option<&AcceptedCommand>) -> Option<Position>
+    ensures { result ≡ position_lent command.entry }
+{
+    match list_in(command) {
+        None => None,
+        Some(list) => Some(list.position),
+    }
+}
+
+/// The leg of a command from a moment on, at which its list stands there, up to another and with a change pending.
+fn leg_at<'a>(
+    command: Option<&'a AcceptedCommand>,
+    position: Option<Position>,
+    from: u128,
+    pending: Option<&AcceptedCommand>,
+    until: Option<u128>,
+) -> Leg<'a>
+    requires usable { ForSome (command_of command) IsUsable }
+    requires pending { ForSome (command_of pending) IsUsable }
+    requires stands { Stands (command_of command) (command_of pending) from position }
+    requires near { from ≤ 2 * greatest_moment }
+    ensures shows { stretch_of result ≡ stretch_under (command_of command.entry) (command_of pending.entry) until }
+    ensures from { from_of result ≡ from }
+    ensures until { until_of result ≡ until }
+    ensures ready { IsReady result }
+{
+    let start = match command {
+        None => 0,
+        Some(command) => command.change(),
+    };
+    let open = OpenLeg { start, from, until };
+    let Some(list) = list_in(command) else {
+        return Leg::Open(open);
+    };
+    let Some(position) = position else {
+        return Leg::Open(open);
+    };
+    Leg::Listed(ListedLeg {
+        schedule: &list.schedule,
+        start: list.change,
+        held_from: list.held_from(pending),
+        from,
+        position,
+        until,
+    })
+}
+
+/// The leg of a command from its change on, up to another and with a change pending.
+fn leg_from_change<'a>(
+    command: &'a AcceptedCommand,
+    pending: Option<&AcceptedCommand>,
+    until: Option<u128>,
+) -> Leg<'a>
+    requires usable { IsUsable (accepted_in command.now) }
+    requires first { IsFirst command.now }
+    requires pending { ForSome (command_of pending) IsUsable }
+    ensures shows { stretch_of result ≡ stretch_under (Some (accepted_in command.now)) (command_of pending.entry) until }
+    ensures from { from_of result ≡ (accepted_in command.now).change }
+    ensures until { until_of result ≡ until }
+    ensures ready { IsReady result }
+{
+    let position = position_of(Some(command));
+    leg_at(Some(command), position, command.change(), pending, until)
+}
+
+/// The leg of the command in force, where nothing follows it.
+pub fn alone<'a>(in_force: Option<&'a AcceptedCommand>, moment: u128) -> Ahead<'a>
+    requires usable { ForSome (command_of in_force) IsUsable }
+    requires stands { Stands (command_of in_force) None moment (position_lent in_force) }
+    requires near { moment ≤ 2 * greatest_moment }
+    ensures shows { stretches_ahead result.leg result.rest ≡ stretches_from (command_of in_force.entry) [] }
+    ensures from { from_of result.leg ≡ moment }
+    ensures ready { AreReady result.leg result.rest }
+{
+    Ahead {
+        leg: leg_at(in_force, position_of(in_force), moment, None, None),
+        rest: Rest {
+            next: None,
+            last: None,
+        },
+    }
+}
+
+/// The legs of the command in force and of one that follows it.
+pub fn into_change<'a>(
+    in_force: Option<&'a AcceptedCommand>,
+    moment: u128,
+    command: &'a AcceptedCommand,
+) -> Ahead<'a>
+    requires usable { ForSome (command_of in_force) IsUsable }
+    requires command { IsUsable (accepted_in command.now) }
+    requires first { IsFirst command.now }
+    requires stands { Stands (command_of in_force) (Some (accepted_in command.now)) moment (position_lent in_force) }
+    requires near { moment ≤ (accepted_in command.now).change }
+    ensures shows { stretches_ahead result.leg result.rest ≡ stretches_from (command_of in_force.entry) (accepted_in command.now ∷ []) }
+    ensures from { from_of result.leg ≡ moment }
+    ensures ready { AreReady result.leg result.rest }
+{
+    Ahead {
+        leg: leg_at(
+            in_force,
+            position_of(in_force),
+            moment,
+            Some(command),
+            Some(command.change()),
+        ),
+        rest: Rest {
+            next: Some(leg_from_change(command, None, None)),
+            last: None,
+        },
+    }
+}
+
+/// The legs of the command in force, of the one that is pending and is in time, and of the one that is announced.
+pub fn through_change<'a>(
+    in_force: Option<&'a AcceptedCommand>,
+    moment: u128,
+    pending: &'a AcceptedCommand,
+    announced: &'a AcceptedCommand,
+) -> Ahead<'a>
+    requires usable { ForSome (command_of in_force) IsUsable }
+    requires pending { IsUsable (accepted_in pending.now) }
+    requires next { IsFirst pending.now }
+    requires announced { IsUsable (accepted_in announced.now) }
+    requires last { IsFirst announced.now }
+    requires stands { Stands (command_of in_force) (Some (accepted_in pending.now)) moment (position_lent in_force) }
+    requires near { moment ≤ (accepted_in pending.now).change }
+    requires timely { (accepted_in pending.now).change ≤ (accepted_in announced.now).lead }
+    ensures shows { stretches_ahead result.leg result.rest ≡ stretches_from (command_of in_force.entry) (accepted_in pending.now ∷ accepted_in announced.now ∷ []) }
+    ensures from { from_of result.leg ≡ moment }
+    ensures ready { AreReady result.leg result.rest }
+{
+    Ahead {
+        leg: leg_at(
+            in_force,
+            position_of(in_force),
+            moment,
+            Some(pending),
+            Some(pending.change()),
+        ),
+        rest: Rest {
+            next: Some(leg_from_change(pending, Some(announced), Some(announced.change()))),
+            last: Some(leg_from_change(announced, None, None)),
+        },
+    }
+}
+
+/// The legs of the command in force, with one pending that is replaced by the one that is announced: the list goes on at the
+/// lead moment where `resumed` says.
+pub fn through_lead<'a>(
+    in_force: Option<&'a AcceptedCommand>,
+    moment: u128,
+    pending: &AcceptedCommand,
+    announced: &'a AcceptedCommand,
+    resumed: Option<Position>,
+) -> Ahead<'a>
+    requires usable { ForSome (command_of in_force) IsUsable }
+    requires pending { IsUsable (accepted_in pending.now) }
+    requires announced { IsUsable (accepted_in announced.now) }
+    requires last { IsFirst announced.now }
+    requires stands { Stands (command_of in_force) (Some (accepted_in pending.now)) moment (position_lent in_force) }
+    requires resumes { Stands (command_of in_force) (Some (accepted_in announced.now)) (accepted_in announced.now).lead resumed }
+    requires near { moment ≤ (accepted_in announced.now).lead }
+    requires late { (accepted_in announced.now).lead < (accepted_in pending.now).change }
+    ensures shows { stretches_ahead result.leg result.rest ≡ stretches_from (command_of in_force.entry) (accepted_in pending.now ∷ accepted_in announced.now ∷ []) }
+    ensures from { from_of result.leg ≡ moment }
+    ensures ready { AreReady result.leg result.rest }
+{
+    let lead = announced.lead();
+    Ahead {
+        leg: leg_at(
+            in_force,
+            position_of(in_force),
+            moment,
+            Some(pending),
+            Some(lead),
+        ),
+        rest: Rest {
+            next: Some(leg_at(
+                in_force,
+                resumed,
+                lead,
+                Some(announced),
+                Some(announced.change()),
+            )),
+            last: Some(leg_from_change(announced, None, None)),
+        },
+    }
+}

@@ -1,0 +1,188 @@
+//! What the gates show for a while: a list or none, and what comes after it.
+ghost use Rattle.std.specs.Prelude.{◌≡◌, ◌+◌, ◌*◌, ◌<◌, ◌≤◌, ◌∷◌, [], Some, None};
+ghost use Rattle.std.specs.Option.{ForSome};
+ghost use Rattle.wire_time.specs.Moment.{greatest_moment};
+ghost use Rattle.gate_list.specs.Gate.{in_ps};
+ghost use Rattle.gate_list.specs.Visits.{one_more};
+ghost use Rattle.gate_list.specs.Open.{open_while};
+ghost use Rattle.list_config.specs.Stretch.{mask_of, mask_in};
+ghost use Rattle.jumping.specs.declared.leg.Rest.{Rest};
+ghost use Rattle.jumping.specs.declared.leg.Leg.TheVariants.{Listed};
+ghost use Rattle.jumping.specs.Leg.{IsStanding, IsReady, AreReady, DoFollow, from_of, until_of, stretch_of, stretch_in, stretches_ahead};
+
+use accepted_commands::{after, before};
+use gate_list::{Schedule, Visits};
+use list_position::{Need, Position};
+use wire_time::CLASSES;
+
+/// A list that stands so at a moment. All moments are in picoseconds.
+#[derive(Drop)]
+pub struct ListedLeg<'a> {
+    /// The list.
+    pub schedule: &'a Schedule,
+    /// When its first cycle began.
+    pub start: u128,
+    /// The moment from which its last state is held; none: from no moment on.
+    pub held_from: Option<u128>,
+    /// The moment at which it stands so.
+    pub from: u128,
+    /// Where it stands then.
+    pub position: Position,
+    /// The moment at which another takes its place; none: it goes on for ever.
+    pub until: Option<u128>,
+}
+
+/// No list: all classes are open. All moments are in picoseconds.
+#[derive(Drop)]
+pub struct OpenLeg {
+    /// Since when there is none.
+    pub start: u128,
+    /// The moment from which it is looked at.
+    pub from: u128,
+    /// The moment at which a list begins; none: it goes on for ever.
+    pub until: Option<u128>,
+}
+
+/// What the gates show from a moment on, up to the next command.
+#[derive(Drop)]
+pub enum Leg<'a> {
+    /// A list.
+    Listed(ListedLeg<'a>),
+    /// No list.
+    Open(OpenLeg),
+}
+
+/// What comes after a leg: one leg, two or none.
+#[derive(Drop)]
+pub struct Rest<'a> {
+    /// The leg after.
+    pub next: Option<Leg<'a>>,
+    /// The one after that, if there is a leg before it.
+    pub last: Option<Leg<'a>>,
+}
+
+impl<'a> ListedLeg<'a> {
+    /// The same list where it stands at another moment, in picoseconds.
+    pub fn at(&self, from: u128, position: Position) -> ListedLeg<'a>
+        ensures { result ≡ record self.now { from = from; position = position } }
+    {
+        ListedLeg {
+            from,
+            position,
+            ..*self
+        }
+    }
+
+    /// The same list at the start of the cycle that holds `t`, in picoseconds, where it is in force and in no hold.
+    pub fn cycle_at(&self, t: u128, visits: &mut Visits) -> ListedLeg<'a>
+        requires stands { IsStanding (Listed self.now) }
+        requires later { self.now.from ≤ t }
+        requires within { t ≤ 2 * greatest_moment }
+        requires unheld { ForSome self.now.held_from (λ h. t < h) }
+        requires unended { ForSome self.now.until (λ u. t < u) }
+        ensures ready { (rest : Rest) → AreReady (Listed self.now) rest → AreReady (Listed result) rest }
+        ensures same { result ≡ record self.now { from = result.from; position = result.position } }
+        ensures from { result.from ≡ result.position.timer.started }
+        ensures reached { result.from ≤ t }
+        ensures holds { t < result.position.timer.next_start }
+        ensures cycle { result.position.timer.next_start ≡ result.from + in_ps self.now.schedule.now.cycle }
+        ensures onto { self.now.position.timer.next_start ≤ t → self.now.position.timer.next_start ≤ result.from }
+        ensures index { result.position.walk.index ≡ 0 }
+        ensures visit { visits.new ≡ one_more visits.old }
+        ensures counted { visits.old ≤ visits.new }
+    {
+        let position = self
+            .position
+            .cycle_at(self.schedule, self.held_from, t, visits);
+        self.at(position.timer.started(), position)
+    }
+}
+
+impl Leg<'_> {
+    /// The moment from which the leg is looked at, in picoseconds.
+    pub fn from(&self) -> u128
+        ensures { result ≡ from_of self.now }
+    {
+        match self {
+            Leg::Listed(leg) => leg.from,
+            Leg::Open(leg) => leg.from,
+        }
+    }
+
+    /// The moment at which the leg is over, in picoseconds; none: it goes on for ever.
+    pub fn until(&self) -> Option<u128>
+        ensures { result ≡ until_of self.now }
+    {
+        match self {
+            Leg::Listed(leg) => leg.until,
+            Leg::Open(leg) => leg.until,
+        }
+    }
+
+    /// Whether a class stays open in the leg, where it went on for ever.
+    fn stays_open(&self, need: Need) -> bool
+        requires ready { IsReady self.now }
+        requires at { need.from ≡ from_of self.now }
+        requires class { need.class < CLASSES }
+        requires within { need.length ≤ greatest_moment }
+        ensures { result ≡ open_while (mask_of (stretch_of self.now)) need.class need.from need.length }
+    {
+        match self {
+            Leg::Listed(leg) => leg.position.stays_open(leg.held_from, need),
+            Leg::Open(_) => true,
+        }
+    }
+
+    /// Whether a class stays open from the leg on, through the last one, if there is one.
+    fn stays_open_into(&self, next: &Option<Leg<'_>>, need: Need) -> bool
+        requires ready { IsReady self.now }
+        requires follows { DoFollow self.now next.now }
+        requires last { ForSome next.now (λ g. until_of g ≡ None) }
+        requires at { need.from ≡ from_of self.now }
+        requires class { need.class < CLASSES }
+        requires within { need.length ≤ greatest_moment }
+        ensures { result ≡ open_while (mask_in (stretch_of self.now ∷ stretch_in next.now)) need.class need.from need.length }
+    {
+        match next {
+            None => self.stays_open(need),
+            Some(next) => {
+                self.stays_open(before(need, next.from()))
+                    && next.stays_open(after(need, next.from()))
+            }
+        }
+    }
+
+    /// Whether a class stays open from the leg on, through what follows.
+    pub fn stays_open_ahead(&self, rest: &Rest<'_>, need: Need) -> bool
+        requires ready { AreReady self.now rest.now }
+        requires at { need.from ≡ from_of self.now }
+        requires class { need.class < CLASSES }
+        requires within { need.length ≤ greatest_moment }
+        ensures { result ≡ open_while (mask_in (stretches_ahead self.now rest.now)) need.class need.from need.length }
+    {
+        match &rest.next {
+            None => self.stays_open(need),
+            Some(next) => {
+                self.stays_open(before(need, next.from()))
+                    && next.stays_open_into(&rest.last, after(need, next.from()))
+            }
+        }
+    }
+}
+
+/// The same leg, if there is one.
+pub fn copied<'a>(leg: &Option<Leg<'a>>) -> Option<Leg<'a>>
+    ensures { result ≡ leg.now }
+{
+    match leg {
+        None => None,
+        Some(leg) => match leg {
+            Leg::Listed(listed) => Some(Leg::Listed(listed.at(listed.from, listed.position))),
+            Leg::Open(open) => Some(Leg::Open(OpenLeg {
+                start: open.start,
+                from: open.from,
+                until: open.until,
+            })),
+        },
+    }
+}
