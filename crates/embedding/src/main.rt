@@ -4,10 +4,10 @@
 use abstract_port::{Answer, Change, Command, Event};
 use class_map::ClassMap;
 use gate_list::{Entry, GateList};
+use jumping::Jumping;
 use port::Port;
 use std::alloc::Global;
 use std::io;
-use stepped::Stepped;
 use wire_time::{Frame, Rate};
 
 /// Class 7 alone for 20 microseconds, then all others for 80, over and over; each priority from 0 to 7 is its own class.
@@ -37,7 +37,7 @@ fn frame(id: u64, priority: u8) -> Frame {
 /// The answers of a port of 1000 Mb/s to two frames that come as the schedule comes into force, and to 100 microseconds more.
 fn answers(alloc: Global) -> Option<Vec<Answer>> {
     let rate = Rate::from_mbps(1000).ok()?;
-    let mut port = Port::<Stepped>::new(alloc, rate, 1500, 128).ok()?;
+    let mut port = Port::<Jumping>::new(alloc, rate, 1500, 128).ok()?;
     let command = schedule()?;
     let change = port.install(&command).ok()?;
     let events = [

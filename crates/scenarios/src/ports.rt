@@ -6,7 +6,6 @@ use gate_list::{Entry, GateList};
 use list_config::{Gates, NotNow};
 use port::Port;
 use std::alloc::Global;
-use stepped::Stepped;
 use wire_time::{Frame, Rate};
 
 /// An untagged frame.
@@ -56,16 +55,20 @@ pub fn plain_map() -> Option<ClassMap> {
     }
 }
 
-/// Plays by calls of `run` on a port with stepped gates at 1 Gb/s and an mtu of 1500 octets, in which no frame waits. What a
+/// Plays by calls of `run` on a port at 1 Gb/s and an mtu of 1500 octets, in which no frame waits. What a
 /// port isn't asked, whether a class is open for so long, is passed over.
 #[derive(Drop)]
-pub struct OnPort {
+pub struct OnPort<G> {
     alloc: Global,
+    gates: PhantomData<G>,
 }
 
-impl OnPort {
+impl<G> OnPort<G> {
     pub fn new(alloc: Global) -> Self {
-        OnPort { alloc }
+        OnPort {
+            alloc,
+            gates: PhantomData,
+        }
     }
 }
 
@@ -125,12 +128,12 @@ fn holds<G: Gates>(alloc: Global, port: &mut Port<G>, at: u128, step: &Step<'_>)
     })
 }
 
-impl Player for OnPort {
+impl<G: Gates + Drop> Player for OnPort<G> {
     fn play(&self, steps: &[(u128, Step<'_>)]) -> Result<(), usize> {
         let Ok(rate) = Rate::from_mbps(1000) else {
             return Err(0);
         };
-        let Ok(mut port) = Port::<Stepped>::new(self.alloc, rate, 1500, 1) else {
+        let Ok(mut port) = Port::<G>::new(self.alloc, rate, 1500, 1) else {
             return Err(0);
         };
         for (i, (at, step)) in steps.iter().enumerate() {

@@ -16,14 +16,14 @@ ghost use Rattle.script.specs.Responses.{left_lines, left_text, lines_of, respon
 use crate::reading::read_tc;
 use abstract_port::{Command, Event};
 use answer_text::{WriteFault, put_answer, put_left, put_tc_fault};
+use jumping::Jumping;
 use port::Port;
 use std::alloc::Allocator;
 use std::io::Write;
-use stepped::Stepped;
 use tc_reader::TcFault;
 
 /// The port that runs. Another implementation of the gates takes the place of this one here.
-pub type RunningPort<A> = Port<Stepped, A>;
+pub type RunningPort<A> = Port<Jumping, A>;
 
 /// Takes an event, and writes the answers to it as they come. At a fault a front of them is written.
 pub fn put_answers<A: Allocator, W: Write>(
