@@ -6,6 +6,7 @@ use gate_list::{Entry, GateList};
 use list_config::{Gates, NotNow};
 use port::Port;
 use std::alloc::Global;
+use std::marker::PhantomData;
 use wire_time::{Frame, Rate};
 
 /// An untagged frame.
