@@ -1,5 +1,6 @@
 //! The gates, which pass whole cycles by division.
-ghost use Rattle.std.specs.Prelude.{◌≡◌, ℕ, ◌+◌, ◌<◌, ◌≤◌, [], Some, None, true, option_map};
+ghost use Rattle.std.specs.Prelude.{◌≡◌, ℕ, ◌+◌, ◌<◌, ◌≤◌, ◌↔◌, IsTrue, [], Some, None, true, option_map};
+ghost use Rattle.std.specs.Option.{ForSome};
 ghost use Rattle.wire_time.specs.Moment.{greatest_moment, greatest_lead};
 ghost use Rattle.list_config.specs.History.{gates, kept, cons_some};
 ghost use Rattle.list_config.specs.Stretch.{stretches_from};
@@ -20,20 +21,22 @@ use list_position::{Need, Position};
 use std::marker::Model;
 use wire_time::CLASSES;
 
-/// The gates of a port: its commands, each list with where it stands, and where the list in force goes on once a pending
-/// command is replaced.
+/// The gates of a port: its commands, each list with where it stands, where the list in force goes on once a pending command
+/// is replaced, and the next moment at which a boundary of the list or a command comes.
 ///
 /// What a move and an answer look at doesn't grow with how far the moments are apart.
 #[derive(Drop)]
 pub struct Jumping {
     slots: Slots,
     resumed: Option<Position>,
+    edge: Option<u128>,
 }
 
 /// A contract sees the history that the commands make, and the moment.
 impl Model for Jumping {
     ghost use Rattle.accepted_commands.specs.Commands.{AreCommands};
-    ghost use Rattle.accepted_commands.specs.Standing.{Stands, clocked};
+    ghost use Rattle.std.specs.Prelude.{◌≡◌};
+    ghost use Rattle.accepted_commands.specs.Standing.{Stands, clocked, edge_at};
     ghost use Rattle.list_config.specs.Current.{Clocked};
     ghost use Rattle.jumping.specs.Resume.{Resumes};
 
@@ -41,7 +44,17 @@ impl Model for Jumping {
 
     ghost view = { λ g. clocked g.slots };
 
-    ghost invariant = { λ g. AreCommands g.slots.commands × Stands g.slots.commands.in_force g.slots.commands.pending g.slots.commands.moment g.slots.position × Resumes g.slots.commands g.resumed };
+    ghost invariant = { λ g. AreCommands g.slots.commands × Stands g.slots.commands.in_force g.slots.commands.pending g.slots.commands.moment g.slots.position × Resumes g.slots.commands g.resumed × (g.edge ≡ edge_at g.slots.commands g.slots.position) };
+}
+
+/// Whether a moment is before another, if there is one; both are in picoseconds.
+fn is_before(moment: u128, edge: Option<u128>) -> bool
+    ensures { IsTrue result ↔ ForSome edge (λ u. moment < u) }
+{
+    match edge {
+        None => true,
+        Some(edge) => moment < edge,
+    }
 }
 
 /// Where the list in force goes on at the lead moment of the command that is announced, where it replaces a pending one.
@@ -101,6 +114,7 @@ impl Gates for Jumping {
         Jumping {
             slots: Slots::begin(),
             resumed: None,
+            edge: None,
         }
     }
 
@@ -139,8 +153,12 @@ impl Gates for Jumping {
     }
 
     fn move_to(&mut self, t: u128, visits: &mut Visits) {
+        let is_near = is_before(t, self.edge);
         self.slots.settle(t);
-        self.slots.place(visits);
+        if !is_near {
+            self.slots.place(visits);
+            self.edge = edge_of(&self.slots);
+        }
     }
 
     fn install(&mut self, schedule: Schedule, lead: u128) -> Result<u128, NotNow> {
@@ -151,6 +169,7 @@ impl Gates for Jumping {
         let change = command.change();
         self.slots.announce(command);
         self.resumed = resumed(&self.slots);
+        self.edge = edge_of(&self.slots);
         Ok(change)
     }
 
@@ -160,6 +179,7 @@ impl Gates for Jumping {
         }
         self.slots.announce(AcceptedCommand::Delete(lead));
         self.resumed = resumed(&self.slots);
+        self.edge = edge_of(&self.slots);
         Ok(lead)
     }
 
