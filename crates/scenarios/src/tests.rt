@@ -5,6 +5,7 @@ use super::*;
 use abstract_port::{Answer, Command, Counters, Dropped, Event, Refused, Start};
 use class_map::{ClassMap, Queues};
 use gate_list::PlanFault;
+use jumping::Jumping;
 use linked_list_allocator::LocalHeap;
 use port::{Port, PortFault};
 use reference::Plain;
@@ -20,6 +21,13 @@ fn plain_plays_all_tables(rt: HostRuntime) {
 #[test]
 fn stepped_plays_all_tables(rt: HostRuntime) {
     let player = OnGates::<Stepped>::new();
+    assert_eq!(rt; play_all(&player), Ok(()));
+    assert_eq!(rt; open_for_long_frames(&player), Ok(()));
+}
+
+#[test]
+fn jumping_plays_all_tables(rt: HostRuntime) {
+    let player = OnGates::<Jumping>::new();
     assert_eq!(rt; play_all(&player), Ok(()));
     assert_eq!(rt; open_for_long_frames(&player), Ok(()));
 }
@@ -332,7 +340,18 @@ fn stepped_agrees_with_plain_at_every_picosecond(rt: HostRuntime) {
 }
 
 #[test]
-fn ports_answer_alike_on_both_gates(rt: HostRuntime) -> Result<(), Fail> {
+fn jumping_agrees_with_plain_at_every_picosecond(rt: HostRuntime) {
+    for seed in 24..32 {
+        assert_eq!(rt;
+            agree::<Plain, Jumping>(seed, 60_000),
+            Ok(()),
+            "seed {seed}"
+        );
+    }
+}
+
+#[test]
+fn ports_answer_alike_on_all_gates(rt: HostRuntime) -> Result<(), Fail> {
     let rate = Rate::from_mbps(100000).ok().ok_or("a rate")?;
     for seed in 0..12 {
         let mut plain = Port::<Plain>::new(rt.alloc(), rate, 68, 3)
@@ -341,8 +360,13 @@ fn ports_answer_alike_on_both_gates(rt: HostRuntime) -> Result<(), Fail> {
         let mut stepped = Port::<Stepped>::new(rt.alloc(), rate, 68, 3)
             .ok()
             .ok_or("a port")?;
+        let mut jumping = Port::<Jumping>::new(rt.alloc(), rate, 68, 3)
+            .ok()
+            .ok_or("a port")?;
         let want = answers(rt.alloc(), &mut plain, seed, 60)?;
         let got = answers(rt.alloc(), &mut stepped, seed, 60)?;
+        assert_eq!(rt; got.as_slice(), want.as_slice(), "seed {seed}");
+        let got = answers(rt.alloc(), &mut jumping, seed, 60)?;
         assert_eq!(rt; got.as_slice(), want.as_slice(), "seed {seed}");
     }
     Ok(())
