@@ -6,5 +6,6 @@ pub mod ScanLaws
 pub mod StartsLaws
 pub mod TallyLaws
 pub mod TurnLaws
+pub mod UnclassedLaws
 pub mod AskedLaws
 pub mod Started

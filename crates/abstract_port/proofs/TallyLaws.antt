@@ -24,13 +24,13 @@ use Rattle.abstract_port.proofs.TurnLaws as turn
 use Rattle.abstract_port.proofs.RunLaws.{clock_by}
 use Rattle.abstract_port.proofs.StartsLaws.{starts_until-some, starts_until-none, waiting-next_start}
 
-same_capped : (n : ℕ) → n ≤ greatest_count → n ≡ add_capped n 0
+pub same_capped : (n : ℕ) → n ≤ greatest_count → n ≡ add_capped n 0
 same_capped n l = omega arith
 
-add_twice : (n a b : ℕ) → add_capped (add_capped n a) b ≡ add_capped n (a + b)
+pub add_twice : (n a b : ℕ) → add_capped (add_capped n a) b ≡ add_capped n (a + b)
 add_twice n a b = omega arith
 
-capped_within : (n a : ℕ) → add_capped n a ≤ greatest_count
+pub capped_within : (n a : ℕ) → add_capped n a ≤ greatest_count
 capped_within n a = omega arith
 
 -- one frame more

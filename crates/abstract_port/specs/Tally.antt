@@ -113,6 +113,18 @@ CountingLaw =
     (counter : Counter) (class : ℕ) (p : AbstractPort) (events : List Event) → class < length p.counts → value_of counter (counts_at p class) ≤ greatest_count
     → value_of counter (counts_at (port_after events p) class) ≡ add_capped (value_of counter (counts_at p class)) (sum_by (growth counter class) (happenings events p))
 
+-- 1 for a frame that arrived and has no class
+abbrev pub unclassed : Happening → ℕ
+unclassed (Arrived f None (Err why)) = 1
+unclassed _ = 0
+
+-- After a run the count of frames without a class is the number at its beginning plus those that arrived, at most the greatest
+-- u64.
+abbrev pub UnclassedLaw : Type 0
+UnclassedLaw =
+    (p : AbstractPort) (events : List Event) → p.no_class ≤ greatest_count
+    → (port_after events p).no_class ≡ add_capped p.no_class (sum_by unclassed (happenings events p))
+
 -- what happens is what is answered to arrivals, and the starts
 abbrev pub told : Happening → Answer
 told (Arrived f o v) = arrival_answer f v

@@ -1,5 +1,5 @@
 -- The gates by the commands that count, and by where the list in force stands.
-use Rattle.std.proofs.Common.{◌≡◌, ◌<◌, ◌≤◌, ℕ, zero, suc, length, get_or, slice_get, min, Bool, true, false, cond, ◌&&◌, leb, ltb, List, [], ◌∷◌, Option, Some, None, MatchOption, option_map, inl, inr, refl, sym, ap, ◌∙◌, subst, arith, le_refl, lt_of_lt_of_le, ◌⊎◌}
+use Rattle.std.proofs.Common.{◌≡◌, ◌<◌, ◌≤◌, ℕ, zero, suc, length, get_or, slice_get, min, Bool, true, false, cond, ◌&&◌, leb, ltb, List, [], ◌∷◌, Option, Some, None, MatchOption, option_map, inl, inr, refl, sym, ap, ◌∙◌, subst, arith, le_refl, lt_of_lt_of_le, le_of_lt, ◌⊎◌, Any, IfSome}
 use Rattle.std.proofs.lemmas.Bool.{lt-leb, lt-ltb, le-ltb, cases_lt, false≢true, false_from_ne_true, le-leb}
 use Rattle.std.proofs.lemmas.Option.{same_Some, slice_get-get_or}
 use Rattle.std.specs.Option.{ForSome}
@@ -12,19 +12,41 @@ use Rattle.gate_list.specs.Open.{open_while}
 use Rattle.list_config.specs.History.{Accepted, pending, announced, gates, kept, mask_under, open_through, cons_some, three, is_in_time, only_if, or_else, plan_of, start_of, mask_of_plan, IsWaiting, IsAhead}
 use Rattle.list_config.specs.Stretch.{mask_in, stretches_from}
 use Rattle.list_config.specs.Current.{IsCurrent, IsSteady}
+use Rattle.list_config.specs.Event.{BeginsEntry, ComesAt, IsGateEvent}
+use Rattle.list_config.proofs.EventLaws.{any_after, any_here}
 use Rattle.list_config.proofs.HistoryLaws.{cons_some_push, push_gates, three_force, three_pending, three_announced, settled_force, settled_pending, settled_announced, settled_kept, past_three}
 use Rattle.list_config.proofs.StretchLaws.{HasBegun, begun_from, begun_later, has_cycle, start_before, planned_stretch, unheld_stretch, stretches_open_through}
 use Rattle.list_position.specs.declared.Position.{Position}
 use Rattle.list_position.specs.Position.{IsFlat}
 use Rattle.accepted_commands.specs.Commands.{Commands, AreCommands, IsUsable, history_of, settled_at, in_force_by, pending_by}
-use Rattle.accepted_commands.specs.Standing.{Stands, StandsUnder, earlier, hold_for, shown_by, shows_under, ComesTo, IsLedAt, StoodUnder, boundary_in_force, edge_at}
-use Rattle.list_position.proofs.PositionLaws.{placed_mask}
+use Rattle.accepted_commands.specs.Standing.{Stands, StandsUnder, earlier, hold_for, shown_by, shows_under, ComesTo, IsLedAt, StoodUnder, boundary_in_force, boundary_under, edge_at}
+use Rattle.list_position.proofs.PositionLaws.{boundary_begins, placed_mask}
 
 -- ---- what shows now and up to the next command
 
 -- no command comes before its change, or its lead moment
 abbrev pub NoneBy : Option Accepted → Option Accepted → ℕ → Type 0
 NoneBy p x m = ForSome p (λ a. m < a.change) × ForSome x (λ a. m < a.lead)
+
+-- what is at or before the earlier of two moments is so before both
+upto_parts : (m : ℕ) (a b : Option ℕ) → ForSome (earlier a b) (λ u. m ≤ u) → ForSome a (λ u. m ≤ u) × ForSome b (λ u. m ≤ u)
+upto_parts m None b h = (λ u is. cc, h)
+upto_parts m (Some t) None h = (h, λ u is. cc)
+upto_parts m (Some t) (Some v) h =
+    let low : m ≤ min t v = h (min t v) refl in
+    (λ u is. (let same : t ≡ u = same_Some t u is in omega arith), λ u is. (let same : v ≡ u = same_Some v u is in omega arith))
+
+-- the earlier of two moments is one of them
+which_earlier : (a b : Option ℕ) (u : ℕ) → earlier a b ≡ Some u → ((a ≡ Some u) × ForSome b (λ v. u ≤ v)) ⊎ (b ≡ Some u)
+which_earlier None b u at = inr at
+which_earlier (Some s) None u at = inl (at, λ v is. cc)
+which_earlier (Some s) (Some t) u at = by (same_Some (min s t) u at)
+  where
+    by : min s t ≡ u → ((Some s ≡ Some u) × ForSome (Some t) (λ v. u ≤ v)) ⊎ (Some t ≡ Some u)
+    by least = elim (cases_lt t s) [
+      | inl second ↦ (let same : t ≡ u = omega arith in inr (ap Some same))
+      | inr first ↦ (let same : s ≡ u = omega arith in inl (ap Some same, λ v is. (let at : t ≡ v = same_Some t v is in omega arith)))
+    ]
 
 module _ (c : Commands) (s : AreCommands c) where
   pub current_of : IsCurrent (history_of c) c.moment
@@ -99,21 +121,22 @@ module _ (c : Commands) (s : AreCommands c) where
   pub gates_now : gates (history_of c) c.moment ≡ shows_under c.in_force c.pending c.moment
   gates_now = gates_ahead c.moment (le_refl c.moment) none_now
 
+  -- the list in force can be walked
+  plan_usable : (plan : Plan) → plan_of c.in_force ≡ Some plan → IsSchedule plan
+  plan_usable plan is = by c.in_force s.in_force_usable is
+    where
+      by : (f : Option Accepted) → ForSome f IsUsable → plan_of f ≡ Some plan → IsSchedule plan
+      by None u is = cc
+      by (Some a) u is = (u a refl).planned plan is
+
   -- the position shows the mask of now
   pub position_shows : (position : Option Position) → Stands c.in_force c.pending c.moment position → shown_by position ≡ gates (history_of c) c.moment
   position_shows position stands = by (plan_of c.in_force) refl position stands ∙ sym gates_now
     where
-      usable : (plan : Plan) → plan_of c.in_force ≡ Some plan → IsSchedule plan
-      usable plan is = by c.in_force s.in_force_usable is
-        where
-          by : (f : Option Accepted) → ForSome f IsUsable → plan_of f ≡ Some plan → IsSchedule plan
-          by None u is = cc
-          by (Some a) u is = (u a refl).planned plan is
-
       by : (p : Option Plan) → plan_of c.in_force ≡ p → (position : Option Position) → StandsUnder p (start_of c.in_force) c.pending c.moment position → shown_by position ≡ mask_since p (start_of c.in_force) (hold_for p (start_of c.in_force) c.pending) c.moment
       by None is position stands = ap shown_by stands
       by (Some plan) is None stands = absurd stands
-      by (Some plan) is (Some position) stands = placed_mask plan (usable plan is) (start_of c.in_force) (hold_for (Some plan) (start_of c.in_force) c.pending) c.moment position stands
+      by (Some plan) is (Some position) stands = placed_mask plan (plan_usable plan is) (start_of c.in_force) (hold_for (Some plan) (start_of c.in_force) c.pending) c.moment position stands
 
   -- one mask shows up to a boundary of the list or the next command
   pub flat_now : (until : Option ℕ) → IsFlat (shows_under c.in_force c.pending) c.moment until → IsFlat (gates (history_of c)) c.moment (earlier until (earlier (option_map (λ a. a.change) c.pending) (option_map (λ a. a.lead) c.announced)))
@@ -157,6 +180,55 @@ module _ (c : Commands) (s : AreCommands c) where
       leads_back None h u is = cc
       leads_back (Some b) h u is = subst (λ k. c.moment < k) (same_Some b.lead u is) (h b refl)
 
+  -- at the next edge there is a gate event
+  pub edge_event : (position : Option Position) → Stands c.in_force c.pending c.moment position → (u : ℕ) → c.moment ≤ u → edge_at c position ≡ Some u → IsGateEvent (history_of c) u
+  edge_event position stands u l at =
+      elim (which_earlier (boundary_in_force c.in_force c.pending position) (earlier (option_map (λ a. a.change) c.pending) (option_map (λ a. a.lead) c.announced)) u at) [
+        | inl (listed, later) ↦
+            (let parts = upto_parts u (option_map (λ a. a.change) c.pending) (option_map (λ a. a.lead) c.announced) later in
+            elim (at_or_later (λ a. a.change) c.pending parts.0) [
+              | inl changes ↦ inl (pending_comes c.pending changes)
+              | inr waits ↦ elim (at_or_later (λ a. a.lead) c.announced parts.1) [
+                | inl leads ↦ inl (announced_comes c.announced leads)
+                | inr ahead ↦
+                    (let force = three_force c.moment c.in_force c.pending c.announced s.settled u l ∙ force_still u l (waits, ahead) in
+                    inr (subst (λ f. BeginsEntry (plan_of f) (start_of f) u) (sym force) (begins (plan_of c.in_force) refl position stands listed)))
+              ]
+            ])
+        | inr commands ↦ elim (which_earlier (option_map (λ a. a.change) c.pending) (option_map (λ a. a.lead) c.announced) u commands) [
+          | inl changes ↦ inl (pending_comes c.pending changes.0)
+          | inr leads ↦ inl (announced_comes c.announced leads)
+        ]
+      ]
+    where
+      none : None ≡ Some u → ⊥
+      none e = cc
+
+      at_or_later : (t : Accepted → ℕ) (o : Option Accepted) → ForSome (option_map t o) (λ v. u ≤ v) → (option_map t o ≡ Some u) ⊎ ForSome o (λ a. u < t a)
+      at_or_later t None h = inr (λ a is. cc)
+      at_or_later t (Some b) h =
+          elim (cases_lt u (t b)) [
+            | inl later ↦ inr (λ a is. subst (λ (k : Accepted). u < t k) (same_Some b a is) later)
+            | inr now ↦ inl (ap Some (let upto : u ≤ t b = h (t b) refl in let same : t b ≡ u = omega arith in same))
+          ]
+
+      pending_comes : (p : Option Accepted) → option_map (λ a. a.change) p ≡ Some u → Any (ComesAt u) (three c.in_force p c.announced)
+      pending_comes None e = absurd (none e)
+      pending_comes (Some a) e = any_after (ComesAt u) c.in_force _ (any_here (ComesAt u) a (cons_some c.announced []) (inr (sym (same_Some a.change u e))))
+
+      announced_comes : (x : Option Accepted) → option_map (λ a. a.lead) x ≡ Some u → Any (ComesAt u) (three c.in_force c.pending x)
+      announced_comes None e = absurd (none e)
+      announced_comes (Some a) e = any_after (ComesAt u) c.in_force _ (any_after (ComesAt u) c.pending _ (any_here (ComesAt u) a [] (inl (sym (same_Some a.lead u e)))))
+
+      begins : (q : Option Plan) → plan_of c.in_force ≡ q → (position : Option Position) → StandsUnder q (start_of c.in_force) c.pending c.moment position → boundary_under q (start_of c.in_force) c.pending position ≡ Some u → BeginsEntry q (start_of c.in_force) u
+      begins None is position stands at = absurd (none at)
+      begins (Some plan) is None stands at = absurd stands
+      begins (Some plan) is (Some position) stands at = boundary_begins plan (plan_usable plan is) (start_of c.in_force) (hold_for (Some plan) (start_of c.in_force) c.pending) c.moment position stands u at
+
+  pub edge_events : (position : Option Position) → Stands c.in_force c.pending c.moment position → (edge : Option ℕ) → edge ≡ edge_at c position → ForSome edge (λ u. c.moment < u) → IfSome edge (IsGateEvent (history_of c))
+  edge_events position stands None is later = tt
+  edge_events position stands (Some u) is later = edge_event position stands u (le_of_lt (later u refl)) (sym is)
+
   -- what comes at the next edge, or before it, where the list in force stands as it stood unless a command comes
   pub comes_to : (position : Option Position) → Stands c.in_force c.pending c.moment position → (m : ℕ) → c.moment ≤ m → ForSome (edge_at c position) (λ u. m ≤ u) → (then : Option Position) → (NoneBy c.pending c.announced m → then ≡ position) → ComesTo (in_force_by c.in_force c.pending c.announced m) (pending_by c.in_force c.pending c.announced m) m then
   comes_to position stands m l upto then still =
@@ -169,18 +241,11 @@ module _ (c : Commands) (s : AreCommands c) where
         | inr moved ↦ moved
       ]
     where
-      upto_parts : (a b : Option ℕ) → ForSome (earlier a b) (λ u. m ≤ u) → ForSome a (λ u. m ≤ u) × ForSome b (λ u. m ≤ u)
-      upto_parts None b h = (λ u is. cc, h)
-      upto_parts (Some t) None h = (h, λ u is. cc)
-      upto_parts (Some t) (Some v) h =
-          let low : m ≤ min t v = h (min t v) refl in
-          (λ u is. (let same : t ≡ u = same_Some t u is in omega arith), λ u is. (let same : v ≡ u = same_Some v u is in omega arith))
-
       parts : ForSome (boundary_in_force c.in_force c.pending position) (λ u. m ≤ u) × ForSome (earlier (option_map (λ a. a.change) c.pending) (option_map (λ a. a.lead) c.announced)) (λ u. m ≤ u)
-      parts = upto_parts (boundary_in_force c.in_force c.pending position) _ upto
+      parts = upto_parts m (boundary_in_force c.in_force c.pending position) _ upto
 
       commands : ForSome (option_map (λ a. a.change) c.pending) (λ u. m ≤ u) × ForSome (option_map (λ a. a.lead) c.announced) (λ u. m ≤ u)
-      commands = upto_parts (option_map (λ a. a.change) c.pending) (option_map (λ a. a.lead) c.announced) parts.1
+      commands = upto_parts m (option_map (λ a. a.change) c.pending) (option_map (λ a. a.lead) c.announced) parts.1
 
       changes : (p : Option Accepted) → ForSome (option_map (λ a. a.change) p) (λ u. m ≤ u) → ForSome p (λ a. m ≤ a.change)
       changes None h a is = cc

@@ -1,5 +1,6 @@
 //! The next moment at which something comes.
-ghost use Rattle.std.specs.Prelude.{◌≡◌, option_map};
+ghost use Rattle.std.specs.Prelude.{◌≡◌, IfSome, option_map};
+ghost use Rattle.list_config.specs.Event.{IsGateEvent};
 ghost use Rattle.list_config.specs.History.{gates};
 ghost use Rattle.list_position.specs.Position.{IsFlat};
 ghost use Rattle.accepted_commands.specs.Commands.{AreCommands, command_of, history_of};
@@ -48,6 +49,7 @@ pub fn edge_of(slots: &Slots) -> Option<u128>
     requires stands { Stands slots.now.commands.in_force slots.now.commands.pending slots.now.commands.moment slots.now.position }
     ensures edge { result ≡ edge_at slots.now.commands slots.now.position }
     ensures flat { IsFlat (gates (history_of slots.now.commands)) slots.now.commands.moment result }
+    ensures event { IfSome result (IsGateEvent (history_of slots.now.commands)) }
 {
     let listed = until_under(slots.in_force(), slots.pending());
     earlier(

@@ -15,6 +15,3 @@ pub use format::{Endian, Format, MAX_RECORD_OCTETS, MAX_RECORDS, Resolution};
 pub use reader::{CaptureReader, End};
 pub use record::{Record, frame_of};
 pub use writer::{CAPTURE_END, CaptureWriter};
-
-#[cfg(test)]
-mod tests;

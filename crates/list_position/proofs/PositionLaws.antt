@@ -11,8 +11,10 @@ use Rattle.gate_list.specs.Open.{open_while}
 use Rattle.gate_list.specs.Stay.{stay_lasts}
 use Rattle.gate_list.proofs.RowLaws.{prefix_next}
 use Rattle.gate_list.proofs.OpenLaws.{open_from}
+use Rattle.list_config.specs.Event.{BeginsEntry}
+use Rattle.list_config.specs.History.{cycle_start}
 use Rattle.list_config.proofs.StretchLaws.{come_later, held_while, hold_parts, same_mask_while}
-use Rattle.list_config.proofs.StepLaws.{mask_of_cycle}
+use Rattle.list_config.proofs.StepLaws.{boundary_is, mask_of_cycle}
 use Rattle.list_execute.specs.Walk.{Walk, ShowsEntry, ShowsHold, IsOf, until_of, walk_mask, end_of}
 use Rattle.list_execute.proofs.WalkLaws.{until_of_more, until_of_last, shown_mask, mask_of_entry}
 use Rattle.list_position.specs.declared.Position.{Position}
@@ -238,6 +240,67 @@ module _ (plan : Plan) (ok : IsSchedule plan) (start : ℕ) (held : Option ℕ) 
       where
         no_end : (k : ℕ) → None ≡ Some k → ⊥
         no_end k e = cc
+
+    -- ---- what begins at a boundary
+
+    -- at the end of a cycle its first entry begins again
+    next_begins : (u : ℕ) → u ≡ position.timer.next_start → BeginsEntry (Some plan) start u
+    next_begins u at = (0, (ok.plan_is).entries, (let none : prefix plan.entries 0 ≡ 0 = refl in omega (arith, whole, none)))
+      where
+        one : in_ps plan.cycle * (p.cycles + 1) ≡ in_ps plan.cycle * p.cycles + in_ps plan.cycle
+        one = let e = mul_comm (in_ps plan.cycle) p.cycles in let f = mul_comm (in_ps plan.cycle) (p.cycles + 1) in omega arith
+
+        here : start + in_ps plan.cycle * (p.cycles + 1) ≡ u
+        here = let s = p.started_is in let n = p.next_is in let e = one in omega arith
+
+        whole : cycle_start start (in_ps plan.cycle) u ≡ u
+        whole = let l = cycle_above in let e = here in boundary_is start (in_ps plan.cycle) (p.cycles + 1) u cycle_above (omega arith) (omega arith) ∙ here
+
+    -- at the end of an entry within a cycle the next begins
+    entry_begins : (u : ℕ) → ShowsList plan n position → end_of position.walk ≡ Some u → u < position.timer.next_start → BeginsEntry (Some plan) start u
+    entry_begins u shows is before =
+        elim (cases_lt (position.walk.index + 1) (length plan.entries)) [
+          | inl more ↦ (position.walk.index + 1, more, sym (ap (λ s. s + prefix plan.entries (position.walk.index + 1)) same_cycle ∙ there more))
+          | inr last ↦ absurd (none (sym (until_of_last plan.entries position.timer.started position.walk.index last) ∙ ends))
+        ]
+      where
+        none : None ≡ Some u → ⊥
+        none e = cc
+
+        ends : until_of plan.entries position.timer.started position.walk.index ≡ Some u
+        ends = sym (shows.shows).until_is ∙ (sym (end_of_entry plan position.timer.started position.walk.index position.walk shows.shows) ∙ is)
+
+        there : position.walk.index + 1 < length plan.entries → position.timer.started + prefix plan.entries (position.walk.index + 1) ≡ u
+        there more = same_Some _ u (sym (until_of_more plan.entries position.timer.started position.walk.index more) ∙ ends)
+
+        same_cycle : cycle_start start (in_ps plan.cycle) u ≡ position.timer.started
+        same_cycle =
+            let s = p.started_is in
+            let begun = p.begun in
+            let next_is = p.next_is in
+            let after = before_end plan n position p.begun shows u is in
+            boundary_is start (in_ps plan.cycle) p.cycles u cycle_above (omega arith) (omega arith) ∙ sym p.started_is
+
+    -- where the list's next boundary is, an entry begins
+    pub boundary_begins : (u : ℕ) → boundary_of held position ≡ Some u → BeginsEntry (Some plan) start u
+    boundary_begins u = by (has_come held position.timer.started) p.showing
+      where
+        none : None ≡ Some u → ⊥
+        none e = cc
+
+        first : ShowsList plan n position → (ends : Option ℕ) → end_of position.walk ≡ ends → Some (boundary_in position.timer.next_start ends) ≡ Some u → BeginsEntry (Some plan) start u
+        first shows None is at = next_begins u (sym (same_Some position.timer.next_start u at))
+        first shows (Some e) is at = within (same_Some (min e position.timer.next_start) u at)
+          where
+            within : min e position.timer.next_start ≡ u → BeginsEntry (Some plan) start u
+            within least = elim (cases_lt e position.timer.next_start) [
+              | inl early ↦ (let same : e ≡ u = omega arith in entry_begins u shows (is ∙ ap Some same) (omega arith))
+              | inr late ↦ next_begins u (omega arith)
+            ]
+
+        by : (b : Bool) → Shows b plan n position → cond b None (Some (boundary_in position.timer.next_start (end_of position.walk))) ≡ Some u → BeginsEntry (Some plan) start u
+        by true shows at = absurd (none at)
+        by false shows at = first shows (end_of position.walk) refl at
 
     -- ---- open time
 

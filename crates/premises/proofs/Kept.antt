@@ -1,5 +1,7 @@
 -- What is asked of a list of events for a class that is kept apart, event by event.
-use Rattle.std.proofs.Common.{◌≡◌, ◌<◌, ℕ, ◌+◌, List, [], ◌∷◌, ◌++◌, length, get_or, take, is_some, IsTrue, sym, ap, ◌∙◌, subst, le_refl}
+use Rattle.std.proofs.Common.{◌≡◌, ◌<◌, ℕ, ◌+◌, Bool, true, false, ◌&&◌, List, [], ◌∷◌, ◌++◌, length, get_or, take, is_some, IsTrue, refl, sym, ap, ◌∙◌, subst, le_refl}
+use Rattle.std.specs.Prelude.{◌↔◌}
+use Rattle.std.proofs.lemmas.Bool.{false≢true}
 use Rattle.std.proofs.lemmas.List.{take_more}
 use Rattle.list_config.proofs.HistoryLaws.{kept_force}
 use Rattle.abstract_port.specs.declared.Event.{Event}
@@ -10,36 +12,55 @@ use Rattle.abstract_port.proofs.RunLaws.{IsTimely, timely-after, refusal-settled
 use Rattle.separation.specs.Separation.{IsApartAt, IsKeptApart}
 
 -- what is asked at an event is asked alike of a port that keeps only what counts
-pub apart-settled : (class : ℕ) (event : Event) (p : AbstractPort) → IsTimely p → IsApartAt class event (settled p) → IsApartAt class event p
-apart-settled class (Arrive f) p fit asked = λ here. subst (λ a. IsTrue (is_some a)) (kept_force 0 p.now p.history fit.rising fit.past p.now (le_refl p.now)) (asked here)
-apart-settled class (Install c) p fit asked = λ accepted. asked (refusal-settled c.now p fit ∙ accepted)
-apart-settled class (Clock m) p fit asked = asked
-apart-settled class Query p fit asked = asked
-apart-settled class (Count k) p fit asked = asked
+pub apart-settled : (class : ℕ) (event : Event) (p : AbstractPort) → IsTimely p → IsApartAt class event (settled p) ↔ IsApartAt class event p
+apart-settled class (Arrive f) p fit =
+    let same = kept_force 0 p.now p.history fit.rising fit.past p.now (le_refl p.now) in (
+      λ asked here. subst (λ a. IsTrue (is_some a)) same (asked here),
+      λ asked here. subst (λ a. IsTrue (is_some a)) (sym same) (asked here),
+    )
+apart-settled class (Install c) p fit =
+    let same = refusal-settled c.now p fit in (λ asked accepted. asked (same ∙ accepted), λ asked accepted. asked (sym same ∙ accepted))
+apart-settled class (Clock m) p fit = (λ asked. asked, λ asked. asked)
+apart-settled class Query p fit = (λ asked. asked, λ asked. asked)
+apart-settled class (Count k) p fit = (λ asked. asked, λ asked. asked)
 
-pub kept-append : (class : ℕ) (xs : List Event) (event : Event) (p : AbstractPort) → IsKeptApart class xs p → IsApartAt class event (port_after xs p) → IsKeptApart class (xs ++ event ∷ []) p
-kept-append class [] event p kept here = (here, tt)
-kept-append class (x ∷ xs) event p kept here = (kept.0, kept-append class xs event (answers_to x p).1 kept.1 here)
+-- what is asked of one event more
+pub kept-append : (class : ℕ) (xs : List Event) (event : Event) (p : AbstractPort) → IsKeptApart class (xs ++ event ∷ []) p ↔ (IsKeptApart class xs p × IsApartAt class event (port_after xs p))
+kept-append class [] event p = (λ kept. (tt, kept.0), λ both. (both.1, tt))
+kept-append class (x ∷ xs) event p =
+    let rest = kept-append class xs event (answers_to x p).1 in (
+      λ kept. ((kept.0, (rest.0 kept.1).0), (rest.0 kept.1).1),
+      λ both. (both.0.0, rest.1 (both.0.1, both.1)),
+    )
 
--- a run of so many events, so far
-pub record RunsApart (class taken : ℕ) (events : List Event) (p q : AbstractPort) : Type 0 where
+-- two tests, each true just where something holds
+both-hold : {P Q : Type 0} (a b : Bool) → IsTrue a ↔ P → IsTrue b ↔ Q → IsTrue (a && b) ↔ (P × Q)
+both-hold true b p q = (λ t. (p.0 refl, q.0 t), λ both. q.1 both.1)
+both-hold false b p q = (λ t. absurd (false≢true t), λ both. p.1 both.0)
+
+-- A run of so many events, so far: the port, and whether they are all as is asked.
+pub record RunsApart (class taken : ℕ) (events : List Event) (p q : AbstractPort) (held : Bool) : Type 0 where
   pub port : q ≡ settled (port_after (take taken events) p)
-  pub apart : IsKeptApart class (take taken events) p
+  pub apart : IsTrue held ↔ IsKeptApart class (take taken events) p
 
 -- one more
-pub runs-on : (class taken : ℕ) (events : List Event) (p q r : AbstractPort) (event : Event) → IsTimely p → RunsApart class taken events p q → taken < length events → event ≡ get_or events taken event → IsApartAt class event q → r ≡ settled (port_after (event ∷ []) q) → RunsApart class (taken + 1) events p r
-runs-on class taken events p q r event fit so_far within is_event here then =
+pub runs-on : (class taken : ℕ) (events : List Event) (p q r : AbstractPort) (event : Event) (held here both : Bool) → IsTimely p → RunsApart class taken events p q held → taken < length events → event ≡ get_or events taken event → IsTrue here ↔ IsApartAt class event q → r ≡ settled (answers_to event q).1 → both ≡ (held && here) → RunsApart class (taken + 1) events p r both
+runs-on class taken events p q r event held here both fit so_far within is_event apart then is_both =
     let done : List Event = take taken events in
     let one_more : take (taken + 1) events ≡ done ++ event ∷ [] = take_more events taken event within ∙ ap (λ e. done ++ e ∷ []) (sym is_event) in
     let there : IsTimely (port_after done p) = timely-after done p fit in
+    let asked : IsTrue here ↔ IsApartAt class event (settled (port_after done p)) = subst (λ x. IsTrue here ↔ IsApartAt class event x) so_far.port apart in
+    let same = apart-settled class event (port_after done p) there in
+    let more = kept-append class done event p in
+    let hold = both-hold held here so_far.apart (λ t. same.0 (asked.0 t), λ a. asked.1 (same.1 a)) in
     record {
       port =
           then
           ∙ (ap (λ x. settled (port_after (event ∷ []) x)) so_far.port
           ∙ (settled-after (event ∷ []) (port_after done p) there
           ∙ ap settled (sym (port_after-append done (event ∷ []) p) ∙ ap (λ x. port_after x p) (sym one_more))));
-      apart =
-          subst (λ x. IsKeptApart class x p) (sym one_more)
-          (kept-append class done event p so_far.apart
-          (apart-settled class event (port_after done p) there (subst (IsApartAt class event) so_far.port here)));
+      apart = subst (λ x. IsTrue both ↔ IsKeptApart class x p) (sym one_more) (
+        λ t. more.1 (hold.0 (sym is_both ∙ t)),
+        λ kept. is_both ∙ hold.1 (more.0 kept),
+      );
     }

@@ -1,7 +1,7 @@
 use super::apart::separated;
 use super::scripts::answered;
 use super::*;
-use abstract_port::{Answer, Change, Command, Event, Start};
+use abstract_port::{Change, Command, Event};
 use class_map::ClassMap;
 use gate_list::{Entry, GateList};
 use script::Settings;
@@ -52,33 +52,37 @@ fn of_two_classes(command: &Command) -> [Event<'_>; 6] {
     ]
 }
 
-/// Class 7 is open alone, or closed: the law of separation speaks of it.
+/// Class 7 is open alone, or closed: the law of separation speaks of it. The others are open with each other.
 #[test]
 fn a_class_that_is_open_alone_is_separated(rt: HostRuntime) -> Result<(), Fail> {
     let rate = Rate::from_mbps(1000).ok().ok_or("a rate")?;
     let command = command(20_000, [0x80, 0x7f], [13_000, 87_000]).ok_or("a command")?;
-    let mut answers = Vec::new(rt.alloc());
-    assert!(rt; separated(rt.alloc(), rate, 7, &of_two_classes(&command), &mut answers));
-    let start = Start {
-        id: 2,
-        class: 7,
-        at: 120_000_000,
-        end: 132_304_000,
-    };
-    assert_eq!(rt;
-        answers.as_slice().get(3).copied(),
-        Some(Answer::Start(start))
-    );
+    let events = of_two_classes(&command);
+    assert_eq!(rt; separated(rt.alloc(), rate, 7, &events), Ok(true));
+    assert_eq!(rt; separated(rt.alloc(), rate, 0, &events), Ok(false));
     Ok(())
 }
 
-/// The others are open with each other.
+/// Frames of other classes may come before a schedule is in force, and what is refused may be any command.
 #[test]
-fn a_class_that_is_open_with_others_is_not_separated(rt: HostRuntime) -> Result<(), Fail> {
+fn what_does_not_concern_a_class_is_not_asked(rt: HostRuntime) -> Result<(), Fail> {
     let rate = Rate::from_mbps(1000).ok().ok_or("a rate")?;
-    let command = command(20_000, [0x80, 0x7f], [13_000, 87_000]).ok_or("a command")?;
-    let mut answers = Vec::new(rt.alloc());
-    assert!(rt; !separated(rt.alloc(), rate, 0, &of_two_classes(&command), &mut answers));
+    let alone = command(20_000, [0x80, 0x7f], [13_000, 87_000]).ok_or("a command")?;
+    let shared = command(20_000, [0x81, 0x7f], [13_000, 87_000]).ok_or("a command")?;
+    let early = [Event::Install(&alone), frame(1, 0)];
+    assert_eq!(rt; separated(rt.alloc(), rate, 7, &early), Ok(true));
+    let busy = [
+        Event::Install(&alone),
+        Event::Install(&shared),
+        Event::Install(&Command::Delete),
+    ];
+    assert_eq!(rt; separated(rt.alloc(), rate, 7, &busy), Ok(true));
+    let later = [
+        Event::Install(&alone),
+        Event::Clock(20_000_000),
+        Event::Install(&shared),
+    ];
+    assert_eq!(rt; separated(rt.alloc(), rate, 7, &later), Ok(false));
     Ok(())
 }
 
@@ -88,14 +92,13 @@ fn no_class_is_separated_without_a_schedule(rt: HostRuntime) -> Result<(), Fail>
     let rate = Rate::from_mbps(1000).ok().ok_or("a rate")?;
     let command = command(20_000, [0x80, 0x7f], [13_000, 87_000]).ok_or("a command")?;
     let early = [Event::Install(&command), frame(1, 7)];
-    let mut answers = Vec::new(rt.alloc());
-    assert!(rt; !separated(rt.alloc(), rate, 7, &early, &mut answers));
+    assert_eq!(rt; separated(rt.alloc(), rate, 7, &early), Ok(false));
     let deleted = [
         Event::Install(&command),
         Event::Clock(20_000_000),
         Event::Install(&Command::Delete),
     ];
-    assert!(rt; !separated(rt.alloc(), rate, 7, &deleted, &mut answers));
+    assert_eq!(rt; separated(rt.alloc(), rate, 7, &deleted), Ok(false));
     Ok(())
 }
 

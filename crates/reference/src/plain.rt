@@ -115,8 +115,18 @@ impl Gates for Plain {
         None
     }
 
-    fn quiet(&self, _needs: &[Option<u128>; CLASSES], _before: u128, _visits: &mut Visits) -> u128 {
-        self.moment
+    fn quiet(&self, needs: &[Option<u128>; CLASSES], before: u128, visits: &mut Visits) -> u128 {
+        for class in 0..CLASSES as u8 {
+            if let Some(need) = needs[class as usize] {
+                if self.stays_open(class, need, visits) {
+                    return self.now();
+                }
+            }
+        }
+        match self.next_boundary(before) {
+            Some(event) => event,
+            None => before,
+        }
     }
 
     fn move_to(&mut self, t: u128, _visits: &mut Visits) {

@@ -121,8 +121,13 @@ impl<G: Gates + Drop> Player for OnGates<G> {
 
 #[cfg(test)]
 mod frames;
-pub mod ports;
-pub mod random;
-pub mod tables;
+#[cfg(test)]
+mod ports;
+#[cfg(test)]
+mod random;
+#[cfg(test)]
+mod tables;
 #[cfg(test)]
 mod tests;
+#[cfg(test)]
+mod visits;

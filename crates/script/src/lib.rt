@@ -13,6 +13,3 @@ pub use faults::{Ended, RunFault, ScriptFault, say_fault, say_value};
 pub use program::{Values, answer_script};
 pub use running::run_script;
 pub use settings::{BadValue, Settings};
-
-#[cfg(test)]
-mod tests;

@@ -25,6 +25,7 @@ use Rattle.abstract_port.specs.Tally as Tallied
 use Rattle.abstract_port.proofs.RunLaws.{answers_of-append, clock_by}
 use Rattle.abstract_port.proofs.RunTurns.{turns, wires, telling}
 use Rattle.abstract_port.proofs.TallyLaws.{counting}
+use Rattle.abstract_port.proofs.UnclassedLaws.{unclassing}
 use Rattle.abstract_port.specs.Sound.{FitsLead}
 use Rattle.separation.specs.Hindsight.{IsFit, IsOpenBy}
 use Rattle.separation.specs.Promises.{AreOpenThen, KeepsPromises, IsKeepingPromises, count_after, counters_after}
@@ -120,5 +121,6 @@ keeping ps mtu room rate fits events =
       open_by_end = subst (λ k. All (IsOpenBy k) (answers_of events p)) (append-nil h) (hindsight p (new_fit ps mtu room rate fits) events [] tt);
       apart = wires p events;
       counted = λ before after class is within. ap (λ es. answers_of es p) is ∙ counted p refl (zero_counts ps mtu room) before after class within;
+      unclassed_counted = unclassing p events (omega arith);
       told_all = telling p events;
     }

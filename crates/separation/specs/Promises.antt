@@ -10,7 +10,7 @@ use Rattle.abstract_port.specs.AbstractPort.{AbstractPort, counts_at, new_port, 
 use Rattle.abstract_port.specs.Answers.{answers_to, answers_of, port_after}
 use Rattle.abstract_port.specs.Counting.{add_capped}
 use Rattle.abstract_port.specs.Laws.{AreApart, starts_in}
-use Rattle.abstract_port.specs.Tally.{Counter, value_of, growth, happenings, told, is_told}
+use Rattle.abstract_port.specs.Tally.{Counter, value_of, growth, unclassed, happenings, told, is_told}
 use Rattle.abstract_port.specs.Tally as Tallied
 use Rattle.separation.specs.Hindsight.{IsOpenBy}
 
@@ -39,14 +39,15 @@ counters_after class events p = record {
 }
 
 -- Of a run: each start finds its gate open up to its end, by the history of its time and by that at the end; no start is
--- before the wire is free; counters that are asked for are the counts over the events before; and what is counted is what is
--- answered to arrivals, and the starts.
+-- before the wire is free; counters that are asked for are the counts over the events before, as is that of frames without a
+-- class; and what is counted is what is answered to arrivals, and the starts.
 pub record KeepsPromises (p : AbstractPort) (events : List Event) : Type 0 where
   pub open_then : AreOpenThen events p
   pub open_by_end : All (IsOpenBy (port_after events p).history) (answers_of events p)
   pub apart : AreApart p.free (starts_in (answers_of events p))
   pub counted : (before after : List Event) (class : ℕ) → events ≡ before ++ Events.Count class ∷ after → class < 8
       → answers_of events p ≡ answers_of before p ++ Answered.Counters class (counters_after class before p) ∷ answers_of after (port_after before p)
+  pub unclassed_counted : (port_after events p).no_class ≡ add_capped p.no_class (sum_by unclassed (happenings events p))
   pub told_all : map told (happenings events p) ≡ filter is_told (answers_of events p)
 
 -- the law: every run of a new port of a rate and an mtu that there are keeps them

@@ -1,5 +1,5 @@
 //! The gates, which go from boundary to boundary.
-ghost use Rattle.std.specs.Prelude.{◌≡◌, ℕ, ◌+◌, ◌<◌, ◌≤◌, Some, None, false, option_map};
+ghost use Rattle.std.specs.Prelude.{◌≡◌, ℕ, ◌+◌, ◌<◌, ◌≤◌, Some, None, false, option_map, IfSome};
 ghost use Rattle.wire_time.specs.Moment.{greatest_moment, greatest_lead};
 ghost use Rattle.list_config.specs.History.{gates, kept};
 ghost use Rattle.list_config.specs.Current.{IsCurrent};

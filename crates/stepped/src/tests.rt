@@ -1,4 +1,4 @@
-//! Worked cases: a hold and none, a command that is replaced, a frame across two lists, and a deletion.
+//! Worked cases: a hold and none, a command that is replaced, a frame across two lists, a deletion, and what is counted.
 ghost use Rattle.std.specs.Prelude.{◌≡◌, ◌≤◌, ◌<◌, length};
 ghost use Rattle.wire_time.specs.Moment.{greatest_moment};
 ghost use Rattle.list_config.specs.Current.{IsCurrent};
@@ -86,4 +86,57 @@ fn commands_are_refused_replaced_and_deleted(rt: HostRuntime) {
     assert_eq!(rt; gates.delete(1312336000), Ok(1312336000));
     assert_eq!(rt; mask_at(&rt, &mut gates, 1312335999), 0x01);
     assert_eq!(rt; mask_at(&rt, &mut gates, 1312336000), 0xff);
+}
+
+/// How many entries a move to a later moment looks at.
+fn visits_to(rt: &impl Abort, gates: &mut Stepped, t: u128) -> u64
+    requires sound { IsCurrent gates.old.history gates.old.moment }
+    requires within { t ≤ greatest_moment }
+    ensures sound { IsCurrent gates.new.history gates.new.moment }
+    ensures moment { gates.new.moment ≡ t }
+{
+    assert!(rt; gates.now() <= t);
+    let mut visits = Visits::zero();
+    gates.move_to(t, &mut visits);
+    visits.count()
+}
+
+/// A list that comes into force, or is placed anew at a lead moment, looks at its first entry, and then at those up to the
+/// entry of the moment. Each entry that begins later is one more, also where a cycle begins; a cycle that begins in a hold
+/// looks at its first entry and at the last.
+#[test]
+fn a_move_counts_each_entry_that_it_looks_at(rt: HostRuntime) {
+    let mut gates = two_masks(&rt, 200000);
+    assert_eq!(rt; visits_to(&rt, &mut gates, 999999999), 0);
+    assert_eq!(rt; visits_to(&rt, &mut gates, 1000000000), 2);
+    assert_eq!(rt; visits_to(&rt, &mut gates, 1599999999), 0);
+    assert_eq!(rt; visits_to(&rt, &mut gates, 1600000000), 1);
+    assert_eq!(rt; visits_to(&rt, &mut gates, 2000000000), 1);
+    let next = schedule_of(&rt, [entry(0x04, 500000), entry(0x04, 500000)], 5150000, 0);
+    assert_eq!(rt; gates.install(next, 2012336000), Ok(5150000000));
+    assert_eq!(rt; visits_to(&rt, &mut gates, 2012336000), 2);
+    // Entries begin at 2.6, 3, 3.6, 4 and 4.6 ms.
+    assert_eq!(rt; visits_to(&rt, &mut gates, 4999999999), 5);
+    assert_eq!(rt; visits_to(&rt, &mut gates, 5000000000), 2);
+    assert_eq!(rt; visits_to(&rt, &mut gates, 5149999999), 0);
+    assert_eq!(rt; visits_to(&rt, &mut gates, 5150000000), 2);
+}
+
+/// Only where one command is pending and another is announced the list is placed at the lead moment ahead, in its first
+/// entry: two visits.
+#[test]
+fn a_list_is_placed_ahead_for_two_commands_alone(rt: HostRuntime) {
+    let mut gates = two_masks(&rt, 0);
+    let mut visits = Visits::zero();
+    let _ = mask_at(&rt, &mut gates, 2000000000);
+    assert!(rt; gates.stays_open(0, 600000000, &mut visits));
+    let next = schedule_of(&rt, [entry(0x04, 500000), entry(0x04, 500000)], 5150000, 0);
+    assert_eq!(rt; gates.install(next, 2012336000), Ok(5150000000));
+    let _ = mask_at(&rt, &mut gates, 2050000000);
+    assert!(rt; gates.stays_open(0, 550000000, &mut visits));
+    assert_eq!(rt; gates.delete(2062336000), Ok(2062336000));
+    assert!(rt; !gates.stays_open(1, 1, &mut visits));
+    assert_eq!(rt; visits.count(), 0);
+    assert!(rt; gates.stays_open(0, 1000000000, &mut visits));
+    assert_eq!(rt; visits.count(), 2);
 }

@@ -10,8 +10,6 @@ mod line;
 mod lists;
 mod options;
 mod reading;
-#[cfg(test)]
-mod tests;
 mod values;
 
 pub use fault::{Opt, TcFault};

@@ -1,13 +1,14 @@
-use Rattle.std.proofs.Common.{◌++◌, ◌∷◌, [], List, arith, sym, ap, ◌∙◌, subst}
+use Rattle.std.proofs.Common.{◌++◌, ◌∷◌, [], List, arith, sym, ap, refl, ◌∙◌, subst}
 use Rattle.abstract_port.specs.declared.Answer.{Answer}
 use Rattle.abstract_port.specs.Answers.{IsBegun}
 use Rattle.abstract_port.proofs.RunLaws.{timely-sound}
 use Rattle.abstract_port.specs.Asked.{IsStopped}
 use Rattle.abstract_port.proofs.AskedLaws.{going_begins, going_more, going_fewer, gone_begun, gone_stopped, asked_some, on_err_of}
+use Rattle.port.proofs.StepLaws.{stayed_more}
 use Rattle.port.proofs.Port.take_event.Goals as goal
 
 pub loop-asked-init : goal.loop-asked-init
-loop-asked-init g c = (c.now-now.ensures.sound, going_begins _ _ _ c.now-now.ensures.sound)
+loop-asked-init g c = (c.now-now.ensures.sound, going_begins _ _ _ c.now-now.ensures.sound, λ none. (refl, refl))
 
 pub returns-in_err-reserve-clause-err : goal.returns-in_err-reserve-clause-err
 returns-in_err-reserve-clause-err g c =
@@ -34,6 +35,7 @@ loop-asked-preserved-in-Continue-branch-2 g c =
       n.sound,
       going_more _ _ _ _ _ _ c.loop-asked.invariant.1 (timely-sound _ c.now-now.ensures.sound) c.next_answer.result _ _ (record { answers = n.answers; port = n.port; none = n.none; more = n.more })
           c.in-Some.answer c.in-Some.is _ (c.in_ok-push-in-Some.ensures.items ∙ ap (λ x. x ++ c.in-Some.answer ∷ []) c.reserve.ensures.items),
+      stayed_more _ c.args.self.now _ c.loop-asked.self c.loop-asked.invariant.2 c.loop-asked.invariant.1.same c.next_answer.result _ c.next_answer.new.self n.more n.visits,
     )
 
 pub loop-asked-smaller : goal.loop-asked-smaller

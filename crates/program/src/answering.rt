@@ -1,0 +1,91 @@
+//! What is answered to the words of the program.
+
+ghost use Rattle.std.specs.Prelude.{◌≡◌, IfErr};
+ghost use Rattle.std.specs.Io.Buffered.{writer_contents};
+ghost use Rattle.clap.specs.Matches.{found_of};
+ghost use Rattle.program.specs.Given.{settings_in};
+ghost use Rattle.script.specs.Ending.{IsEnding};
+
+use crate::end_without_memory;
+use crate::options::{command, values_of};
+use clap::error::ErrorKind;
+use clap::{ArgMatches, Error};
+use script::{Ended, answer_script};
+use std::alloc::{Allocator, Global};
+use std::io::{BufWriter, Read, Write};
+
+/// Answers the script that `reader` gives, by the values that the words give to the options, through `answers`, with the text of
+/// a fault on `errors`; and gives the writer of the answers back.
+pub fn answer_given<B: Allocator, R: Read, W: Write + Drop, E: Write>(
+    alloc: Global,
+    matches: &ArgMatches<'_>,
+    reader: &mut R,
+    answers: BufWriter<W, B>,
+    errors: &mut E,
+) -> (Ended, W)
+    ensures ending { IsEnding (settings_in (found_of matches.now))
+        (R.remaining reader.old) result.0 (writer_contents W.contents answers) (W.contents result.1) (E.contents errors.old) (E.contents errors.new) }
+    ensures unread { IfErr (settings_in (found_of matches.now)) (λ _. reader.new ≡ reader.old) }
+{
+    answer_script(alloc, values_of(matches), reader, answers, errors)
+}
+
+/// Whether a text is written whole and let out.
+fn is_told<W: Write>(text: &str, writer: &mut W) -> bool {
+    writer.write_all(text.as_bytes()).is_ok() && writer.flush().is_ok()
+}
+
+/// Tells why the words are refused on `errors`, or the help that they ask for through `answers`. The status is 2, for help 0, and 4
+/// where memory is wanting.
+fn answer_refusal<B: Allocator, W: Write + Drop, E: Write>(
+    alloc: Global,
+    error: &Error,
+    mut answers: BufWriter<W, B>,
+    errors: &mut E,
+) -> (Ended, W) {
+    let ended = match format!(in alloc; "{error}") {
+        Ok(text) if error.kind() != ErrorKind::OutOfMemory => {
+            let told = if error.use_stderr() {
+                is_told(text.as_str(), errors)
+            } else {
+                is_told(text.as_str(), &mut answers)
+            };
+            Ended {
+                status: error.exit_code() as u8,
+                told,
+            }
+        }
+        _ => end_without_memory(errors),
+    };
+    let (writer, _unwritten) = answers.into_parts();
+    (ended, writer)
+}
+
+/// Answers the words of the program, the first of which is its name: a script, help, or why they are refused. What is answered goes
+/// through `answers`, whose writer is given back, and the text of a fault to `errors`.
+pub fn answer_words<B: Allocator, R: Read, W: Write + Drop, E: Write>(
+    alloc: Global,
+    words: &[String],
+    reader: &mut R,
+    answers: BufWriter<W, B>,
+    errors: &mut E,
+) -> (Ended, W) {
+    let Ok(command) = command(alloc) else {
+        let ended = end_without_memory(errors);
+        return (ended, answers.into_parts().0);
+    };
+    let matches = match command.try_get_matches_from(words) {
+        Ok(matches) => matches,
+        Err(error) => return answer_refusal(alloc, &error, answers, errors),
+    };
+    match matches.subcommand_matches("script") {
+        Some(script) => answer_given(alloc, script, reader, answers, errors),
+        None => (
+            Ended {
+                status: 2,
+                told: true,
+            },
+            answers.into_parts().0,
+        ),
+    }
+}

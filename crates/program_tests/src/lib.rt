@@ -1,0 +1,5 @@
+//! Tests of `program`: words and scripts, with what its two outputs get.
+#![tactic(auto)]
+
+#[cfg(test)]
+mod tests;
