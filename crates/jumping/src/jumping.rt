@@ -6,7 +6,7 @@ ghost use Rattle.list_config.specs.History.{gates, kept, cons_some};
 ghost use Rattle.list_config.specs.Stretch.{stretches_from};
 ghost use Rattle.list_config.specs.Current.{IsCurrent};
 ghost use Rattle.accepted_commands.specs.Commands.{AreCommands, accepted_in, command_of, history_of};
-ghost use Rattle.accepted_commands.specs.Standing.{Stands};
+ghost use Rattle.accepted_commands.specs.Standing.{Stands, edge_at};
 ghost use Rattle.jumping.specs.Leg.{AreReady, from_of, stretches_ahead};
 ghost use Rattle.jumping.specs.Resume.{Resumes};
 
@@ -55,6 +55,15 @@ fn is_before(moment: u128, edge: Option<u128>) -> bool
         None => true,
         Some(edge) => moment < edge,
     }
+}
+
+/// The next moment at which a boundary of the list in force comes, or a command does, in picoseconds; none: there is none.
+fn next_edge(slots: &Slots) -> Option<u128>
+    requires sound { AreCommands slots.now.commands }
+    requires stands { Stands slots.now.commands.in_force slots.now.commands.pending slots.now.commands.moment slots.now.position }
+    ensures { result ≡ edge_at slots.now.commands slots.now.position }
+{
+    edge_of(slots)
 }
 
 /// Where the list in force goes on at the lead moment of the command that is announced, where it replaces a pending one.
@@ -157,7 +166,7 @@ impl Gates for Jumping {
         self.slots.settle(t);
         if !is_near {
             self.slots.place(visits);
-            self.edge = edge_of(&self.slots);
+            self.edge = next_edge(&self.slots);
         }
     }
 
@@ -169,7 +178,7 @@ impl Gates for Jumping {
         let change = command.change();
         self.slots.announce(command);
         self.resumed = resumed(&self.slots);
-        self.edge = edge_of(&self.slots);
+        self.edge = next_edge(&self.slots);
         Ok(change)
     }
 
@@ -179,7 +188,7 @@ impl Gates for Jumping {
         }
         self.slots.announce(AcceptedCommand::Delete(lead));
         self.resumed = resumed(&self.slots);
-        self.edge = edge_of(&self.slots);
+        self.edge = next_edge(&self.slots);
         Ok(lead)
     }
 

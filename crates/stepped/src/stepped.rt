@@ -30,7 +30,7 @@ impl Model for Stepped {
     ghost use Rattle.accepted_commands.specs.Commands.{AreCommands};
     ghost use Rattle.accepted_commands.specs.Standing.{Stands, clocked};
     ghost use Rattle.list_config.specs.Current.{Clocked};
-    
+
     ghost Value = { Clocked };
 
     ghost view = { λ g. clocked g.slots };

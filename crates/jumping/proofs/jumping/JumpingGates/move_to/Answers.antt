@@ -31,7 +31,7 @@ invariant_of-self c =
       subst AreCommands (sym c.place.ensures.commands) c.settle.ensures.sound,
       c.place.ensures.stands,
       subst (λ k. Resumes k resumed) (sym (c.place.ensures.commands ∙ c.settle.ensures.value)) (resumes_settled slots c.self.invariant.0 resumed c.args.t later c.self.invariant.2),
-      c.edge_of-self-inside.ensures.edge,
+      c.next_edge-self-inside.ensures,
     )
 
 pub invariant_of-self-else-not-is_near : goal.invariant_of-self-else-not-is_near
