@@ -4,3 +4,4 @@ pub mod RepeatLaws
 pub mod LegLaws
 pub mod ListedLaws
 pub mod QuietLaws
+pub mod NearLaws

@@ -8,7 +8,7 @@ use Rattle.list_config.specs.Choice.{may_start, may_go, first_choice, greatest_b
 use Rattle.list_config.specs.Current.{Clocked, entry_count, longest}
 use Rattle.list_config.specs.History.{Accepted, gates, cons_some, three, plan_of, pending, announced}
 use Rattle.list_config.specs.Stretch.{Stretch, mask_in, stretches_from}
-use Rattle.list_config.proofs.ChoiceLaws.{greatest_below-none, greatest_below-pass, greatest_below-fail}
+use Rattle.list_config.proofs.ChoiceLaws.{greatest_below-none, greatest_below-some}
 use Rattle.list_config.proofs.HistoryLaws.{settled_force, settled_pending, settled_announced, past_three}
 use Rattle.list_config.proofs.StretchLaws.{stretches_gates}
 use Rattle.accepted_commands.specs.Commands.{Commands, AreCommands, history_of}
@@ -49,29 +49,10 @@ no_choice h needs t u eight none m from below =
     by k None there = refl
     by k (Some d) there = none k d there m from below
 
--- a number that passes
-greatest_there : (n : ℕ) (p : ℕ → Bool) (k : ℕ) → k < n → p k ≡ true → IsSome (greatest_below n p)
-greatest_there zero p k low pass = absurd (omega arith)
-greatest_there (suc n) p k low pass =
-    elim (cases_Bool (p n)) [
-      | inl here ↦ subst IsSome (sym (greatest_below-pass n p here)) refl
-      | inr other ↦ subst IsSome (sym (greatest_below-fail n p other)) (greatest_there n p k (below other) pass)
-    ]
-  where
-    below : p n ≡ false → k < n
-    below other =
-        elim (cases_lt k n) [
-          | inl l ↦ l
-          | inr l ↦ absurd (differ (sym (subst (λ j. p j ≡ true) (let same : k ≡ n = omega arith in same) pass) ∙ other))
-        ]
-      where
-        differ : true ≡ false → ⊥
-        differ e = cc
-
 -- where some class with a need stays open through it, there is a choice
 pub some_choice : (h : List Accepted) (needs : List (Option ℕ)) (u : ℕ) → length needs ≡ 8 → Fits (gates h) needs u → IsSome (first_choice h u needs)
 some_choice h needs u eight at =
-    greatest_there 8 (may_go h u needs) at.class (let l = slice_get_within needs at.class (Some at.need) at.there in omega arith)
+    greatest_below-some 8 (may_go h u needs) at.class (let l = slice_get_within needs at.class (Some at.need) at.there in omega arith)
     (ap (may_start h u at.class) (get_or_from_slice_get needs at.class (Some at.need) None at.there) ∙ at.through)
 
 -- three stretches of lists that are at most so long

@@ -5,10 +5,11 @@ use Rattle.gate_list.specs.Gate.{has_come}
 use Rattle.gate_list.specs.Open.{open_while}
 use Rattle.gate_list.specs.Stay.{NoneFrom}
 use Rattle.gate_list.proofs.FirstLaws.{none_join}
+use Rattle.list_config.proofs.IdleLaws.{none_flat}
 use Rattle.list_config.specs.Stretch.{Stretch, mask_in}
 use Rattle.list_config.proofs.StretchLaws.{over_while, come_later}
 use Rattle.jumping.specs.Search.{NoneFits, Fits, Searched}
-use Rattle.jumping.proofs.SteadyLaws.{none_flat, none_steady}
+use Rattle.jumping.proofs.SteadyLaws.{none_steady}
 
 pub fits_join : (f : ℕ → ℕ) (needs : List (Option ℕ)) (t m u : ℕ) → NoneFits f needs t m → NoneFits f needs m u → NoneFits f needs t u
 fits_join f needs t m u a b class d there = none_join f class d t m u (a class d there) (b class d there)

@@ -6,18 +6,6 @@ use Rattle.gate_list.specs.Open.{open_while}
 use Rattle.gate_list.specs.Stay.{NoneFrom}
 use Rattle.gate_list.proofs.OpenLaws.{open_at, open_from}
 
--- where one mask shows, the first moment is the best
-pub none_flat : (f : ℕ → ℕ) (class d t u : ℕ) → ((n : ℕ) → t ≤ n → n < u → f n ≡ f t) → open_while f class t d ≡ false → NoneFrom f class d t u
-none_flat f class zero t u flat fails n from below = absurd (false≢true (sym fails ∙ open_from f class t zero (λ i a b. absurd (omega arith))))
-none_flat f class (suc d) t u flat fails n from below =
-    false_from_ne_true (open_while f class n (suc d)) (λ o.
-    let here : opens (f t) class ≡ true = ap (λ m. opens m class) (sym (flat n from below)) ∙ open_at f class n (suc d) o n (omega arith) (omega arith) in
-    false≢true (sym fails ∙ open_from f class t (suc d) (λ i after before.
-    elim (cases_lt i n) [
-      | inl early ↦ ap (λ m. opens m class) (flat i after (omega arith)) ∙ here
-      | inr late ↦ open_at f class n (suc d) o i late (omega arith)
-    ])))
-
 -- one cycle back
 pub open_back : (f : ℕ → ℕ) (class d cycle a e n : ℕ) → ((m : ℕ) → a ≤ m → m + cycle < e → f (m + cycle) ≡ f m) → a + cycle ≤ n → n + cycle ≤ e → open_while f class n d ≡ true → open_while f class (n - cycle) d ≡ true
 open_back f class d cycle a e n same from to o =

@@ -1,11 +1,12 @@
 //! The gates, which pass whole cycles by division.
-ghost use Rattle.std.specs.Prelude.{◌≡◌, ℕ, ◌+◌, ◌<◌, ◌≤◌, [], Some, None, true, option_map};
+ghost use Rattle.std.specs.Prelude.{◌≡◌, ℕ, ◌+◌, ◌<◌, ◌≤◌, ◌↔◌, IsTrue, [], Some, None, true, option_map};
+ghost use Rattle.std.specs.Option.{ForSome};
 ghost use Rattle.wire_time.specs.Moment.{greatest_moment, greatest_lead};
 ghost use Rattle.list_config.specs.History.{gates, kept, cons_some};
 ghost use Rattle.list_config.specs.Stretch.{stretches_from};
 ghost use Rattle.list_config.specs.Current.{IsCurrent};
 ghost use Rattle.accepted_commands.specs.Commands.{AreCommands, accepted_in, command_of, history_of};
-ghost use Rattle.accepted_commands.specs.Standing.{Stands};
+ghost use Rattle.accepted_commands.specs.Standing.{Stands, edge_at};
 ghost use Rattle.jumping.specs.Leg.{AreReady, from_of, stretches_ahead};
 ghost use Rattle.jumping.specs.Resume.{Resumes};
 
@@ -20,20 +21,22 @@ use list_position::{Need, Position};
 use std::marker::Model;
 use wire_time::CLASSES;
 
-/// The gates of a port: its commands, each list with where it stands, and where the list in force goes on once a pending
-/// command is replaced.
+/// The gates of a port: its commands, each list with where it stands, where the list in force goes on once a pending command
+/// is replaced, and the next moment at which a boundary of the list or a command comes.
 ///
 /// What a move and an answer look at doesn't grow with how far the moments are apart.
 #[derive(Drop)]
 pub struct Jumping {
     slots: Slots,
     resumed: Option<Position>,
+    edge: Option<u128>,
 }
 
 /// A contract sees the history that the commands make, and the moment.
 impl Model for Jumping {
     ghost use Rattle.accepted_commands.specs.Commands.{AreCommands};
-    ghost use Rattle.accepted_commands.specs.Standing.{Stands, clocked};
+    ghost use Rattle.std.specs.Prelude.{◌≡◌};
+    ghost use Rattle.accepted_commands.specs.Standing.{Stands, clocked, edge_at};
     ghost use Rattle.list_config.specs.Current.{Clocked};
     ghost use Rattle.jumping.specs.Resume.{Resumes};
 
@@ -41,7 +44,26 @@ impl Model for Jumping {
 
     ghost view = { λ g. clocked g.slots };
 
-    ghost invariant = { λ g. AreCommands g.slots.commands × Stands g.slots.commands.in_force g.slots.commands.pending g.slots.commands.moment g.slots.position × Resumes g.slots.commands g.resumed };
+    ghost invariant = { λ g. AreCommands g.slots.commands × Stands g.slots.commands.in_force g.slots.commands.pending g.slots.commands.moment g.slots.position × Resumes g.slots.commands g.resumed × (g.edge ≡ edge_at g.slots.commands g.slots.position) };
+}
+
+/// Whether a moment is before another, if there is one; both are in picoseconds.
+fn is_before(moment: u128, edge: Option<u128>) -> bool
+    ensures { IsTrue result ↔ ForSome edge (λ u. moment < u) }
+{
+    match edge {
+        None => true,
+        Some(edge) => moment < edge,
+    }
+}
+
+/// The next moment at which a boundary of the list in force comes, or a command does, in picoseconds; none: there is none.
+fn next_edge(slots: &Slots) -> Option<u128>
+    requires sound { AreCommands slots.now.commands }
+    requires stands { Stands slots.now.commands.in_force slots.now.commands.pending slots.now.commands.moment slots.now.position }
+    ensures { result ≡ edge_at slots.now.commands slots.now.position }
+{
+    edge_of(slots)
 }
 
 /// Where the list in force goes on at the lead moment of the command that is announced, where it replaces a pending one.
@@ -101,6 +123,7 @@ impl Gates for Jumping {
         Jumping {
             slots: Slots::begin(),
             resumed: None,
+            edge: None,
         }
     }
 
@@ -139,8 +162,12 @@ impl Gates for Jumping {
     }
 
     fn move_to(&mut self, t: u128, visits: &mut Visits) {
+        let is_near = is_before(t, self.edge);
         self.slots.settle(t);
-        self.slots.place(visits);
+        if !is_near {
+            self.slots.place(visits);
+            self.edge = next_edge(&self.slots);
+        }
     }
 
     fn install(&mut self, schedule: Schedule, lead: u128) -> Result<u128, NotNow> {
@@ -151,6 +178,7 @@ impl Gates for Jumping {
         let change = command.change();
         self.slots.announce(command);
         self.resumed = resumed(&self.slots);
+        self.edge = next_edge(&self.slots);
         Ok(change)
     }
 
@@ -160,6 +188,7 @@ impl Gates for Jumping {
         }
         self.slots.announce(AcceptedCommand::Delete(lead));
         self.resumed = resumed(&self.slots);
+        self.edge = next_edge(&self.slots);
         Ok(lead)
     }
 

@@ -5,5 +5,7 @@ mod ahead;
 mod jumping;
 mod leg;
 mod search;
+#[cfg(test)]
+mod tests;
 
 pub use jumping::Jumping;

@@ -415,3 +415,11 @@ module _ (plan : Plan) (ok : IsSchedule plan) (start : ℕ) (held : Option ℕ) 
         by : (b : Bool) → b ≡ true → Shows b plan n position → Shows b plan m position
         by true f shows = shows
         by false f shows = absurd (false≢true f)
+
+    -- later, before the next boundary
+    pub placed_later : (m : ℕ) → n ≤ m → ForSome (boundary_of held position) (λ u. m < u) → IsPlaced plan start held m position
+    placed_later m l soon = by (has_come held position.timer.started) refl
+      where
+        by : (b : Bool) → has_come held position.timer.started ≡ b → IsPlaced plan start held m position
+        by true on = held_still on m l
+        by false off = let ahead = boundary_ahead off (suc m) soon in same_entry off m l ahead.0 ahead.1

@@ -3,7 +3,6 @@ ghost use Rattle.std.specs.Prelude.{◌≡◌, ℕ, ◌+◌, ◌<◌, ◌≤◌,
 ghost use Rattle.wire_time.specs.Moment.{greatest_moment, greatest_lead};
 ghost use Rattle.list_config.specs.History.{gates, kept};
 ghost use Rattle.list_config.specs.Current.{IsCurrent};
-ghost use Rattle.list_config.specs.Event.{IsGateEvent};
 ghost use Rattle.list_position.specs.Position.{IsFlat};
 ghost use Rattle.accepted_commands.specs.Commands.{AreCommands, accepted_in, command_of, history_of};
 ghost use Rattle.accepted_commands.specs.Standing.{Stands, earlier, edge_at};

@@ -1,0 +1,106 @@
+-- What stays the same up to the next edge.
+use Rattle.std.proofs.Common.{◌≡◌, ◌<◌, ◌≤◌, ℕ, min, cond, ltb, ◌⊎◌, inl, inr, Option, Some, None, option_map, refl, sym, ap, ◌∙◌, subst, arith}
+use Rattle.std.proofs.lemmas.Bool.{cases_lt, lt-leb, lt-ltb, le-ltb}
+use Rattle.std.proofs.lemmas.Option.{same_Some}
+use Rattle.std.specs.Option.{ForSome}
+use Rattle.gate_list.specs.Gate.{Plan, IsSchedule}
+use Rattle.list_config.specs.History.{Accepted, only_if, or_else, plan_of, start_of}
+use Rattle.list_position.specs.declared.Position.{Position}
+use Rattle.list_position.proofs.PositionLaws.{placed_later}
+use Rattle.accepted_commands.specs.Commands.{Commands, AreCommands, IsUsable, settled_at, announced_by, pending_by}
+use Rattle.accepted_commands.specs.Standing.{Stands, StandsUnder, boundary_in_force, boundary_under, earlier, edge_at, hold_for}
+use Rattle.jumping.specs.Resume.{Resumes, ResumesBy}
+use Rattle.accepted_commands.proofs.CommandLaws.{NoneBy, force_still, pending_still}
+
+-- what is before the earlier of two moments is before both
+parts : (m : ℕ) (a b : Option ℕ) → ForSome (earlier a b) (λ u. m < u) → ForSome a (λ u. m < u) × ForSome b (λ u. m < u)
+parts m None b h = (λ u is. cc, h)
+parts m (Some t) None h = (h, λ u is. cc)
+parts m (Some t) (Some v) h =
+    let low : m < min t v = h (min t v) refl in
+    (λ u is. (let same : t ≡ u = same_Some t u is in omega arith), λ u is. (let same : v ≡ u = same_Some v u is in omega arith))
+
+-- a list stands the same up to its next boundary
+pub stands_later : (f p : Option Accepted) (n m : ℕ) (position : Option Position) → ForSome f IsUsable → Stands f p n position → n ≤ m → ForSome (boundary_in_force f p position) (λ u. m < u) → Stands f p m position
+stands_later f p n m position usable stands l soon = by (plan_of f) planned position stands soon
+  where
+    planned : ForSome (plan_of f) IsSchedule
+    planned = go f usable
+      where
+        go : (f : Option Accepted) → ForSome f IsUsable → ForSome (plan_of f) IsSchedule
+        go None u plan is = cc
+        go (Some a) u plan is = (u a refl).planned plan is
+
+    by : (q : Option Plan) → ForSome q IsSchedule → (position : Option Position) → StandsUnder q (start_of f) p n position → ForSome (boundary_under q (start_of f) p position) (λ u. m < u) → StandsUnder q (start_of f) p m position
+    by None ok position stands soon = stands
+    by (Some plan) ok None stands soon = stands
+    by (Some plan) ok (Some position) stands soon = placed_later plan (ok plan refl) (start_of f) (hold_for (Some plan) (start_of f) p) n position stands m l soon
+
+-- where no command comes the same commands count
+pub same_commands : (c : Commands) → AreCommands c → (m : ℕ) → c.moment ≤ m → NoneBy c.pending c.announced m → settled_at c m ≡ record c { moment = m }
+same_commands c s m l none =
+    ap (λ f. record { moment = m; in_force = f; pending = (settled_at c m).pending; announced = (settled_at c m).announced }) (force_still c s m l none)
+    ∙ (ap (λ p. record { moment = m; in_force = c.in_force; pending = p; announced = (settled_at c m).announced }) (pending_still c s m l none)
+    ∙ ap (λ x. record { moment = m; in_force = c.in_force; pending = c.pending; announced = x }) (by c.announced none.1))
+  where
+    by : (x : Option Accepted) → ForSome x (λ a. m < a.lead) → announced_by x m ≡ x
+    by None h = refl
+    by (Some a) h = ap (λ b. cond b (Some a) None) (lt-ltb m a.lead (h a refl))
+
+module _ (c : Commands) (s : AreCommands c) (position : Option Position) (m : ℕ) (l : c.moment ≤ m) (soon : ForSome (edge_at c position) (λ u. m < u)) where
+  both : ForSome (boundary_in_force c.in_force c.pending position) (λ u. m < u) × ForSome (earlier (option_map (λ a. a.change) c.pending) (option_map (λ a. a.lead) c.announced)) (λ u. m < u)
+  both = parts m (boundary_in_force c.in_force c.pending position) (earlier (option_map (λ a. a.change) c.pending) (option_map (λ a. a.lead) c.announced)) soon
+
+  commands : ForSome (option_map (λ a. a.change) c.pending) (λ u. m < u) × ForSome (option_map (λ a. a.lead) c.announced) (λ u. m < u)
+  commands = parts m (option_map (λ a. a.change) c.pending) (option_map (λ a. a.lead) c.announced) both.1
+
+  -- no command comes by then
+  pub none_by : NoneBy c.pending c.announced m
+  none_by = (changes c.pending commands.0, leads c.announced commands.1)
+    where
+      changes : (p : Option Accepted) → ForSome (option_map (λ a. a.change) p) (λ u. m < u) → ForSome p (λ a. m < a.change)
+      changes None h a is = cc
+      changes (Some b) h a is = subst (λ (k : Accepted). m < k.change) (same_Some b a is) (h b.change refl)
+
+      leads : (x : Option Accepted) → ForSome (option_map (λ a. a.lead) x) (λ u. m < u) → ForSome x (λ a. m < a.lead)
+      leads None h a is = cc
+      leads (Some b) h a is = subst (λ (k : Accepted). m < k.lead) (same_Some b a is) (h b.lead refl)
+
+  -- and the list in force stands as it stood
+  pub still_stands : Stands c.in_force c.pending c.moment position → Stands c.in_force c.pending m position
+  still_stands stands = stands_later c.in_force c.pending c.moment m position s.in_force_usable stands l both.0
+
+-- ---- where the list in force goes on, after any move
+
+none_announced : (f p : Option Accepted) (r : Option Position) → ResumesBy f p None r
+none_announced f None r = tt
+none_announced f (Some a) r = tt
+
+-- by a moment no command has come, or none is announced any more, or none is pending
+decide : (p x : Option Accepted) (t : ℕ) → NoneBy p x t ⊎ ((announced_by x t ≡ None) ⊎ ((f : Option Accepted) → pending_by f p x t ≡ None))
+decide p None t = inr (inl refl)
+decide None (Some b) t =
+    elim (cases_lt t b.lead) [
+      | inl before ↦ inl (λ a is. cc, λ a is. subst (λ (k : Accepted). t < k.lead) (same_Some b a is) before)
+      | inr come ↦ inr (inl (ap (λ y. cond y (Some b) None) (le-ltb t b.lead come)))
+    ]
+decide (Some a) (Some b) t =
+    elim (cases_lt t b.lead) [
+      | inr come ↦ inr (inl (ap (λ y. cond y (Some b) None) (le-ltb t b.lead come)))
+      | inl before ↦ elim (cases_lt t a.change) [
+        | inl still ↦ inl (λ k is. subst (λ (j : Accepted). t < j.change) (same_Some a k is) still, λ k is. subst (λ (j : Accepted). t < j.lead) (same_Some b k is) before)
+        | inr over ↦ inr (inr (λ f.
+            ap (λ y. only_if (λ k. ltb t k.change) (or_else (cond y (Some b) None) (Some a))) (lt-leb b.lead t before)
+            ∙ ap (λ y. cond y (Some a) None) (le-ltb t a.change over)))
+      ]
+    ]
+
+pub resumes_settled : (c : Commands) → AreCommands c → (r : Option Position) (t : ℕ) → c.moment ≤ t → Resumes c r → Resumes (settled_at c t) r
+resumes_settled c s r t l h =
+    elim (decide c.pending c.announced t) [
+      | inl none ↦ subst (λ k. Resumes k r) (sym (same_commands c s t l none)) h
+      | inr gone ↦ elim gone [
+        | inl led ↦ subst (λ x. ResumesBy (settled_at c t).in_force (settled_at c t).pending x r) (sym led) (none_announced (settled_at c t).in_force (settled_at c t).pending r)
+        | inr over ↦ subst (λ p. ResumesBy (settled_at c t).in_force p (settled_at c t).announced r) (sym (over c.in_force)) tt
+      ]
+    ]
