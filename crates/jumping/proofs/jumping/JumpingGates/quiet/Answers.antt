@@ -26,13 +26,6 @@ returns-in-Some-clause-first c = λ jumps below.
     (searched_gates c.self.inside.slots.commands c.self.invariant.0 now c.self.view_is (stretches_ahead c.ahead-ahead.result.leg c.ahead-ahead.result.rest) c.ahead-ahead.ensures.shows (from_of c.ahead-ahead.result.leg) c.ahead-ahead.ensures.from c.args.needs.now c.args.before c.search.result c.search.ensures.searched) in
     some_choice now.history c.args.needs.now c.in-Some.start c.told-needs found.3
 
-pub returns-in-Some-clause-onward : goal.returns-in-Some-clause-onward
-returns-in-Some-clause-onward c = λ below.
-    let now = c.args.self.now in
-    let found = subst (Searched (gates now.history) c.args.needs.now now.moment c.args.before) c.in-Some.is
-    (searched_gates c.self.inside.slots.commands c.self.invariant.0 now c.self.view_is (stretches_ahead c.ahead-ahead.result.leg c.ahead-ahead.result.rest) c.ahead-ahead.ensures.shows (from_of c.ahead-ahead.result.leg) c.ahead-ahead.ensures.from c.args.needs.now c.args.before c.search.result c.search.ensures.searched) in
-    inl (some_choice now.history c.args.needs.now c.in-Some.start c.told-needs found.3)
-
 pub returns-in-Some-clause-visits : goal.returns-in-Some-clause-visits
 returns-in-Some-clause-visits c = λ jumps.
     few_visits c.self.inside.slots.commands c.self.invariant.0 c.args.self.now c.self.view_is (stretches_ahead c.ahead-ahead.result.leg c.ahead-ahead.result.rest) c.ahead-ahead.ensures.shows c.args.visits.now c.search.new.visits c.search.ensures.visits
