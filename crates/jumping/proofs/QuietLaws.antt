@@ -1,10 +1,9 @@
 -- From a search of legs to the choice of the gates.
-use Rattle.std.proofs.Common.{◌≡◌, ◌<◌, ◌≤◌, ℕ, zero, suc, ◌+◌, ◌*◌, length, get_or, slice_get, Bool, true, false, cond, leb, List, [], Option, Some, None, IsSome, inl, inr, refl, sym, ap, ◌∙◌, subst, arith, le_trans}
-use Rattle.std.proofs.lemmas.Bool.{cases_lt, cases_Bool}
+use Rattle.std.proofs.Common.{◌≡◌, ◌<◌, ◌≤◌, ℕ, ◌+◌, ◌*◌, length, get_or, slice_get, Bool, true, false, cond, leb, List, [], Option, Some, None, IsSome, refl, ap, ◌∙◌, subst, arith, le_trans}
 use Rattle.std.proofs.lemmas.Option.{slice_get-get_or, slice_get_within, get_or_from_slice_get}
 use Rattle.gate_list.proofs.OpenLaws.{same_while}
 use Rattle.gate_list.proofs.FirstLaws.{none_same}
-use Rattle.list_config.specs.Choice.{may_start, may_go, first_choice, greatest_below}
+use Rattle.list_config.specs.Choice.{may_start, may_go, first_choice}
 use Rattle.list_config.specs.Current.{Clocked, entry_count, longest}
 use Rattle.list_config.specs.History.{Accepted, gates, cons_some, three, plan_of, pending, announced}
 use Rattle.list_config.specs.Stretch.{Stretch, mask_in, stretches_from}
