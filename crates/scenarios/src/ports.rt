@@ -3,10 +3,12 @@ use super::{Given, Player, Step};
 use abstract_port::{Answer, Change, Command, Event, Refused, Report};
 use class_map::ClassMap;
 use gate_list::{Entry, GateList};
+use jumping::Jumping;
 use list_config::{Gates, NotNow};
 use port::Port;
 use std::alloc::Global;
 use std::marker::PhantomData;
+use stepped::Stepped;
 use wire_time::{Frame, Rate};
 
 /// An untagged frame.
@@ -129,19 +131,40 @@ fn holds<G: Gates>(alloc: Global, port: &mut Port<G>, at: u128, step: &Step<'_>)
     })
 }
 
-impl<G: Gates + Drop> Player for OnPort<G> {
+/// Plays on a port in which no frame waits.
+fn play_on<G: Gates>(
+    alloc: Global,
+    port: &mut Port<G>,
+    steps: &[(u128, Step<'_>)],
+) -> Result<(), usize> {
+    for (i, (at, step)) in steps.iter().enumerate() {
+        if *at < port.now() || holds(alloc, port, *at, step) != Some(true) {
+            return Err(i);
+        }
+    }
+    Ok(())
+}
+
+impl Player for OnPort<Stepped> {
     fn play(&self, steps: &[(u128, Step<'_>)]) -> Result<(), usize> {
         let Ok(rate) = Rate::from_mbps(1000) else {
             return Err(0);
         };
-        let Ok(mut port) = Port::<G>::new(self.alloc, rate, 1500, 1) else {
+        let Ok(mut port) = Port::<Stepped>::new(self.alloc, rate, 1500, 1) else {
             return Err(0);
         };
-        for (i, (at, step)) in steps.iter().enumerate() {
-            if *at < port.now() || holds(self.alloc, &mut port, *at, step) != Some(true) {
-                return Err(i);
-            }
-        }
-        Ok(())
+        play_on(self.alloc, &mut port, steps)
+    }
+}
+
+impl Player for OnPort<Jumping> {
+    fn play(&self, steps: &[(u128, Step<'_>)]) -> Result<(), usize> {
+        let Ok(rate) = Rate::from_mbps(1000) else {
+            return Err(0);
+        };
+        let Ok(mut port) = Port::<Jumping>::new(self.alloc, rate, 1500, 1) else {
+            return Err(0);
+        };
+        play_on(self.alloc, &mut port, steps)
     }
 }
