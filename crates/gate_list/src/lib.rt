@@ -12,8 +12,6 @@ use wire_time::CLASSES;
 pub mod laws;
 mod schedule;
 mod table;
-#[cfg(test)]
-mod tests;
 mod visits;
 
 pub use schedule::Schedule;

@@ -4,7 +4,5 @@
 pub mod laws;
 mod lines;
 mod source;
-#[cfg(test)]
-mod tests;
 
 pub use lines::{Limit, LineFault, LineReader, MAX_LINE_OCTETS, MAX_LINES};

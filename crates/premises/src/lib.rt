@@ -33,8 +33,6 @@ use wire_time::{Rate, lead_law};
 
 pub mod apart;
 pub mod scripts;
-#[cfg(test)]
-mod tests;
 
 /// The masks of a schedule have eight bits.
 fn masks_of(schedule: &Schedule)

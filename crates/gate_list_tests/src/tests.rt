@@ -1,5 +1,6 @@
 //! Worked cases: each refusal at its limit, the rows of two lists, and that a visit is counted.
-use crate::{Entry, GateFault, GateList, PlanFault, Schedule, Stay, Visits, laws};
+
+use gate_list::{Entry, GateFault, GateList, PlanFault, Schedule, Stay, Visits, laws};
 use std::process::Abort;
 use wire_time::Rate;
 

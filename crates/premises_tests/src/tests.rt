@@ -1,12 +1,14 @@
-use super::apart::separated;
-use super::scripts::answered;
-use super::*;
+//! Ports, scripts and events, by the calls that the laws speak of.
+
 use abstract_port::{Change, Command, Event};
 use class_map::ClassMap;
 use gate_list::{Entry, GateList};
+use premises::apart::separated;
+use premises::counted;
+use premises::scripts::answered;
 use script::Settings;
 use std::test::Fail;
-use wire_time::Frame;
+use wire_time::{Frame, Rate};
 
 /// A schedule of two entries with this base time, in nanoseconds, and a class to each priority from 0 to 7.
 fn command(base_ns: u64, masks: [u8; 2], intervals: [u32; 2]) -> Option<Command> {

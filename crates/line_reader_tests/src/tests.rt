@@ -1,4 +1,6 @@
-use super::*;
+//! Lines, however reads are cut, and how they end.
+
+use line_reader::{Limit, LineFault, LineReader, MAX_LINE_OCTETS};
 use std::cell::Cell;
 use std::io::{self, Read};
 use std::test::Fail;
