@@ -2,14 +2,14 @@
 use Rattle.std.proofs.Common.{◌≡◌, ◌<◌, ◌≤◌, ℕ, zero, suc, length, get_or, slice_get, min, Bool, true, false, cond, ◌&&◌, leb, ltb, List, [], ◌∷◌, Option, Some, None, MatchOption, option_map, inl, inr, refl, sym, ap, ◌∙◌, subst, arith, le_refl, lt_of_lt_of_le, le_of_lt, ◌⊎◌, Any, IfSome}
 use Rattle.std.proofs.lemmas.Bool.{lt-leb, lt-ltb, le-ltb, cases_lt, false≢true, false_from_ne_true, le-leb}
 use Rattle.std.proofs.lemmas.Option.{same_Some, slice_get-get_or}
-use Rattle.std.specs.Option.{ForSome}
+use Rattle.std.specs.Option.{ForSome, option_or}
 use Rattle.gate_list.specs.Gate.{Plan, IsSchedule, mask_since, opens}
 use Rattle.gate_list.specs.Stay.{NoneFrom}
 use Rattle.gate_list.proofs.OpenLaws.{open_at, open_from}
 use Rattle.list_config.specs.Choice.{may_start, may_go, first_choice}
 use Rattle.list_config.proofs.ChoiceLaws.{greatest_below-none}
 use Rattle.gate_list.specs.Open.{open_while}
-use Rattle.list_config.specs.History.{Accepted, pending, announced, gates, kept, mask_under, open_through, cons_some, three, is_in_time, only_if, or_else, plan_of, start_of, mask_of_plan, IsWaiting, IsAhead}
+use Rattle.list_config.specs.History.{Accepted, pending, announced, gates, kept, mask_under, open_through, cons_some, three, is_in_time, only_if, plan_of, start_of, mask_of_plan, IsWaiting, IsAhead}
 use Rattle.list_config.specs.Stretch.{mask_in, stretches_from}
 use Rattle.list_config.specs.Current.{IsCurrent, IsSteady}
 use Rattle.list_config.specs.Event.{BeginsEntry, ComesAt, IsGateEvent}
@@ -69,8 +69,8 @@ module _ (c : Commands) (s : AreCommands c) where
   module _ (m : ℕ) (l : c.moment ≤ m) (none : NoneBy c.pending c.announced m) where
     pub force_still : in_force_by c.in_force c.pending c.announced m ≡ c.in_force
     force_still =
-        ap (λ y. or_else y (or_else (only_if (λ a. leb a.change m && is_in_time a (cons_some c.announced [])) c.pending) c.in_force)) (not_yet c.announced (change_after c.announced none.1 s.announced_usable))
-        ∙ ap (λ y. or_else y c.in_force) (not_in_time c.pending c.announced none.0)
+        ap (λ y. option_or y (option_or (only_if (λ a. leb a.change m && is_in_time a (cons_some c.announced [])) c.pending) c.in_force)) (not_yet c.announced (change_after c.announced none.1 s.announced_usable))
+        ∙ ap (λ y. option_or y c.in_force) (not_in_time c.pending c.announced none.0)
       where
         not_yet : (x : Option Accepted) → ForSome x (λ a. m < a.change) → only_if (λ a. leb a.change m) x ≡ None
         not_yet None h = refl
@@ -84,7 +84,7 @@ module _ (c : Commands) (s : AreCommands c) where
         change_after x h u a is = lt_of_lt_of_le (h a is) (u a is).timely
 
     pub pending_still : pending_by c.in_force c.pending c.announced m ≡ c.pending
-    pending_still = ap (λ y. only_if (λ a. ltb m a.change) (or_else y (or_else c.pending c.in_force))) (not_led c.announced none.1) ∙ by c.pending none.0
+    pending_still = ap (λ y. only_if (λ a. ltb m a.change) (option_or y (option_or c.pending c.in_force))) (not_led c.announced none.1) ∙ by c.pending none.0
       where
         not_led : (x : Option Accepted) → ForSome x (λ a. m < a.lead) → only_if (λ a. leb a.lead m) x ≡ None
         not_led None h = refl
@@ -97,7 +97,7 @@ module _ (c : Commands) (s : AreCommands c) where
             by None b = refl
             by (Some a) b = ap (λ t. cond t (Some a) None) (le-ltb m a.change b.1)
 
-        by : (p : Option Accepted) → ForSome p (λ a. m < a.change) → only_if (λ a. ltb m a.change) (or_else p c.in_force) ≡ p
+        by : (p : Option Accepted) → ForSome p (λ a. m < a.change) → only_if (λ a. ltb m a.change) (option_or p c.in_force) ≡ p
         by None h = old_now
         by (Some a) h = ap (λ b. cond b (Some a) None) (lt-ltb m a.change (h a refl))
 
@@ -265,11 +265,11 @@ module _ (c : Commands) (s : AreCommands c) where
           elim (cases_lt m b.change) [
             | inl after ↦
                 (let pend : pending_by c.in_force p (Some b) m ≡ Some b =
-                ap (λ t. only_if (λ a. ltb m a.change) (or_else (cond t (Some b) None) (or_else p c.in_force))) (le-leb b.lead m (omega arith)) ∙ ap (λ t. cond t (Some b) None) (lt-ltb m b.change after) in
+                ap (λ t. only_if (λ a. ltb m a.change) (option_or (cond t (Some b) None) (option_or p c.in_force))) (le-leb b.lead m (omega arith)) ∙ ap (λ t. cond t (Some b) None) (lt-ltb m b.change after) in
                 inr (inl (subst (λ q. IsLedAt q m) (sym pend) at)))
             | inr now ↦
                 (let force : in_force_by c.in_force p (Some b) m ≡ Some b =
-                ap (λ t. or_else (cond t (Some b) None) (or_else (only_if (λ a. leb a.change m && is_in_time a (b ∷ [])) p) c.in_force)) (le-leb b.change m now) in
+                ap (λ t. option_or (cond t (Some b) None) (option_or (only_if (λ a. leb a.change m && is_in_time a (b ∷ [])) p) c.in_force)) (le-leb b.change m now) in
                 inl (ap start_of force ∙ (let same : b.change ≡ m = omega arith in same)))
           ]
 
@@ -287,9 +287,9 @@ module _ (c : Commands) (s : AreCommands c) where
 
           force : in_force_by c.in_force (Some a) x m ≡ Some a
           force =
-              ap (λ y. or_else y (or_else (only_if (λ k. leb k.change m && is_in_time k (cons_some x [])) (Some a)) c.in_force)) (not_yet x ahead u)
-              ∙ (ap (λ t. or_else (cond (t && is_in_time a (cons_some x [])) (Some a) None) c.in_force) (le-leb a.change m (omega arith))
-              ∙ ap (λ t. or_else (cond t (Some a) None) c.in_force) (in_time x ahead))
+              ap (λ y. option_or y (option_or (only_if (λ k. leb k.change m && is_in_time k (cons_some x [])) (Some a)) c.in_force)) (not_yet x ahead u)
+              ∙ (ap (λ t. option_or (cond (t && is_in_time a (cons_some x [])) (Some a) None) c.in_force) (le-leb a.change m (omega arith))
+              ∙ ap (λ t. option_or (cond t (Some a) None) c.in_force) (in_time x ahead))
 
       waiting : (p x : Option Accepted) → ForSome p (λ a. m ≤ a.change) → ForSome x (λ a. m < a.lead) → ForSome x IsUsable → NoneBy p x m ⊎ Moved p x
       waiting None x hp ahead u = inl (λ a is. cc, ahead)

@@ -1,10 +1,10 @@
 -- The commands that count at a moment (IEEE Std 802.1Q-2018, 8.6.9.3 List Config).
 use Rattle.std.specs.Prelude.{◌≤◌, ℕ, ◌*◌, ◌&&◌, nat_le, nat_lt, List, [], Option, Some, None, option_map}
 use denote.Bor.{Bor}
-use Rattle.std.specs.Option.{ForSome}
+use Rattle.std.specs.Option.{ForSome, option_or}
 use Rattle.wire_time.specs.Moment.{greatest_moment}
 use Rattle.gate_list.specs.Gate.{IsSchedule}
-use Rattle.list_config.specs.History.{Accepted, cons_some, only_if, or_else, is_in_time, three, IsSettled, IsRising}
+use Rattle.list_config.specs.History.{Accepted, cons_some, only_if, is_in_time, three, IsSettled, IsRising}
 use Rattle.list_config.specs.Current.{deletion_at}
 use Rattle.accepted_commands.specs.declared.command.AcceptedCommand.{AcceptedCommand}
 use Rattle.accepted_commands.specs.declared.command.AcceptedCommand.TheVariants.{Install, Delete}
@@ -50,11 +50,11 @@ pub record AreCommands (c : Commands) : Type 0 where
 
 -- the command in force at n, by those in force, pending and announced before
 abbrev pub in_force_by : Option Accepted → Option Accepted → Option Accepted → ℕ → Option Accepted
-in_force_by f p x n = or_else (only_if (λ a. nat_le a.change n) x) (or_else (only_if (λ a. nat_le a.change n && is_in_time a (cons_some x [])) p) f)
+in_force_by f p x n = option_or (only_if (λ a. nat_le a.change n) x) (option_or (only_if (λ a. nat_le a.change n && is_in_time a (cons_some x [])) p) f)
 
 -- the command that is pending at n, of those in force, pending and announced at an earlier moment
 abbrev pub pending_by : Option Accepted → Option Accepted → Option Accepted → ℕ → Option Accepted
-pending_by f p x n = only_if (λ a. nat_lt n a.change) (or_else (only_if (λ a. nat_le a.lead n) x) (or_else p f))
+pending_by f p x n = only_if (λ a. nat_lt n a.change) (option_or (only_if (λ a. nat_le a.lead n) x) (option_or p f))
 
 -- the command that is still announced at n
 abbrev pub announced_by : Option Accepted → ℕ → Option Accepted

@@ -15,7 +15,8 @@ use Rattle.capture.specs.declared.format.RecordHeader.{RecordHeader}
 use Rattle.capture.specs.declared.window.Window.{Window}
 use Rattle.capture.specs.Window.{last_given}
 use Rattle.capture.specs.Numbers.{u32_at}
-use Rattle.capture.specs.Records.{header_at, rest_after, header_fault, ok_unless, or_else, fault_with}
+use Rattle.std.specs.Option.{option_or}
+use Rattle.capture.specs.Records.{header_at, rest_after, header_fault, ok_unless, fault_with}
 use Rattle.capture.specs.Step.{Step}
 
 pub u32_at-front : (endian : Endian) (xs ys : List ℕ) → 4 ≤ length xs → u32_at endian (xs ++ ys) ≡ u32_at endian xs
@@ -69,7 +70,7 @@ is_record {A} format number octets held1 held2 held3 o1 o2 head w k1 long1 h ok 
     let took : take head.captured (drop 16 octets) ≡ take head.captured (drop 16 held2) = ap (take head.captured) inner ∙ take-append-le head.captured (drop 16 held2) b.rest room in
     let rest : rest_after format octets ≡ held3 ++ b.rest =
     ap (λ (x : RecordHeader). drop (16 + x.captured) octets) is ∙ sym (drop-drop head.captured 16 octets) ∙ ap (drop head.captured) inner ∙ drop-append-le head.captured (drop 16 held2) b.rest room ∙ ap (λ (l : List ℕ). l ++ b.rest) (sym left) in (
-      rw t1 (ap (fault_with format number (length octets)) is ∙ ap (λ (o : Option CapFault). or_else o (cond (ltb (length octets) (16 + head.captured)) (Some ShortRecord) None)) (no_fault (header_fault format number head) ok) ∙ rw t2 refl),
+      rw t1 (ap (fault_with format number (length octets)) is ∙ ap (λ (o : Option CapFault). option_or o (cond (ltb (length octets) (16 + head.captured)) (Some ShortRecord) None)) (no_fault (header_fault format number head) ok) ∙ rw t2 refl),
       sym is,
       last ∙ sym took,
       ap (prepend_known held3) b.known ∙ ap Some (sym rest),

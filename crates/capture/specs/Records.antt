@@ -1,5 +1,6 @@
 -- The records of a capture: each a header of 16 octets and the octets captured (pcap-savefile(5), the per-packet header).
 use Rattle.std.specs.Prelude.{◌≡◌, ◌≤◌, ◌<◌, ◌^◌, ℕ, ◌+◌, ◌*◌, List, length, take, drop, Option, Some, None, Result, Ok, Err, nat_lt, nat_le, if◌then◌else◌}
+use Rattle.std.specs.Option.{option_or}
 use Rattle.capture.specs.declared.fault.CapFault.{CapFault}
 use Rattle.capture.specs.declared.fault.CapFault.TheVariants.{ShortRecord, LongRecord, BadFraction, TooManyRecords}
 use Rattle.capture.specs.declared.format.Resolution.{Resolution}
@@ -59,15 +60,10 @@ abbrev pub ok_unless : Option CapFault → Result (Unit {0}) CapFault
 ok_unless None = Ok tt
 ok_unless (Some fault) = Err fault
 
--- the first fault that there is
-abbrev pub or_else : Option CapFault → Option CapFault → Option CapFault
-or_else None other = other
-or_else (Some fault) other = Some fault
-
 -- the first fault of a record with this header, of whose octets, the header's included, there are so many
 abbrev pub fault_with : Format → ℕ → ℕ → RecordHeader → Option CapFault
 fault_with format number len header =
-    or_else (header_fault format number header) (if nat_lt len (16 + header.captured) then Some ShortRecord else None)
+    option_or (header_fault format number header) (if nat_lt len (16 + header.captured) then Some ShortRecord else None)
 
 -- the first fault of the record with this number that these octets begin with
 abbrev pub fault_at : Format → ℕ → List ℕ → Option CapFault

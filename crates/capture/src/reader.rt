@@ -5,6 +5,7 @@ ghost use Rattle.std.specs.Io.KnownBytes.{Keeps, IsAtEnd, prepend_known};
 ghost use Rattle.std.specs.Io.BufRead.{Rests};
 ghost use Rattle.std.specs.Borrow.{sem};
 ghost use Rattle.capture.specs.declared.format.TheConstants.{MAX_RECORDS, MAX_RECORD_OCTETS};
+ghost use Rattle.capture.specs.declared.window.TheConstants.{ROOM};
 ghost use Rattle.capture.specs.Window.{held};
 ghost use Rattle.capture.specs.Step.{Step, is_record_fault};
 ghost use Rattle.capture.specs.Records.{fault_at, fractions_of};
@@ -45,7 +46,7 @@ fn fetch<R: Read, A: Allocator>(
     source: &mut R,
     need: usize,
 ) -> Result<bool, CapFault>
-    requires { need ≤ 262160 }
+    requires { need ≤ ROOM }
     ensures octets { Keeps (prepend_known (held window.old) (R.remaining source.old)) (prepend_known (held window.new) (R.remaining source.new)) }
     ensures enough { result ≡ Ok true → need ≤ length (held window.new) }
     ensures ended { result ≡ Ok false → (length (held window.new) < need) × IsAtEnd (R.remaining source.new) }

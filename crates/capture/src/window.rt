@@ -1,6 +1,7 @@
 //! The octets that were read and not yet given.
 
 ghost use Rattle.std.specs.Prelude.{◌≡◌, ◌≤◌, ◌+◌, ◌-◌, ◌<◌, [], length, take, drop, IfOk, OnErr, MatchResult, vec_len};
+ghost use Rattle.capture.specs.declared.window.TheConstants.{ROOM};
 ghost use Rattle.std.specs.Io.KnownBytes.{Keeps, Consumes, IsAtEnd, prepend_known};
 
 use crate::format::MAX_RECORD_OCTETS;
@@ -22,7 +23,7 @@ pub struct Window<A: Allocator = Global> {
     end: usize,
     ghost ordered: { start ≤ end },
     ghost within: { end ≤ vec_len buffer },
-    ghost room: { vec_len buffer ≡ 262160 },
+    ghost room: { vec_len buffer ≡ ROOM },
 }
 
 impl<A: Allocator> Window<A> {
@@ -92,7 +93,7 @@ impl<A: Allocator> Window<A> {
 
     /// Reads once, into all the room there is behind what is held.
     pub fn fill<R: Read>(&mut self, reader: &mut R) -> io::Result<usize>
-        requires { self.old.start + length (held self.old) < 262160 }
+        requires { self.old.start + length (held self.old) < ROOM }
         ensures octets { Keeps (prepend_known (held self.old) (R.remaining reader.old)) (prepend_known (held self.new) (R.remaining reader.new)) }
         ensures more { IfOk result (λ n. length (held self.new) ≡ length (held self.old) + n) }
         ensures ended { IfOk result (λ n. n ≡ 0 → IsAtEnd (R.remaining reader.new)) }

@@ -2,9 +2,9 @@
 use Rattle.std.proofs.Common.{◌≡◌, ◌<◌, ◌≤◌, ℕ, min, cond, ltb, ◌⊎◌, inl, inr, Option, Some, None, option_map, refl, sym, ap, ◌∙◌, subst, arith}
 use Rattle.std.proofs.lemmas.Bool.{cases_lt, lt-leb, lt-ltb, le-ltb}
 use Rattle.std.proofs.lemmas.Option.{same_Some}
-use Rattle.std.specs.Option.{ForSome}
+use Rattle.std.specs.Option.{ForSome, option_or}
 use Rattle.gate_list.specs.Gate.{Plan, IsSchedule}
-use Rattle.list_config.specs.History.{Accepted, only_if, or_else, plan_of, start_of}
+use Rattle.list_config.specs.History.{Accepted, only_if, plan_of, start_of}
 use Rattle.list_position.specs.declared.Position.{Position}
 use Rattle.list_position.proofs.PositionLaws.{placed_later}
 use Rattle.accepted_commands.specs.Commands.{Commands, AreCommands, IsUsable, settled_at, announced_by, pending_by}
@@ -90,7 +90,7 @@ decide (Some a) (Some b) t =
       | inl before ↦ elim (cases_lt t a.change) [
         | inl still ↦ inl (λ k is. subst (λ (j : Accepted). t < j.change) (same_Some a k is) still, λ k is. subst (λ (j : Accepted). t < j.lead) (same_Some b k is) before)
         | inr over ↦ inr (inr (λ f.
-            ap (λ y. only_if (λ k. ltb t k.change) (or_else (cond y (Some b) None) (Some a))) (lt-leb b.lead t before)
+            ap (λ y. only_if (λ k. ltb t k.change) (option_or (cond y (Some b) None) (Some a))) (lt-leb b.lead t before)
             ∙ ap (λ y. cond y (Some a) None) (le-ltb t a.change over)))
       ]
     ]

@@ -56,11 +56,6 @@ script_after remaining (Some ended) r = script_behind remaining (answer_of ended
 abbrev pub script_left : {R A : Type 0} → (R → Option (List ℕ)) → LineReader R A → Option Script
 script_left remaining r = script_after remaining r.ended r
 
--- what is known stays
-abbrev pub Stays : {A : Type 0} → Option A → Option A → Type 0
-Stays None new = ⊤
-Stays (Some x) new = new ≡ Some x
-
 -- a call that goes on to the next line, and then the reader's line and its number; a failed read loses nothing
 abbrev pub Advances : Option Script → Result Bool LineFault → ℕ → List ℕ → Option Script → Type 0
 Advances None r number line new = ⊤

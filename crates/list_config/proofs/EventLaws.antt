@@ -4,7 +4,8 @@ use Rattle.std.proofs.lemmas.Bool.{le-leb, lt-leb, leb-true, le-ltb, lt-ltb, le-
 use Rattle.std.proofs.lemmas.Option.{same_Some}
 use Rattle.gate_list.specs.declared.Entry.{Entry}
 use Rattle.gate_list.specs.Gate.{Plan, in_ps, prefix, mask_at, last_mask}
-use Rattle.list_config.specs.History.{Accepted, cons_some, or_else, is_in_time, in_force, only_if, latest, pending, cycle_start, is_held, planned_mask, mask_of_plan, plan_of, start_of, gates, mask_under, IsRising}
+use Rattle.std.specs.Option.{option_or}
+use Rattle.list_config.specs.History.{Accepted, cons_some, is_in_time, in_force, only_if, latest, pending, cycle_start, is_held, planned_mask, mask_of_plan, plan_of, start_of, gates, mask_under, IsRising}
 use Rattle.list_config.specs.Current.{IsSteady}
 use Rattle.list_config.specs.Event.{ComesAt, BeginsEntry, IsGateEvent}
 use Rattle.list_config.proofs.HistoryLaws.{latest_come, latest_ahead}
@@ -35,7 +36,7 @@ latest_there P (b ∷ r) n a e p =
       | inr come ↦ by (latest r n) (sym (latest_come b r n come) ∙ e) (λ is. latest_there P r n a is p)
     ]
   where
-    by : (x : Option Accepted) → or_else x (Some b) ≡ Some a → (x ≡ Some a → Any P r) → Any P (b ∷ r)
+    by : (x : Option Accepted) → option_or x (Some b) ≡ Some a → (x ≡ Some a → Any P r) → Any P (b ∷ r)
     by None e there = any_here P b r (subst P (sym (same_Some b a e)) p)
     by (Some c) e there = any_later P b r (there e)
 
@@ -63,8 +64,8 @@ force_next (a ∷ r) n =
       | inl now ↦ inl (any_here (ComesAt (n + 1)) a r (inr now))
       | inr other ↦ elim (force_next r n) [
         | inl comes ↦ inl (any_later (ComesAt (n + 1)) a r comes)
-        | inr same ↦ inr (ap (λ x. or_else x (cond (leb a.change (n + 1) && is_in_time a r) (Some a) None)) same
-            ∙ ap (λ b. or_else (in_force r n) (cond (b && is_in_time a r) (Some a) None)) (leb_next a.change n other))
+        | inr same ↦ inr (ap (λ x. option_or x (cond (leb a.change (n + 1) && is_in_time a r) (Some a) None)) same
+            ∙ ap (λ b. option_or (in_force r n) (cond (b && is_in_time a r) (Some a) None)) (leb_next a.change n other))
       ]
     ]
 
@@ -83,7 +84,7 @@ latest_next (a ∷ r) n =
     by other same =
         elim (cases_lt n a.lead) [
           | inl ahead ↦ (let far : n + 1 < a.lead = elim (cases_lt (n + 1) a.lead) [ inl l ↦ l | inr l ↦ absurd (other (omega arith)) ] in latest_ahead a r (n + 1) far ∙ (same ∙ sym (latest_ahead a r n ahead)))
-          | inr come ↦ latest_come a r (n + 1) (omega arith) ∙ (ap (λ x. or_else x (Some a)) same ∙ sym (latest_come a r n come))
+          | inr come ↦ latest_come a r (n + 1) (omega arith) ∙ (ap (λ x. option_or x (Some a)) same ∙ sym (latest_come a r n come))
         ]
 
 -- the same command is pending, or one comes
@@ -109,7 +110,7 @@ force_begun : (e : ℕ) (h : List Accepted) (n : ℕ) → IsRising e h → HasBe
 force_begun e [] n s = tt
 force_begun e (a ∷ r) n s = by (in_force r n) (force_begun a.lead r n s.2) (leb a.change n) (is_in_time a r) refl
   where
-    by : (x : Option Accepted) → HasBegun x n → (come timely : Bool) → leb a.change n ≡ come → HasBegun (or_else x (cond (come && timely) (Some a) None)) n
+    by : (x : Option Accepted) → HasBegun x n → (come timely : Bool) → leb a.change n ≡ come → HasBegun (option_or x (cond (come && timely) (Some a) None)) n
     by (Some b) begun come timely is = begun
     by None begun true true is = (s.1, leb-true a.change n is)
     by None begun true false is = tt

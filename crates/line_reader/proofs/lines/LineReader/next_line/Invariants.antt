@@ -1,8 +1,14 @@
 -- The line so far and what is to come are what was to come.
 use Rattle.line_reader.specs.declared.lines.TheConstants.{MAX_LINE_OCTETS}
-use Rattle.std.proofs.Common.{◌≡◌, ◌≤◌, ◌<◌, false, ◌-◌, vec_len}
-use Rattle.line_reader.specs.LineReader.{script_ahead, script_within, Stays}
+use Rattle.std.proofs.Common.{◌≡◌, ◌≤◌, ◌<◌, Option, None, Some, false, ◌-◌, vec_len}
+use Rattle.std.specs.Bool.{⊤}
+use Rattle.line_reader.specs.LineReader.{script_ahead, script_within}
 use Rattle.line_reader.proofs.lines.LineReader.next_line.Given as goal
+
+-- what is known stays
+abbrev pub Stays : {A : Type 0} → Option A → Option A → Type 0
+Stays None new = ⊤
+Stays (Some x) new = new ≡ Some x
 
 abbrev pub invariant-octets : goal.invariant-octets
 invariant-octets g l = record {
