@@ -1,0 +1,6 @@
+use Rattle.std.proofs.Common.{sym, ap, ◌∙◌, length}
+use Rattle.octet_store.proofs.RingLaws.{length-kept_of}
+use Rattle.octet_store.proofs.class_octets.ClassOctets.len.Goals as goal
+
+pub returns : goal.returns
+returns g c = c.len.ensures.len ∙ sym (length-kept_of c.self.inside.lengths.items c.self.inside.octets.items) ∙ ap (λ w. length w.frames) c.self.view_is

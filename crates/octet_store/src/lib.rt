@@ -1,0 +1,10 @@
+//! The octets of frames that wait in the eight queues of a port, beside the queues: first in, first out in each class.
+#![tactic(auto)]
+
+mod class_octets;
+mod store;
+
+pub use store::OctetStore;
+
+/// The most octets that are kept of one frame: those of the longest record of a capture.
+pub const MAX_OCTETS: usize = capture::MAX_RECORD_OCTETS as usize;
