@@ -4,7 +4,7 @@ use Rattle.std.specs.List.{concat}
 use Rattle.script.specs.declared.settings.BadValue.{BadValue}
 use Rattle.script.specs.declared.settings.BadValue.TheVariants as Values
 use Rattle.script.specs.declared.faults.ScriptFault.{ScriptFault}
-use Rattle.script.specs.declared.faults.ScriptFault.TheVariants.{LongLine, TooManyLines, UnknownLine, WordCount, BadNumber, ClockTooLate}
+use Rattle.script.specs.declared.faults.ScriptFault.TheVariants.{LongLine, TooManyLines, UnknownLine, FrameInReplay, WordCount, BadNumber, ClockTooLate}
 use Rattle.script.specs.declared.faults.RunFault.{RunFault}
 use Rattle.script.specs.declared.faults.RunFault.TheVariants as Faults
 
@@ -13,6 +13,7 @@ abbrev pub script_fault_name : ScriptFault → List ℕ
 script_fault_name LongLine = codes "LongLine"
 script_fault_name TooManyLines = codes "TooManyLines"
 script_fault_name UnknownLine = codes "UnknownLine"
+script_fault_name FrameInReplay = codes "FrameInReplay"
 script_fault_name WordCount = codes "WordCount"
 script_fault_name BadNumber = codes "BadNumber"
 script_fault_name ClockTooLate = codes "ClockTooLate"

@@ -23,11 +23,13 @@ pub enum ScriptFault {
     TooManyLines,
     /// Its first word is none that a script has.
     UnknownLine,
+    /// It is a frame, in a script that runs beside a capture.
+    FrameInReplay,
     /// It has too few or too many words, or a fifth word of a frame that isn't `tagged`.
     WordCount,
     /// A word is no decimal number, or one that is over its limit.
     BadNumber,
-    /// The moment of a clock line is after the greatest.
+    /// The moment of a clock line is after the greatest; beside a capture, after what its time stamps can say.
     ClockTooLate,
 }
 
@@ -89,6 +91,7 @@ fn script_fault_name(fault: ScriptFault) -> &'static [u8]
         ScriptFault::LongLine => b"LongLine",
         ScriptFault::TooManyLines => b"TooManyLines",
         ScriptFault::UnknownLine => b"UnknownLine",
+        ScriptFault::FrameInReplay => b"FrameInReplay",
         ScriptFault::WordCount => b"WordCount",
         ScriptFault::BadNumber => b"BadNumber",
         ScriptFault::ClockTooLate => b"ClockTooLate",

@@ -9,7 +9,9 @@ mod reading;
 mod running;
 mod settings;
 
+pub use answering::{RunningPort, put_all_left, put_answers, put_tc};
 pub use faults::{Ended, RunFault, ScriptFault, say_fault, say_value};
 pub use program::{Values, answer_script};
+pub use reading::{Said, read_line};
 pub use running::run_script;
 pub use settings::{BadValue, Settings};
