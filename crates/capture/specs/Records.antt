@@ -9,6 +9,7 @@ use Rattle.capture.specs.declared.format.Format.{Format}
 use Rattle.capture.specs.declared.format.RecordHeader.{RecordHeader}
 use Rattle.capture.specs.Numbers.{u32_at}
 use Rattle.capture.specs.declared.format.TheConstants.{MAX_RECORDS, MAX_RECORD_OCTETS}
+use Rattle.capture.specs.declared.writer.TheConstants.{CAPTURE_END}
 
 -- a record: when the frame came in picoseconds, how many of its octets were captured, how many it had, and those captured
 pub record Entry : Type 0 where
@@ -22,7 +23,7 @@ pub record IsWithin (e : Entry) : Type 0 where
   pub whole : length e.octets ≡ e.captured
   pub short : e.captured ≤ MAX_RECORD_OCTETS
   pub fits : e.original < 2 ^ 32
-  pub early : e.moment < 4294967296000000000000
+  pub early : e.moment < CAPTURE_END
 
 -- how many fractions a second has
 abbrev pub fractions_of : Resolution → ℕ

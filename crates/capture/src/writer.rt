@@ -5,6 +5,7 @@ ghost use Rattle.std.specs.Io.KnownBytes.{Keeps};
 ghost use Rattle.octet_writer.specs.Writes.{Writes};
 ghost use Rattle.capture.specs.Spelling.{spelled_record_header};
 ghost use Rattle.capture.specs.CaptureWriter.{written_format, written_header};
+ghost use Rattle.capture.specs.declared.writer.TheConstants.{CAPTURE_END};
 
 use crate::fault::CapFault;
 use crate::format::MAX_RECORD_OCTETS;
@@ -51,7 +52,7 @@ fn file_header() -> [u8; FILE_HEADER]
 
 #[tactic(auto, unfolding(crate::specs::Spelling::spelled_record_header))]
 fn record_header(moment: u128, captured: u32, original: u32) -> [u8; RECORD_HEADER]
-    requires { moment < 4294967296000000000000 }
+    requires { moment < CAPTURE_END }
     ensures { result ≡ spelled_record_header written_format moment captured original }
 {
     let mut header = [0u8; RECORD_HEADER];
@@ -87,7 +88,7 @@ impl CaptureWriter {
         original: u32,
         octets: &[u8],
     ) -> Result<(), CapFault>
-        requires moment { moment < 4294967296000000000000 }
+        requires moment { moment < CAPTURE_END }
         requires size { length octets.now ≤ MAX_RECORD_OCTETS }
         ensures octets { Writes result (W.contents writer.old) (W.contents writer.new) (written_record moment original octets.now) }
         ensures goes_on { OnOk result (has_failed self.new ≡ false) }
