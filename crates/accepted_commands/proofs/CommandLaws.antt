@@ -1,17 +1,13 @@
 -- The gates by the commands that count, and by where the list in force stands.
-use Rattle.std.proofs.Common.{◌≡◌, ◌<◌, ◌≤◌, ℕ, zero, suc, length, get_or, slice_get, min, Bool, true, false, cond, ◌&&◌, leb, ltb, List, [], ◌∷◌, Option, Some, None, MatchOption, option_map, inl, inr, refl, sym, ap, ◌∙◌, subst, arith, le_refl, lt_of_lt_of_le, le_of_lt, ◌⊎◌, Any, IfSome}
-use Rattle.std.proofs.lemmas.Bool.{lt-leb, lt-ltb, le-ltb, cases_lt, false≢true, false_from_ne_true, le-leb}
-use Rattle.std.proofs.lemmas.Option.{same_Some, slice_get-get_or}
+use Rattle.std.proofs.Common.{◌≡◌, ◌<◌, ◌≤◌, ℕ, min, Bool, true, cond, ◌&&◌, leb, ltb, List, [], ◌∷◌, Option, Some, None, MatchOption, option_map, inl, inr, refl, sym, ap, ◌∙◌, subst, arith, le_refl, lt_of_lt_of_le, le_of_lt, ◌⊎◌, Any, IfSome}
+use Rattle.std.proofs.lemmas.Bool.{lt-leb, lt-ltb, le-ltb, cases_lt, le-leb}
+use Rattle.std.proofs.lemmas.Option.{same_Some}
 use Rattle.std.specs.Option.{ForSome, option_or}
-use Rattle.gate_list.specs.Gate.{Plan, IsSchedule, mask_since, opens}
-use Rattle.gate_list.specs.Stay.{NoneFrom}
-use Rattle.gate_list.proofs.OpenLaws.{open_at, open_from}
-use Rattle.list_config.specs.Choice.{may_start, may_go, first_choice}
-use Rattle.list_config.proofs.ChoiceLaws.{greatest_below-none}
+use Rattle.gate_list.specs.Gate.{Plan, IsSchedule, mask_since}
 use Rattle.gate_list.specs.Open.{open_while}
 use Rattle.list_config.specs.History.{Accepted, pending, announced, gates, kept, mask_under, open_through, cons_some, three, is_in_time, only_if, plan_of, start_of, mask_of_plan, IsWaiting, IsAhead}
 use Rattle.list_config.specs.Stretch.{mask_in, stretches_from}
-use Rattle.list_config.specs.Current.{IsCurrent, IsSteady}
+use Rattle.list_config.specs.Current.{IsCurrent}
 use Rattle.list_config.specs.Event.{BeginsEntry, ComesAt, IsGateEvent}
 use Rattle.list_config.proofs.EventLaws.{any_after, any_here}
 use Rattle.list_config.proofs.HistoryLaws.{cons_some_push, push_gates, three_force, three_pending, three_announced, settled_force, settled_pending, settled_announced, settled_kept, past_three}

@@ -1,21 +1,13 @@
 -- What the command in force shows.
-use Rattle.std.proofs.Common.{◌≡◌, ◌<◌, ◌≤◌, ℕ, true, Option, Some, None, refl, sym, ap, ◌∙◌, subst}
+use Rattle.std.proofs.Common.{◌≡◌, ◌≤◌, ℕ, Option, Some, refl, sym, subst}
 use Rattle.std.specs.Option.{ForSome}
-use Rattle.gate_list.specs.Gate.{Plan, IsSchedule, last_mask, mask_since}
-use Rattle.gate_list.specs.Open.{open_while}
-use Rattle.list_config.specs.History.{Accepted, plan_of, start_of}
-use Rattle.list_config.proofs.StretchLaws.{no_plan_while}
+use Rattle.gate_list.specs.Gate.{IsSchedule, last_mask, mask_since}
+use Rattle.list_config.specs.History.{Accepted}
 use Rattle.list_position.specs.declared.Position.{Position}
 use Rattle.list_position.specs.Position.{IsPlaced, IsFlat}
 use Rattle.accepted_commands.specs.declared.command.AcceptedList.{AcceptedList}
 use Rattle.accepted_commands.specs.Commands.{IsUsable}
 use Rattle.accepted_commands.specs.Standing.{EndsSo, Stands, accepted_list, hold_for, shows_under}
-
--- with no list all classes are open
-pub no_list_while : (now pending : Option Accepted) (class n d : ℕ) → class < 8 → plan_of now ≡ None → open_while (shows_under now pending) class n d ≡ true
-no_list_while now pending class n d low none =
-    ap (λ p. open_while (mask_since p (start_of now) (hold_for p (start_of now) pending)) class n d) none
-    ∙ no_plan_while (start_of now) (hold_for None (start_of now) pending) class n d low
 
 -- the list of a command
 module _ (f : Option Accepted) (position : Option Position) (list : AcceptedList) (of : (f ≡ Some (accepted_list list)) × (position ≡ Some list.position)) where
@@ -33,9 +25,6 @@ module _ (f : Option Accepted) (position : Option Position) (list : AcceptedList
 
   pub list_stands : (pending : Option Accepted) (n : ℕ) → Stands f pending n position → IsPlaced list.schedule list.change (hold_for (Some list.schedule) list.change pending) n list.position
   list_stands pending n stands = subst (λ p. Stands (Some (accepted_list list)) pending n p) of.1 (subst (λ g. Stands g pending n position) of.0 stands)
-
-  pub list_shows : (pending : Option Accepted) (class n d : ℕ) → open_while (mask_since (Some list.schedule) list.change (hold_for (Some list.schedule) list.change pending)) class n d ≡ open_while (shows_under f pending) class n d
-  list_shows pending class n d = ap (λ g. open_while (shows_under g pending) class n d) (sym of.0)
 
   pub list_flat : (pending : Option Accepted) (n : ℕ) (until : Option ℕ) → IsFlat (mask_since (Some list.schedule) list.change (hold_for (Some list.schedule) list.change pending)) n until → IsFlat (shows_under f pending) n until
   list_flat pending n until flat = subst (λ g. IsFlat (shows_under g pending) n until) (sym of.0) flat

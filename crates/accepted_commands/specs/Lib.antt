@@ -1,2 +1,4 @@
 pub mod Commands
 pub mod Standing
+pub mod Leg
+pub mod Resume

@@ -1,125 +1,261 @@
-//! How long a class stays open, on through the commands to come.
-ghost use Rattle.std.specs.Prelude.{◌≡◌, ◌*◌, ◌-◌, ◌<◌, ◌≤◌, ◌∷◌, ◌&&◌, [], None, Some, min};
+//! The legs of the commands that count.
+ghost use Rattle.std.specs.Prelude.{◌≡◌, ◌+◌, ◌*◌, ◌<◌, ◌≤◌, ◌∷◌, [], Some, None, false};
 ghost use Rattle.std.specs.Option.{ForSome};
 ghost use Rattle.wire_time.specs.Moment.{greatest_moment};
-ghost use Rattle.gate_list.specs.Open.{open_while};
-ghost use Rattle.list_config.specs.Stretch.{mask_in, stretches_from};
-ghost use Rattle.accepted_commands.specs.Commands.{IsUsable, accepted_in, command_of};
-ghost use Rattle.accepted_commands.specs.Standing.{EndsSo, IsFirst, Stands, position_lent, shows_under};
+ghost use Rattle.list_config.specs.History.{cons_some, is_in_time, plan_of, start_of};
+ghost use Rattle.list_config.specs.Stretch.{stretches_from};
+ghost use Rattle.list_config.specs.Current.{entry_count};
+ghost use Rattle.accepted_commands.specs.Commands.{AreCommands, IsUsable, accepted_in, command_of};
+ghost use Rattle.accepted_commands.specs.Standing.{IsFirst, Stands, position_in, position_lent};
+ghost use Rattle.accepted_commands.specs.Leg.{AreReady, IsReady, from_of, until_of, stretch_of, stretch_under, stretches_ahead};
+ghost use Rattle.accepted_commands.specs.Resume.{Resumes};
 
 use crate::command::AcceptedCommand;
-use crate::under::{stays_open_later, stays_open_under};
+use crate::leg::{Leg, ListedLeg, OpenLeg, Rest};
+use crate::slots::Slots;
+use crate::under::list_in;
 use gate_list::Visits;
-use list_position::Need;
-use wire_time::CLASSES;
+use list_position::Position;
 
-/// What is needed up to a moment, in picoseconds.
-pub fn before(need: Need, moment: u128) -> Need
-    requires { need.from ≤ moment }
-    ensures { result ≡ record need { length = min need.length (moment - need.from) } }
+/// A leg and what follows it.
+#[derive(Drop)]
+pub struct Ahead<'a> {
+    /// The leg from now on.
+    pub leg: Leg<'a>,
+    /// What follows.
+    pub rest: Rest<'a>,
+}
+
+/// Where the list of a command stands, if it has one.
+fn position_of(command: Option<&AcceptedCommand>) -> Option<Position>
+    ensures { result ≡ position_lent command.entry }
 {
-    Need {
-        length: need.length.min(moment - need.from),
-        ..need
+    match list_in(command) {
+        None => None,
+        Some(list) => Some(list.position),
     }
 }
 
-/// What is needed from a moment on, in picoseconds.
-pub fn after(need: Need, moment: u128) -> Need
-    requires { need.from ≤ moment }
-    ensures { result ≡ record need { from = moment; length = need.length - (moment - need.from) } }
+/// The leg of a command from a moment on, at which its list stands there, up to another and with a change pending.
+fn leg_at<'a>(
+    command: Option<&'a AcceptedCommand>,
+    position: Option<Position>,
+    from: u128,
+    pending: Option<&AcceptedCommand>,
+    until: Option<u128>,
+) -> Leg<'a>
+    requires usable { ForSome (command_of command) IsUsable }
+    requires pending { ForSome (command_of pending) IsUsable }
+    requires stands { Stands (command_of command) (command_of pending) from position }
+    requires near { from ≤ 2 * greatest_moment }
+    ensures shows { stretch_of result ≡ stretch_under (command_of command.entry) (command_of pending.entry) until }
+    ensures from { from_of result ≡ from }
+    ensures until { until_of result ≡ until }
+    ensures ready { IsReady result }
 {
-    Need {
-        from: moment,
-        length: need.length.saturating_sub(moment - need.from),
-        ..need
-    }
+    let start = match command {
+        None => 0,
+        Some(command) => command.change(),
+    };
+    let open = OpenLeg { start, from, until };
+    let Some(list) = list_in(command) else {
+        return Leg::Open(open);
+    };
+    let Some(position) = position else {
+        return Leg::Open(open);
+    };
+    Leg::Listed(ListedLeg {
+        schedule: &list.schedule,
+        start: list.change,
+        held_from: list.held_from(pending),
+        from,
+        position,
+        until,
+    })
 }
 
-/// Whether a class stays open through the change of a command that nothing follows, by whether it does before.
-pub fn stays_open_past(open_before: bool, command: &AcceptedCommand, need: Need) -> bool
+/// The leg of a command from its change on, up to another and with a change pending.
+fn leg_from_change<'a>(
+    command: &'a AcceptedCommand,
+    pending: Option<&AcceptedCommand>,
+    until: Option<u128>,
+) -> Leg<'a>
     requires usable { IsUsable (accepted_in command.now) }
     requires first { IsFirst command.now }
-    requires class { need.class < CLASSES }
-    requires before { need.from ≤ (accepted_in command.now).change }
-    requires within { need.length ≤ greatest_moment }
-    ensures { result ≡ (open_before && open_while (shows_under (Some (accepted_in command.now)) None) need.class (accepted_in command.now).change (need.length - ((accepted_in command.now).change - need.from))) }
+    requires pending { ForSome (command_of pending) IsUsable }
+    ensures shows { stretch_of result ≡ stretch_under (Some (accepted_in command.now)) (command_of pending.entry) until }
+    ensures from { from_of result ≡ (accepted_in command.now).change }
+    ensures until { until_of result ≡ until }
+    ensures ready { IsReady result }
 {
-    let need = after(need, command.change());
-    open_before && stays_open_under(Some(command), None, need)
+    let position = position_of(Some(command));
+    leg_at(Some(command), position, command.change(), pending, until)
 }
 
-/// Whether a class stays open, where this command comes into force next and nothing follows it.
-pub fn stays_open_to(
-    in_force: Option<&AcceptedCommand>,
-    command: &AcceptedCommand,
-    need: Need,
-) -> bool
+/// The leg of the command in force, where nothing follows it.
+fn alone<'a>(in_force: Option<&'a AcceptedCommand>, moment: u128) -> Ahead<'a>
+    requires usable { ForSome (command_of in_force) IsUsable }
+    requires stands { Stands (command_of in_force) None moment (position_lent in_force) }
+    requires near { moment ≤ 2 * greatest_moment }
+    ensures shows { stretches_ahead result.leg result.rest ≡ stretches_from (command_of in_force.entry) [] }
+    ensures from { from_of result.leg ≡ moment }
+    ensures ready { AreReady result.leg result.rest }
+{
+    Ahead {
+        leg: leg_at(in_force, position_of(in_force), moment, None, None),
+        rest: Rest {
+            next: None,
+            last: None,
+        },
+    }
+}
+
+/// The legs of the command in force and of one that follows it.
+fn into_change<'a>(
+    in_force: Option<&'a AcceptedCommand>,
+    moment: u128,
+    command: &'a AcceptedCommand,
+) -> Ahead<'a>
     requires usable { ForSome (command_of in_force) IsUsable }
     requires command { IsUsable (accepted_in command.now) }
     requires first { IsFirst command.now }
-    requires stands { Stands (command_of in_force) (Some (accepted_in command.now)) need.from (position_lent in_force) }
-    requires class { need.class < CLASSES }
-    requires before { need.from ≤ (accepted_in command.now).change }
-    requires within { need.length ≤ greatest_moment }
-    ensures { result ≡ open_while (mask_in (stretches_from (command_of in_force.entry) (accepted_in command.now ∷ []))) need.class need.from need.length }
+    requires stands { Stands (command_of in_force) (Some (accepted_in command.now)) moment (position_lent in_force) }
+    requires near { moment ≤ (accepted_in command.now).change }
+    ensures shows { stretches_ahead result.leg result.rest ≡ stretches_from (command_of in_force.entry) (accepted_in command.now ∷ []) }
+    ensures from { from_of result.leg ≡ moment }
+    ensures ready { AreReady result.leg result.rest }
 {
-    let open_before = stays_open_under(in_force, Some(command), before(need, command.change()));
-    stays_open_past(open_before, command, need)
+    Ahead {
+        leg: leg_at(
+            in_force,
+            position_of(in_force),
+            moment,
+            Some(command),
+            Some(command.change()),
+        ),
+        rest: Rest {
+            next: Some(leg_from_change(command, None, None)),
+            last: None,
+        },
+    }
 }
 
-/// Whether a class stays open, where the command in force stands there only later and this command comes into force next.
-fn stays_open_later_to(
-    in_force: Option<&AcceptedCommand>,
-    command: &AcceptedCommand,
-    need: Need,
-    visits: &mut Visits,
-) -> bool
+/// The legs of the command in force, of the one that is pending and is in time, and of the one that is announced.
+fn through_change<'a>(
+    in_force: Option<&'a AcceptedCommand>,
+    moment: u128,
+    pending: &'a AcceptedCommand,
+    announced: &'a AcceptedCommand,
+) -> Ahead<'a>
     requires usable { ForSome (command_of in_force) IsUsable }
-    requires ends { EndsSo (command_of in_force) (position_lent in_force) }
-    requires begun { ForSome (command_of in_force) (λ a. a.change ≤ need.from) }
-    requires command { IsUsable (accepted_in command.now) }
-    requires first { IsFirst command.now }
-    requires class { need.class < CLASSES }
-    requires before { need.from ≤ (accepted_in command.now).change }
-    requires within { need.length ≤ greatest_moment }
-    ensures stays { result ≡ open_while (mask_in (stretches_from (command_of in_force.entry) (accepted_in command.now ∷ []))) need.class need.from need.length }
-    ensures counted { visits.old ≤ visits.new }
-{
-    let open_before = stays_open_later(in_force, command, before(need, command.change()), visits);
-    stays_open_past(open_before, command, need)
-}
-
-/// Whether a class stays open, where one command is pending and another is announced.
-pub fn stays_open_through(
-    in_force: Option<&AcceptedCommand>,
-    pending: &AcceptedCommand,
-    announced: &AcceptedCommand,
-    need: Need,
-    visits: &mut Visits,
-) -> bool
-    requires usable { ForSome (command_of in_force) IsUsable }
-    requires ends { EndsSo (command_of in_force) (position_lent in_force) }
-    requires begun { ForSome (command_of in_force) (λ a. a.change ≤ need.from) }
     requires pending { IsUsable (accepted_in pending.now) }
     requires next { IsFirst pending.now }
     requires announced { IsUsable (accepted_in announced.now) }
     requires last { IsFirst announced.now }
-    requires stands { Stands (command_of in_force) (Some (accepted_in pending.now)) need.from (position_lent in_force) }
-    requires class { need.class < CLASSES }
-    requires before { need.from ≤ min (accepted_in pending.now).change (accepted_in announced.now).lead }
-    requires within { need.length ≤ greatest_moment }
-    ensures stays { result ≡ open_while (mask_in (stretches_from (command_of in_force.entry) (accepted_in pending.now ∷ accepted_in announced.now ∷ []))) need.class need.from need.length }
-    ensures counted { visits.old ≤ visits.new }
+    requires stands { Stands (command_of in_force) (Some (accepted_in pending.now)) moment (position_lent in_force) }
+    requires near { moment ≤ (accepted_in pending.now).change }
+    requires timely { (accepted_in pending.now).change ≤ (accepted_in announced.now).lead }
+    ensures shows { stretches_ahead result.leg result.rest ≡ stretches_from (command_of in_force.entry) (accepted_in pending.now ∷ accepted_in announced.now ∷ []) }
+    ensures from { from_of result.leg ≡ moment }
+    ensures ready { AreReady result.leg result.rest }
 {
-    let until = pending.change().min(announced.lead());
-    if !stays_open_under(in_force, Some(pending), before(need, until)) {
-        return false;
+    Ahead {
+        leg: leg_at(
+            in_force,
+            position_of(in_force),
+            moment,
+            Some(pending),
+            Some(pending.change()),
+        ),
+        rest: Rest {
+            next: Some(leg_from_change(pending, Some(announced), Some(announced.change()))),
+            last: Some(leg_from_change(announced, None, None)),
+        },
     }
-    let rest = after(need, until);
+}
+
+/// The legs of the command in force, with one pending that is replaced by the one that is announced: the list goes on at the
+/// lead moment where `resumed` says.
+fn through_lead<'a>(
+    in_force: Option<&'a AcceptedCommand>,
+    moment: u128,
+    pending: &AcceptedCommand,
+    announced: &'a AcceptedCommand,
+    resumed: Option<Position>,
+) -> Ahead<'a>
+    requires usable { ForSome (command_of in_force) IsUsable }
+    requires pending { IsUsable (accepted_in pending.now) }
+    requires announced { IsUsable (accepted_in announced.now) }
+    requires last { IsFirst announced.now }
+    requires stands { Stands (command_of in_force) (Some (accepted_in pending.now)) moment (position_lent in_force) }
+    requires resumes { Stands (command_of in_force) (Some (accepted_in announced.now)) (accepted_in announced.now).lead resumed }
+    requires near { moment ≤ (accepted_in announced.now).lead }
+    requires late { (accepted_in announced.now).lead < (accepted_in pending.now).change }
+    ensures shows { stretches_ahead result.leg result.rest ≡ stretches_from (command_of in_force.entry) (accepted_in pending.now ∷ accepted_in announced.now ∷ []) }
+    ensures from { from_of result.leg ≡ moment }
+    ensures ready { AreReady result.leg result.rest }
+{
+    let lead = announced.lead();
+    Ahead {
+        leg: leg_at(
+            in_force,
+            position_of(in_force),
+            moment,
+            Some(pending),
+            Some(lead),
+        ),
+        rest: Rest {
+            next: Some(leg_at(
+                in_force,
+                resumed,
+                lead,
+                Some(announced),
+                Some(announced.change()),
+            )),
+            last: Some(leg_from_change(announced, None, None)),
+        },
+    }
+}
+
+/// Where the list in force goes on at the lead moment of the command that is announced, where it replaces a pending one.
+pub fn resumed(slots: &Slots, visits: &mut Visits) -> Option<Position>
+    requires { AreCommands slots.now.commands }
+    ensures resumes { Resumes slots.now.commands result }
+    ensures counted { visits.old ≤ visits.new }
+    ensures visits { visits.new ≤ visits.old + (entry_count (plan_of slots.now.commands.in_force) + 1) }
+{
+    let pending = slots.pending()?;
+    let announced = slots.announced()?;
     if pending.change() <= announced.lead() {
-        stays_open_to(Some(pending), announced, rest)
-    } else {
-        stays_open_later_to(in_force, announced, rest, visits)
+        return None;
+    }
+    let list = list_in(slots.in_force())?;
+    Some(list.position_at(Some(announced), announced.lead(), visits))
+}
+
+/// The legs of the commands that count.
+pub fn legs_ahead<'a>(slots: &'a Slots, resumed: Option<Position>) -> Ahead<'a>
+    requires sound { AreCommands slots.now.commands }
+    requires stands { Stands slots.now.commands.in_force slots.now.commands.pending slots.now.commands.moment slots.now.position }
+    requires resumes { Resumes slots.now.commands resumed }
+    ensures shows { stretches_ahead result.leg result.rest ≡ stretches_from slots.now.commands.in_force (cons_some slots.now.commands.pending (cons_some slots.now.commands.announced [])) }
+    ensures from { from_of result.leg ≡ slots.now.commands.moment }
+    ensures ready { AreReady result.leg result.rest }
+{
+    let in_force = slots.in_force();
+    let moment = slots.moment();
+    match slots.pending() {
+        None => match slots.announced() {
+            None => alone(in_force, moment),
+            Some(announced) => into_change(in_force, moment, announced),
+        },
+        Some(pending) => match slots.announced() {
+            None => into_change(in_force, moment, pending),
+            Some(announced) => if pending.change() <= announced.lead() {
+                through_change(in_force, moment, pending, announced)
+            } else {
+                through_lead(in_force, moment, pending, announced, resumed)
+            },
+        },
     }
 }

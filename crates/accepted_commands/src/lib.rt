@@ -5,11 +5,13 @@
 mod ahead;
 mod command;
 mod edge;
+mod leg;
 mod slots;
 mod under;
 
-pub use ahead::{after, before, stays_open_past, stays_open_through, stays_open_to};
+pub use ahead::{Ahead, legs_ahead, resumed};
 pub use command::{AcceptedCommand, AcceptedList, installed};
 pub use edge::{edge_of, lead_moment};
+pub use leg::{Leg, ListedLeg, OpenLeg, Rest, copied};
 pub use slots::Slots;
-pub use under::{list_in, mask_under, stays_open_under, until_under};
+pub use under::{list_in, mask_under, until_under};

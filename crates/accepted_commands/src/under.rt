@@ -77,25 +77,6 @@ impl AcceptedList {
         self.position
             .on(&self.schedule, self.held_from(pending), t, visits)
     }
-
-    /// Whether a class stays open in a list that stands there, with this change pending.
-    pub fn stays_open(
-        &self,
-        position: &Position,
-        pending: Option<&AcceptedCommand>,
-        need: Need,
-    ) -> bool
-        requires sound { IsSchedule self.now.schedule }
-        requires start { self.now.change ≤ 2 * greatest_moment }
-        requires usable { ForSome (command_of pending) IsUsable }
-        requires placed { IsPlaced self.now.schedule self.now.change (hold_for (Some self.now.schedule) self.now.change (command_of pending)) need.from position.now }
-        requires class { need.class < CLASSES }
-        requires moment { need.from ≤ 2 * greatest_moment }
-        requires within { need.length ≤ greatest_moment }
-        ensures { result ≡ open_while (mask_since (Some self.now.schedule) self.now.change (hold_for (Some self.now.schedule) self.now.change (command_of pending.entry))) need.class need.from need.length }
-    {
-        position.stays_open(self.held_from(pending), need)
-    }
 }
 
 impl AcceptedCommand {
@@ -185,51 +166,5 @@ pub fn mask_under(in_force: Option<&AcceptedCommand>) -> u8
     match list_in(in_force) {
         None => u8::MAX,
         Some(list) => list.position.walk.mask(),
-    }
-}
-
-/// Whether a class stays open by the command in force, with this change pending.
-pub fn stays_open_under(
-    in_force: Option<&AcceptedCommand>,
-    pending: Option<&AcceptedCommand>,
-    need: Need,
-) -> bool
-    requires usable { ForSome (command_of in_force) IsUsable }
-    requires pending { ForSome (command_of pending) IsUsable }
-    requires stands { Stands (command_of in_force) (command_of pending) need.from (position_lent in_force) }
-    requires class { need.class < CLASSES }
-    requires moment { need.from ≤ 2 * greatest_moment }
-    requires within { need.length ≤ greatest_moment }
-    ensures { result ≡ open_while (shows_under (command_of in_force.entry) (command_of pending.entry)) need.class need.from need.length }
-{
-    match list_in(in_force) {
-        None => true,
-        Some(list) => list.stays_open(&list.position, pending, need),
-    }
-}
-
-/// Whether a class stays open by the command in force from a later moment on, with a change pending by then.
-pub fn stays_open_later(
-    in_force: Option<&AcceptedCommand>,
-    pending: &AcceptedCommand,
-    need: Need,
-    visits: &mut Visits,
-) -> bool
-    requires usable { ForSome (command_of in_force) IsUsable }
-    requires pending { IsUsable (accepted_in pending.now) }
-    requires masked { EndsSo (command_of in_force) (position_lent in_force) }
-    requires begun { ForSome (command_of in_force) (λ a. a.change ≤ need.from) }
-    requires class { need.class < CLASSES }
-    requires moment { need.from ≤ 2 * greatest_moment }
-    requires within { need.length ≤ greatest_moment }
-    ensures stays { result ≡ open_while (shows_under (command_of in_force.entry) (Some (accepted_in pending.now))) need.class need.from need.length }
-    ensures counted { visits.old ≤ visits.new }
-{
-    match list_in(in_force) {
-        None => true,
-        Some(list) => {
-            let position = list.position_at(Some(pending), need.from, visits);
-            list.stays_open(&position, Some(pending), need)
-        }
     }
 }

@@ -1,49 +1,19 @@
--- How long a class is open, through legs.
-use Rattle.std.proofs.Common.{◌≡◌, ◌<◌, ◌≤◌, ℕ, ◌-◌, min, Bool, true, false, ◌&&◌, List, ◌∷◌, Option, Some, None, inl, inr, refl, sym, ap, ◌∙◌, subst, arith, le_refl}
+-- Searches through legs.
+use Rattle.std.proofs.Common.{◌≡◌, ◌<◌, ◌≤◌, ℕ, min, List, ◌∷◌, Option, Some, None, inl, inr, refl, sym, ap, ◌∙◌, subst, arith, le_refl}
 use Rattle.std.proofs.lemmas.Bool.{cases_lt, le-leb}
 use Rattle.std.specs.Option.{ForSome}
 use Rattle.gate_list.specs.Gate.{has_come}
-use Rattle.gate_list.specs.Open.{open_while}
 use Rattle.list_config.specs.Stretch.{Stretch, mask_of, mask_in}
-use Rattle.list_position.specs.declared.Need.{Need}
 use Rattle.list_position.specs.Position.{IsFlat}
-use Rattle.jumping.specs.declared.leg.Leg.{Leg}
-use Rattle.jumping.specs.declared.leg.Leg.TheVariants.{Listed, Open}
-use Rattle.jumping.specs.declared.leg.OpenLeg.{OpenLeg}
-use Rattle.jumping.specs.declared.leg.Rest.{Rest}
-use Rattle.jumping.specs.Leg.{from_of, until_of, stretch_of, stretches_in, stretches_ahead}
+use Rattle.accepted_commands.specs.declared.leg.Leg.{Leg}
+use Rattle.accepted_commands.specs.declared.leg.Leg.TheVariants.{Open}
+use Rattle.accepted_commands.specs.declared.leg.OpenLeg.{OpenLeg}
+use Rattle.accepted_commands.specs.declared.leg.Rest.{Rest}
+use Rattle.accepted_commands.specs.Leg.{from_of, until_of, stretch_of, stretches_in, stretches_ahead}
+use Rattle.accepted_commands.proofs.LegLaws.{until_is}
 use Rattle.jumping.specs.Search.{NoneFits, Searched}
 use Rattle.jumping.proofs.SearchLaws.{searched_join, searched_over}
-use Rattle.jumping.proofs.RepeatLaws.{not_yet, shows_own, endless_while, ended_while}
-
-pub until_is : (leg : Leg) → (stretch_of leg).until ≡ until_of leg
-until_is (Listed leg) = refl
-until_is (Open leg) = refl
-
--- the last leg
-pub open_last : (leg : Leg) (rest : List Stretch) (need : Need) (a : Bool) → until_of leg ≡ None → a ≡ open_while (mask_of (stretch_of leg)) need.class need.from need.length → a ≡ open_while (mask_in (stretch_of leg ∷ rest)) need.class need.from need.length
-open_last leg rest need a endless is =
-    is ∙ sym (endless_while (stretch_of leg) rest need.class need.from need.length (until_is leg ∙ endless))
-
--- a leg and what follows it from u on
-module _ (leg : Leg) (rest : List Stretch) (need : Need) (u : ℕ) (ends : until_of leg ≡ Some u) (l : need.from ≤ u) where
-  parts : open_while (mask_in (stretch_of leg ∷ rest)) need.class need.from need.length ≡ (open_while (mask_of (stretch_of leg)) need.class need.from (min need.length (u - need.from)) && open_while (mask_in rest) need.class u (need.length - (u - need.from)))
-  parts = ended_while (stretch_of leg) rest need.class need.from u need.length (until_is leg ∙ ends) l
-
-  pub open_through : (v : ℕ) → v ≡ u → (first : Need) → first ≡ record need { length = min need.length (v - need.from) } → (a : Bool) → a ≡ open_while (mask_of (stretch_of leg)) first.class first.from first.length → a ≡ true → (w : ℕ) → w ≡ u → (then : Need) → then ≡ record need { from = w; length = need.length - (w - need.from) } → (b : Bool) → b ≡ open_while (mask_in rest) then.class then.from then.length → b ≡ open_while (mask_in (stretch_of leg ∷ rest)) need.class need.from need.length
-  open_through v at first first_is a is on w at_then then then_is b b_is =
-      ap (λ x. x && b) (sym on)
-      ∙ (ap (λ x. x && b) (is ∙ (ap (λ (k : Need). open_while (mask_of (stretch_of leg)) k.class k.from k.length) first_is ∙ ap (λ m. open_while (mask_of (stretch_of leg)) need.class need.from (min need.length (m - need.from))) at))
-      ∙ (ap (λ x. open_while (mask_of (stretch_of leg)) need.class need.from (min need.length (u - need.from)) && x) (b_is ∙ (ap (λ (k : Need). open_while (mask_in rest) k.class k.from k.length) then_is ∙ ap (λ m. open_while (mask_in rest) need.class m (need.length - (m - need.from))) at_then))
-      ∙ sym parts))
-
-  pub shut_before : (v : ℕ) → v ≡ u → (first : Need) → first ≡ record need { length = min need.length (v - need.from) } → (a : Bool) → a ≡ open_while (mask_of (stretch_of leg)) first.class first.from first.length → a ≡ false → a ≡ open_while (mask_in (stretch_of leg ∷ rest)) need.class need.from need.length
-  shut_before v at first first_is a is off =
-      let b : Bool = open_while (mask_in rest) need.class u (need.length - (u - need.from)) in
-      off
-      ∙ (ap (λ x. x && b) (sym off)
-      ∙ (ap (λ x. x && b) (is ∙ (ap (λ (k : Need). open_while (mask_of (stretch_of leg)) k.class k.from k.length) first_is ∙ ap (λ m. open_while (mask_of (stretch_of leg)) need.class need.from (min need.length (m - need.from))) at))
-      ∙ sym parts))
+use Rattle.jumping.proofs.RepeatLaws.{not_yet, shows_own}
 
 -- a leg that shows one mask
 pub flat_leg : (leg : Leg) (rest : Rest) (stop : ℕ) → from_of leg < stop → ForSome (until_of leg) (λ u. stop ≤ u) → IsFlat (mask_of (stretch_of leg)) (from_of leg) None → (n : ℕ) → from_of leg ≤ n → n < stop → mask_in (stretches_ahead leg rest) n ≡ mask_in (stretches_ahead leg rest) (from_of leg)

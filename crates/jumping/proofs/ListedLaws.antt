@@ -10,11 +10,11 @@ use Rattle.list_execute.specs.Walk.{end_of}
 use Rattle.list_position.specs.declared.Position.{Position}
 use Rattle.list_position.specs.Position.{IsPlaced, IsFlat, Shows, boundary_in}
 use Rattle.list_position.proofs.PositionLaws.{placed_hold, flat_min, flat_cycle}
-use Rattle.jumping.specs.declared.leg.Leg.{Leg}
-use Rattle.jumping.specs.declared.leg.Leg.TheVariants.{Listed}
-use Rattle.jumping.specs.declared.leg.ListedLeg.{ListedLeg}
-use Rattle.jumping.specs.declared.leg.Rest.{Rest}
-use Rattle.jumping.specs.Leg.{AreReady, DoFollow, from_of, stretch_of, stretches_in, stretches_ahead}
+use Rattle.accepted_commands.specs.declared.leg.Leg.TheVariants.{Listed}
+use Rattle.accepted_commands.specs.declared.leg.ListedLeg.{ListedLeg}
+use Rattle.accepted_commands.specs.declared.leg.Rest.{Rest}
+use Rattle.accepted_commands.specs.Leg.{AreReady, stretch_of, stretches_in, stretches_ahead}
+use Rattle.accepted_commands.proofs.LegLaws.{ready_later}
 use Rattle.jumping.specs.Search.{NoneFits}
 use Rattle.jumping.proofs.RepeatLaws.{not_yet, shows_own, stretch_repeats}
 use Rattle.jumping.proofs.SearchLaws.{fits_flat}
@@ -23,19 +23,6 @@ use Rattle.jumping.proofs.SearchLaws.{fits_flat}
 pub end_there : (c : ℕ) (ends : Option ℕ) → boundary_in c ends < c → ends ≡ Some (boundary_in c ends)
 end_there c None l = absurd (omega arith)
 end_there c (Some e) l = ap Some (omega arith)
-
--- a list that stands elsewhere later
-pub ready_later : (leg : ListedLeg) (rest : Rest) (m : ℕ) (position : Position) → AreReady (Listed leg) rest → IsPlaced leg.schedule.now leg.start leg.held_from m position → m ≤ 2 * greatest_moment → ForSome leg.until (λ u. m ≤ u) → AreReady (Listed (record leg { from = m; position = position })) rest
-ready_later leg rest m position ready placed near before = record {
-  first = record { stands = (((ready.first).stands).0, placed); near = near };
-  follows = by rest.next ready.follows;
-  then = ready.then;
-  ends = ready.ends;
-}
-  where
-    by : (next : Option Leg) → DoFollow (Listed leg) next → DoFollow (Listed (record leg { from = m; position = position })) next
-    by None f = f
-    by (Some next) f = (f.0, before (from_of next) f.0, f.2)
 
 module _ (leg : ListedLeg) (rest : Rest) (ready : AreReady (Listed leg) rest) (stop : ℕ) (some : leg.from < stop) (unheld : ForSome leg.held_from (λ h. stop ≤ h)) (unended : ForSome leg.until (λ u. stop ≤ u)) where
   abbrev plan : Plan

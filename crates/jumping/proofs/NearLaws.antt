@@ -1,5 +1,5 @@
 -- What stays the same up to the next edge.
-use Rattle.std.proofs.Common.{◌≡◌, ◌<◌, ◌≤◌, ℕ, min, cond, ltb, ◌⊎◌, inl, inr, Option, Some, None, option_map, refl, sym, ap, ◌∙◌, subst, arith}
+use Rattle.std.proofs.Common.{◌≡◌, ◌<◌, ◌≤◌, ℕ, min, cond, ltb, Bool, true, IsTrue, ◌⊎◌, inl, inr, Option, Some, None, option_map, refl, sym, ap, ◌∙◌, subst, arith}
 use Rattle.std.proofs.lemmas.Bool.{cases_lt, lt-leb, lt-ltb, le-ltb}
 use Rattle.std.proofs.lemmas.Option.{same_Some}
 use Rattle.std.specs.Option.{ForSome, option_or}
@@ -7,9 +7,10 @@ use Rattle.gate_list.specs.Gate.{Plan, IsSchedule}
 use Rattle.list_config.specs.History.{Accepted, only_if, plan_of, start_of}
 use Rattle.list_position.specs.declared.Position.{Position}
 use Rattle.list_position.proofs.PositionLaws.{placed_later}
-use Rattle.accepted_commands.specs.Commands.{Commands, AreCommands, IsUsable, settled_at, announced_by, pending_by}
+use Rattle.accepted_commands.specs.Commands.{Commands, AreCommands, IsUsable, history_of, settled_at, announced_by, pending_by}
 use Rattle.accepted_commands.specs.Standing.{Stands, StandsUnder, boundary_in_force, boundary_under, earlier, edge_at, hold_for}
-use Rattle.jumping.specs.Resume.{Resumes, ResumesBy}
+use Rattle.accepted_commands.specs.Resume.{Resumes, ResumesBy}
+use Rattle.jumping.specs.Edge.{IsEdge, NothingComes}
 use Rattle.accepted_commands.proofs.CommandLaws.{NoneBy, force_still, pending_still}
 
 -- what is before the earlier of two moments is before both
@@ -103,4 +104,15 @@ resumes_settled c s r t l h =
         | inl led ↦ subst (λ x. ResumesBy (settled_at c t).in_force (settled_at c t).pending x r) (sym led) (none_announced (settled_at c t).in_force (settled_at c t).pending r)
         | inr over ↦ subst (λ p. ResumesBy (settled_at c t).in_force p (settled_at c t).announced r) (sym (over c.in_force)) tt
       ]
+    ]
+
+-- ---- what comes next
+
+-- where nothing comes by t, the edge is later
+pub edge_ahead : (c : Commands) (position : Option Position) (edge : Option ℕ) (t : ℕ) → IsEdge c position edge → NothingComes (history_of c) c.moment t → (near : Bool) → (ForSome edge (λ u. t < u) → IsTrue near) → near ≡ true
+edge_ahead c position None t is nothing near soon = soon (λ u none. cc)
+edge_ahead c position (Some e) t is nothing near soon =
+    elim (cases_lt t e) [
+      | inl before ↦ soon (λ u same. subst (λ k. t < k) (same_Some e u same) before)
+      | inr come ↦ absurd (nothing e (is.later e refl) come is.event)
     ]

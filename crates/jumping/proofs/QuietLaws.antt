@@ -10,9 +10,10 @@ use Rattle.list_config.specs.Stretch.{Stretch, mask_in, stretches_from}
 use Rattle.list_config.proofs.ChoiceLaws.{greatest_below-none, greatest_below-some}
 use Rattle.list_config.proofs.HistoryLaws.{settled_force, settled_pending, settled_announced, past_three}
 use Rattle.list_config.proofs.StretchLaws.{stretches_gates}
-use Rattle.accepted_commands.specs.Commands.{Commands, AreCommands, history_of}
-use Rattle.jumping.specs.Leg.{most_in}
-use Rattle.jumping.specs.Search.{NoneFits, Fits, Searched}
+use Rattle.list_config.proofs.LongestLaws.{longest-kept}
+use Rattle.accepted_commands.specs.Commands.{Commands, AreCommands, history_of, settled_at}
+use Rattle.accepted_commands.proofs.CommandLaws.{settled_history}
+use Rattle.jumping.specs.Search.{NoneFits, Fits, Searched, most_in}
 
 -- masks that agree from a moment on
 pub searched_same : (f g : ℕ → ℕ) (needs : List (Option ℕ)) (t stop : ℕ) (r : Option ℕ) → ((n : ℕ) → t ≤ n → f n ≡ g n) → Searched g needs t stop r → Searched f needs t stop r
@@ -54,9 +55,14 @@ some_choice h needs u eight at =
     greatest_below-some 8 (may_go h u needs) at.class (let l = slice_get_within needs at.class (Some at.need) at.there in omega arith)
     (ap (may_start h u at.class) (get_or_from_slice_get needs at.class (Some at.need) None at.there) ∙ at.through)
 
+-- the list in force is at most so long
+pub most_in_force : (f p x : Option Accepted) → entry_count (plan_of f) ≤ longest (three f p x)
+most_in_force None p x = omega arith
+most_in_force (Some f) p x = omega arith
+
 -- three stretches of lists that are at most so long
 pub most_ahead : (f p x : Option Accepted) → most_in (stretches_from f (cons_some p (cons_some x []))) ≤ 12 * (longest (three f p x) + 1)
-most_ahead f p x = by p x (in_force f p x) (in_pending f p x) (in_announced f p x)
+most_ahead f p x = by p x (most_in_force f p x) (in_pending f p x) (in_announced f p x)
   where
     in_announced : (f p x : Option Accepted) → entry_count (plan_of x) ≤ longest (three f p x)
     in_announced None None None = omega arith
@@ -73,10 +79,6 @@ most_ahead f p x = by p x (in_force f p x) (in_pending f p x) (in_announced f p 
     in_pending None (Some p) x = omega arith
     in_pending (Some f) None x = omega arith
     in_pending (Some f) (Some p) x = omega arith
-
-    in_force : (f p x : Option Accepted) → entry_count (plan_of f) ≤ longest (three f p x)
-    in_force None p x = omega arith
-    in_force (Some f) p x = omega arith
 
     by : (p x : Option Accepted) → entry_count (plan_of f) ≤ longest (three f p x) → entry_count (plan_of p) ≤ longest (three f p x) → entry_count (plan_of x) ≤ longest (three f p x) → most_in (stretches_from f (cons_some p (cons_some x []))) ≤ 12 * (longest (three f p x) + 1)
     by None None a b d = omega arith
@@ -108,3 +110,13 @@ module _ (c : Commands) (s : AreCommands c) (v : Clocked) (view : record { histo
       let most = most_ahead c.in_force c.pending c.announced in
       let seen = ap (λ (w : Clocked). longest w.history) view in
       omega (arith, l, same, most, seen)
+
+-- the visits of placing the list that is in force later are few
+pub few_placed : (c : Commands) → AreCommands c → (v : Clocked) → record { history = history_of c; moment = c.moment } ≡ v → (t : ℕ) → c.moment ≤ t → (old new : ℕ) → new ≤ old + (entry_count (plan_of (settled_at c t).in_force) + 1) → new ≤ old + 2 * (longest v.history + 1)
+few_placed c s v view t l old new few =
+    let later = settled_at c t in
+    let most = most_in_force later.in_force later.pending later.announced in
+    let same = ap longest (settled_history c s t l) in
+    let less = longest-kept (history_of c) t in
+    let seen = ap (λ (w : Clocked). longest w.history) view in
+    omega (arith, few, most, same, less, seen)

@@ -1,12 +1,10 @@
 -- What a stretch shows before it is over, and that its list repeats.
-use Rattle.std.proofs.Common.{◌≡◌, ◌<◌, ◌≤◌, ℕ, ◌+◌, ◌-◌, ◌%◌, min, false, cond, ◌&&◌, List, ◌∷◌, Option, Some, None, refl, sym, ap, ◌∙◌, subst, arith}
+use Rattle.std.proofs.Common.{◌≡◌, ◌<◌, ◌≤◌, ℕ, ◌+◌, ◌-◌, ◌%◌, false, cond, List, ◌∷◌, Option, Some, None, refl, sym, ap, ◌∙◌, arith}
 use Rattle.std.proofs.Math.Nat.{add-mod_left}
 use Rattle.std.proofs.lemmas.Bool.{lt-leb, leb-false}
 use Rattle.std.specs.Option.{ForSome}
 use Rattle.gate_list.specs.Gate.{Plan, in_ps, mask_at, last_mask, has_come, mask_since}
-use Rattle.gate_list.specs.Open.{open_while}
 use Rattle.list_config.specs.Stretch.{Stretch, mask_of, mask_in}
-use Rattle.list_config.proofs.StretchLaws.{IsBy, first_while, stretch_parts}
 
 -- a moment that hasn't come later hasn't come before
 pub not_before : (t : Option ℕ) (m n : ℕ) → m ≤ n → has_come t n ≡ false → has_come t m ≡ false
@@ -44,14 +42,3 @@ stretch_repeats s rest plan m is l on unheld =
     ∙ (plan_repeats plan s.start m l
     ∙ (ap (λ p. mask_since p s.start None m) (sym is)
     ∙ sym (shows_list s rest m (not_before s.until m (m + in_ps plan.cycle) (omega arith) on) (not_before s.held_from m (m + in_ps plan.cycle) (omega arith) unheld)))))
-
--- a stretch without an end
-pub endless_while : (s : Stretch) (rest : List Stretch) (class n d : ℕ) → s.until ≡ None → open_while (mask_in (s ∷ rest)) class n d ≡ open_while (mask_of s) class n d
-endless_while s rest class n d endless = first_while s rest class n d (subst (IsBy (n + d)) (sym endless) tt)
-
--- a stretch with an end, by its part and by what follows
-pub ended_while : (s : Stretch) (rest : List Stretch) (class n u d : ℕ) → s.until ≡ Some u → n ≤ u → open_while (mask_in (s ∷ rest)) class n d ≡ (open_while (mask_of s) class n (min d (u - n)) && open_while (mask_in rest) class u (d - (u - n)))
-ended_while s rest class n u d ends l =
-    let left : n + d - u ≡ d - (u - n) = omega arith in
-    stretch_parts s rest class n u d ends l
-    ∙ ap (λ k. open_while (mask_of s) class n (min d (u - n)) && open_while (mask_in rest) class u k) left

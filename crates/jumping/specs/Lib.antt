@@ -1,3 +1,2 @@
-pub mod Leg
 pub mod Search
-pub mod Resume
+pub mod Edge

@@ -1,7 +1,9 @@
 -- The search for the first moment at which some class that needs the wire is open for as long as it needs.
-use Rattle.std.specs.Prelude.{◌≡◌, ◌<◌, ◌≤◌, ℕ, true, List, Option, Some, None, slice_get}
+use Rattle.std.specs.Prelude.{◌≡◌, ◌<◌, ◌≤◌, ℕ, ◌+◌, ◌*◌, min, true, List, [], ◌∷◌, Option, Some, None, slice_get}
 use Rattle.gate_list.specs.Open.{open_while}
 use Rattle.gate_list.specs.Stay.{NoneFrom}
+use Rattle.list_config.specs.Stretch.{Stretch}
+use Rattle.list_config.specs.Current.{entry_count}
 
 -- no class with a need is open through it from t on and below u
 abbrev pub NoneFits : (ℕ → ℕ) → List (Option ℕ) → ℕ → ℕ → Type 0
@@ -18,3 +20,19 @@ pub record Fits (mask : ℕ → ℕ) (needs : List (Option ℕ)) (u : ℕ) : Typ
 abbrev pub Searched : (ℕ → ℕ) → List (Option ℕ) → ℕ → ℕ → Option ℕ → Type 0
 Searched mask needs t stop None = NoneFits mask needs t stop
 Searched mask needs t stop (Some u) = (t ≤ u) × (u < stop) × NoneFits mask needs t u × Fits mask needs u
+
+-- ---- how far a search goes, and how much it looks at
+
+-- the earlier of a leg's end, if it has one, and a moment
+abbrev pub up_to : Option ℕ → ℕ → ℕ
+up_to None before = before
+up_to (Some until) before = min until before
+
+-- how many visits a search of a stretch makes at most
+abbrev pub most_visits : Stretch → ℕ
+most_visits stretch = 4 * entry_count stretch.plan + 1
+
+-- the same of stretches, one after another
+abbrev pub most_in : List Stretch → ℕ
+most_in [] = 0
+most_in (stretch ∷ rest) = most_visits stretch + most_in rest

@@ -1,19 +1,19 @@
 //! The gates, which pass whole cycles by division.
-ghost use Rattle.std.specs.Prelude.{◌≡◌, ℕ, ◌+◌, ◌<◌, ◌≤◌, ◌↔◌, IsTrue, [], Some, None, true, option_map};
+ghost use Rattle.std.specs.Prelude.{◌≡◌, ℕ, ◌+◌, ◌*◌, ◌<◌, ◌≤◌, ◌↔◌, IsTrue, [], Some, None, true, option_map};
 ghost use Rattle.std.specs.Option.{ForSome};
 ghost use Rattle.wire_time.specs.Moment.{greatest_moment, greatest_lead};
 ghost use Rattle.list_config.specs.History.{gates, kept, cons_some};
 ghost use Rattle.list_config.specs.Stretch.{stretches_from};
-ghost use Rattle.list_config.specs.Current.{IsCurrent};
+ghost use Rattle.list_config.specs.Current.{IsCurrent, longest};
 ghost use Rattle.accepted_commands.specs.Commands.{AreCommands, accepted_in, command_of, history_of};
-ghost use Rattle.accepted_commands.specs.Standing.{Stands, edge_at};
-ghost use Rattle.jumping.specs.Leg.{AreReady, from_of, stretches_ahead};
-ghost use Rattle.jumping.specs.Resume.{Resumes};
+ghost use Rattle.accepted_commands.specs.Standing.{Stands};
+ghost use Rattle.accepted_commands.specs.Leg.{AreReady, from_of, stretches_ahead};
+ghost use Rattle.accepted_commands.specs.Resume.{Resumes};
+ghost use Rattle.jumping.specs.Edge.{IsEdge, NothingComes};
 
-use crate::ahead::{Ahead, alone, into_change, through_change, through_lead};
 use crate::search::search;
 use accepted_commands::{
-    AcceptedCommand, Slots, edge_of, installed, lead_moment, list_in, mask_under,
+    AcceptedCommand, Slots, edge_of, installed, lead_moment, legs_ahead, mask_under, resumed,
 };
 use gate_list::{Schedule, Visits};
 use list_config::{Gates, Installed, NotNow};
@@ -35,16 +35,16 @@ pub struct Jumping {
 /// A contract sees the history that the commands make, and the moment.
 impl Model for Jumping {
     ghost use Rattle.accepted_commands.specs.Commands.{AreCommands};
-    ghost use Rattle.std.specs.Prelude.{◌≡◌};
-    ghost use Rattle.accepted_commands.specs.Standing.{Stands, clocked, edge_at};
+    ghost use Rattle.accepted_commands.specs.Standing.{Stands, clocked};
     ghost use Rattle.list_config.specs.Current.{Clocked};
-    ghost use Rattle.jumping.specs.Resume.{Resumes};
+    ghost use Rattle.accepted_commands.specs.Resume.{Resumes};
+    ghost use Rattle.jumping.specs.Edge.{IsEdge};
 
     ghost Value = { Clocked };
 
     ghost view = { λ g. clocked g.slots };
 
-    ghost invariant = { λ g. AreCommands g.slots.commands × Stands g.slots.commands.in_force g.slots.commands.pending g.slots.commands.moment g.slots.position × Resumes g.slots.commands g.resumed × (g.edge ≡ edge_at g.slots.commands g.slots.position) };
+    ghost invariant = { λ g. AreCommands g.slots.commands × Stands g.slots.commands.in_force g.slots.commands.pending g.slots.commands.moment g.slots.position × Resumes g.slots.commands g.resumed × IsEdge g.slots.commands g.slots.position g.edge };
 }
 
 /// Whether a moment is before another, if there is one; both are in picoseconds.
@@ -61,50 +61,9 @@ fn is_before(moment: u128, edge: Option<u128>) -> bool
 fn next_edge(slots: &Slots) -> Option<u128>
     requires sound { AreCommands slots.now.commands }
     requires stands { Stands slots.now.commands.in_force slots.now.commands.pending slots.now.commands.moment slots.now.position }
-    ensures { result ≡ edge_at slots.now.commands slots.now.position }
+    ensures { IsEdge slots.now.commands slots.now.position result }
 {
     edge_of(slots)
-}
-
-/// Where the list in force goes on at the lead moment of the command that is announced, where it replaces a pending one.
-fn resumed(slots: &Slots) -> Option<Position>
-    requires { AreCommands slots.now.commands }
-    ensures { Resumes slots.now.commands result }
-{
-    let pending = slots.pending()?;
-    let announced = slots.announced()?;
-    if pending.change() <= announced.lead() {
-        return None;
-    }
-    let list = list_in(slots.in_force())?;
-    Some(list.position_at(Some(announced), announced.lead(), &mut Visits::zero()))
-}
-
-/// The legs of the commands that count.
-fn ahead<'a>(slots: &'a Slots, resumed: Option<Position>) -> Ahead<'a>
-    requires sound { AreCommands slots.now.commands }
-    requires stands { Stands slots.now.commands.in_force slots.now.commands.pending slots.now.commands.moment slots.now.position }
-    requires resumes { Resumes slots.now.commands resumed }
-    ensures shows { stretches_ahead result.leg result.rest ≡ stretches_from slots.now.commands.in_force (cons_some slots.now.commands.pending (cons_some slots.now.commands.announced [])) }
-    ensures from { from_of result.leg ≡ slots.now.commands.moment }
-    ensures ready { AreReady result.leg result.rest }
-{
-    let in_force = slots.in_force();
-    let moment = slots.moment();
-    match slots.pending() {
-        None => match slots.announced() {
-            None => alone(in_force, moment),
-            Some(announced) => into_change(in_force, moment, announced),
-        },
-        Some(pending) => match slots.announced() {
-            None => into_change(in_force, moment, pending),
-            Some(announced) => if pending.change() <= announced.lead() {
-                through_change(in_force, moment, pending, announced)
-            } else {
-                through_lead(in_force, moment, pending, announced, resumed)
-            },
-        },
-    }
 }
 
 impl Gates for Jumping {
@@ -137,7 +96,7 @@ impl Gates for Jumping {
     }
 
     fn stays_open(&self, class: u8, for_ps: u128, _visits: &mut Visits) -> bool {
-        let ahead = ahead(&self.slots, self.resumed);
+        let ahead = legs_ahead(&self.slots, self.resumed);
         let need = Need {
             class,
             from: self.slots.moment(),
@@ -154,14 +113,25 @@ impl Gates for Jumping {
     }
 
     fn quiet(&self, needs: &[Option<u128>; CLASSES], before: u128, visits: &mut Visits) -> u128 {
-        let ahead = ahead(&self.slots, self.resumed);
+        let ahead = legs_ahead(&self.slots, self.resumed);
         match search(&ahead.leg, &ahead.rest, needs, before, visits) {
             Some(start) => start,
             None => before,
         }
     }
 
-    fn move_to(&mut self, t: u128, visits: &mut Visits) {
+    /// Goes on to the moment `t`, in picoseconds. Where nothing comes by then, no entry is looked at.
+    fn move_to(&mut self, t: u128, visits: &mut Visits)
+        requires sound { IsCurrent self.old.history self.old.moment }
+        requires later { self.old.moment ≤ t }
+        requires within { t ≤ greatest_moment }
+        ensures sound { IsCurrent self.new.history self.new.moment }
+        ensures moment { self.new.moment ≡ t }
+        ensures history { self.new.history ≡ kept self.old.history t }
+        ensures counted { visits.old ≤ visits.new }
+        ensures visits { visits.new ≤ visits.old + 2 * (longest self.old.history + 1) }
+        ensures still { NothingComes self.old.history self.old.moment t → visits.new ≡ visits.old }
+    {
         let is_near = is_before(t, self.edge);
         self.slots.settle(t);
         if !is_near {
@@ -170,6 +140,7 @@ impl Gates for Jumping {
         }
     }
 
+    #[tactic(auto, using(accepted_commands::proofs::CommandLaws::current_of, list_config::proofs::HistoryLaws::settled_announced, list_config::proofs::HistoryLaws::cons_some_push))]
     fn install(&mut self, schedule: Schedule, lead: u128) -> Result<u128, NotNow> {
         if let Some(waited) = lead_moment(self.slots.announced()) {
             return Err(NotNow::Busy(waited));
@@ -177,29 +148,33 @@ impl Gates for Jumping {
         let command = AcceptedCommand::install(schedule, lead);
         let change = command.change();
         self.slots.announce(command);
-        self.resumed = resumed(&self.slots);
+        self.resumed = resumed(&self.slots, &mut Visits::zero());
         self.edge = next_edge(&self.slots);
         Ok(change)
     }
 
+    #[tactic(auto, using(accepted_commands::proofs::CommandLaws::current_of, list_config::proofs::HistoryLaws::settled_announced, list_config::proofs::HistoryLaws::cons_some_push))]
     fn delete(&mut self, lead: u128) -> Result<u128, NotNow> {
         if let Some(waited) = lead_moment(self.slots.announced()) {
             return Err(NotNow::Busy(waited));
         }
         self.slots.announce(AcceptedCommand::Delete(lead));
-        self.resumed = resumed(&self.slots);
+        self.resumed = resumed(&self.slots, &mut Visits::zero());
         self.edge = next_edge(&self.slots);
         Ok(lead)
     }
 
+    #[tactic(auto, using(list_config::proofs::HistoryLaws::settled_force))]
     fn in_force(&self) -> Option<Installed> {
         installed(self.slots.in_force())
     }
 
+    #[tactic(auto, using(list_config::proofs::HistoryLaws::settled_pending))]
     fn pending(&self) -> Option<Installed> {
         installed(self.slots.pending())
     }
 
+    #[tactic(auto, using(list_config::proofs::HistoryLaws::settled_announced))]
     fn announced(&self) -> Option<Installed> {
         installed(self.slots.announced())
     }

@@ -7,11 +7,11 @@ ghost use Rattle.gate_list.specs.Open.{open_while};
 ghost use Rattle.list_config.specs.Stretch.{mask_in, mask_of};
 ghost use Rattle.list_execute.specs.Walk.{end_of};
 ghost use Rattle.list_position.specs.Position.{IsFlat, boundary_in};
-ghost use Rattle.jumping.specs.declared.leg.Leg.TheVariants.{Listed};
-ghost use Rattle.jumping.specs.Leg.{AreReady, DoFollow, IsReady, up_to, stretch_in, from_of, until_of, stretch_of, stretches_ahead, most_visits, most_in};
-ghost use Rattle.jumping.specs.Search.{Fits, Searched};
+ghost use Rattle.accepted_commands.specs.declared.leg.Leg.TheVariants.{Listed};
+ghost use Rattle.accepted_commands.specs.Leg.{AreReady, DoFollow, IsReady, stretch_in, from_of, until_of, stretch_of, stretches_ahead};
+ghost use Rattle.jumping.specs.Search.{Fits, Searched, up_to, most_visits, most_in};
 
-use crate::leg::{Leg, ListedLeg, Rest, copied};
+use accepted_commands::{Leg, ListedLeg, Rest, copied};
 use gate_list::Visits;
 use list_position::{Need, Position};
 use wire_time::CLASSES;

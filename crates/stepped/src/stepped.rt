@@ -8,8 +8,7 @@ ghost use Rattle.accepted_commands.specs.Commands.{AreCommands, accepted_in, com
 ghost use Rattle.accepted_commands.specs.Standing.{Stands, earlier, edge_at};
 
 use accepted_commands::{
-    AcceptedCommand, Slots, edge_of, installed, lead_moment, mask_under, stays_open_through,
-    stays_open_to, stays_open_under,
+    AcceptedCommand, Slots, edge_of, installed, lead_moment, legs_ahead, mask_under, resumed,
 };
 use gate_list::{Schedule, Visits};
 use list_config::{Gates, Installed, NotNow};
@@ -87,22 +86,13 @@ impl Gates for Stepped {
     }
 
     fn stays_open(&self, class: u8, for_ps: u128, visits: &mut Visits) -> bool {
-        let in_force = self.slots.in_force();
+        let ahead = legs_ahead(&self.slots, resumed(&self.slots, visits));
         let need = Need {
             class,
             from: self.slots.moment(),
             length: for_ps,
         };
-        match self.slots.pending() {
-            None => match self.slots.announced() {
-                None => stays_open_under(in_force, None, need),
-                Some(announced) => stays_open_to(in_force, announced, need),
-            },
-            Some(pending) => match self.slots.announced() {
-                None => stays_open_to(in_force, pending, need),
-                Some(announced) => stays_open_through(in_force, pending, announced, need, visits),
-            },
-        }
+        ahead.leg.stays_open_ahead(&ahead.rest, need)
     }
 
     fn next_boundary(&self, before: u128) -> Option<u128> {

@@ -1,7 +1,7 @@
-use Rattle.std.proofs.Common.{subst, sym, ◌∙◌, Some}
-use Rattle.accepted_commands.specs.Commands.{accepted_in, command_of}
+use Rattle.std.proofs.Common.{subst}
+use Rattle.accepted_commands.specs.Commands.{command_of}
 use Rattle.accepted_commands.specs.Standing.{IsListOf, position_lent}
-use Rattle.accepted_commands.proofs.UnderLaws.{list_flat, list_sound, list_stands, list_usable}
+use Rattle.accepted_commands.proofs.UnderLaws.{list_sound, list_usable}
 use Rattle.accepted_commands.proofs.under.until_under.Goals as goal
 
 pub held_from-requires-clause-sound : goal.held_from-requires-clause-sound

@@ -3,8 +3,8 @@ use Rattle.cycle_timer.specs.Cycle.{Cycle}
 use Rattle.list_config.specs.Stretch.{mask_in}
 use Rattle.list_execute.specs.Walk.{end_of}
 use Rattle.list_position.specs.Position.{IsPlaced, boundary_in}
-use Rattle.jumping.specs.declared.leg.Leg.TheVariants.{Listed}
-use Rattle.jumping.specs.Leg.{stretches_ahead}
+use Rattle.accepted_commands.specs.declared.leg.Leg.TheVariants.{Listed}
+use Rattle.accepted_commands.specs.Leg.{stretches_ahead}
 use Rattle.jumping.proofs.SearchLaws.{fits_join}
 use Rattle.jumping.proofs.ListedLaws.{ahead_here, end_there, entry_listed, none_here, off_here}
 use Rattle.jumping.proofs.search.search_cycle.Goals as goal

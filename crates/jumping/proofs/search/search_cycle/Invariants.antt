@@ -1,8 +1,8 @@
 use Rattle.std.proofs.Common.{◌≡◌, ◌+◌, ◌-◌, ◌<◌, ◌≤◌, length}
 use Rattle.list_config.specs.Stretch.{mask_in}
 use Rattle.list_position.specs.Position.{IsPlaced}
-use Rattle.jumping.specs.declared.leg.Leg.TheVariants.{Listed}
-use Rattle.jumping.specs.Leg.{stretches_ahead}
+use Rattle.accepted_commands.specs.declared.leg.Leg.TheVariants.{Listed}
+use Rattle.accepted_commands.specs.Leg.{stretches_ahead}
 use Rattle.jumping.specs.Search.{NoneFits}
 use Rattle.jumping.proofs.search.search_cycle.Given as goal
 

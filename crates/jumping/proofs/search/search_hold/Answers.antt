@@ -3,9 +3,9 @@ use Rattle.list_config.specs.Stretch.{mask_in, mask_of}
 use Rattle.std.specs.Option.{ForSome}
 use Rattle.list_position.specs.Position.{IsFlat}
 use Rattle.list_position.proofs.PositionLaws.{flat_held, placed_hold}
-use Rattle.jumping.specs.declared.leg.ListedLeg.{ListedLeg}
-use Rattle.jumping.specs.declared.leg.Leg.TheVariants.{Listed}
-use Rattle.jumping.specs.Leg.{stretch_of, stretches_ahead}
+use Rattle.accepted_commands.specs.declared.leg.ListedLeg.{ListedLeg}
+use Rattle.accepted_commands.specs.declared.leg.Leg.TheVariants.{Listed}
+use Rattle.accepted_commands.specs.Leg.{stretch_of, stretches_ahead}
 use Rattle.jumping.specs.Search.{Searched}
 use Rattle.jumping.proofs.search.search_hold.Goals as goal
 

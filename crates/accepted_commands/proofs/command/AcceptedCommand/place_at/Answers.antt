@@ -1,5 +1,4 @@
-use Rattle.std.proofs.Common.{◌≡◌, Some, subst, refl}
-use Rattle.gate_list.specs.Gate.{IsSchedule}
+use Rattle.std.proofs.Common.{subst, refl}
 use Rattle.accepted_commands.specs.Commands.{IsUsable, accepted_in}
 use Rattle.accepted_commands.specs.declared.command.AcceptedCommand.{AcceptedCommand}
 use Rattle.accepted_commands.proofs.command.AcceptedCommand.place_at.Goals as goal

@@ -1,12 +1,16 @@
-use Rattle.std.proofs.Common.{◌<◌, ◌≤◌, ℕ, Option, ap, sym, ◌∙◌, subst}
+use Rattle.std.proofs.Common.{◌+◌, ◌<◌, ◌≤◌, ℕ, Option, IfSome, ap, sym, ◌∙◌, subst}
+use Rattle.std.proofs.lemmas.Bool.{false≢true}
 use Rattle.std.specs.Option.{ForSome}
-use Rattle.list_config.specs.History.{kept}
-use Rattle.list_config.specs.Current.{Clocked}
+use Rattle.list_config.specs.History.{kept, plan_of}
+use Rattle.list_config.specs.Current.{Clocked, entry_count}
+use Rattle.list_config.specs.Event.{IsGateEvent}
 use Rattle.accepted_commands.specs.Commands.{AreCommands, Commands, history_of}
 use Rattle.accepted_commands.specs.Standing.{Stands, edge_at}
 use Rattle.accepted_commands.proofs.CommandLaws.{current_of, settled_history}
-use Rattle.jumping.specs.Resume.{Resumes}
-use Rattle.jumping.proofs.NearLaws.{none_by, resumes_settled, same_commands, still_stands}
+use Rattle.accepted_commands.specs.Resume.{Resumes}
+use Rattle.jumping.specs.Edge.{NothingComes}
+use Rattle.jumping.proofs.QuietLaws.{few_placed}
+use Rattle.jumping.proofs.NearLaws.{edge_ahead, none_by, resumes_settled, same_commands, still_stands}
 use Rattle.jumping.proofs.jumping.JumpingGates.move_to.Goals as goal
 
 pub returns-then-not-is_near-clause-history : goal.returns-then-not-is_near-clause-history
@@ -41,7 +45,9 @@ invariant_of-self-else-not-is_near c =
     let resumed = c.self.inside.resumed in
     let t = c.args.t in
     let later : slots.moment ≤ t = subst (λ (v : Clocked). v.moment ≤ t) (sym c.self.view_is) c.requires.later in
-    let soon = subst (λ (e : Option ℕ). ForSome e (λ u. t < u)) c.self.invariant.3 (c.is_before-is_near.ensures.0 c.if-not-is_near.false) in
+    let edge = c.self.invariant.3 in
+    let near = c.is_before-is_near.ensures.0 c.if-not-is_near.false in
+    let soon = subst (λ (e : Option ℕ). ForSome e (λ u. t < u)) edge.is near in
     let none = none_by slots c.self.invariant.0 position t later soon in
     let stood = c.settle.ensures.position none.0 none.1 in
     let same = c.settle.ensures.value ∙ same_commands slots c.self.invariant.0 t later none in (
@@ -49,8 +55,25 @@ invariant_of-self-else-not-is_near c =
       subst (λ (k : Commands). Stands k.in_force k.pending k.moment c.settle.new.self.position) (sym same)
           (subst (Stands slots.in_force slots.pending t) (sym stood) (still_stands slots c.self.invariant.0 position t later soon c.self.invariant.1)),
       subst (λ k. Resumes k resumed) (sym same) c.self.invariant.2,
-      c.self.invariant.3 ∙ (ap (edge_at slots) (sym stood) ∙ ap (λ (k : Commands). edge_at k c.settle.new.self.position) (sym same)),
+      record {
+        is = edge.is ∙ (ap (edge_at slots) (sym stood) ∙ ap (λ (k : Commands). edge_at k c.settle.new.self.position) (sym same));
+        later = subst (λ (k : Commands). ForSome c.self.inside.edge (λ u. k.moment < u)) (sym same) near;
+        event = subst (λ (k : Commands). IfSome c.self.inside.edge (IsGateEvent (history_of k))) (sym same) edge.event;
+      },
     )
 
 pub returns-then-not-is_near-clause-sound : goal.returns-then-not-is_near-clause-sound
 returns-then-not-is_near-clause-sound c = current_of c.place.new.self.commands (subst AreCommands (sym c.place.ensures.commands) c.settle.ensures.sound)
+
+pub returns-then-not-is_near-clause-still : goal.returns-then-not-is_near-clause-still
+returns-then-not-is_near-clause-still c = λ nothing.
+    let slots = c.self.inside.slots.commands in
+    let quiet = subst (λ (v : Clocked). NothingComes v.history v.moment c.args.t) (sym c.self.view_is) nothing in
+    absurd (false≢true (sym c.if-not-is_near.true ∙ edge_ahead slots c.self.inside.slots.position c.self.inside.edge c.args.t c.self.invariant.3 quiet c.is_before-is_near.result c.is_before-is_near.ensures.1))
+
+pub returns-then-not-is_near-clause-visits : goal.returns-then-not-is_near-clause-visits
+returns-then-not-is_near-clause-visits c =
+    let slots = c.self.inside.slots.commands in
+    let later : slots.moment ≤ c.args.t = subst (λ (v : Clocked). v.moment ≤ c.args.t) (sym c.self.view_is) c.requires.later in
+    few_placed slots c.self.invariant.0 c.args.self.now c.self.view_is c.args.t later c.args.visits.now c.place.new.visits
+    (subst (λ (k : Commands). c.place.new.visits ≤ c.args.visits.now + (entry_count (plan_of k.in_force) + 1)) c.settle.ensures.value c.place.ensures.visits)

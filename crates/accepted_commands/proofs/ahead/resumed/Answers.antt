@@ -4,7 +4,7 @@ use Rattle.list_config.specs.History.{Accepted}
 use Rattle.accepted_commands.specs.Commands.{IsUsable, command_of}
 use Rattle.accepted_commands.specs.Standing.{IsListOf, position_lent}
 use Rattle.accepted_commands.proofs.UnderLaws.{list_sound}
-use Rattle.jumping.proofs.jumping.resumed.Goals as goal
+use Rattle.accepted_commands.proofs.ahead.resumed.Goals as goal
 
 pub position_at-requires-clause-sound : goal.position_at-requires-clause-sound
 position_at-requires-clause-sound c =

@@ -1,19 +1,41 @@
 //! What the gates show for a while: a list or none, and what comes after it.
-ghost use Rattle.std.specs.Prelude.{◌≡◌, ◌+◌, ◌*◌, ◌<◌, ◌≤◌, ◌∷◌, [], Some, None};
+ghost use Rattle.std.specs.Prelude.{◌≡◌, ◌+◌, ◌-◌, ◌*◌, ◌<◌, ◌≤◌, ◌∷◌, [], Some, None, min};
 ghost use Rattle.std.specs.Option.{ForSome};
 ghost use Rattle.wire_time.specs.Moment.{greatest_moment};
 ghost use Rattle.gate_list.specs.Gate.{in_ps};
 ghost use Rattle.gate_list.specs.Visits.{one_more};
 ghost use Rattle.gate_list.specs.Open.{open_while};
 ghost use Rattle.list_config.specs.Stretch.{mask_of, mask_in};
-ghost use Rattle.jumping.specs.declared.leg.Rest.{Rest};
-ghost use Rattle.jumping.specs.declared.leg.Leg.TheVariants.{Listed};
-ghost use Rattle.jumping.specs.Leg.{IsStanding, IsReady, AreReady, DoFollow, from_of, until_of, stretch_of, stretch_in, stretches_ahead};
+ghost use Rattle.accepted_commands.specs.declared.leg.Rest.{Rest};
+ghost use Rattle.accepted_commands.specs.declared.leg.Leg.TheVariants.{Listed};
+ghost use Rattle.accepted_commands.specs.Leg.{IsStanding, IsReady, AreReady, DoFollow, from_of, until_of, stretch_of, stretch_in, stretches_ahead};
 
-use accepted_commands::{after, before};
 use gate_list::{Schedule, Visits};
 use list_position::{Need, Position};
 use wire_time::CLASSES;
+
+/// What is needed up to a moment, in picoseconds.
+fn before(need: Need, moment: u128) -> Need
+    requires { need.from ≤ moment }
+    ensures { result ≡ record need { length = min need.length (moment - need.from) } }
+{
+    Need {
+        length: need.length.min(moment - need.from),
+        ..need
+    }
+}
+
+/// What is needed from a moment on, in picoseconds.
+fn after(need: Need, moment: u128) -> Need
+    requires { need.from ≤ moment }
+    ensures { result ≡ record need { from = moment; length = need.length - (moment - need.from) } }
+{
+    Need {
+        from: moment,
+        length: need.length.saturating_sub(moment - need.from),
+        ..need
+    }
+}
 
 /// A list that stands so at a moment. All moments are in picoseconds.
 #[derive(Drop)]

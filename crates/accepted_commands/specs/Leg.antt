@@ -1,16 +1,15 @@
 -- What the gates show from a moment on, as legs (IEEE Std 802.1Q-2018, 8.6.9.3 List Config).
-use Rattle.std.specs.Prelude.{◌≡◌, ◌≤◌, ℕ, ◌+◌, ◌*◌, min, List, [], ◌∷◌, Option, Some, None}
+use Rattle.std.specs.Prelude.{◌≡◌, ◌≤◌, ℕ, ◌*◌, List, [], ◌∷◌, Option, Some, None}
 use Rattle.std.specs.Option.{ForSome}
 use Rattle.wire_time.specs.Moment.{greatest_moment}
 use Rattle.gate_list.specs.Gate.{IsSchedule}
 use Rattle.list_config.specs.History.{Accepted, plan_of, start_of}
 use Rattle.list_config.specs.Stretch.{Stretch}
-use Rattle.list_config.specs.Current.{entry_count}
 use Rattle.accepted_commands.specs.Standing.{hold_for}
 use Rattle.list_position.specs.Position.{IsPlaced}
-use Rattle.jumping.specs.declared.leg.Leg.{Leg}
-use Rattle.jumping.specs.declared.leg.Leg.TheVariants.{Listed, Open}
-use Rattle.jumping.specs.declared.leg.Rest.{Rest}
+use Rattle.accepted_commands.specs.declared.leg.Leg.{Leg}
+use Rattle.accepted_commands.specs.declared.leg.Leg.TheVariants.{Listed, Open}
+use Rattle.accepted_commands.specs.declared.leg.Rest.{Rest}
 
 -- the moment from which a leg is looked at
 abbrev pub from_of : Leg → ℕ
@@ -40,20 +39,6 @@ stretches_in (Some next) last = stretch_of next ∷ stretch_in last
 -- what a leg and what follows it show
 abbrev pub stretches_ahead : Leg → Rest → List Stretch
 stretches_ahead leg rest = stretch_of leg ∷ stretches_in rest.next rest.last
-
--- the earlier of a leg's end, if it has one, and a moment
-abbrev pub up_to : Option ℕ → ℕ → ℕ
-up_to None before = before
-up_to (Some until) before = min until before
-
--- how many visits a search of a stretch makes at most
-abbrev pub most_visits : Stretch → ℕ
-most_visits stretch = 4 * entry_count stretch.plan + 1
-
--- the same of stretches, one after another
-abbrev pub most_in : List Stretch → ℕ
-most_in [] = 0
-most_in (stretch ∷ rest) = most_visits stretch + most_in rest
 
 -- a list stands so at the leg's moment
 abbrev pub IsStanding : Leg → Type 0

@@ -1,6 +1,6 @@
 use Rattle.std.proofs.Common.{ap, arith}
-use Rattle.jumping.specs.declared.leg.ListedLeg.{ListedLeg}
-use Rattle.jumping.proofs.leg.ListedLeg.cycle_at.Goals as goal
+use Rattle.accepted_commands.specs.declared.leg.ListedLeg.{ListedLeg}
+use Rattle.accepted_commands.proofs.leg.ListedLeg.cycle_at.Goals as goal
 
 pub returns-clause-cycle : goal.returns-clause-cycle
 returns-clause-cycle c =
