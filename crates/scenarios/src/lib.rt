@@ -120,7 +120,11 @@ impl<G: Gates + Drop> Player for OnGates<G> {
 }
 
 #[cfg(test)]
+mod far;
+#[cfg(test)]
 mod frames;
+#[cfg(test)]
+mod jumps;
 #[cfg(test)]
 mod ports;
 #[cfg(test)]

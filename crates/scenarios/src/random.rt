@@ -22,7 +22,7 @@ impl Numbers {
     }
 
     /// The next number below 2^31.
-    fn draw(&mut self) -> u32
+    pub fn draw(&mut self) -> u32
         ensures { result < 2147483648 }
     {
         self.state = self
@@ -33,7 +33,7 @@ impl Numbers {
     }
 
     /// The next number from `least` on, one of so many.
-    fn between(&mut self, least: u32, many: u32) -> u32
+    pub fn between(&mut self, least: u32, many: u32) -> u32
         requires some { 0 < many }
         requires low { least ≤ 1000000 }
         requires few { many ≤ 1000000 }

@@ -1,0 +1,289 @@
+//! How many entries each step of a port on jumping gates looks at, counted by hand: no more for a far clock than for a near one.
+//!
+//! A list of N entries that is searched without a find takes N - 1 entries up to the end of its cycle, as many and the first
+//! of the next cycle, and as many and the first of the last whole cycle before its end. A list that is placed takes its first
+//! entry, and all up to the one of the moment.
+use super::ports::{command, frame, plain_map};
+use super::*;
+use abstract_port::{Answer, Command, Event, Start};
+use jumping::Jumping;
+use port::Port;
+use std::process::Abort;
+use std::test::Fail;
+
+/// Some thirty years, in picoseconds.
+const FAR: u128 = 1_000_000_000_000_000_000_000;
+
+/// A new port at 1 Gb/s.
+fn new_port<R: Abort + AllocGlobal>(rt: &R) -> Result<Port<Jumping>, Fail> {
+    let rate = Rate::from_mbps(1000).ok().ok_or("a rate")?;
+    let port = Port::<Jumping>::new(rt.alloc(), rate, 1500, 8)
+        .ok()
+        .ok_or("a port")?;
+    Ok(port)
+}
+
+/// Takes an event on a port, compares each answer with the visits of its step, and those of the step that ends it.
+fn steps<R: Abort>(
+    rt: &R,
+    port: &mut Port<Jumping>,
+    event: Event<'_>,
+    want: &[(Answer, u64)],
+    last: u64,
+) {
+    let mut asked = Some(event);
+    for (answer, visits) in want {
+        assert_eq!(rt; port.next_answer(&mut asked), Some(*answer));
+        assert_eq!(rt; port.visits(), *visits, "{answer:?}");
+    }
+    if asked.is_some() {
+        assert_eq!(rt; port.next_answer(&mut asked), None);
+    }
+    assert_eq!(rt; port.visits(), last, "{event:?}");
+}
+
+/// So many entries that open class 1 and class 2 by turns, in force from 20 us on.
+fn by_turns(many: usize, interval: u32) -> Option<Command> {
+    let mut entries = [Entry {
+        mask: 0x02,
+        interval,
+    }; 256];
+    for i in 0..128 {
+        entries[2 * i + 1].mask = 0x04;
+    }
+    let given = Given {
+        entries: &entries[..many.min(256)],
+        base: 20000,
+        cycle: 0,
+        extension: 0,
+    };
+    command(&given, plain_map())
+}
+
+/// A schedule of so many entries, what a clock event that goes far over it looks at while a frame can't start, and what is open
+/// then.
+#[derive(Clone, Copy)]
+struct Waiting {
+    many: usize,
+    interval: u32,
+    visits: u64,
+    mask: u8,
+}
+
+/// A frame waits through 5 * 10^12 cycles, 10^15 and 4 * 10^12: a step that took each of them would not end.
+#[test]
+fn a_frame_waits_through_far_clocks(rt: HostRuntime) -> Result<(), Fail> {
+    for waiting in [
+        // The second entry of three cycles, the first of two cycles and of the last one, which the clock cuts at 180 us, and the
+        // second of that one; placed there: 1 + 2.
+        Waiting {
+            many: 2,
+            interval: 100_000,
+            visits: 3 + 3 + 1 + 3,
+            mask: 0x04,
+        },
+        // The clock stops where a cycle begins: no cycle is cut, and the list is placed in the first entry, 1 + 1.
+        Waiting {
+            many: 2,
+            interval: 500,
+            visits: 3 + 2 + 2,
+            mask: 0x02,
+        },
+        // The clock cuts the last cycle at 236 us: in its 237th entry, which begins there.
+        Waiting {
+            many: 256,
+            interval: 1000,
+            visits: 3 * 255 + 3 + 235 + 238,
+            mask: 0x02,
+        },
+    ] {
+        let list = by_turns(waiting.many, waiting.interval).ok_or("a command")?;
+        let mut port = new_port(&rt)?;
+        let installed = Answer::Installed(20_000_000);
+        let queued = Answer::Queued { id: 1, class: 0 };
+        steps(&rt, &mut port, Event::Install(&list), &[(installed, 0)], 0);
+        steps(&rt, &mut port, Event::Clock(20_000_000), &[], 2);
+        steps(
+            &rt,
+            &mut port,
+            Event::Arrive(frame(1, 0, 60)),
+            &[(queued, 2)],
+            2,
+        );
+        steps(&rt, &mut port, Event::Clock(FAR), &[], waiting.visits);
+        assert_eq!(rt; port.now(), FAR);
+        assert_eq!(rt; port.report().mask, waiting.mask);
+        assert_eq!(rt; port.counters(0).waiting, 1);
+        // Within the entry that is shown nothing is looked at.
+        steps(&rt, &mut port, Event::Clock(FAR + 1), &[], 0);
+    }
+    Ok(())
+}
+
+/// A schedule of so many entries that open class 0, and a last one of 5 us that opens class 1, with an extension; a second one that
+/// opens class 1 alone, by its base time. All but the moments of the
+/// start and its end are in nanoseconds.
+#[derive(Clone, Copy)]
+struct Change {
+    many: usize,
+    interval: u32,
+    extension: u64,
+    base: u64,
+    start: u128,
+    end: u128,
+    visits: [u64; 2],
+}
+
+impl Change {
+    /// The schedule that is in force from 20 us on.
+    fn first(&self) -> Option<Command> {
+        let mut entries = [Entry {
+            mask: 0x01,
+            interval: self.interval,
+        }; 256];
+        for i in 0..256 {
+            if i + 1 == self.many {
+                entries[i] = Entry {
+                    mask: 0x02,
+                    interval: 5000,
+                };
+            }
+        }
+        let given = Given {
+            entries: &entries[..self.many.min(256)],
+            base: 20000,
+            cycle: 0,
+            extension: self.extension,
+        };
+        command(&given, plain_map())
+    }
+
+    /// The schedule after.
+    fn second(&self) -> Option<Command> {
+        let entries = [Entry {
+            mask: 0x02,
+            interval: 200_000,
+        }];
+        let given = Given {
+            entries: &entries,
+            base: self.base,
+            cycle: 0,
+            extension: 0,
+        };
+        command(&given, None)
+    }
+}
+
+/// A frame of class 1 that takes 12.304 us fits into no entry of 5 us: 5,000,000 cycles later the change lets it start.
+fn starts_at_the_change<R: Abort + AllocGlobal>(rt: &R, change: &Change) -> Result<(), Fail> {
+    let first = change.first().ok_or("a command")?;
+    let second = change.second().ok_or("a command")?;
+    let mut port = new_port(rt)?;
+    let at = Answer::Installed(20_000_000);
+    let then = Answer::Installed(1000 * u128::from(change.base));
+    let queued = Answer::Queued { id: 1, class: 1 };
+    let start = Answer::Start(Start {
+        id: 1,
+        class: 1,
+        at: change.start,
+        end: change.end,
+    });
+    steps(rt, &mut port, Event::Install(&first), &[(at, 0)], 0);
+    steps(rt, &mut port, Event::Clock(20_000_000), &[], 2);
+    steps(
+        rt,
+        &mut port,
+        Event::Arrive(frame(1, 1, 1514)),
+        &[(queued, 2)],
+        2,
+    );
+    steps(rt, &mut port, Event::Install(&second), &[(then, 2)], 2);
+    let starts = [(start, change.visits[0])];
+    steps(
+        rt,
+        &mut port,
+        Event::Clock(2_000_000_000_000_000),
+        &starts,
+        change.visits[1],
+    );
+    Ok(())
+}
+
+/// The change comes where a cycle ends; 30 us later, through which the extension holds the last state; and again with an extension
+/// that is too short, so that a cycle begins and is cut.
+///
+/// Up to the start: three times all entries but the first, the first of two cycles (of the cut one too), and placed in the last
+/// entry, or in the one of the second list. After it: placed in the second list or in the hold, or not moved from the start's entry; the
+/// first entry of three cycles of the second list, and placed there.
+#[test]
+fn changes_are_found_from_afar(rt: HostRuntime) -> Result<(), Fail> {
+    for change in [
+        Change {
+            many: 2,
+            interval: 195_000,
+            extension: 0,
+            base: 1_000_000_020_000,
+            start: 1_000_000_015_000_000,
+            end: 1_000_000_027_304_000,
+            visits: [3 + 2 + 3, 2 + 3 + 2],
+        },
+        Change {
+            many: 2,
+            interval: 195_000,
+            extension: 100_000,
+            base: 1_000_000_050_000,
+            start: 1_000_000_015_000_000,
+            end: 1_000_000_027_304_000,
+            visits: [3 + 2 + 3, 2 + 3 + 2],
+        },
+        Change {
+            many: 2,
+            interval: 195_000,
+            extension: 20_000,
+            base: 1_000_000_050_000,
+            start: 1_000_000_050_000_000,
+            end: 1_000_000_062_304_000,
+            visits: [3 + 3 + 2, 3 + 2],
+        },
+    ] {
+        starts_at_the_change(&rt, &change)?;
+    }
+    Ok(())
+}
+
+/// The same with 256 entries, all but the last of 1 us. The cycle that is cut begins 30 of them.
+#[test]
+fn changes_of_long_lists_are_found_from_afar(rt: HostRuntime) -> Result<(), Fail> {
+    for change in [
+        Change {
+            many: 256,
+            interval: 1000,
+            extension: 0,
+            base: 1_300_000_020_000,
+            start: 1_300_000_015_000_000,
+            end: 1_300_000_027_304_000,
+            visits: [3 * 255 + 2 + 257, 2 + 3 + 2],
+        },
+        Change {
+            many: 256,
+            interval: 1000,
+            extension: 100_000,
+            base: 1_300_000_050_000,
+            start: 1_300_000_015_000_000,
+            end: 1_300_000_027_304_000,
+            visits: [3 * 255 + 2 + 257, 2 + 3 + 2],
+        },
+        Change {
+            many: 256,
+            interval: 1000,
+            extension: 20_000,
+            base: 1_300_000_050_000,
+            start: 1_300_000_050_000_000,
+            end: 1_300_000_062_304_000,
+            visits: [3 * 255 + 3 + 29 + 2, 3 + 2],
+        },
+    ] {
+        starts_at_the_change(&rt, &change)?;
+    }
+    Ok(())
+}
