@@ -153,23 +153,24 @@ fn answer_alike<R: Abort + AllocGlobal>(
     Ok(())
 }
 
+/// Clock events up to 137 ms apart: up to 1,370,000 cycles of 100 ns, each of which the stepped gates take.
 #[test]
 fn ports_answer_alike_from_the_beginning_on(rt: HostRuntime) -> Result<(), Fail> {
-    let reach = Reach { first: 0, bits: 34 };
-    for seed in 0..20 {
+    let reach = Reach { first: 0, bits: 37 };
+    for seed in 0..40 {
         answer_alike(&rt, seed, 40, reach)?;
     }
     Ok(())
 }
 
-/// From 34 ms before the greatest moment up to it: up to 340,000 cycles of 100 ns, each of which the stepped gates take.
+/// The same from 275 ms before the greatest moment up to it.
 #[test]
 fn ports_answer_alike_up_to_the_greatest_moment(rt: HostRuntime) -> Result<(), Fail> {
     let reach = Reach {
-        first: MAX_MOMENT - (1 << 35),
-        bits: 34,
+        first: MAX_MOMENT - (1 << 38),
+        bits: 37,
     };
-    for seed in 20..30 {
+    for seed in 40..80 {
         answer_alike(&rt, seed, 40, reach)?;
     }
     Ok(())

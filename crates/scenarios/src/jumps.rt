@@ -121,8 +121,7 @@ fn a_frame_waits_through_far_clocks(rt: HostRuntime) -> Result<(), Fail> {
 }
 
 /// A schedule of so many entries that open class 0, and a last one of 5 us that opens class 1, with an extension; a second one that
-/// opens class 1 alone, by its base time. All but the moments of the
-/// start and its end are in nanoseconds.
+/// opens class 1 alone, by its base time; and the start in picoseconds. All other times are in nanoseconds.
 #[derive(Clone, Copy)]
 struct Change {
     many: usize,
