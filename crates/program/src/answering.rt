@@ -3,13 +3,15 @@
 ghost use Rattle.std.specs.Prelude.{◌≡◌, IfErr};
 ghost use Rattle.std.specs.Io.Buffered.{writer_contents};
 ghost use Rattle.clap.specs.Matches.{found_of};
-ghost use Rattle.program.specs.Given.{settings_in};
-ghost use Rattle.script.specs.Ending.{IsEnding};
+ghost use Rattle.schedule_check.specs.Checked.{whole_check};
+ghost use Rattle.program.specs.Given.{rate_in, settings_in};
+ghost use Rattle.script.specs.Ending.{IsEnding, whole_script};
 
 use crate::end_without_memory;
-use crate::options::{command, values_of};
+use crate::options::{command, rate_of, values_of};
 use clap::error::ErrorKind;
 use clap::{ArgMatches, Error};
+use schedule_check::answer_check;
 use script::{Ended, answer_script};
 use std::alloc::{Allocator, Global};
 use std::io::{BufWriter, Read, Write};
@@ -23,11 +25,27 @@ pub fn answer_given<B: Allocator, R: Read, W: Write + Drop, E: Write>(
     answers: BufWriter<W, B>,
     errors: &mut E,
 ) -> (Ended, W)
-    ensures ending { IsEnding (settings_in (found_of matches.now))
+    ensures ending { IsEnding whole_script (settings_in (found_of matches.now))
         (R.remaining reader.old) result.0 (writer_contents W.contents answers) (W.contents result.1) (E.contents errors.old) (E.contents errors.new) }
     ensures unread { IfErr (settings_in (found_of matches.now)) (λ _. reader.new ≡ reader.old) }
 {
     answer_script(alloc, values_of(matches), reader, answers, errors)
+}
+
+/// Checks the schedules that `reader` gives, by the value that the words give to the rate, through `answers`, with the text of a
+/// fault on `errors`; and gives the writer of the answers back.
+pub fn check_given<B: Allocator, R: Read, W: Write + Drop, E: Write>(
+    alloc: Global,
+    matches: &ArgMatches<'_>,
+    reader: &mut R,
+    answers: BufWriter<W, B>,
+    errors: &mut E,
+) -> (Ended, W)
+    ensures ending { IsEnding whole_check (rate_in (found_of matches.now))
+        (R.remaining reader.old) result.0 (writer_contents W.contents answers) (W.contents result.1) (E.contents errors.old) (E.contents errors.new) }
+    ensures unread { IfErr (rate_in (found_of matches.now)) (λ _. reader.new ≡ reader.old) }
+{
+    answer_check(alloc, rate_of(matches), reader, answers, errors)
 }
 
 /// Whether a text is written whole and let out.
@@ -61,7 +79,8 @@ fn answer_refusal<B: Allocator, W: Write + Drop, E: Write>(
     (ended, writer)
 }
 
-/// Answers the words of the program, the first of which is its name: a script, help, or why they are refused. What is answered goes
+/// Answers the words of the program, the first of which is its name: a script, the check of schedules, help, or why they
+/// are refused. What is answered goes
 /// through `answers`, whose writer is given back, and the text of a fault to `errors`.
 pub fn answer_words<B: Allocator, R: Read, W: Write + Drop, E: Write>(
     alloc: Global,
@@ -78,14 +97,15 @@ pub fn answer_words<B: Allocator, R: Read, W: Write + Drop, E: Write>(
         Ok(matches) => matches,
         Err(error) => return answer_refusal(alloc, &error, answers, errors),
     };
-    match matches.subcommand_matches("script") {
-        Some(script) => answer_given(alloc, script, reader, answers, errors),
-        None => (
-            Ended {
-                status: 2,
-                told: true,
-            },
-            answers.into_parts().0,
-        ),
+    if let Some(script) = matches.subcommand_matches("script") {
+        return answer_given(alloc, script, reader, answers, errors);
     }
+    if let Some(check) = matches.subcommand_matches("check") {
+        return check_given(alloc, check, reader, answers, errors);
+    }
+    let ended = Ended {
+        status: 2,
+        told: true,
+    };
+    (ended, answers.into_parts().0)
 }

@@ -22,14 +22,24 @@ pub fn values_of<'a>(matches: &ArgMatches<'a>) -> Values<'a>
     }
 }
 
+/// The line rate that a subcommand is given.
+pub fn rate_of<'a>(matches: &ArgMatches<'a>) -> Option<&'a str>
+    ensures { option_map (λ text. text.now) result ≡ first_value (found_of matches.now) (codes "rate") }
+{
+    matches.get_str("rate")
+}
+
+fn with_rate<'a>(alloc: Global, command: Command<'a>) -> Result<Command<'a>, AllocError> {
+    command.arg(
+        Arg::new(alloc, "rate")
+            .long("rate")
+            .value_name("MBPS")
+            .help("The line rate, in Mb/s [default: 1000]"),
+    )
+}
+
 fn with_options<'a>(alloc: Global, command: Command<'a>) -> Result<Command<'a>, AllocError> {
-    command
-        .arg(
-            Arg::new(alloc, "rate")
-                .long("rate")
-                .value_name("MBPS")
-                .help("The line rate, in Mb/s [default: 1000]"),
-        )?
+    with_rate(alloc, command)?
         .arg(
             Arg::new(alloc, "mtu").long("mtu").value_name("OCTETS").help(
                 "The greatest service data unit, 68 to 9216 octets [default: 1500]",
@@ -54,8 +64,12 @@ pub fn command<'a>(alloc: Global) -> Result<Command<'a>, AllocError> {
     let script = Command::new(alloc, "script").about(
         "Answers the lines of a script on standard input",
     );
+    let check = Command::new(alloc, "check").about(
+        "Tells of the schedule commands on standard input which classes they keep apart",
+    );
     Command::new(alloc, "taprio_port")
         .about("An IEEE 802.1Qbv time-aware transmit port")
         .subcommand_required(true)
-        .subcommand(with_options(alloc, script)?)
+        .subcommand(with_options(alloc, script)?)?
+        .subcommand(with_rate(alloc, check)?)
 }

@@ -30,7 +30,7 @@ fn answered(alloc: Global, words: &[&str], script: &[u8]) -> io::Result<(u8, Vec
 /// Words and a script, with the status, what is answered, and what is told of a fault.
 #[test]
 fn answers_and_faults_are_told_apart(rt: HostRuntime) -> Result<(), Fail> {
-    let rows: [(&[&str], &[u8], u8, &[u8], &[u8]); 6] = [
+    let rows: [(&[&str], &[u8], u8, &[u8], &[u8]); 10] = [
         (
             &["script"],
             b"frame 1 0 60\nclock 1",
@@ -72,6 +72,34 @@ fn answers_and_faults_are_told_apart(rt: HostRuntime) -> Result<(), Fail> {
             2,
             b"",
             b"taprio_port: bad value of --until\n",
+        ),
+        (
+            &["check"],
+            b"tc qdisc replace dev eth0 root taprio sched-entry S 01 480\n",
+            0,
+            b"apart 0 1 2 3 4 5 6 7\n",
+            b"",
+        ),
+        (
+            &["check", "--rate", "100"],
+            b"tc qdisc replace dev eth0 root taprio sched-entry S 01 480\n",
+            0,
+            b"refused IntervalTooShort 0\n",
+            b"",
+        ),
+        (
+            &["check"],
+            BROKEN,
+            3,
+            b"",
+            b"taprio_port: script line 1: UnknownLine\n",
+        ),
+        (
+            &["check", "--rate", "7"],
+            BROKEN,
+            2,
+            b"",
+            b"taprio_port: bad value of --rate\n",
         ),
     ];
     for (words, script, status, answers, text) in rows {

@@ -6,9 +6,8 @@ use Rattle.abstract_port.specs.declared.Command.{Command}
 use Rattle.tc_reader.specs.declared.fault.TcFault.{TcFault}
 use Rattle.octet_writer.specs.Writes.{AppendsFront, FallsShort, Sent}
 use Rattle.tc_reader.specs.Reader.{IsReader}
-use Rattle.script.specs.Setup.{Setup}
-use Rattle.script.specs.Outcome.{Outcome, Runs, outcome_of}
-use Rattle.script.specs.Ending.{IsRunEnding, IsTold, RunsOut, run_status, run_text}
+use Rattle.script.specs.Outcome.{Outcome, Runs}
+use Rattle.script.specs.Ending.{IsRunEnding, IsTold, RunsOut, Whole, run_status, run_text}
 use Rattle.script.specs.declared.faults.Ended.{Ended}
 use Rattle.script.specs.declared.faults.RunFault.{RunFault}
 use Rattle.script.specs.declared.faults.RunFault.TheVariants as Faults
@@ -50,21 +49,21 @@ out_by : (before run : Result (Unit {0}) RunFault) (old new : Option (List ℕ))
 out_by before run old new whole (inl same) w = subst (λ r. RunsOut r old new whole) (sym same) (runs_out before old new whole w)
 out_by before run old new whole (inr failed) w = subst (λ r. RunsOut r old new whole) (sym failed) (front_of_run before old new whole w)
 
-module _ (setup : Setup) (ended : Ended) (old mid out got errors_old errors_new : Option (List ℕ)) (unwritten : List ℕ) (before run : Result (Unit {0}) RunFault) where
-  wrote : (input : Option (List ℕ)) (whole : List ℕ → Outcome) → IfSome input (λ octets. Runs before old mid (whole octets)) → (run ≡ before) ⊎ (run ≡ Err Faults.Write) → Keeps mid out → out ≡ append_known got unwritten
-      → IfSome input (λ octets. RunsOut run old (append_known got unwritten) (whole octets))
-  wrote None whole runs kept keeps same = tt
-  wrote (Some octets) whole runs kept keeps same =
-      subst (λ o. RunsOut run old o (whole octets)) same (out_by before run old out (whole octets) kept (runs_kept before old mid out (whole octets) runs keeps))
+module _ (whole : Whole) (ended : Ended) (old mid out got errors_old errors_new : Option (List ℕ)) (unwritten : List ℕ) (before run : Result (Unit {0}) RunFault) where
+  wrote : (input : Option (List ℕ)) (text : List ℕ → Outcome) → IfSome input (λ octets. Runs before old mid (text octets)) → (run ≡ before) ⊎ (run ≡ Err Faults.Write) → Keeps mid out → out ≡ append_known got unwritten
+      → IfSome input (λ octets. RunsOut run old (append_known got unwritten) (text octets))
+  wrote None text runs kept keeps same = tt
+  wrote (Some octets) text runs kept keeps same =
+      subst (λ o. RunsOut run old o (text octets)) same (out_by before run old out (text octets) kept (runs_kept before old mid out (text octets) runs keeps))
 
-  pub run_ending : (input : Option (List ℕ)) → ((read : List (List ℕ) → Result Command TcFault) → IsReader read → IfSome input (λ octets. Runs before old mid (outcome_of read setup octets)))
+  pub run_ending : (input : Option (List ℕ)) → ((read : List (List ℕ) → Result Command TcFault) → IsReader read → IfSome input (λ octets. Runs before old mid (whole read octets)))
       → (run ≡ before) ⊎ (run ≡ Err Faults.Write) → (unwritten ≡ []) ⊎ (run ≡ Err Faults.Write) → Keeps mid out → out ≡ append_known got unwritten
-      → ended.status ≡ run_status run → IsTold ended.told errors_old errors_new (run_text run) → IsRunEnding setup input ended old got errors_old errors_new
+      → ended.status ≡ run_status run → IsTold ended.told errors_old errors_new (run_text run) → IsRunEnding whole input ended old got errors_old errors_new
   run_ending input runs kept let_out keeps same status told = record {
     run = run;
     unwritten = unwritten;
     status = status;
     told = told;
     let_out = let_out;
-    wrote = λ read is. wrote input (outcome_of read setup) (runs read is) kept keeps same;
+    wrote = λ read is. wrote input (whole read) (runs read is) kept keeps same;
   }

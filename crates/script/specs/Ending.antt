@@ -7,10 +7,11 @@ use Rattle.tc_reader.specs.declared.fault.TcFault.{TcFault}
 use Rattle.octet_writer.specs.Writes.{AppendsFront, FallsShort}
 use Rattle.tc_reader.specs.Reader.{IsReader}
 use Rattle.script.specs.Setup.{Setup}
-use Rattle.script.specs.Settings.{settings_of}
+use Rattle.script.specs.Settings.{rate_in, settings_of}
 use Rattle.script.specs.Outcome.{Outcome, Runs, outcome_of}
 use Rattle.script.specs.Texts.{fault_text, status_of, value_text}
 use Rattle.script.specs.declared.settings.BadValue.{BadValue}
+use Rattle.script.specs.declared.settings.BadValue.TheVariants as Values
 use Rattle.script.specs.declared.faults.Ended.{Ended}
 use Rattle.script.specs.declared.faults.RunFault.{RunFault}
 use Rattle.script.specs.declared.faults.RunFault.TheVariants as Faults
@@ -18,6 +19,15 @@ use Rattle.script.specs.declared.faults.RunFault.TheVariants as Faults
 -- The settings of the values that are given: 1000 Mb/s, an mtu of 1500 octets and room for 128 frames a class where none is.
 abbrev pub settings_given : Option (List ℕ) → Option (List ℕ) → Option (List ℕ) → Option (List ℕ) → Result Setup BadValue
 settings_given rate mtu room until = settings_of (unwrap_or rate (codes "1000")) (unwrap_or mtu (codes "1500")) (unwrap_or room (codes "128")) until greatest_moment
+
+-- a rate in picoseconds an octet, if there is one
+abbrev pub rate_where_good : Option ℕ → Result ℕ BadValue
+rate_where_good (Some ps) = Ok ps
+rate_where_good None = Err Values.Rate
+
+-- the rate of the value that is given, alone: 1000 Mb/s where none is
+abbrev pub rate_given : Option (List ℕ) → Result ℕ BadValue
+rate_given rate = rate_where_good (rate_in (unwrap_or rate (codes "1000")))
 
 -- whether a text was told: all of it was written; or not all of it, but a front
 abbrev pub IsTold : Bool → Option (List ℕ) → Option (List ℕ) → List ℕ → Type 0
@@ -42,16 +52,20 @@ RunsOut (Err (Faults.Script number fault)) old new whole = Runs {T = ⊤} (Err (
 RunsOut (Err Faults.Read) old new whole = Runs {T = ⊤} (Err Faults.Read) old new whole
 RunsOut (Err Faults.Memory) old new whole = Runs {T = ⊤} (Err Faults.Memory) old new whole
 
+-- What is to be written for the octets of an input, by the function that reads tc lines.
+abbrev pub Whole : Type 0
+Whole = (List (List ℕ) → Result Command TcFault) → List ℕ → Outcome
+
 -- The end of a run on good settings: the status and the told text are those of a result of the run; what the writer got, with
--- what no write let out, is the output of the octets, or after a fault of the call's a front of it; and all is let out but after
--- a failed write.
-pub record IsRunEnding (setup : Setup) (input : Option (List ℕ)) (ended : Ended) (old got : Option (List ℕ)) (errors_old errors_new : Option (List ℕ)) : Type 0 where
+-- what no write let out, is what is to be written for the octets, or after a fault of the call's a front of it; and all is let out but
+-- after a failed write.
+pub record IsRunEnding (whole : Whole) (input : Option (List ℕ)) (ended : Ended) (old got : Option (List ℕ)) (errors_old errors_new : Option (List ℕ)) : Type 0 where
   pub run : Result (Unit {0}) RunFault
   pub unwritten : List ℕ
   pub status : ended.status ≡ run_status run
   pub told : IsTold ended.told errors_old errors_new (run_text run)
   pub let_out : (unwritten ≡ []) ⊎ (run ≡ Err Faults.Write)
-  pub wrote : (read : List (List ℕ) → Result Command TcFault) → IsReader read → IfSome input (λ octets. RunsOut run old (append_known got unwritten) (outcome_of read setup octets))
+  pub wrote : (read : List (List ℕ) → Result Command TcFault) → IsReader read → IfSome input (λ octets. RunsOut run old (append_known got unwritten) (whole read octets))
 
 -- The end where a value is bad: status 2, its text is told, and nothing is answered.
 pub record IsRefusal (value : BadValue) (ended : Ended) (old got : Option (List ℕ)) (errors_old errors_new : Option (List ℕ)) : Type 0 where
@@ -60,7 +74,11 @@ pub record IsRefusal (value : BadValue) (ended : Ended) (old got : Option (List 
   pub unwritten : List ℕ
   pub wrote : append_known got unwritten ≡ old
 
--- by the settings of the values
-abbrev pub IsEnding : Result Setup BadValue → Option (List ℕ) → Ended → (old got errors_old errors_new : Option (List ℕ)) → Type 0
-IsEnding (Ok setup) input ended old got errors_old errors_new = IsRunEnding setup input ended old got errors_old errors_new
-IsEnding (Err value) input ended old got errors_old errors_new = IsRefusal value ended old got errors_old errors_new
+-- by the settings of the values, and what is to be written by them
+abbrev pub IsEnding : {S : Type 0} → (S → Whole) → Result S BadValue → Option (List ℕ) → Ended → (old got errors_old errors_new : Option (List ℕ)) → Type 0
+IsEnding whole (Ok setup) input ended old got errors_old errors_new = IsRunEnding (whole setup) input ended old got errors_old errors_new
+IsEnding whole (Err value) input ended old got errors_old errors_new = IsRefusal value ended old got errors_old errors_new
+
+-- what is to be written for a script
+abbrev pub whole_script : Setup → Whole
+whole_script setup read octets = outcome_of read setup octets

@@ -1,16 +1,20 @@
 //! The program's main job: a script is answered by the values of options.
 
-ghost use Rattle.std.specs.Prelude.{◌≡◌, ◌⊎◌, [], Err, IfErr, option_map};
+ghost use Rattle.std.specs.Prelude.{◌≡◌, ◌⊎◌, ℕ, List, [], Option, Result, Err, IfErr, IfSome, option_map};
 ghost use Rattle.std.specs.Io.Buffered.{writer_buffer, writer_contents};
 ghost use Rattle.std.specs.Io.KnownBytes.{Keeps};
-ghost use Rattle.script.specs.Ending.{IsEnding, IsTold, run_status, run_text, settings_given};
+ghost use Rattle.abstract_port.specs.declared.Command.{Command};
+ghost use Rattle.tc_reader.specs.Reader.{IsReader};
+ghost use Rattle.tc_reader.specs.declared.fault.TcFault.{TcFault};
+ghost use Rattle.script.specs.Outcome.{Runs};
+ghost use Rattle.script.specs.Ending.{IsEnding, IsRefusal, IsRunEnding, IsTold, Whole, rate_given, run_status, run_text, settings_given, whole_script};
 
 use crate::faults::{Ended, RunFault, say_fault, say_value};
 use crate::running::run_script;
-use crate::settings::{BadValue, Settings};
+use crate::settings::{BadValue, Settings, read_rate};
 use std::alloc::Allocator;
 use std::io::{BufWriter, Read, Write};
-use wire_time::MAX_MOMENT;
+use wire_time::{MAX_MOMENT, Rate};
 
 /// The line rate where none is given, in Mb/s.
 const RATE: &str = "1000";
@@ -32,6 +36,16 @@ pub struct Values<'a> {
     pub room: Option<&'a str>,
     /// The moment to run to after the input, in picoseconds.
     pub until: Option<&'a str>,
+}
+
+/// The line rate of a value in Mb/s, or, where none is given, 1000 Mb/s.
+pub fn rate_given(rate: Option<&str>) -> Result<Rate, BadValue>
+    ensures { result ≡ rate_given (option_map (λ text. text.now) rate.entry) }
+{
+    match read_rate(rate.unwrap_or(RATE)) {
+        Some(rate) => Ok(rate),
+        None => Err(BadValue::Rate),
+    }
 }
 
 // The settings of the values that are given, and of those that stand for the others.
@@ -80,6 +94,37 @@ fn say_run<E: Write>(run: Result<(), RunFault>, errors: &mut E) -> Ended
     }
 }
 
+/// Ends a run whose answers went through `answers`: lets out what was answered, also before a fault, but after a failed write; then
+/// tells the fault on `errors`, where there is one; and gives the writer of the answers back. What the run has written is then what
+/// the writer has got, with what no write let out.
+pub fn end_run<B: Allocator, W: Write + Drop, E: Write>(
+    run: Result<(), RunFault>,
+    mut answers: BufWriter<W, B>,
+    errors: &mut E,
+) -> (Ended, W)
+    ensures { (whole : Whole) (input old : Option (List ℕ))
+        → ((read : List (List ℕ) → Result Command TcFault) → IsReader read → IfSome input (λ octets. Runs run old (writer_contents W.contents answers) (whole read octets)))
+        → IsRunEnding whole input result.0 old (W.contents result.1) (E.contents errors.old) (E.contents errors.new) }
+{
+    let run = let_out(run, &mut answers);
+    let ended = say_run(run, errors);
+    let (writer, _unwritten) = answers.into_parts();
+    (ended, writer)
+}
+
+/// Tells a bad value on `errors`, and gives the writer of the answers back. Nothing is answered.
+pub fn end_with_value<B: Allocator, W: Write + Drop, E: Write>(
+    value: BadValue,
+    answers: BufWriter<W, B>,
+    errors: &mut E,
+) -> (Ended, W)
+    ensures { IsRefusal value result.0 (writer_contents W.contents answers) (W.contents result.1) (E.contents errors.old) (E.contents errors.new) }
+{
+    let ended = say_value(&value, errors);
+    let (writer, _unwritten) = answers.into_parts();
+    (ended, writer)
+}
+
 /// Answers the script that `reader` gives, by these values, through `answers`, with the text of a fault on `errors`; and gives
 /// the writer of the answers back. What was answered is let out before a fault is told; after a failed write no other is tried.
 pub fn answer_script<A: Allocator, B: Allocator, R: Read, W: Write + Drop, E: Write>(
@@ -89,22 +134,15 @@ pub fn answer_script<A: Allocator, B: Allocator, R: Read, W: Write + Drop, E: Wr
     mut answers: BufWriter<W, B>,
     errors: &mut E,
 ) -> (Ended, W)
-    ensures ending { IsEnding (settings_given (option_map (λ text. text.now) values.entry.rate) (option_map (λ text. text.now) values.entry.mtu) (option_map (λ text. text.now) values.entry.room) (option_map (λ text. text.now) values.entry.until))
+    ensures ending { IsEnding whole_script (settings_given (option_map (λ text. text.now) values.entry.rate) (option_map (λ text. text.now) values.entry.mtu) (option_map (λ text. text.now) values.entry.room) (option_map (λ text. text.now) values.entry.until))
         (R.remaining reader.old) result.0 (writer_contents W.contents answers) (W.contents result.1) (E.contents errors.old) (E.contents errors.new) }
     ensures unread { IfErr (settings_given (option_map (λ text. text.now) values.entry.rate) (option_map (λ text. text.now) values.entry.mtu) (option_map (λ text. text.now) values.entry.room) (option_map (λ text. text.now) values.entry.until)) (λ _. reader.new ≡ reader.old) }
 {
     match settings_given(values) {
         Ok(settings) => {
             let run = run_script(alloc, reader, &mut answers, settings);
-            let run = let_out(run, &mut answers);
-            let ended = say_run(run, errors);
-            let (writer, _unwritten) = answers.into_parts();
-            (ended, writer)
+            end_run(run, answers, errors)
         }
-        Err(value) => {
-            let ended = say_value(&value, errors);
-            let (writer, _unwritten) = answers.into_parts();
-            (ended, writer)
-        }
+        Err(value) => end_with_value(value, answers, errors),
     }
 }

@@ -47,7 +47,8 @@ pub enum BadValue {
     Until,
 }
 
-fn read_rate(text: &str) -> Option<Rate>
+/// The rate of a decimal number of Mb/s, if there is one.
+pub fn read_rate(text: &str) -> Option<Rate>
     ensures { result ≡ rate_in text.now }
 {
     let mbps = number(text.as_bytes(), u128::from(u32::MAX))?;

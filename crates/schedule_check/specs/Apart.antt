@@ -1,0 +1,57 @@
+-- What is told of a schedule command: the classes that its schedule keeps apart from all others.
+use Rattle.std.specs.Prelude.{◌+◌, List, ℕ, zero, suc, [], ◌∷◌, ◌++◌, Option, Some, None, Result, Ok, Err, decimal, codes, if◌then◌else◌}
+use Rattle.std.specs.List.{concat, flat_map}
+use Rattle.wire_time.specs.declared.TheConstants.{CLASSES}
+use Rattle.class_map.specs.declared.ClassMap.{ClassMap}
+use Rattle.gate_list.specs.Gate.{keeps_apart, plan_fault}
+use Rattle.gate_list.specs.declared.Entry.{Entry}
+use Rattle.gate_list.specs.declared.PlanFault.{PlanFault}
+use Rattle.abstract_port.specs.AbstractPort.{plan_asked}
+use Rattle.abstract_port.specs.declared.Change.{Change}
+use Rattle.abstract_port.specs.declared.Command.{Command}
+use Rattle.abstract_port.specs.declared.Command.TheVariants.{Replace, Delete}
+use Rattle.abstract_port.specs.declared.Refused.TheVariants.{Schedule}
+use Rattle.tc_reader.specs.declared.fault.TcFault.{TcFault}
+use Rattle.answer_text.specs.Lines.{refused_line, tc_fault_line}
+
+-- how many classes a change speaks of: those of its map, or all where it gives none
+abbrev pub class_count : Option ClassMap → ℕ
+class_count (Some map) = map.num_tc
+class_count None = CLASSES
+
+-- a class, where every entry keeps it apart
+abbrev pub itself_apart : ℕ → List Entry → List ℕ
+itself_apart class entries = if keeps_apart entries class then class ∷ [] else []
+
+-- so many classes from one on, those of them that every entry keeps apart, in rising order
+unfoldable pub classes_apart : ℕ → ℕ → List Entry → List ℕ
+classes_apart zero class entries = []
+classes_apart (suc n) class entries = itself_apart class entries ++ classes_apart n (class + 1) entries
+
+-- a space and the number of a class
+abbrev pub class_word : ℕ → List ℕ
+class_word class = concat (codes " " ∷ decimal class ∷ [])
+
+-- the line of some classes
+abbrev pub some_line : List ℕ → List ℕ
+some_line classes = concat (codes "apart" ∷ flat_map class_word classes ∷ codes "\n" ∷ [])
+
+-- the line of classes that are kept apart, which says so where there is none
+abbrev pub apart_line : List ℕ → List ℕ
+apart_line [] = codes "apart none\n"
+apart_line (class ∷ classes) = some_line (class ∷ classes)
+
+-- the line of a change: the refusal of its schedule, or the classes that it keeps apart
+abbrev pub schedule_line : Option PlanFault → Change → List ℕ
+schedule_line (Some fault) c = refused_line (Schedule fault)
+schedule_line None c = apart_line (classes_apart (class_count c.map) 0 (plan_asked c).entries)
+
+-- the same at a line rate, in picoseconds an octet
+abbrev pub change_line : ℕ → Change → List ℕ
+change_line ps c = schedule_line (plan_fault ps (plan_asked c)) c
+
+-- the line of a line that begins with tc: it is no command, or what is told of the command; a deletion keeps nothing apart
+abbrev pub verdict_line : ℕ → Result Command TcFault → List ℕ
+verdict_line ps (Err fault) = tc_fault_line fault
+verdict_line ps (Ok Delete) = apart_line []
+verdict_line ps (Ok (Replace c)) = change_line ps c

@@ -1,0 +1,5 @@
+//! Tests of `schedule_check`, by its public calls.
+#![tactic(auto)]
+
+#[cfg(test)]
+mod tests;
