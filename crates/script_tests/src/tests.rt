@@ -8,29 +8,8 @@ use script::{
 use std::io::{self, BufWriter, Read, Write};
 use std::process::Abort;
 use std::test::Fail;
+use test_streams::{Narrow, Pieces};
 use wire_time::{MAX_MOMENT, Rate};
-
-/// Gives its octets in pieces, and fails once it has given so many pieces.
-#[derive(Drop)]
-struct Pieces<'a> {
-    octets: &'a [u8],
-    piece: usize,
-    calls_left: u32,
-}
-
-impl Read for Pieces<'_> {
-    fn read(&mut self, buf: &mut [u8]) -> io::Result<usize> {
-        if self.calls_left == 0 {
-            return Err(io::Error::from(io::ErrorKind::Interrupted));
-        }
-        self.calls_left -= 1;
-        let count = self.piece.min(buf.len()).min(self.octets.len());
-        let octets = self.octets;
-        buf[..count].copy_from_slice(&octets[..count]);
-        self.octets = &octets[count..];
-        Ok(count)
-    }
-}
 
 /// Gives one octet for ever.
 #[derive(Drop)]
@@ -42,31 +21,6 @@ impl Read for Endless {
             *octet = self.0;
         }
         Ok(buf.len())
-    }
-}
-
-/// Takes a few octets at a time, and once it has taken so many it fails or takes nothing.
-#[derive(Drop)]
-struct Narrow {
-    got: Vec<u8>,
-    piece: usize,
-    room: usize,
-    fails: bool,
-}
-
-impl Write for Narrow {
-    fn write(&mut self, buf: &[u8]) -> io::Result<usize> {
-        if self.room == 0 && self.fails {
-            return Err(io::Error::from(io::ErrorKind::Interrupted));
-        }
-        let count = self.piece.min(buf.len()).min(self.room);
-        self.got.extend_from_slice(&buf[..count])?;
-        self.room -= count;
-        Ok(count)
-    }
-
-    fn flush(&mut self) -> io::Result<()> {
-        Ok(())
     }
 }
 
@@ -91,27 +45,6 @@ impl Write for Once {
 
     fn flush(&mut self) -> io::Result<()> {
         Ok(())
-    }
-}
-
-/// Fails at the first read, and then gives its octets.
-#[derive(Drop)]
-struct FailsOnce<'a> {
-    octets: &'a [u8],
-    failed: bool,
-}
-
-impl Read for FailsOnce<'_> {
-    fn read(&mut self, buf: &mut [u8]) -> io::Result<usize> {
-        if !self.failed {
-            self.failed = true;
-            return Err(io::Error::from(io::ErrorKind::Interrupted));
-        }
-        let count = buf.len().min(self.octets.len());
-        let octets = self.octets;
-        buf[..count].copy_from_slice(&octets[..count]);
-        self.octets = &octets[count..];
-        Ok(count)
     }
 }
 
@@ -315,11 +248,8 @@ fn refuses_each_growth(rt: HostRuntime) -> Result<(), Fail> {
 #[test]
 fn reads_pieces(rt: HostRuntime) -> Result<(), Fail> {
     for calls_left in 0..40u32 {
-        let reader = Pieces {
-            octets: SCRIPT,
-            piece: 1,
-            calls_left,
-        };
+        let mut reader = Pieces::new(SCRIPT, 1);
+        reader.fails_at = calls_left;
         let mut got = Vec::new(rt.alloc());
         let result = run_script(rt.alloc(), reader, &mut got, usual(&rt));
         if calls_left > 27 {
@@ -343,6 +273,7 @@ fn stops_at_each_write(rt: HostRuntime) -> Result<(), Fail> {
                     piece,
                     room,
                     fails,
+                    recovers: false,
                 };
                 let result = run_script(rt.alloc(), SCRIPT, &mut writer, usual(&rt));
                 let want = if room < 49 {
@@ -417,6 +348,7 @@ fn says_nothing_where_no_write_is_taken(rt: HostRuntime) {
         piece: 1,
         room: 5,
         fails: true,
+        recovers: false,
     };
     let ended = Ended {
         status: 4,
@@ -515,11 +447,8 @@ fn lets_out_before_a_fault(rt: HostRuntime) -> Result<(), Fail> {
         room: None,
         until: None,
     };
-    let mut reader = Pieces {
-        octets: b"frame 1 0 60\nframe 2 0 60\n",
-        piece: 1,
-        calls_left: 14,
-    };
+    let mut reader = Pieces::new(b"frame 1 0 60\nframe 2 0 60\n", 1);
+    reader.fails_at = 14;
     let writer = BufWriter::new(rt.alloc(), Vec::new(rt.alloc()))?;
     let mut errors = Vec::new(rt.alloc());
     let (ended, got) = answer_script(rt.alloc(), none, &mut reader, writer, &mut errors);
@@ -561,10 +490,9 @@ fn lets_out_before_a_fault(rt: HostRuntime) -> Result<(), Fail> {
 /// A read that fails once is not tried again, though it would work then.
 #[test]
 fn no_read_is_tried_again(rt: HostRuntime) {
-    let reader = FailsOnce {
-        octets: SCRIPT,
-        failed: false,
-    };
+    let mut reader = Pieces::new(SCRIPT, usize::MAX);
+    reader.fails_at = 0;
+    reader.recovers = true;
     let mut got = Vec::new(rt.alloc());
     assert_eq!(rt;
         run_script(rt.alloc(), reader, &mut got, usual(&rt)),
