@@ -4,3 +4,4 @@ mod LeftLaws
 mod ReaderLaws
 mod Going
 mod EndingLaws
+mod SeparatedLaws

@@ -3,5 +3,6 @@ pub mod Settings
 pub mod Requests
 pub mod Responses
 pub mod Outcome
+pub mod Separated
 pub mod Texts
 pub mod Ending

@@ -4,8 +4,11 @@ ghost use Rattle.std.specs.Prelude.{◌≤◌, ℕ, List, Result};
 ghost use Rattle.abstract_port.specs.declared.Command.{Command};
 ghost use Rattle.tc_reader.specs.declared.fault.TcFault.{TcFault};
 ghost use Rattle.script.specs.Outcome.{IsFaithfulTo};
+ghost use Rattle.script.specs.Separated.{IsSeparatedIn};
 ghost use Rattle.script.specs.Setup.{Setup};
 ghost use Rattle.wire_time.specs.declared.TheConstants.{MIN_MTU, MIN_PS_PER_OCTET};
+
+use separation::separation;
 
 /// What is told of a script are the abstract port's answers to its events. In each output every `start` line has its gate open
 /// from its start to its end, by the history of its time and by that at the script's end; no two frames are on the wire at
@@ -13,3 +16,11 @@ ghost use Rattle.wire_time.specs.declared.TheConstants.{MIN_MTU, MIN_PS_PER_OCTE
 pub fn faithful()
     ensures { (read : List (List ℕ) → Result Command TcFault) (s : Setup) (input : List ℕ) → MIN_PS_PER_OCTET ≤ s.rate → MIN_MTU ≤ s.mtu → IsFaithfulTo read s input }
 {}
+
+/// Of a script whose events keep a class apart (every accepted schedule does, none is deleted, and one is in force at each arrival of the
+/// class): the lines that concern the class are those of the same script without the other classes' frames.
+pub fn separated()
+    ensures { (read : List (List ℕ) → Result Command TcFault) (s : Setup) (input : List ℕ) → MIN_PS_PER_OCTET ≤ s.rate → MIN_MTU ≤ s.mtu → IsSeparatedIn read s input }
+{
+    separation();
+}

@@ -1,0 +1,31 @@
+-- What concerns a class that is kept apart, as it is written.
+use Rattle.std.proofs.Common.{◌≡◌, ◌≤◌, ℕ, List, [], ◌∷◌, Bool, true, false, cond, Result, refl, sym, ap, ◌∙◌}
+use Rattle.std.specs.List.{flat_map}
+use Rattle.abstract_port.specs.AbstractPort.{AbstractPort, new_port}
+use Rattle.abstract_port.specs.Answers.{answers_to}
+use Rattle.abstract_port.specs.declared.Command.{Command}
+use Rattle.abstract_port.specs.declared.Event.{Event}
+use Rattle.answer_text.specs.Lines.{answer_lines}
+use Rattle.separation.specs.Separation.{IsSeparation, Noted, concerning, is_other, noted, only}
+use Rattle.tc_reader.specs.declared.fault.TcFault.{TcFault}
+use Rattle.script.specs.Requests.{Request, Asks, NoCommand}
+use Rattle.script.specs.Responses.{events_of}
+use Rattle.script.specs.Separated.{IsSeparatedBy, IsSeparatedIn, lines_concerning, only_asked}
+use Rattle.script.specs.Setup.{Setup}
+
+one_more : (event : Event) (other : Bool) (requests : List Request) (events : List Event) → events_of requests ≡ events
+    → events_of (cond other requests (Asks event ∷ requests)) ≡ cond other events (event ∷ events)
+one_more event true requests events same = same
+one_more event false requests events same = ap (λ later. event ∷ later) same
+
+-- the events of what is asked without the other classes' arrivals
+only-events : (class : ℕ) (requests : List Request) (p : AbstractPort) → events_of (only_asked class requests p) ≡ only class (events_of requests) p
+only-events class [] p = refl
+only-events class (NoCommand fault ∷ rest) p = only-events class rest p
+only-events class (Asks event ∷ rest) p = one_more event (is_other class event p) _ _ (only-events class rest (answers_to event p).1)
+
+pub is_separated : IsSeparation → (requests : List Request) (ps mtu room : ℕ) → 80 ≤ ps → 68 ≤ mtu → IsSeparatedBy requests (new_port ps mtu room)
+is_separated law requests ps mtu room rate within class less apart =
+    let p = new_port ps mtu room in
+    ap (λ (notes : List Noted). flat_map (λ n. answer_lines n.answer) notes) (law ps mtu room class rate within less (events_of requests) apart)
+    ∙ ap (λ events. lines_concerning class events p) (sym (only-events class requests p))
