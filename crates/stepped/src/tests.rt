@@ -122,8 +122,8 @@ fn a_move_counts_each_entry_that_it_looks_at(rt: HostRuntime) {
     assert_eq!(rt; visits_to(&rt, &mut gates, 5150000000), 2);
 }
 
-/// Only where one command is pending and another is announced the list is placed at the lead moment ahead, in its first
-/// entry: two visits.
+/// Only where one command is pending and another that is announced replaces it the list is placed at the lead moment ahead, in
+/// its first entry: two visits each time, also where the class is shut now.
 #[test]
 fn a_list_is_placed_ahead_for_two_commands_alone(rt: HostRuntime) {
     let mut gates = two_masks(&rt, 0);
@@ -135,8 +135,9 @@ fn a_list_is_placed_ahead_for_two_commands_alone(rt: HostRuntime) {
     let _ = mask_at(&rt, &mut gates, 2050000000);
     assert!(rt; gates.stays_open(0, 550000000, &mut visits));
     assert_eq!(rt; gates.delete(2062336000), Ok(2062336000));
-    assert!(rt; !gates.stays_open(1, 1, &mut visits));
     assert_eq!(rt; visits.count(), 0);
-    assert!(rt; gates.stays_open(0, 1000000000, &mut visits));
+    assert!(rt; !gates.stays_open(1, 1, &mut visits));
     assert_eq!(rt; visits.count(), 2);
+    assert!(rt; gates.stays_open(0, 1000000000, &mut visits));
+    assert_eq!(rt; visits.count(), 4);
 }
