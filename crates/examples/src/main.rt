@@ -1,6 +1,8 @@
-//! Runs each example script and the worked scripts, and says whether their answers are those that lie beside them.
+//! Runs each example script, the worked scripts and the example of a check, and says whether their answers are those that lie beside
+//! them.
 #![tactic(auto)]
 
+use schedule_check::check;
 use script::{Settings, run_script};
 use std::rt::Files;
 use std::{fs, io};
@@ -35,6 +37,27 @@ fn agrees<R: Files + AllocGlobal>(rt: &R, script: &str, answers: &str) -> io::Re
     Ok(answers_with(rt, script.as_bytes(), answers.as_bytes()))
 }
 
+/// Whether the example of a check is told with the octets that lie beside it, at 1000 Mb/s.
+fn check_agrees<R: Files + AllocGlobal>(rt: &R) -> io::Result<bool> {
+    let schedules = fs::read_to_string(rt, "apart.schedules")?;
+    let answers = fs::read_to_string(rt, "apart.answers")?;
+    let Ok(rate) = Rate::from_mbps(1000) else {
+        return Ok(false);
+    };
+    let mut got = Vec::new(rt.alloc());
+    let checked = check(rt.alloc(), schedules.as_bytes(), &mut got, rate);
+    Ok(checked.is_ok() && got.as_slice() == answers.as_bytes())
+}
+
+/// The words behind the name of an example.
+fn told(agrees: bool) -> &'static str {
+    if agrees {
+        "answers as it should"
+    } else {
+        "ANSWERS OTHERWISE"
+    }
+}
+
 /// How many worked scripts there are, and how many of them answer as they should. A script and its answers are parted by a line
 /// of four dashes, and one script from the next by a line of four equals signs.
 fn worked<R: Files + AllocGlobal>(rt: &R) -> io::Result<(u32, u32)> {
@@ -54,13 +77,11 @@ fn worked<R: Files + AllocGlobal>(rt: &R) -> io::Result<(u32, u32)> {
 
 fn main(rt: HostRuntime) -> io::Result<()> {
     for (script, answers) in EXAMPLES {
-        let told = if agrees(&rt, script, answers)? {
-            "answers as it should"
-        } else {
-            "ANSWERS OTHERWISE"
-        };
+        let told = told(agrees(&rt, script, answers)?);
         println!(rt; "{script} {told}")?;
     }
+    let told = told(check_agrees(&rt)?);
+    println!(rt; "apart.schedules {told}")?;
     let (scripts, answered) = worked(&rt)?;
     println!(rt; "{answered} of {scripts} worked scripts answer as they should")?;
     Ok(())
