@@ -1,0 +1,66 @@
+-- What a schedule gives a class: how long its gate stays open and closed, by the gates of its plan alone, which go on for ever
+-- (IEEE Std 802.1Q-2018, 8.6.8.4, 8.6.9.2).
+use Rattle.std.specs.Prelude.{◌≡◌, ◌≤◌, ℕ, zero, suc, ◌+◌, ◌-◌, true, map, Some, None, if◌then◌else◌}
+use Rattle.wire_time.specs.Wire.{occupancy_of}
+use Rattle.gate_list.specs.Gate.{Plan, in_ps, mask_since, opens}
+use Rattle.gate_list.specs.Open.{open_while}
+use Rattle.gate_list.specs.declared.Entry.{Entry}
+use Rattle.gate_list.specs.declared.Stay.{Stay}
+use Rattle.gate_list.specs.declared.Stay.TheVariants.{Lasts, Always}
+use Rattle.schedule_check.specs.declared.windows.Longest.{Longest}
+use Rattle.schedule_check.specs.declared.windows.Longest.TheVariants.{NoFrame, Octets, AnyFrame}
+use Rattle.schedule_check.specs.declared.windows.Window.{Window}
+
+-- what a plan shows at each picosecond, alone and for ever, from the moment 0 on
+abbrev pub alone : Plan → ℕ → ℕ
+alone plan = mask_since (Some plan) 0 None
+
+-- a mask of eight bits that opens what another closes
+abbrev pub turned_mask : ℕ → ℕ
+turned_mask mask = 255 - mask
+
+-- masks, moment by moment, that open what others close
+abbrev pub turned : (ℕ → ℕ) → ℕ → ℕ
+turned mask m = turned_mask (mask m)
+
+-- the entry that opens what another closes, for as long
+abbrev pub turned_entry : Entry → Entry
+turned_entry e = record { mask = turned_mask e.mask; interval = e.interval }
+
+-- the plan whose entries open what those of another close
+abbrev pub turned_plan : Plan → Plan
+turned_plan plan = record { entries = map turned_entry plan.entries; base = plan.base; cycle = plan.cycle; extension = plan.extension }
+
+-- the longest time, in picoseconds, that a class is open: for so long from some moment on, and from no moment on for longer
+pub record IsLongestOpen (mask : ℕ → ℕ) (class d : ℕ) : Type 0 where
+  pub reached : (x : ℕ) × (open_while mask class x d ≡ true)
+  pub most : (x e : ℕ) → open_while mask class x e ≡ true → e ≤ d
+
+-- the same, or the class is open for ever
+abbrev pub IsOpenStay : (ℕ → ℕ) → ℕ → Stay → Type 0
+IsOpenStay mask class (Lasts d) = IsLongestOpen mask class d
+IsOpenStay mask class Always = (x d : ℕ) → open_while mask class x d ≡ true
+
+-- at how many of the first picoseconds the class is open
+unfoldable pub open_total : (ℕ → ℕ) → ℕ → ℕ → ℕ
+open_total mask class zero = 0
+open_total mask class (suc n) = open_total mask class n + (if opens (mask n) class then 1 else 0)
+
+-- A frame of so many octets can start at some moment, at a rate in picoseconds an octet: from then on the class is open for as long
+-- as the frame occupies the wire.
+abbrev pub CanStart : ℕ → (ℕ → ℕ) → ℕ → ℕ → Type 0
+CanStart ps mask class len = (x : ℕ) × (open_while mask class x (occupancy_of ps len) ≡ true)
+
+-- the longest frame that can ever start, in octets without check sequence; every frame where the class never closes
+abbrev pub IsLongestFrame : ℕ → (ℕ → ℕ) → ℕ → Longest → Type 0
+IsLongestFrame ps mask class NoFrame = (len : ℕ) → CanStart ps mask class len → ⊥
+IsLongestFrame ps mask class (Octets n) = CanStart ps mask class n × ((len : ℕ) → CanStart ps mask class len → len ≤ n)
+IsLongestFrame ps mask class AnyFrame = (len : ℕ) → CanStart ps mask class len
+
+-- what a schedule gives a class, at a rate in picoseconds an octet
+pub record IsWindow (ps : ℕ) (plan : Plan) (class : ℕ) (w : Window) : Type 0 where
+  pub open_time : IsOpenStay (alone plan) class w.open_time
+  pub closed_time : IsOpenStay (turned (alone plan)) class w.closed_time
+  pub share : w.share ≡ open_total (alone plan) class (in_ps plan.cycle)
+  pub cycle : w.cycle ≡ in_ps plan.cycle
+  pub longest_frame : IsLongestFrame ps (alone plan) class w.longest_frame
