@@ -1,7 +1,7 @@
-mod OutputLaws
+pub mod OutputLaws
 mod StartsLaws
-mod LeftLaws
-mod ReaderLaws
+pub mod LeftLaws
+pub mod ReaderLaws
 mod Going
 mod EndingLaws
 mod SeparatedLaws

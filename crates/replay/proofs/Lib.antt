@@ -1,0 +1,11 @@
+pub mod Sends
+pub mod StartLaws
+pub mod ArrivalLaws
+pub mod RunLaws
+pub mod LineLaws
+pub mod RecordLaws
+pub mod KeepLaws
+pub mod MergeLaws
+pub mod EndLaws
+pub mod TellLaws
+pub mod ReplayLaws

@@ -1,0 +1,230 @@
+-- The records that come from a reader, one after another.
+use Rattle.std.specs.Prelude.{IfOk, IfSome, MatchOption, OnOk, max}
+use Rattle.std.proofs.Common.{◌≡◌, ◌≢◌, ◌≤◌, ◌<◌, ◌+◌, ◌++◌, ℕ, List, [], ◌∷◌, length, Option, Some, None, Result, Ok, Err, refl, sym, ap, ◌∙◌, subst, append_assoc, append-nil, arith}
+use Rattle.std.proofs.Math.ListN.{get_or}
+use Rattle.std.proofs.Math.Seq.{get_or-append_seam}
+use Rattle.std.proofs.lemmas.List.{length-append}
+use Rattle.capture.specs.CaptureReader.{IsWanting, Left, Next, ReadsNext, again, octets_left}
+use Rattle.capture.specs.Captures.{AreRecords}
+use Rattle.capture.specs.Record.{frame_of}
+use Rattle.capture.specs.Records.{Entry, IsWithin, entry_at, fault_at, rest_after}
+use Rattle.capture.specs.declared.format.TheConstants.{MAX_RECORDS}
+use Rattle.capture.specs.declared.fault.CapFault.{CapFault}
+use Rattle.capture.specs.declared.fault.CapFault.TheVariants.{ShortHeader, BadMagic, BadVersion, BadLink, ShortRecord, LongRecord, BadFraction, TooManyRecords, Read, Write, Memory}
+use Rattle.capture.specs.declared.format.Format.{Format}
+use Rattle.capture.specs.declared.reader.End.{End}
+use Rattle.capture.specs.declared.reader.End.TheVariants.{Whole, Broken}
+use Rattle.abstract_port.specs.declared.Event.TheVariants.{Arrive, Clock}
+use Rattle.octet_store.specs.Stored.{Kept, kept}
+use Rattle.script.specs.Requests.{Request, Asks}
+use Rattle.replay.specs.Merge.{Came, Timed, before_end, came_from, lines_after, lines_by, lines_past, requests_of}
+use Rattle.replay.specs.Outputs.{kept_in, no_entry}
+use Rattle.replay.specs.RecordsLeft.{Comes, EndsSo, ending, found}
+use Rattle.replay.specs.Running.{Answers, Keeps, State}
+use Rattle.abstract_port.specs.Sound.{IsSoundPort}
+use Rattle.replay.specs.declared.faults.Stop.{Stop}
+use Rattle.replay.specs.declared.faults.Stop.TheVariants as Stops
+use Rattle.replay.proofs.RunLaws.{Done, done_exit, done_more, done_stop, done_whole}
+
+known_at : (P : List ℕ → Type 0) (known : Option (List ℕ)) (octets : List ℕ) → known ≡ Some octets → IfSome known P → P octets
+known_at P known octets e p = let Q : Option (List ℕ) → Type 0 = λ o. IfSome o P in subst Q e p
+
+-- what `next` says of a reader that has met no end
+pub going : {R : Type 0} (remaining : R → Option (List ℕ)) (l after : Left R) (a : Result (Option Entry) CapFault) → l.ended ≡ None → Next remaining l a after
+    → ReadsNext remaining l a after × (after.format ≡ l.format) × ((IsWanting l → ⊥) → after.source ≡ l.source)
+going remaining l after a e p =
+    let P : Option End → Type 0 = λ o. MatchOption o
+    (ReadsNext remaining l a after × (after.format ≡ l.format) × ((IsWanting l → ⊥) → after.source ≡ l.source))
+    (λ last. (a ≡ again last) × (after ≡ l)) in
+    subst P e p
+
+-- nothing is no record
+no_record : (format : Format) (number : ℕ) (octets : List ℕ) → octets ≡ [] → fault_at format number octets ≡ None → ⊥
+no_record format number octets e p = let q : fault_at format number [] ≡ None = subst (λ (l : List ℕ). fault_at format number l ≡ None) e p in cc
+
+-- octets at whose front a record stands whole
+record-next : (format : Format) (number : ℕ) (octets : List ℕ) (es : List Entry) (last : End) → AreRecords format number octets es last → fault_at format number octets ≡ None
+    → (rest : List Entry) × (es ≡ entry_at format octets ∷ rest) × AreRecords format (number + 1) (rest_after format octets) rest last
+record-next format number octets [] Whole are e = absurd (no_record format number octets are e)
+record-next format number octets [] (Broken f) are e = absurd (let both = sym are.1 ∙ e in cc)
+record-next format number octets (x ∷ es) last are e = (es, ap (λ (y : Entry). y ∷ es) are.1, are.2)
+
+module _ {R : Type 0} (remaining : R → Option (List ℕ)) (l after : Left R) (es : List Entry) (last : End) (begun : l.ended ≡ None) (comes : Comes remaining l es last) where
+  -- a record was answered
+  pub next_record : (e : Entry) → Next remaining l (Ok (Some e)) after → (rest : List Entry) × (es ≡ e ∷ rest) × Comes remaining after rest last
+  next_record e p =
+      let r = going remaining l after (Ok (Some e)) begun p in
+      let now = known_at _ (octets_left remaining l) comes.octets comes.known r.0.4 in
+      let next = record-next l.format l.number comes.octets es last comes.are now.0 in
+      let are : AreRecords after.format after.number (rest_after l.format comes.octets) next.0 last =
+      subst (λ (f : Format). AreRecords f after.number (rest_after l.format comes.octets) next.0 last) (sym r.1)
+      (subst (λ (k : ℕ). AreRecords l.format k (rest_after l.format comes.octets) next.0 last) (sym r.0.1) next.2) in
+      (next.0, next.1 ∙ ap (λ (y : Entry). y ∷ next.0) (sym now.1), record { octets = rest_after l.format comes.octets; known = now.2; are = are })
+
+  empty-at : (fs : List Entry) (end_is : End) → AreRecords l.format l.number comes.octets fs end_is → comes.octets ≡ [] → (fs ≡ []) × (end_is ≡ Whole)
+  empty-at [] Whole are e = (refl, refl)
+  empty-at [] (Broken f) are e = absurd (are.0 e)
+  empty-at (x ∷ fs) end_is are e = absurd (no_record l.format l.number comes.octets e are.0)
+
+  -- the end was answered
+  pub next_end : Next remaining l (Ok None) after → (es ≡ []) × (last ≡ Whole)
+  next_end p =
+      let r = going remaining l after (Ok None) begun p in
+      empty-at es last comes.are (known_at _ (octets_left remaining l) comes.octets comes.known r.0.2)
+
+  fault-at : (f : CapFault) (fs : List Entry) (end_is : End) → AreRecords l.format l.number comes.octets fs end_is → comes.octets ≢ [] → fault_at l.format l.number comes.octets ≡ Some f → (fs ≡ []) × (end_is ≡ Broken f)
+  fault-at f [] Whole are some e = absurd (some are)
+  fault-at f [] (Broken g) are some e = (refl, let both = sym are.1 ∙ e in cc)
+  fault-at f (x ∷ fs) end_is are some e = absurd (let both = sym are.0 ∙ e in cc)
+
+  -- a fault of the octets was answered
+  pub next_fault : (f : CapFault) → Next remaining l (Err f) after → f ≢ Read → (es ≡ []) × (last ≡ Broken f)
+  next_fault f p other =
+      let r = going remaining l after (Err f) begun p in
+      let now = known_at _ (octets_left remaining l) comes.octets comes.known r.0.4 other in
+      fault-at f es last comes.are now.0 now.1
+
+-- ---- the run so far
+
+-- So many records are taken, `rest` is still to come; and what is asked up to the last record is answered so far.
+pub record Stands {R : Type 0} (remaining : R → Option (List ℕ)) (es : List Entry) (last : End) (reader : Left R) (latest number : ℕ) (all lines : List Timed) (s t : State) : Type 0 where
+  pub front : List Entry
+  pub rest : List Entry
+  pub split : es ≡ front ++ rest
+  pub count : length front ≡ number
+  pub comes : Comes remaining reader rest last
+  pub left : lines_after lines (came_from latest number rest) ≡ lines_after all (came_from 0 0 es)
+  pub run : Keeps es s → Done es s t (before_end lines (came_from latest number rest)) (before_end all (came_from 0 0 es))
+
+-- the record of a number
+pub kept-at : (es front rest : List Entry) (e : Entry) (number : ℕ) → es ≡ front ++ e ∷ rest → length front ≡ number → kept_in es number ≡ kept e.original e.octets
+kept-at es front rest e number split count =
+    let at : get_or es number no_entry ≡ e = ap (λ (xs : List Entry). get_or xs number no_entry) split ∙ ap (λ (n : ℕ). get_or (front ++ e ∷ rest) n no_entry) (sym count) ∙ get_or-append_seam front e rest no_entry in
+    ap (λ (x : Entry). kept x.original x.octets) at
+
+-- what is answered, whatever the call answers
+same_ok : {T U : Type 0} {x : T} (y : U) (es : List Entry) (rs : List Request) (s t : State) → Answers {T = T} es (Ok x) rs s t → Answers {T = U} es (Ok y) rs s t
+same_ok {T} {U} {x} y es rs s t a = record { port = a.port; keeps = a.keeps; out = record { left = a.out.left; sent = a.out.sent; all = a.out.all; short = λ w. cc } }
+
+module _ {R : Type 0} (remaining : R → Option (List ℕ)) (l after : Left R) (e : Entry) (begun : l.ended ≡ None) (p : Next remaining l (Ok (Some e)) after) where
+  pub step_ended : after.ended ≡ None
+  step_ended = (going remaining l after (Ok (Some e)) begun p).0.0
+
+  pub step_number : after.number ≡ l.number + 1
+  step_number = (going remaining l after (Ok (Some e)) begun p).0.1
+
+  pub step_few : l.number < MAX_RECORDS
+  step_few = (going remaining l after (Ok (Some e)) begun p).0.2
+
+  pub step_within : IsWithin e
+  step_within = (going remaining l after (Ok (Some e)) begun p).0.3
+
+-- the records are over: how they end, which lines are left, and what was answered
+pub record Over (es : List Entry) (last : End) (all lines : List Timed) (s t : State) (r : Result (Option (ℕ × CapFault)) Stop) : Type 0 where
+  pub ending : IfOk r (EndsSo es last)
+  pub left : OnOk r (lines ≡ lines_after all (came_from 0 0 es))
+  pub answers : Keeps es s → Answers es r (before_end all (came_from 0 0 es)) s t
+
+-- all that is asked up to the last record
+abbrev pub asked : List Timed → List Entry → List Request
+asked all es = before_end all (came_from 0 0 es)
+
+module _ {R : Type 0} (remaining : R → Option (List ℕ)) (es : List Entry) (last : End) (reader after : Left R) (latest number : ℕ) (all lines : List Timed) (s t : State) (sound : IsSoundPort s.port)
+    (st : Stands remaining es last reader latest number all lines s t) (begun : reader.ended ≡ None) where
+  -- a record is taken, behind the lines up to its moment
+  module _ (e : Entry) (p : Next remaining reader (Ok (Some e)) after) (m : ℕ) (is : m ≡ max latest e.moment) where
+    next : (rest : List Entry) × (st.rest ≡ e ∷ rest) × Comes remaining after rest last
+    next = next_record remaining reader after st.rest last begun st.comes e p
+
+    here : (rest : List Entry) → st.rest ≡ e ∷ rest → came_from latest number st.rest ≡ record { moment = m; number = number; entry = e } ∷ came_from m (number + 1) rest
+    here rest same =
+        ap (λ (xs : List Entry). came_from latest number xs) same
+        ∙ ap (λ (k : ℕ). record { moment = k; number = number; entry = e } ∷ came_from k (number + 1) rest) (sym is)
+
+    before : (rest : List Entry) → st.rest ≡ e ∷ rest → before_end lines (came_from latest number st.rest)
+        ≡ requests_of (lines_by m lines) ++ ((Asks (Clock m) ∷ Asks (Arrive (frame_of e number)) ∷ []) ++ before_end (lines_past m lines) (came_from m (number + 1) rest))
+    before rest same = ap (λ (cs : List Came). before_end lines cs) (here rest same)
+
+    its_record : (rest : List Entry) → st.rest ≡ e ∷ rest → kept_in es number ≡ kept e.original e.octets
+    its_record rest same = kept-at es st.front rest e number (st.split ∙ ap (λ (xs : List Entry). st.front ++ xs) same) st.count
+
+    lines_done : {T : Type 0} {x : T} (u : State) (rest : List Entry) → st.rest ≡ e ∷ rest → (Keeps es t → Answers {T = T} es (Ok x) (requests_of (lines_by m lines)) t u) → Keeps es s
+        → Done es s u ((Asks (Clock m) ∷ Asks (Arrive (frame_of e number)) ∷ []) ++ before_end (lines_past m lines) (came_from m (number + 1) rest)) (asked all es)
+    lines_done u rest same a k = let d = st.run k in done_more sound u (requests_of (lines_by m lines)) _ d (before rest same) (a d.answers.keeps)
+
+    -- both are answered
+    pub stands_next : {T U : Type 0} {x : T} {y : U} (u v : State) (lines' : List Timed) → lines' ≡ lines_past m lines
+        → (Keeps es t → Answers {T = T} es (Ok x) (requests_of (lines_by m lines)) t u)
+        → (kept_in es number ≡ kept e.original e.octets → Keeps es u → Answers {T = U} es (Ok y) (Asks (Clock m) ∷ Asks (Arrive (frame_of e number)) ∷ []) u v)
+        → Stands remaining es last after m (number + 1) all lines' s v
+    stands_next {T} {U} {x} {y} u v lines' left a b =
+        let n = next in
+        let P : List Timed → Type 0 = λ ls. Done es s v (before_end ls (came_from m (number + 1) n.0)) (asked all es) in
+        record {
+          front = st.front ++ e ∷ [];
+          rest = n.0;
+          split = st.split ∙ ap (λ (xs : List Entry). st.front ++ xs) n.1 ∙ sym (append_assoc st.front (e ∷ []) n.0);
+          count = length-append st.front (e ∷ []) ∙ ap (λ (k : ℕ). k + 1) st.count;
+          comes = n.2;
+          left =
+              ap (λ (ls : List Timed). lines_after ls (came_from m (number + 1) n.0)) left
+              ∙ sym (ap (λ (cs : List Came). lines_after lines cs) (here n.0 n.1)) ∙ st.left;
+          run = λ k. (
+              let d = lines_done u n.0 n.1 a k in
+              subst P (sym left) (done_more sound v (Asks (Clock m) ∷ Asks (Arrive (frame_of e number)) ∷ []) _ d refl (b (its_record n.0 n.1) d.answers.keeps)));
+        }
+
+    -- the lines failed
+    pub lines_fail : {T U : Type 0} {y : Stop} (r : Result T Stop) (u : State) → r ≡ Err y → (Keeps es t → Answers {T = U} es (Err y) (requests_of (lines_by m lines)) t u) → Keeps es s → Answers es r (asked all es) s u
+    lines_fail r u failed a k = let d = st.run k in done_exit sound r u (requests_of (lines_by m lines)) _ failed d (before next.0 next.1) (a d.answers.keeps)
+
+    -- the record failed
+    pub record_fails : {T U V : Type 0} {x : V} {y : Stop} (r : Result T Stop) (u v : State) → r ≡ Err y → (Keeps es t → Answers {T = V} es (Ok x) (requests_of (lines_by m lines)) t u)
+        → (kept_in es number ≡ kept e.original e.octets → Keeps es u → Answers {T = U} es (Err y) (Asks (Clock m) ∷ Asks (Arrive (frame_of e number)) ∷ []) u v)
+        → Keeps es s → Answers es r (asked all es) s v
+    record_fails r u v failed a b k =
+        let n = next in
+        let d = lines_done u n.0 n.1 a k in
+        done_exit sound r v (Asks (Clock m) ∷ Asks (Arrive (frame_of e number)) ∷ []) _ failed d refl (b (its_record n.0 n.1) d.answers.keeps)
+
+  -- no record is left
+  nothing_left : st.rest ≡ [] → lines ≡ lines_after all (came_from 0 0 es)
+  nothing_left none = sym (ap (λ (xs : List Entry). lines_after lines (came_from latest number xs)) none) ∙ st.left
+
+  all_asked : {T : Type 0} (x : T) → st.rest ≡ [] → Keeps es s → Answers {T = T} es (Ok x) (asked all es) s t
+  all_asked x none k = same_ok x es (asked all es) s t (done_whole sound (st.run k) (ap (λ (xs : List Entry). before_end lines (came_from latest number xs)) none))
+
+  counted : st.rest ≡ [] → length es ≡ number
+  counted none = ap (λ (xs : List Entry). length xs) (st.split ∙ ap (λ (xs : List Entry). st.front ++ xs) none ∙ append-nil st.front) ∙ st.count
+
+  -- the end was answered
+  pub over_well : Next remaining reader (Ok None) after → Over es last all lines s t (Ok None)
+  over_well p =
+      let n = next_end remaining reader after st.rest last begun st.comes p in
+      record { ending = sym (ap (λ (x : End). ending es x) n.1); left = nothing_left n.0; answers = λ k. all_asked None n.0 k }
+
+  over_fault : (f : CapFault) → f ≢ Read → Next remaining reader (Err f) after → Over es last all lines s t (Ok (Some (number, f)))
+  over_fault f other p =
+      let n = next_fault remaining reader after st.rest last begun st.comes f p other in
+      record {
+        ending = sym (ap (λ (x : End). ending es x) n.1 ∙ ap (λ (k : ℕ). Some (k, f)) (counted n.0));
+        left = nothing_left n.0;
+        answers = λ k. all_asked (Some (number, f)) n.0 k;
+      }
+
+  over_read : Over es last all lines s t (Err Stops.Read)
+  over_read = record { ending = tt; left = tt; answers = λ k. done_stop sound (Err Stops.Read) refl (λ w. (let both : Stops.Read ≡ Stops.Write = w in cc)) (st.run k) }
+
+  -- a fault was answered
+  pub over : (f : CapFault) → Next remaining reader (Err f) after → Over es last all lines s t (found number f)
+  over Read p = over_read
+  over ShortHeader p = over_fault ShortHeader (λ e. cc) p
+  over BadMagic p = over_fault BadMagic (λ e. cc) p
+  over BadVersion p = over_fault BadVersion (λ e. cc) p
+  over BadLink p = over_fault BadLink (λ e. cc) p
+  over ShortRecord p = over_fault ShortRecord (λ e. cc) p
+  over LongRecord p = over_fault LongRecord (λ e. cc) p
+  over BadFraction p = over_fault BadFraction (λ e. cc) p
+  over TooManyRecords p = over_fault TooManyRecords (λ e. cc) p
+  over Write p = over_fault Write (λ e. cc) p
+  over Memory p = over_fault Memory (λ e. cc) p

@@ -1,0 +1,115 @@
+-- A whole replay, from what its parts leave.
+use Rattle.std.specs.Prelude.{IfSome, if◌then◌else◌}
+use Rattle.std.specs.Io.KnownBytes.{prepend_known}
+use Rattle.std.proofs.Common.{◌≡◌, ℕ, List, [], ◌++◌, length, drop, map, Bool, true, false, Option, Some, None, Result, Ok, Err, refl, sym, ap, ◌∙◌, subst}
+use Rattle.abstract_port.specs.AbstractPort.{AbstractPort, new_port}
+use Rattle.abstract_port.specs.declared.Command.{Command}
+use Rattle.capture.specs.CaptureReader.{IsNewReader, Left, octets_left}
+use Rattle.capture.specs.Captures.{AreRecords}
+use Rattle.capture.specs.FileHeader.{format_of}
+use Rattle.capture.specs.Records.{Entry}
+use Rattle.capture.specs.declared.fault.CapFault.{CapFault}
+use Rattle.capture.specs.declared.format.Format.{Format}
+use Rattle.capture.specs.declared.reader.End.{End}
+use Rattle.line_reader.specs.Script.{script_of}
+use Rattle.script.specs.Outcome.{Reading}
+use Rattle.script.specs.Requests.{Request}
+use Rattle.script.specs.Setup.{Setup}
+use Rattle.script.specs.declared.faults.ScriptFault.{ScriptFault}
+use Rattle.tc_reader.specs.declared.fault.TcFault.{TcFault}
+use Rattle.replay.specs.Keeping.{IsScriptFault}
+use Rattle.replay.specs.Lines.{reading_of}
+use Rattle.replay.specs.Merge.{all_requests}
+use Rattle.replay.specs.Outcome.{Ends, IsOpenFault, Outcome, ReadsAs, end_fault, is_too_late, outcome_of, outcome_read, outcome_said, outcome_whole, refused, told_and_left}
+use Rattle.octet_store.specs.Stored.{Stored, new_store}
+use Rattle.wire_time.specs.declared.Frame.{Frame}
+use Rattle.replay.specs.Outputs.{Got, kept_in}
+use Rattle.replay.specs.Running.{Keeps, State}
+use Rattle.replay.specs.RecordsLeft.{Comes}
+use Rattle.replay.specs.declared.faults.ReplayFault.{ReplayFault}
+use Rattle.replay.specs.declared.faults.ReplayFault.TheVariants as Faults
+use Rattle.replay.proofs.EndLaws.{refused_header, refused_script, refused_so, with_header}
+use Rattle.replay.proofs.Sends.{both_none}
+
+pub when_known : {X : Type 0} (o : Option X) (P : X → Type 0) → ((x : X) → o ≡ Some x → P x) → IfSome o P
+when_known None P f = tt
+when_known (Some x) P f = f x refl
+
+pub known_at : {X : Type 0} (o : Option X) (x : X) (P : X → Type 0) → o ≡ Some x → IfSome o P → P x
+known_at o x P e h = subst (λ o. IfSome o P) e h
+
+module _ (read : List (List ℕ) → Result Command TcFault) (s : Setup) (lines : List ℕ) (records : Result (List Entry × End) CapFault) (late : is_too_late s.until ≡ false) where
+  abbrev reading : Reading
+  reading = reading_of read (script_of lines)
+
+  pub outcome_now : outcome_of read s lines records ≡ outcome_said s (reading_of read (script_of lines)).requests (reading_of read (script_of lines)).fault records
+  outcome_now = rw late refl
+
+  pub outcome_good : (reading_of read (script_of lines)).fault ≡ None → outcome_of read s lines records ≡ outcome_read s (reading_of read (script_of lines)).requests records
+  outcome_good e = outcome_now ∙ ap (λ (f : Option (ℕ × ScriptFault)). outcome_said s (reading_of read (script_of lines)).requests f records) e
+
+  pub script_refused : (T : Type 0) (e : ReplayFault) (r : Result T ReplayFault) (old : Got) → r ≡ Err e → IsScriptFault e (reading_of read (script_of lines)) → Ends r old old (outcome_of read s lines records)
+  script_refused T (Faults.Script number fault) r old is h =
+      refused_so {T = T} r (Faults.Script number fault) old (outcome_of read s lines records) is
+      (outcome_now ∙ ap (λ (f : Option (ℕ × ScriptFault)). outcome_said s (reading_of read (script_of lines)).requests f records) h) (refused_script T number fault old)
+  script_refused T Faults.Read r old is h = subst (λ (q : Result T ReplayFault). Ends q old old (outcome_of read s lines records)) (sym is) ((outcome_of read s lines records).output, both_none old _)
+  script_refused T Faults.Memory r old is h = subst (λ (q : Result T ReplayFault). Ends q old old (outcome_of read s lines records)) (sym is) ((outcome_of read s lines records).output, both_none old _)
+  script_refused T Faults.Write r old is h = absurd h
+  script_refused T Faults.Until r old is h = absurd h
+  script_refused T (Faults.Capture number fault) r old is h = absurd h
+
+header_read : (s : Setup) (script : List Request) (octets : List ℕ) (records : Result (List Entry × End) CapFault) (fault : CapFault) → ReadsAs octets records → format_of octets ≡ Err fault → outcome_read s script records ≡ refused (Faults.Capture 0 fault)
+header_read s script octets (Ok x) fault reads e = absurd (let both = sym reads.1.0 ∙ e in cc)
+header_read s script octets (Err f) fault reads e = (let both : Err f ≡ Err fault = sym reads ∙ e in cc)
+
+module _ (s : Setup) (script : List Request) (octets : List ℕ) (records : Result (List Entry × End) CapFault) (reads : ReadsAs octets records) (o : Outcome) (is_o : o ≡ outcome_read s script records) where
+  pub header_refused : (T : Type 0) (known : Option (List ℕ)) (e : ReplayFault) (r : Result T ReplayFault) (old : Got) → known ≡ Some octets → r ≡ Err e → IsOpenFault known e → Ends r old old o
+  header_refused T known (Faults.Capture number fault) r old is_known is h =
+      refused_so {T = T} r (Faults.Capture number fault) old o is
+      (is_o ∙ header_read s script octets records fault reads (known_at known octets _ is_known h.1) ∙ ap (λ (n : ℕ). refused (Faults.Capture n fault)) (sym h.0)) (refused_header T number fault old)
+  header_refused T known Faults.Read r old is_known is h = subst (λ (q : Result T ReplayFault). Ends q old old o) (sym is) (o.output, both_none old _)
+  header_refused T known Faults.Memory r old is_known is h = subst (λ (q : Result T ReplayFault). Ends q old old o) (sym is) (o.output, both_none old _)
+  header_refused T known Faults.Write r old is_known is h = absurd h
+  header_refused T known Faults.Until r old is_known is h = absurd h
+  header_refused T known (Faults.Script number fault) r old is_known is h = absurd h
+
+-- a new reader's records
+pub comes_new : {R : Type 0} (remaining : R → Option (List ℕ)) (known : Option (List ℕ)) (l : Left R) (octets : List ℕ) (es : List Entry) (last : End) → IsNewReader remaining known l → known ≡ Some octets → ReadsAs octets (Ok (es, last)) → Comes remaining l es last
+comes_new remaining known l octets es last new is reads =
+    let k = known_at known octets _ is new.3 in
+    let same : reads.0 ≡ l.format = (let both : Ok reads.0 ≡ Ok l.format = sym reads.1.0 ∙ k.0 in cc) in
+    record {
+      octets = drop 24 octets;
+      known = ap (λ (h : List ℕ). prepend_known h (remaining l.source)) new.2 ∙ ap (λ (o : Option (List ℕ)). prepend_known [] o) k.1;
+      are = subst (λ (f : Format). AreRecords f l.number (drop 24 octets) es last) same (subst (λ (n : ℕ). AreRecords reads.0 n (drop 24 octets) es last) (sym new.0) reads.1.1);
+    }
+
+-- the same outcome of a port, a script and a moment that are those of the settings and the inputs
+pub outcome_at : (s : Setup) (script kept : List Request) (es : List Entry) (last : End) (until : Option ℕ) (p : AbstractPort) → kept ≡ script → until ≡ s.until → p ≡ new_port s.rate s.mtu s.room
+    → with_header (record { output = told_and_left es (all_requests kept es until) p; fault = end_fault (length es) last }) ≡ outcome_whole s script es last
+outcome_at s script kept es last until p a b d =
+    ap (λ (k : List Request). with_header (record { output = told_and_left es (all_requests k es until) p; fault = end_fault (length es) last })) a
+    ∙ ap (λ (u : Option ℕ). with_header (record { output = told_and_left es (all_requests script es u) p; fault = end_fault (length es) last })) b
+    ∙ ap (λ (q : AbstractPort). with_header (record { output = told_and_left es (all_requests script es s.until) q; fault = end_fault (length es) last })) d
+
+-- a capture whose header was read has records
+pub opened : {R : Type 0} (remaining : R → Option (List ℕ)) (known : Option (List ℕ)) (l : Left R) (octets : List ℕ) (records : Result (List Entry × End) CapFault)
+    → IsNewReader remaining known l → known ≡ Some octets → ReadsAs octets records → (es : List Entry) × (last : End) × (records ≡ Ok (es, last))
+opened remaining known l octets (Ok x) new is reads = (x.0, x.1, refl)
+opened remaining known l octets (Err fault) new is reads =
+    let k = known_at known octets _ is new.3 in
+    absurd (let both : Err fault ≡ Ok l.format = sym reads ∙ k.0 in cc)
+
+-- the outcome where nothing is refused, of a port, a script and a moment that are those of the settings and the inputs
+pub outcome_all : (read : List (List ℕ) → Result Command TcFault) (s : Setup) (lines : List ℕ) (records : Result (List Entry × End) CapFault) → is_too_late s.until ≡ false
+    → (reading_of read (script_of lines)).fault ≡ None → (es : List Entry) (last : End) → records ≡ Ok (es, last)
+    → (kept : List Request) (until : Option ℕ) (p : AbstractPort) → kept ≡ (reading_of read (script_of lines)).requests → until ≡ s.until → p ≡ new_port s.rate s.mtu s.room
+    → with_header (record { output = told_and_left es (all_requests kept es until) p; fault = end_fault (length es) last }) ≡ outcome_of read s lines records
+outcome_all read s lines records late good es last are kept until p a b d =
+    let script = (reading_of read (script_of lines)).requests in
+    outcome_at s script kept es last until p a b d ∙ sym (outcome_good read s lines records late good ∙ ap (outcome_read s script) are)
+
+-- what is kept in a new store beside a new port
+pub keeps_none : (es : List Entry) (s : State) (ps mtu room : ℕ) → s.port ≡ new_port ps mtu room → s.store ≡ new_store room → Keeps es s
+keeps_none es s ps mtu room p k =
+    ap (λ (x : Stored). x.kept) k ∙ sym (ap (λ (x : AbstractPort). map (map (λ (f : Frame). kept_in es f.id)) x.queues) p)

@@ -1,0 +1,16 @@
+use Rattle.std.proofs.Common.{◌≡◌, ◌++◌, ◌∷◌, [], List, ap, ◌∙◌}
+use Rattle.std.proofs.lemmas.List.{map-append}
+use Rattle.script.specs.Requests.{Request}
+use Rattle.replay.specs.KeptScript.{kept_request, kept_requests}
+use Rattle.replay.specs.declared.kept_script.KeptLine.{KeptLine}
+use Rattle.replay.proofs.keeping.keep.Goals as goal
+
+pub returns : goal.returns
+returns g c = λ read.
+    let old = c.args.script.now in
+    let o = c.kept_line.new.script.octets.items in
+    let kept = c.in_ok-kept.kept in
+    ap (λ (xs : List KeptLine). kept_requests read o xs) (c.in_ok-push.ensures.items ∙ ap (λ (xs : List KeptLine). xs ++ kept ∷ []) c.in_ok-kept.ensures.lines)
+    ∙ map-append (kept_request read o) old.lines.items (kept ∷ [])
+    ∙ ap (λ (xs : List Request). xs ++ kept_request read o kept ∷ []) (c.in_ok-kept.ensures.others read)
+    ∙ ap (λ (r : Request). kept_requests read old.octets.items old.lines.items ++ r ∷ []) (c.in_ok-kept.ensures.says read)

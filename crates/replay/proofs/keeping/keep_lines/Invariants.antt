@@ -1,0 +1,17 @@
+-- What is kept, and what the lines to come ask, are all that is asked.
+use Rattle.std.proofs.Common.{ℕ, List, Result}
+use Rattle.abstract_port.specs.declared.Command.{Command}
+use Rattle.line_reader.specs.LineReader.{most_lines, script_left}
+use Rattle.tc_reader.specs.Reader.{IsReader}
+use Rattle.tc_reader.specs.declared.fault.TcFault.{TcFault}
+use Rattle.replay.specs.KeptScript.{kept_requests}
+use Rattle.replay.proofs.KeepLaws.{Goes}
+use Rattle.replay.proofs.keeping.keep_lines.Given as goal
+
+abbrev pub invariant-lines : goal.invariant-lines
+invariant-lines g l = (read : List (List ℕ) → Result Command TcFault) → IsReader read →
+    Goes read (script_left g.R.Read.remaining l.fn.lines) (kept_requests read l.fn.script.octets.items l.fn.script.lines.items)
+    (script_left g.R.Read.remaining l.lines) (kept_requests read l.script.octets.items l.script.lines.items)
+
+abbrev pub decreases-lines : goal.decreases-lines
+decreases-lines g l = most_lines l.lines

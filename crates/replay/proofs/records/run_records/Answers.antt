@@ -1,0 +1,190 @@
+use Rattle.std.proofs.Common.{◌≡◌, ◌<◌, ◌≤◌, ◌+◌, ◌-◌, Ok, Err, Some, None, ℕ, List, Option, Result, [], ◌∷◌, ◌++◌, refl, sym, ap, ◌∙◌, subst, arith, rules}
+use Rattle.std.specs.Prelude.{OnOk, IfOk}
+use Rattle.std.proofs.lemmas.Result.{err_from_is_err_and}
+use Rattle.capture.specs.CaptureReader.{Next, answer, left}
+use Rattle.capture.specs.Record.{entry}
+use Rattle.capture.specs.declared.fault.CapFault.{CapFault}
+use Rattle.capture.specs.declared.record.Record.{Record}
+use Rattle.replay.specs.LinesLeft.{lines_left}
+use Rattle.replay.specs.Running.{state}
+use Rattle.replay.specs.declared.faults.Stop.{Stop}
+use Rattle.replay.proofs.RecordLaws.{Over, lines_fail, over, over_well, record_fails, stands_next, step_ended, step_few, step_number, step_within}
+use Rattle.replay.proofs.RunLaws.{done_none}
+use Rattle.replay.proofs.Sends.{always}
+use Rattle.replay.proofs.records.run_records.Goals as goal
+
+pub records-init : goal.records-init
+records-init g c = record {
+  together = c.requires.together;
+  going = c.requires.begun;
+  numbered = c.requires.first;
+  early = omega arith;
+  stands = λ read is es last comes. record { front = []; rest = es; split = refl; count = refl; comes = comes; left = refl; run = λ k. done_none es _ _ c.requires.together.sound k };
+}
+
+pub records-smaller : goal.records-smaller
+records-smaller g c =
+    let i = c.records.invariant in
+    let now = left c.records.records in
+    let after = left c.next.follows.lender-at-none in
+    let e = entry c.in-Ok-Some.record in
+    let P : Result (Option Record) CapFault → Type 0 = λ r. Next g.R.Read.remaining now (answer r) after in
+    let p = subst P (c.in-Ok-Some.is ∙ ap Ok c.in-Ok-Some.field-0-is) c.next.follows.holds-at-none in
+    let few = step_few g.R.Read.remaining now after e i.going p in
+    let same = i.numbered in
+    omega (arith, few, same)
+
+pub overflow_add-number : goal.overflow_add-number
+overflow_add-number g c =
+    let i = c.records.invariant in
+    let now = left c.records.records in
+    let after = left c.next.follows.lender-at-none in
+    let e = entry c.in-Ok-Some.record in
+    let P : Result (Option Record) CapFault → Type 0 = λ r. Next g.R.Read.remaining now (answer r) after in
+    let p = subst P (c.in-Ok-Some.is ∙ ap Ok c.in-Ok-Some.field-0-is) c.next.follows.holds-at-none in
+    let few = step_few g.R.Read.remaining now after e i.going p in
+    let same = i.numbered in
+    omega (arith, few, same)
+
+pub records-preserved : goal.records-preserved
+records-preserved g c =
+    let i = c.records.invariant in
+    let now = left c.records.records in
+    let after = left c.next.follows.lender-at-none in
+    let e = entry c.in-Ok-Some.record in
+    let P : Result (Option Record) CapFault → Type 0 = λ r. Next g.R.Read.remaining now (answer r) after in
+    let p = subst P (c.in-Ok-Some.is ∙ ap Ok c.in-Ok-Some.field-0-is) c.next.follows.holds-at-none in
+    let w = step_within g.R.Read.remaining now after e i.going p in
+    record {
+      together = c.in_ok-take_record.ensures.together;
+      going = step_ended g.R.Read.remaining now after e i.going p;
+      numbered = step_number g.R.Read.remaining now after e i.going p ∙ ap (λ (n : ℕ). n + 1) i.numbered;
+      early = omega (arith, c.max-latest.ensures, w.early, i.early);
+      stands = λ read is es last comes. (
+          let s = state c.args.sending.now (g.V.Write.contents c.args.report.now) (g.W.Write.contents c.args.capture.now) in
+          let t = state c.records.sending (g.V.Write.contents c.records.report) (g.W.Write.contents c.records.capture) in
+          let all = lines_left read c.args.script.now c.args.cursor.now in
+          let lines = lines_left read c.args.script.now c.records.cursor in
+          let u = state c.run_lines.new.sending (g.V.Write.contents c.run_lines.new.report) (g.W.Write.contents c.run_lines.new.capture) in
+          let v = state c.take_record.new.sending (g.V.Write.contents c.take_record.new.report) (g.W.Write.contents c.take_record.new.capture) in
+          stands_next g.R.Read.remaining es last now after c.records.latest c.records.number all lines s t c.requires.together.sound (i.stands read is es last comes) i.going e p c.max-latest.result c.max-latest.ensures u v
+          (lines_left read c.args.script.now c.run_lines.new.cursor) (c.in_ok-run_lines.ensures.left read is) (c.in_ok-run_lines.ensures.answers read is es) (c.in_ok-take_record.ensures.answers es));
+    }
+
+pub returns-in_err-run_lines-clause-answers : goal.returns-in_err-run_lines-clause-answers
+returns-in_err-run_lines-clause-answers g c = λ read is es last comes.
+    let failed = err_from_is_err_and c.from_residual.result c.from_residual.ensures.1 in
+    let i = c.records.invariant in
+    let now = left c.records.records in
+    let after = left c.next.follows.lender-at-none in
+    let e = entry c.in-Ok-Some.record in
+    let P : Result (Option Record) CapFault → Type 0 = λ r. Next g.R.Read.remaining now (answer r) after in
+    let p = subst P (c.in-Ok-Some.is ∙ ap Ok c.in-Ok-Some.field-0-is) c.next.follows.holds-at-none in
+    let s = state c.args.sending.now (g.V.Write.contents c.args.report.now) (g.W.Write.contents c.args.capture.now) in
+    let t = state c.records.sending (g.V.Write.contents c.records.report) (g.W.Write.contents c.records.capture) in
+    let all = lines_left read c.args.script.now c.args.cursor.now in
+    let lines = lines_left read c.args.script.now c.records.cursor in
+    let u = state c.run_lines.new.sending (g.V.Write.contents c.run_lines.new.report) (g.W.Write.contents c.run_lines.new.capture) in
+    lines_fail g.R.Read.remaining es last now after c.records.latest c.records.number all lines s t c.requires.together.sound (i.stands read is es last comes) i.going e p c.max-latest.result c.max-latest.ensures c.from_residual.result u (failed.1 ∙ ap Err failed.2) (c.in_err-run_lines.ensures.answers read is es)
+
+pub returns-in_err-take_record-clause-answers : goal.returns-in_err-take_record-clause-answers
+returns-in_err-take_record-clause-answers g c = λ read is es last comes.
+    let r = c.from_residual-in_err-take_record.result in
+    let failed = err_from_is_err_and r c.from_residual-in_err-take_record.ensures.1 in
+    let i = c.records.invariant in
+    let now = left c.records.records in
+    let after = left c.next.follows.lender-at-none in
+    let e = entry c.in-Ok-Some.record in
+    let P : Result (Option Record) CapFault → Type 0 = λ r. Next g.R.Read.remaining now (answer r) after in
+    let p = subst P (c.in-Ok-Some.is ∙ ap Ok c.in-Ok-Some.field-0-is) c.next.follows.holds-at-none in
+    let s = state c.args.sending.now (g.V.Write.contents c.args.report.now) (g.W.Write.contents c.args.capture.now) in
+    let t = state c.records.sending (g.V.Write.contents c.records.report) (g.W.Write.contents c.records.capture) in
+    let all = lines_left read c.args.script.now c.args.cursor.now in
+    let lines = lines_left read c.args.script.now c.records.cursor in
+    let u = state c.run_lines.new.sending (g.V.Write.contents c.run_lines.new.report) (g.W.Write.contents c.run_lines.new.capture) in
+    let v = state c.take_record.new.sending (g.V.Write.contents c.take_record.new.report) (g.W.Write.contents c.take_record.new.capture) in
+    record_fails g.R.Read.remaining es last now after c.records.latest c.records.number all lines s t c.requires.together.sound (i.stands read is es last comes) i.going e p c.max-latest.result c.max-latest.ensures r u v (failed.1 ∙ ap Err failed.2) (c.in_ok-run_lines.ensures.answers read is es) (c.in_err-take_record.ensures.answers es)
+
+pub returns-in-Ok-None-clause-ending : goal.returns-in-Ok-None-clause-ending
+returns-in-Ok-None-clause-ending g c = λ read is es last comes.
+    let i = c.records.invariant in
+    let now = left c.records.records in
+    let after = left c.next.follows.lender-at-none in
+    let P : Result (Option Record) CapFault → Type 0 = λ r. Next g.R.Read.remaining now (answer r) after in
+    let p = subst P (c.in-Ok-None.is ∙ ap Ok c.in-Ok-None.field-0-is) c.next.follows.holds-at-none in
+    let s = state c.args.sending.now (g.V.Write.contents c.args.report.now) (g.W.Write.contents c.args.capture.now) in
+    let t = state c.records.sending (g.V.Write.contents c.records.report) (g.W.Write.contents c.records.capture) in
+    let all = lines_left read c.args.script.now c.args.cursor.now in
+    let lines = lines_left read c.args.script.now c.records.cursor in
+    (over_well g.R.Read.remaining es last now after c.records.latest c.records.number all lines s t c.requires.together.sound (i.stands read is es last comes) i.going p).ending
+
+pub returns-in-Ok-None-clause-left : goal.returns-in-Ok-None-clause-left
+returns-in-Ok-None-clause-left g c = λ read is es last comes.
+    let i = c.records.invariant in
+    let now = left c.records.records in
+    let after = left c.next.follows.lender-at-none in
+    let P : Result (Option Record) CapFault → Type 0 = λ r. Next g.R.Read.remaining now (answer r) after in
+    let p = subst P (c.in-Ok-None.is ∙ ap Ok c.in-Ok-None.field-0-is) c.next.follows.holds-at-none in
+    let s = state c.args.sending.now (g.V.Write.contents c.args.report.now) (g.W.Write.contents c.args.capture.now) in
+    let t = state c.records.sending (g.V.Write.contents c.records.report) (g.W.Write.contents c.records.capture) in
+    let all = lines_left read c.args.script.now c.args.cursor.now in
+    let lines = lines_left read c.args.script.now c.records.cursor in
+    (over_well g.R.Read.remaining es last now after c.records.latest c.records.number all lines s t c.requires.together.sound (i.stands read is es last comes) i.going p).left
+
+pub returns-in-Ok-None-clause-answers : goal.returns-in-Ok-None-clause-answers
+returns-in-Ok-None-clause-answers g c = λ read is es last comes.
+    let i = c.records.invariant in
+    let now = left c.records.records in
+    let after = left c.next.follows.lender-at-none in
+    let P : Result (Option Record) CapFault → Type 0 = λ r. Next g.R.Read.remaining now (answer r) after in
+    let p = subst P (c.in-Ok-None.is ∙ ap Ok c.in-Ok-None.field-0-is) c.next.follows.holds-at-none in
+    let s = state c.args.sending.now (g.V.Write.contents c.args.report.now) (g.W.Write.contents c.args.capture.now) in
+    let t = state c.records.sending (g.V.Write.contents c.records.report) (g.W.Write.contents c.records.capture) in
+    let all = lines_left read c.args.script.now c.args.cursor.now in
+    let lines = lines_left read c.args.script.now c.records.cursor in
+    (over_well g.R.Read.remaining es last now after c.records.latest c.records.number all lines s t c.requires.together.sound (i.stands read is es last comes) i.going p).answers
+
+pub returns-in-Err-clause-ending : goal.returns-in-Err-clause-ending
+returns-in-Err-clause-ending g c = λ read is es last comes.
+    let i = c.records.invariant in
+    let now = left c.records.records in
+    let after = left c.next.follows.lender-at-none in
+    let P : Result (Option Record) CapFault → Type 0 = λ r. Next g.R.Read.remaining now (answer r) after in
+    let p = subst P c.in-Err.is c.next.follows.holds-at-none in
+    let s = state c.args.sending.now (g.V.Write.contents c.args.report.now) (g.W.Write.contents c.args.capture.now) in
+    let t = state c.records.sending (g.V.Write.contents c.records.report) (g.W.Write.contents c.records.capture) in
+    let all = lines_left read c.args.script.now c.args.cursor.now in
+    let lines = lines_left read c.args.script.now c.records.cursor in
+    let Q : Result (Option (ℕ × CapFault)) Stop → Type 0 = λ r. Over es last all lines s t r in
+    (subst Q (sym c.found.ensures) (over g.R.Read.remaining es last now after c.records.latest c.records.number all lines s t c.requires.together.sound (i.stands read is es last comes) i.going c.in-Err.fault p)).ending
+
+pub returns-in-Err-clause-left : goal.returns-in-Err-clause-left
+returns-in-Err-clause-left g c = λ read is es last comes.
+    let i = c.records.invariant in
+    let now = left c.records.records in
+    let after = left c.next.follows.lender-at-none in
+    let P : Result (Option Record) CapFault → Type 0 = λ r. Next g.R.Read.remaining now (answer r) after in
+    let p = subst P c.in-Err.is c.next.follows.holds-at-none in
+    let s = state c.args.sending.now (g.V.Write.contents c.args.report.now) (g.W.Write.contents c.args.capture.now) in
+    let t = state c.records.sending (g.V.Write.contents c.records.report) (g.W.Write.contents c.records.capture) in
+    let all = lines_left read c.args.script.now c.args.cursor.now in
+    let lines = lines_left read c.args.script.now c.records.cursor in
+    let Q : Result (Option (ℕ × CapFault)) Stop → Type 0 = λ r. Over es last all lines s t r in
+    (subst Q (sym c.found.ensures) (over g.R.Read.remaining es last now after c.records.latest c.records.number all lines s t c.requires.together.sound (i.stands read is es last comes) i.going c.in-Err.fault p)).left
+
+pub returns-in-Err-clause-answers : goal.returns-in-Err-clause-answers
+returns-in-Err-clause-answers g c = λ read is es last comes.
+    let i = c.records.invariant in
+    let now = left c.records.records in
+    let after = left c.next.follows.lender-at-none in
+    let P : Result (Option Record) CapFault → Type 0 = λ r. Next g.R.Read.remaining now (answer r) after in
+    let p = subst P c.in-Err.is c.next.follows.holds-at-none in
+    let s = state c.args.sending.now (g.V.Write.contents c.args.report.now) (g.W.Write.contents c.args.capture.now) in
+    let t = state c.records.sending (g.V.Write.contents c.records.report) (g.W.Write.contents c.records.capture) in
+    let all = lines_left read c.args.script.now c.args.cursor.now in
+    let lines = lines_left read c.args.script.now c.records.cursor in
+    let Q : Result (Option (ℕ × CapFault)) Stop → Type 0 = λ r. Over es last all lines s t r in
+    (subst Q (sym c.found.ensures) (over g.R.Read.remaining es last now after c.records.latest c.records.number all lines s t c.requires.together.sound (i.stands read is es last comes) i.going c.in-Err.fault p)).answers
+
+pub returns-in-Err-clause-together : goal.returns-in-Err-clause-together
+returns-in-Err-clause-together g c = always c.found.result c.records.invariant.together

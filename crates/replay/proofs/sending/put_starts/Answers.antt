@@ -1,0 +1,87 @@
+use Rattle.std.proofs.Common.{◌≡◌, Ok, Err, List, Some, refl, rules, sym, ap, ◌∙◌, subst}
+use Rattle.std.proofs.lemmas.Result.{err_from_is_err_and}
+use Rattle.abstract_port.specs.AbstractPort.{AbstractPort, PortState, next_start}
+use Rattle.abstract_port.specs.Sound.{IsSoundPort}
+use Rattle.replay.specs.Running.{State, state}
+use Rattle.replay.proofs.Sends.{both_all, both_exit, both_more, both_none, never}
+use Rattle.replay.proofs.StartLaws.{early, fewer, has_first, idle_queues, idle_room, keeps-after, leaves, no-starts-end, no-starts-out, onward, same-end, starts-kept, still_keeps, still_together, together-after}
+use Rattle.replay.proofs.sending.put_starts.Goals as goal
+
+pub loop-start-init : goal.loop-start-init
+loop-start-init g c = record { later = c.requires.later; together = c.requires.together; same_end = refl; keeps = λ es k. k; sent = λ es k. both_none _ _ }
+
+pub put_start-requires : goal.put_start-requires
+put_start-requires g c =
+    let i = c.loop-start.invariant in
+    let s = state c.loop-start.sending (g.V.Write.contents c.loop-start.report) (g.W.Write.contents c.loop-start.capture) in
+    let q = c.step.new.self.port in
+    let x = c.in-Some.start in
+    let e = sym c.step.ensures.start ∙ c.in-Some.is in
+    let is = leaves s.port q c.args.until i.later c.step.ensures.port i.together.sound x e in
+    let before = early s.port q c.args.until i.later c.step.ensures.port i.together.sound x e in
+    (search rules, (is.class, (has_first s q x is i.together, search (rules, before, c.requires.within))))
+
+pub loop-start-smaller : goal.loop-start-smaller
+loop-start-smaller g c =
+    let i = c.loop-start.invariant in
+    let p = c.loop-start.sending.port.port in
+    let q = c.put_start.new.sending.port.port in
+    let after = ap (λ (x : PortState). x.port) c.in_ok-put_start-in-Some.ensures.port ∙ c.step.ensures.port in
+    fewer p q c.args.until i.later after i.together.sound c.in-Some.start (sym c.step.ensures.start ∙ c.in-Some.is)
+
+pub loop-start-preserved : goal.loop-start-preserved
+loop-start-preserved g c =
+    let i = c.loop-start.invariant in
+    let s = state c.loop-start.sending (g.V.Write.contents c.loop-start.report) (g.W.Write.contents c.loop-start.capture) in
+    let t = state c.put_start.new.sending (g.V.Write.contents c.put_start.new.report) (g.W.Write.contents c.put_start.new.capture) in
+    let x = c.in-Some.start in
+    let upto = c.args.until in
+    let e = sym c.step.ensures.start ∙ c.in-Some.is in
+    let done = c.in_ok-put_start-in-Some.ensures in
+    let moved = ap (λ (x : PortState). x.port) done.port in
+    let after = moved ∙ c.step.ensures.port in
+    let P : AbstractPort → Type 0 = λ p. IsSoundPort p in
+    let sound = subst P (sym moved) c.step.ensures.sound in
+    let is = leaves s.port t.port upto i.later after i.together.sound x e in
+    record {
+      later = onward s.port t.port upto i.later after i.together.sound;
+      together = together-after s t x is done.store sound i.together;
+      same_end = same-end s.port t.port upto i.later after i.together.sound x e ∙ i.same_end;
+      keeps = λ es k. keeps-after s t x is done.store es (i.keeps es k);
+      sent = λ es k. both_more _ _ _ (i.sent es k) (starts-kept s t.port upto i.later after i.together.sound x e es (i.keeps es k)) done.out;
+    }
+
+pub returns-in_err-put_start-in-Some-clause-starts : goal.returns-in_err-put_start-in-Some-clause-starts
+returns-in_err-put_start-in-Some-clause-starts g c = λ es k.
+    let r = err_from_is_err_and c.from_residual.result c.from_residual.ensures.1 in
+    let i = c.loop-start.invariant in
+    let s = state c.loop-start.sending (g.V.Write.contents c.loop-start.report) (g.W.Write.contents c.loop-start.capture) in
+    let t = state c.put_start.new.sending (g.V.Write.contents c.put_start.new.report) (g.W.Write.contents c.put_start.new.capture) in
+    let x = c.in-Some.start in
+    let e = sym c.step.ensures.start ∙ c.in-Some.is in
+    record {
+      port = never _ r.1;
+      keeps = never _ r.1;
+      out = both_exit c.from_residual.result _ _ _ (r.1 ∙ ap Err r.2) (i.sent es k)
+          (starts-kept s c.step.new.self.port c.args.until i.later c.step.ensures.port i.together.sound x e es (i.keeps es k)) c.in_err-put_start-in-Some.ensures.out;
+    }
+
+pub returns-in-None-clause-together : goal.returns-in-None-clause-together
+returns-in-None-clause-together g c =
+    let i = c.loop-start.invariant in
+    let s = state c.loop-start.sending (g.V.Write.contents c.loop-start.report) (g.W.Write.contents c.loop-start.capture) in
+    let t : State = record { port = c.step.new.self.port; store = s.store; got = s.got } in
+    let e = sym c.step.ensures.start ∙ c.in-None.is in
+    still_together s t (idle_queues s.port t.port c.args.until i.later c.step.ensures.port i.together.sound e) (idle_room s.port t.port c.args.until i.later c.step.ensures.port i.together.sound e) refl c.step.ensures.sound i.together
+
+pub returns-in-None-clause-starts : goal.returns-in-None-clause-starts
+returns-in-None-clause-starts g c = λ es k.
+    let i = c.loop-start.invariant in
+    let s = state c.loop-start.sending (g.V.Write.contents c.loop-start.report) (g.W.Write.contents c.loop-start.capture) in
+    let t : State = record { port = c.step.new.self.port; store = s.store; got = s.got } in
+    let e = sym c.step.ensures.start ∙ c.in-None.is in
+    record {
+      port = no-starts-end s.port t.port c.args.until i.later c.step.ensures.port i.together.sound e ∙ i.same_end;
+      keeps = still_keeps es s t (idle_queues s.port t.port c.args.until i.later c.step.ensures.port i.together.sound e) refl (i.keeps es k);
+      out = both_all tt (i.sent es k) (no-starts-out s.port t.port c.args.until i.later c.step.ensures.port i.together.sound e es);
+    }

@@ -1,0 +1,12 @@
+pub mod Faults
+pub mod Lines
+pub mod KeptScript
+pub mod Keeping
+pub mod Merge
+pub mod Sources
+pub mod Outputs
+pub mod Running
+pub mod LinesLeft
+pub mod RecordsLeft
+pub mod Outcome
+pub mod Texts

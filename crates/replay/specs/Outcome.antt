@@ -1,0 +1,123 @@
+-- What is written for a script and a capture, and the fault that ends it.
+use Rattle.std.specs.Prelude.{◌≡◌, ◌<◌, ◌+◌, nat_lt, ℕ, List, [], ◌∷◌, Bool, false, Option, Some, None, Result, Ok, Err, length, IfSome, if◌then◌else◌}
+use Rattle.std.specs.Io.KnownBytes.{Appends}
+use Rattle.abstract_port.specs.AbstractPort.{AbstractPort, new_port}
+use Rattle.abstract_port.specs.Answers.{answers_of, port_after}
+use Rattle.abstract_port.specs.declared.Command.{Command}
+use Rattle.capture.specs.Captures.{IsCapture}
+use Rattle.capture.specs.CaptureWriter.{written_header}
+use Rattle.capture.specs.FileHeader.{format_of}
+use Rattle.capture.specs.Records.{Entry}
+use Rattle.capture.specs.declared.fault.CapFault.{CapFault}
+use Rattle.capture.specs.declared.fault.CapFault.TheVariants as CapFaults
+use Rattle.capture.specs.declared.format.Format.{Format}
+use Rattle.capture.specs.declared.reader.End.{End}
+use Rattle.capture.specs.declared.reader.End.TheVariants.{Whole, Broken}
+use Rattle.capture.specs.declared.writer.TheConstants.{CAPTURE_END}
+use Rattle.line_reader.specs.Script.{script_of}
+use Rattle.script.specs.Requests.{Request}
+use Rattle.script.specs.Responses.{events_of, left_lines, responses_of}
+use Rattle.script.specs.Outcome.{Reading}
+use Rattle.script.specs.Setup.{Setup}
+use Rattle.script.specs.declared.faults.ScriptFault.{ScriptFault}
+use Rattle.tc_reader.specs.declared.fault.TcFault.{TcFault}
+use Rattle.replay.specs.Lines.{reading_of}
+use Rattle.replay.specs.Merge.{all_requests}
+use Rattle.replay.specs.Outputs.{Got, Output, SentBoth, joined, nothing, output}
+use Rattle.replay.specs.declared.faults.ReplayFault.{ReplayFault}
+use Rattle.replay.specs.declared.faults.ReplayFault.TheVariants as Faults
+
+-- 1. What a capture says
+
+-- octets as a capture: their records and how they end, or the fault of the file header
+abbrev pub ReadsAs : List ℕ → Result (List Entry × End) CapFault → Type 0
+ReadsAs octets (Ok records) = (format : Format) × IsCapture octets format records.0 records.1
+ReadsAs octets (Err fault) = format_of octets ≡ Err fault
+
+-- 2. What is written
+
+-- both outputs, and the fault that ends them
+pub record Outcome : Type 0 where
+  pub output : Output
+  pub fault : Option ReplayFault
+
+-- nothing but a fault
+abbrev pub refused : ReplayFault → Outcome
+refused fault = record { output = nothing; fault = Some fault }
+
+-- the file header of the output capture
+abbrev pub header : Output
+header = record { report = []; capture = written_header }
+
+-- how many frames each class still has
+abbrev pub left_of : AbstractPort → Output
+left_of p = record { report = left_lines p; capture = [] }
+
+-- what is told of requests, and then how many frames are left
+abbrev pub told_and_left : List Entry → List Request → AbstractPort → Output
+told_and_left entries requests p = joined (output entries (responses_of requests p)) (left_of (port_after (events_of requests) p))
+
+-- the fault with which the records of a capture end, if they do; there are so many
+abbrev pub end_fault : ℕ → End → Option ReplayFault
+end_fault number Whole = None
+end_fault number (Broken fault) = Some (Faults.Capture number fault)
+
+-- what is told of all that a script asks and of the records, from a new port: the header, the answers, and how many frames are left
+abbrev pub outcome_whole : Setup → List Request → List Entry → End → Outcome
+outcome_whole s script entries last =
+    record {
+      output = joined header (told_and_left entries (all_requests script entries s.until) (new_port s.rate s.mtu s.room));
+      fault = end_fault (length entries) last;
+    }
+
+-- the same by the capture
+abbrev pub outcome_read : Setup → List Request → Result (List Entry × End) CapFault → Outcome
+outcome_read s script (Ok records) = outcome_whole s script records.0 records.1
+outcome_read s script (Err fault) = refused (Faults.Capture 0 fault)
+
+-- the fault of a replay whose capture is not opened
+abbrev pub open_fault : CapFault → ReplayFault
+open_fault CapFaults.Read = Faults.Read
+open_fault CapFaults.Memory = Faults.Memory
+open_fault fault = Faults.Capture 0 fault
+
+-- why a capture is not opened: the fault of its file header, or a read or memory failed
+abbrev pub IsOpenFault : Option (List ℕ) → ReplayFault → Type 0
+IsOpenFault known (Faults.Capture number fault) = (number ≡ 0) × IfSome known (λ octets. format_of octets ≡ Err fault)
+IsOpenFault known Faults.Read = Unit {0}
+IsOpenFault known Faults.Memory = Unit {0}
+IsOpenFault known Faults.Write = ⊥
+IsOpenFault known Faults.Until = ⊥
+IsOpenFault known (Faults.Script number fault) = ⊥
+
+-- the same by the script, whose fault comes first
+abbrev pub outcome_said : Setup → List Request → Option (ℕ × ScriptFault) → Result (List Entry × End) CapFault → Outcome
+outcome_said s script None capture = outcome_read s script capture
+outcome_said s script (Some fault) capture = refused (Faults.Script fault.0 fault.1)
+
+-- a moment after the last that a capture can say
+abbrev pub is_too_late : Option ℕ → Bool
+is_too_late None = false
+is_too_late (Some moment) = nat_lt CAPTURE_END moment
+
+-- the outcome of a script and a capture, on a new port
+abbrev pub outcome_of : (List (List ℕ) → Result Command TcFault) → Setup → List ℕ → Result (List Entry × End) CapFault → Outcome
+outcome_of read s script capture =
+    if is_too_late s.until then refused Faults.Until
+    else let reading = reading_of read (script_of script) in outcome_said s reading.requests reading.fault capture
+
+-- both outputs were written whole
+pub record AppendsBoth (old new : Got) (whole : Output) : Type 0 where
+  pub report : Appends old.report new.report whole.report
+  pub capture : Appends old.capture new.capture whole.capture
+
+-- At Ok, and at a fault of the inputs, both outputs are written whole, and the fault is theirs; at the other faults a front of each,
+-- and after a failed write not all of both.
+abbrev pub Ends : {T : Type 0} → Result T ReplayFault → Got → Got → Outcome → Type 0
+Ends (Ok x) old new whole = (whole.fault ≡ None) × AppendsBoth old new whole.output
+Ends (Err Faults.Until) old new whole = (whole.fault ≡ Some Faults.Until) × AppendsBoth old new whole.output
+Ends (Err (Faults.Script number fault)) old new whole = (whole.fault ≡ Some (Faults.Script number fault)) × AppendsBoth old new whole.output
+Ends (Err (Faults.Capture number fault)) old new whole = (whole.fault ≡ Some (Faults.Capture number fault)) × AppendsBoth old new whole.output
+Ends (Err Faults.Read) old new whole = (left : Output) × SentBoth old new whole.output left
+Ends (Err Faults.Write) old new whole = (left : Output) × (0 < length left.report + length left.capture) × SentBoth old new whole.output left
+Ends (Err Faults.Memory) old new whole = (left : Output) × SentBoth old new whole.output left

@@ -1,0 +1,75 @@
+-- The report and the output capture of what is told.
+use Rattle.std.specs.Prelude.{◌≡◌, ◌<◌, ◌+◌, ◌++◌, ℕ, List, [], Option, Result, Err, OnOk, length, slice_index_or}
+use Rattle.std.specs.List.{flat_map}
+use Rattle.abstract_port.specs.declared.Answer.{Answer}
+use Rattle.abstract_port.specs.declared.Answer.TheVariants as Answered
+use Rattle.capture.specs.CaptureWriter.{written_record}
+use Rattle.capture.specs.Records.{Entry}
+use Rattle.octet_store.specs.Stored.{Kept, kept}
+use Rattle.octet_writer.specs.Writes.{Sent}
+use Rattle.script.specs.Responses.{Response, Gave, Faulted, lines_of}
+use Rattle.replay.specs.declared.faults.Stop.{Stop}
+use Rattle.replay.specs.declared.faults.Stop.TheVariants as Stops
+
+-- 1. What is told, as two outputs
+
+-- a report, and an output capture without its header
+pub record Output : Type 0 where
+  pub report : List ℕ
+  pub capture : List ℕ
+
+abbrev pub nothing : Output
+nothing = record { report = []; capture = [] }
+
+-- one output behind the other
+abbrev pub joined : Output → Output → Output
+joined x y = record { report = x.report ++ y.report; capture = x.capture ++ y.capture }
+
+-- a record that is not there
+abbrev pub no_entry : Entry
+no_entry = record { moment = 0; captured = 0; original = 0; octets = [] }
+
+-- what is kept of the record of a number
+abbrev pub kept_in : List Entry → ℕ → Kept
+kept_in entries number = let e = slice_index_or entries number no_entry in kept e.original e.octets
+
+-- what is written of a frame that starts at a moment
+abbrev pub start_record : ℕ → Kept → List ℕ
+start_record at k = written_record at k.original k.octets
+
+-- a start writes the record whose number is its name; another answer writes none
+abbrev pub answer_record : List Entry → Answer → List ℕ
+answer_record entries (Answered.Start s) = start_record s.at (kept_in entries s.id)
+answer_record entries _ = []
+
+-- the same of what is told
+abbrev pub response_record : List Entry → Response → List ℕ
+response_record entries (Gave answer) = answer_record entries answer
+response_record entries (Faulted fault) = []
+
+-- the lines of what is told, and the records of its starts
+abbrev pub output : List Entry → List Response → Output
+output entries responses = record { report = lines_of responses; capture = flat_map (response_record entries) responses }
+
+-- 2. What calls that may fail leave in two writers
+
+-- what two writers have got
+pub record Got : Type 0 where
+  pub report : Option (List ℕ)
+  pub capture : Option (List ℕ)
+
+abbrev pub got : Option (List ℕ) → Option (List ℕ) → Got
+got report capture = record { report = report; capture = capture }
+
+-- of each output a front was appended, and `left` is still to come
+pub record SentBoth (old new : Got) (whole left : Output) : Type 0 where
+  pub report : Sent old.report new.report whole.report left.report
+  pub capture : Sent old.capture new.capture whole.capture left.capture
+
+-- of each output a front was appended: at Ok all, and after a failed write not all of both
+module _ {T : Type 0} where
+  pub record PutsBoth (r : Result T Stop) (old new : Got) (whole : Output) : Type 0 where
+    pub left : Output
+    pub sent : SentBoth old new whole left
+    pub all : OnOk r (left ≡ nothing)
+    pub short : r ≡ Err Stops.Write → 0 < length left.report + length left.capture

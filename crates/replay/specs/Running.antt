@@ -1,0 +1,50 @@
+-- A port that runs, with the octets of the frames that wait in it.
+use Rattle.std.specs.Prelude.{◌≡◌, ℕ, List, [], length, map, drop, Option, Result, OnOk, slice_index_or}
+use Rattle.wire_time.specs.declared.Frame.{Frame}
+use Rattle.abstract_port.specs.AbstractPort.{AbstractPort, settled, starts_until}
+use Rattle.abstract_port.specs.Answers.{port_after}
+use Rattle.abstract_port.specs.declared.Answer.TheVariants as Answered
+use Rattle.abstract_port.specs.Sound.{IsSoundPort}
+use Rattle.capture.specs.Records.{Entry}
+use Rattle.octet_store.specs.Stored.{Kept, Stored, kept, kept_at}
+use Rattle.script.specs.Requests.{Request}
+use Rattle.script.specs.Responses.{Gave, events_of, responses_of}
+use Rattle.replay.specs.Outputs.{Got, PutsBoth, kept_in, output}
+use Rattle.replay.specs.declared.faults.Stop.{Stop}
+use Rattle.replay.specs.declared.sending.Sending.{Sending}
+
+-- a port, the octets beside it, and what the two writers have got
+pub record State : Type 0 where
+  pub port : AbstractPort
+  pub store : Stored
+  pub got : Got
+
+abbrev pub state : {A : Type 0} → Sending A → Option (List ℕ) → Option (List ℕ) → State
+state s report capture = record { port = s.port.port; store = s.store; got = record { report = report; capture = capture } }
+
+-- the store beside the queues: as many frames in each class, and the same room
+pub record IsTogether (s : State) : Type 0 where
+  pub lengths : map length s.store.kept ≡ map length s.port.queues
+  pub room : s.store.room ≡ s.port.room
+  pub sound : IsSoundPort s.port
+
+-- what is kept of each frame that waits is its record's
+abbrev pub Keeps : List Entry → State → Type 0
+Keeps entries s = s.store.kept ≡ map (map (λ (f : Frame). kept_in entries f.id)) s.port.queues
+
+-- the first that is kept of a class
+abbrev pub first_kept : Stored → ℕ → Kept
+first_kept s class = slice_index_or (kept_at s.kept class) 0 (kept 0 [])
+
+-- what is asked is answered: the outputs got what is told, and the port and its store are where that leaves them
+module _ {T : Type 0} where
+  pub record Answers (entries : List Entry) (r : Result T Stop) (requests : List Request) (s t : State) : Type 0 where
+    pub port : OnOk r (t.port ≡ settled (port_after (events_of requests) s.port))
+    pub keeps : OnOk r (Keeps entries t)
+    pub out : PutsBoth r s.got t.got (output entries (responses_of requests s.port))
+
+  -- the same of the starts before a moment
+  pub record AnswersStarts (entries : List Entry) (r : Result T Stop) (upto : ℕ) (s t : State) : Type 0 where
+    pub port : OnOk r (t.port ≡ settled (starts_until s.port upto).1)
+    pub keeps : OnOk r (Keeps entries t)
+    pub out : PutsBoth r s.got t.got (output entries (map Gave (map Answered.Start (starts_until s.port upto).0)))

@@ -1,0 +1,105 @@
+//! Reads a script whole and keeps it.
+
+ghost use Rattle.std.specs.Prelude.{◌≡◌, ◌≤◌, ◌<◌, ◌∷◌, ◌++◌, [], ℕ, List, Result, IfOk, IfSome, OnOk, Ok, slice_range, length};
+ghost use Rattle.abstract_port.specs.declared.Command.{Command};
+ghost use Rattle.line_reader.specs.LineReader.{script_left};
+ghost use Rattle.line_reader.specs.Script.{script_of};
+ghost use Rattle.tc_reader.specs.Reader.{IsReader};
+ghost use Rattle.tc_reader.specs.declared.fault.TcFault.{TcFault};
+ghost use Rattle.words.specs.Words.{words_of};
+ghost use Rattle.replay.specs.KeptScript.{IsKept, kept_request, kept_requests};
+ghost use Rattle.replay.specs.Keeping.{GivesScript, ReadsRest};
+ghost use Rattle.replay.specs.Lines.{IsEarly, line_request, reading_of};
+
+use crate::faults::ReplayFault;
+use crate::kept_script::{KeptLine, KeptScript};
+use crate::reading::{Line, read_line_beside};
+use line_reader::LineReader;
+use std::alloc::{AllocError, Allocator};
+use std::io::Read;
+
+// Puts the octets of a line behind those that are kept, and says where they lie.
+fn keep_octets<A: Allocator>(
+    script: &mut KeptScript<A>,
+    octets: &[u8],
+) -> Result<KeptLine, AllocError>
+    ensures lines { script.new.lines.items ≡ script.old.lines.items }
+    ensures kept { OnOk result (script.new.octets.items ≡ script.old.octets.items ++ octets.now) }
+    ensures place { IfOk result (λ line. line ≡ KeptLine.Tc (length script.old.octets.items) (length script.new.octets.items)) }
+{
+    let start = script.octets.len();
+    script.octets.extend_from_slice(octets)?;
+    let end = script.octets.len();
+    Ok(KeptLine::Tc { start, end })
+}
+
+// What is kept of a line, whose octets are kept only where it begins with `tc`.
+fn kept_line<A: Allocator>(
+    script: &mut KeptScript<A>,
+    line: Line,
+    octets: &[u8],
+) -> Result<KeptLine, AllocError>
+    requires { IsEarly line }
+    ensures lines { script.new.lines.items ≡ script.old.lines.items }
+    ensures within { IfOk result (λ kept. IsKept script.new.octets.items kept) }
+    ensures says { (read : List (List ℕ) → Result Command TcFault) → IfOk result (λ kept. kept_request read script.new.octets.items kept ≡ line_request (read (words_of octets.now)) line) }
+    ensures others { (read : List (List ℕ) → Result Command TcFault) → OnOk result (kept_requests read script.new.octets.items script.old.lines.items ≡ kept_requests read script.old.octets.items script.old.lines.items) }
+{
+    match line {
+        Line::Clock(moment) => Ok(KeptLine::Clock(moment)),
+        Line::Query => Ok(KeptLine::Query),
+        Line::Count(class) => Ok(KeptLine::Count(class)),
+        Line::Tc => keep_octets(script, octets),
+    }
+}
+
+// Keeps a line.
+fn keep<A: Allocator>(
+    script: &mut KeptScript<A>,
+    line: Line,
+    octets: &[u8],
+) -> Result<(), AllocError>
+    requires { IsEarly line }
+    ensures { (read : List (List ℕ) → Result Command TcFault) → OnOk result (kept_requests read script.new.octets.items script.new.lines.items
+        ≡ kept_requests read script.old.octets.items script.old.lines.items ++ line_request (read (words_of octets.now)) line ∷ []) }
+{
+    let kept = kept_line(script, line, octets)?;
+    script.lines.push(kept)?;
+    Ok(())
+}
+
+// Keeps the lines that are to come, up to the first fault.
+fn keep_lines<A: Allocator, B: Allocator, R: Read + Drop>(
+    script: &mut KeptScript<A>,
+    lines: &mut LineReader<R, B>,
+) -> Result<(), ReplayFault>
+    ensures { (read : List (List ℕ) → Result Command TcFault) → IsReader read → IfSome (script_left R.remaining lines.old) (λ rest.
+        ReadsRest result (kept_requests read script.old.octets.items script.old.lines.items) (reading_of read rest) (kept_requests read script.new.octets.items script.new.lines.items)) }
+{
+    'lines: while lines.advance()? {
+        let octets = lines.line();
+        match read_line_beside(octets) {
+            Ok(None) => {}
+            Ok(Some(line)) => keep(script, line, octets)?,
+            Err(fault) => return Err(ReplayFault::Script(lines.line_number(), fault)),
+        }
+    }
+    Ok(())
+}
+
+/// Reads a script to its end, or to its first fault.
+pub fn read_script<A: Allocator + Clone, R: Read + Drop>(
+    alloc: &A,
+    reader: R,
+) -> Result<KeptScript<A>, ReplayFault>
+    ensures { (read : List (List ℕ) → Result Command TcFault) → IsReader read → IfSome (R.remaining reader) (λ input.
+        GivesScript read result (reading_of read (script_of input))) }
+{
+    let mut lines = LineReader::new(alloc.clone()?, reader)?;
+    let mut script = KeptScript {
+        lines: Vec::new(alloc.clone()?),
+        octets: Vec::new(alloc.clone()?),
+    };
+    keep_lines(&mut script, &mut lines)?;
+    Ok(script)
+}

@@ -1,0 +1,25 @@
+//! Laws of replays. The functions run nothing: the contract of each is its law.
+
+ghost use Rattle.std.specs.Prelude.{◌≤◌, List};
+ghost use Rattle.abstract_port.specs.AbstractPort.{new_port};
+ghost use Rattle.capture.specs.Records.{Entry};
+ghost use Rattle.script.specs.Outcome.{IsFaithful};
+ghost use Rattle.script.specs.Requests.{Request};
+ghost use Rattle.script.specs.Setup.{Setup};
+ghost use Rattle.wire_time.specs.declared.TheConstants.{MIN_MTU, MIN_PS_PER_OCTET};
+ghost use Rattle.replay.specs.Merge.{all_requests};
+ghost use Rattle.replay.specs.Sources.{MergeLaw};
+
+/// What is told of a script and a capture are the abstract port's answers to the events of both. In each report every `start` line
+/// has its gate open from its start to its end, by the history of its time and by that at the end; no two frames are on the wire at
+/// once; and the `count` lines are the counts over the events before them.
+pub fn faithful()
+    ensures { (s : Setup) (script : List Request) (entries : List Entry) → MIN_PS_PER_OCTET ≤ s.rate → MIN_MTU ≤ s.mtu
+        → IsFaithful (all_requests script entries s.until) (new_port s.rate s.mtu s.room) }
+{}
+
+/// What is asked of the port are the lines of the script and the records of the capture, each source in its own order, by rising
+/// moment, and at equal moments lines before records.
+pub fn merge_law()
+    ensures { MergeLaw }
+{}

@@ -1,0 +1,209 @@
+//! Runs a script and a capture.
+
+ghost use Rattle.std.specs.Prelude.{◌≡◌, ◌++◌, ℕ, List, None, Option, Result, OnOk, IfOk, IfErr, IfSome, Err, false, true, length};
+ghost use Rattle.abstract_port.specs.AbstractPort.{new_port};
+ghost use Rattle.abstract_port.specs.Sound.{IsSoundPort};
+ghost use Rattle.abstract_port.specs.declared.Command.{Command};
+ghost use Rattle.capture.specs.CaptureReader.{IsNewReader, left};
+ghost use Rattle.capture.specs.Records.{Entry};
+ghost use Rattle.capture.specs.declared.fault.CapFault.{CapFault};
+ghost use Rattle.capture.specs.declared.reader.End.{End};
+ghost use Rattle.script.specs.Outcome.{clock_after};
+ghost use Rattle.tc_reader.specs.Reader.{IsReader};
+ghost use Rattle.tc_reader.specs.declared.fault.TcFault.{TcFault};
+ghost use Rattle.replay.specs.LinesLeft.{lines_left};
+ghost use Rattle.octet_store.specs.Stored.{new_store};
+ghost use Rattle.replay.specs.KeptScript.{kept_requests};
+ghost use Rattle.replay.specs.Merge.{all_requests, requests_of};
+ghost use Rattle.replay.specs.Outcome.{Ends, IsOpenFault, ReadsAs, end_fault, header, is_too_late, open_fault, outcome_of, told_and_left};
+ghost use Rattle.replay.specs.Outputs.{PutsBoth, got};
+ghost use Rattle.replay.specs.RecordsLeft.{Comes};
+ghost use Rattle.replay.specs.Running.{Answers, IsTogether, Keeps, state};
+
+use crate::cursor::Cursor;
+use crate::faults::{ReplayFault, Stop};
+use crate::keeping::read_script;
+use crate::kept_script::KeptScript;
+use crate::lines::run_lines;
+use crate::records::run_records;
+use crate::sending::{Sending, put_clock};
+use capture::{CAPTURE_END, CapFault, CaptureReader, CaptureWriter};
+use octet_store::OctetStore;
+use script::{RunningPort, Settings, put_all_left};
+use std::alloc::Allocator;
+use std::io::{Read, Write};
+
+// Whether a moment is after the last that a capture can say.
+fn is_too_late(until: Option<u128>) -> bool
+    ensures { result ≡ is_too_late until }
+{
+    match until {
+        None => false,
+        Some(moment) => moment > CAPTURE_END,
+    }
+}
+
+// Runs to a moment, if there is one.
+fn run_to<A: Allocator, W: Write, V: Write>(
+    sending: &mut Sending<A>,
+    until: Option<u128>,
+    capture: &mut W,
+    report: &mut V,
+) -> Result<(), Stop>
+    requires until { is_too_late until ≡ false }
+    requires together { IsTogether (state sending.old (V.contents report.old) (W.contents capture.old)) }
+    ensures together { OnOk result (IsTogether (state sending.new (V.contents report.new) (W.contents capture.new))) }
+    ensures answers { (entries : List Entry) → Keeps entries (state sending.old (V.contents report.old) (W.contents capture.old)) →
+        Answers entries result (clock_after until) (state sending.old (V.contents report.old) (W.contents capture.old)) (state sending.new (V.contents report.new) (W.contents capture.new)) }
+{
+    match until {
+        None => Ok(()),
+        Some(moment) => put_clock(sending, moment, capture, report),
+    }
+}
+
+// Answers the lines that are left, runs to the moment after the input, if there is one, and writes how many frames are left.
+fn finish<A: Allocator, B: Allocator, W: Write, V: Write>(
+    sending: &mut Sending<A>,
+    script: &KeptScript<B>,
+    cursor: &mut Cursor,
+    until: Option<u128>,
+    capture: &mut W,
+    report: &mut V,
+) -> Result<(), Stop>
+    requires until { is_too_late until ≡ false }
+    requires together { IsTogether (state sending.old (V.contents report.old) (W.contents capture.old)) }
+    ensures { (read : List (List ℕ) → Result Command TcFault) → IsReader read
+        → (entries : List Entry) → Keeps entries (state sending.old (V.contents report.old) (W.contents capture.old)) →
+        PutsBoth result (got (V.contents report.old) (W.contents capture.old)) (got (V.contents report.new) (W.contents capture.new))
+        (told_and_left entries (requests_of (lines_left read script.now cursor.old) ++ clock_after until) sending.old.port.port) }
+{
+    run_lines(sending, script, cursor, CAPTURE_END, capture, report)?;
+    run_to(sending, until, capture, report)?;
+    put_all_left(&sending.port, report)?;
+    Ok(())
+}
+
+// Runs the records and the lines, to the end of both.
+fn run<A: Allocator + Clone, B: Allocator, C: Allocator, R: Read, W: Write, V: Write>(
+    sending: &mut Sending<A>,
+    script: &KeptScript<B>,
+    until: Option<u128>,
+    records: &mut CaptureReader<R, C>,
+    capture: &mut W,
+    report: &mut V,
+) -> Result<(), ReplayFault>
+    requires until { is_too_late until ≡ false }
+    requires together { IsTogether (state sending.old (V.contents report.old) (W.contents capture.old)) }
+    requires begun { (left records.old).ended ≡ None }
+    requires first { (left records.old).number ≡ 0 }
+    ensures { (read : List (List ℕ) → Result Command TcFault) → IsReader read
+        → (entries : List Entry) (last : End) → Comes R.remaining (left records.old) entries last
+        → Keeps entries (state sending.old (V.contents report.old) (W.contents capture.old)) →
+        Ends result (got (V.contents report.old) (W.contents capture.old)) (got (V.contents report.new) (W.contents capture.new))
+        (record { output = told_and_left entries (all_requests (kept_requests read script.now.octets.items script.now.lines.items) entries until) sending.old.port.port; fault = end_fault (length entries) last }) }
+{
+    let mut cursor = Cursor { at: 0, clock: 0 };
+    let broken = run_records(sending, script, &mut cursor, records, capture, report)?;
+    finish(sending, script, &mut cursor, until, capture, report)?;
+    match broken {
+        None => Ok(()),
+        Some((number, fault)) => Err(ReplayFault::Capture(number, fault)),
+    }
+}
+
+// Why a capture is not opened.
+fn open_fault(fault: CapFault) -> ReplayFault
+    ensures { result ≡ open_fault fault }
+{
+    match fault {
+        CapFault::Read => ReplayFault::Read,
+        CapFault::Memory => ReplayFault::Memory,
+        _ => ReplayFault::Capture(0, fault),
+    }
+}
+
+// Reads the file header of a capture.
+fn open<A: Allocator, R: Read + Drop>(
+    alloc: A,
+    capture: R,
+) -> Result<CaptureReader<R, A>, ReplayFault>
+    ensures ok { IfOk result (λ r. IsNewReader R.remaining (R.remaining capture) (left r)) }
+    ensures fault { IfErr result (λ f. IsOpenFault (R.remaining capture) f) }
+{
+    match CaptureReader::new(alloc, capture) {
+        Ok(records) => Ok(records),
+        Err(fault) => Err(open_fault(fault)),
+    }
+}
+
+// Makes a new port with its store, and then writes the file header of the output capture.
+fn begin<A: Allocator + Clone, W: Write>(
+    alloc: &A,
+    settings: Settings,
+    capture: &mut W,
+) -> Result<Sending<A>, Stop>
+    ensures port { IfOk result (λ s. s.port.port ≡ new_port settings.rate settings.mtu settings.room) }
+    ensures store { IfOk result (λ s. s.store ≡ new_store settings.room) }
+    ensures sound { IfOk result (λ s. IsSoundPort s.port.port) }
+    ensures out { (report : Option (List ℕ)) → PutsBoth result (got report (W.contents capture.old)) (got report (W.contents capture.new)) header }
+{
+    let rate = settings.rate();
+    let _ps = rate.ps_per_octet();
+    let mtu = settings.mtu();
+    let room = settings.room();
+    let Ok(port) = RunningPort::new(alloc.clone()?, rate, mtu, room) else {
+        return Err(Stop::Memory);
+    };
+    let _now = port.now();
+    let store = OctetStore::new(alloc, room)?;
+    match CaptureWriter::begin(capture) {
+        Ok(writer) => Ok(Sending {
+            port,
+            store,
+            writer,
+        }),
+        Err(_) => Err(Stop::Write),
+    }
+}
+
+/// Runs a script and a capture through a new port, by moment: the answers to both go to the report, and the frames that start into
+/// the output capture.
+///
+/// The script is read whole first, and nothing is written where it has a fault; then the file header of the capture, and nothing is
+/// written where that has one. Then come its records, each taken when its turn comes, after the lines up to its moment, which is the
+/// greater of its own and that of the record before. After the last record, also one after which the capture ends with a fault, come
+/// the other lines, the moment to run to, where the settings have one, and how many frames each class still has.
+///
+/// A read or a write that fails, or takes nothing, isn't tried again. Nothing that is kept grows with the capture: of a script its
+/// lines are kept, and of a capture the octets of the frames that wait.
+pub fn replay<A: Allocator, R: Read + Drop, S: Read + Drop, W: Write, V: Write>(
+    alloc: A,
+    script: R,
+    capture: S,
+    out_capture: &mut W,
+    out_report: &mut V,
+    settings: Settings,
+) -> Result<(), ReplayFault>
+    ensures replay { (read : List (List ℕ) → Result Command TcFault) → IsReader read → IfSome (R.remaining script) (λ lines. IfSome (S.remaining capture) (λ octets.
+        (records : Result (List Entry × End) CapFault) → ReadsAs octets records →
+        Ends result (got (V.contents out_report.old) (W.contents out_capture.old)) (got (V.contents out_report.new) (W.contents out_capture.new)) (outcome_of read settings lines records))) }
+    ensures late { is_too_late settings.until ≡ true → (result ≡ Err ReplayFault.Until) × (out_capture.new ≡ out_capture.old) × (out_report.new ≡ out_report.old) }
+{
+    let until = settings.until();
+    if is_too_late(until) {
+        return Err(ReplayFault::Until);
+    }
+    let alloc = &alloc;
+    let script = read_script(&alloc, script)?;
+    let mut records = open(alloc, capture)?;
+    let mut sending = begin(&alloc, settings, out_capture)?;
+    run(
+        &mut sending,
+        &script,
+        until,
+        &mut records,
+        out_capture,
+        out_report,
+    )
+}

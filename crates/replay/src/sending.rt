@@ -1,0 +1,148 @@
+//! A port that runs, beside it the octets of the frames that wait, and the capture of what leaves.
+
+ghost use Rattle.std.specs.Prelude.{◌≡◌, ◌≤◌, ◌<◌, ◌∷◌, [], ℕ, List, None, Option, length, drop, OnOk, slice_set};
+ghost use Rattle.abstract_port.specs.declared.Answer.TheVariants as Answered;
+ghost use Rattle.abstract_port.specs.declared.Event.TheVariants as Events;
+ghost use Rattle.answer_text.specs.Lines.{answer_lines};
+ghost use Rattle.capture.specs.declared.writer.TheConstants.{CAPTURE_END};
+ghost use Rattle.capture.specs.declared.format.TheConstants.{MAX_RECORD_OCTETS};
+ghost use Rattle.capture.specs.Records.{Entry};
+ghost use Rattle.octet_store.specs.Stored.{kept, kept_at};
+ghost use Rattle.octet_writer.specs.Writes.{Writes};
+ghost use Rattle.script.specs.Requests.{Asks};
+ghost use Rattle.replay.specs.Outputs.{PutsBoth, kept_in, start_record};
+ghost use Rattle.replay.specs.Running.{Answers, AnswersStarts, IsTogether, Keeps, first_kept, state};
+
+use crate::faults::Stop;
+use abstract_port::{Answer, Start};
+use answer_text::put_answer;
+use capture::CaptureWriter;
+use octet_store::OctetStore;
+use script::RunningPort;
+use std::alloc::{Allocator, Global};
+use std::io::Write;
+use wire_time::Frame;
+
+/// A port that runs, with the octets of the frames that wait in it, and the capture that they leave for.
+#[derive(Drop)]
+pub struct Sending<A: Allocator = Global> {
+    /// The port.
+    pub port: RunningPort<A>,
+    /// The octets of the frames that wait in it.
+    pub store: OctetStore<A>,
+    /// The output capture.
+    pub writer: CaptureWriter,
+}
+
+// Writes the first record that is kept of the class of a start, and gives it up.
+fn put_record<A: Allocator, W: Write>(
+    sending: &mut Sending<A>,
+    start: Start,
+    capture: &mut W,
+) -> Result<(), Stop>
+    requires class { start.class < 8 }
+    requires waits { 0 < length (kept_at sending.old.store.kept start.class) }
+    requires early { start.at < CAPTURE_END }
+    ensures port { sending.new.port ≡ sending.old.port }
+    ensures store { sending.new.store ≡ record sending.old.store { kept = slice_set sending.old.store.kept start.class (drop 1 (kept_at sending.old.store.kept start.class)); taken = sending.new.store.taken } }
+    ensures out { Writes result (W.contents capture.old) (W.contents capture.new) (start_record start.at (first_kept sending.old.store start.class)) }
+{
+    let original = sending.store.take(start.class);
+    match sending
+        .writer
+        .put(capture, start.at, original, sending.store.taken())
+    {
+        Ok(()) => Ok(()),
+        Err(_) => Err(Stop::Write),
+    }
+}
+
+// Tells a start, writes the first record that is kept of its class, and gives it up.
+fn put_start<A: Allocator, W: Write, V: Write>(
+    sending: &mut Sending<A>,
+    start: Start,
+    capture: &mut W,
+    report: &mut V,
+) -> Result<(), Stop>
+    requires class { start.class < 8 }
+    requires waits { 0 < length (kept_at sending.old.store.kept start.class) }
+    requires early { start.at < CAPTURE_END }
+    ensures port { sending.new.port ≡ sending.old.port }
+    ensures store { OnOk result (sending.new.store ≡ record sending.old.store { kept = slice_set sending.old.store.kept start.class (drop 1 (kept_at sending.old.store.kept start.class)); taken = sending.new.store.taken }) }
+    ensures out { PutsBoth result (record { report = V.contents report.old; capture = W.contents capture.old }) (record { report = V.contents report.new; capture = W.contents capture.new })
+        (record { report = answer_lines (Answered.Start start); capture = start_record start.at (first_kept sending.old.store start.class) }) }
+{
+    put_answer(report, &Answer::Start(start))?;
+    put_record(sending, start, capture)
+}
+
+// Writes the starts before `until`, as they come.
+fn put_starts<A: Allocator, W: Write, V: Write>(
+    sending: &mut Sending<A>,
+    until: u128,
+    capture: &mut W,
+    report: &mut V,
+) -> Result<(), Stop>
+    requires later { sending.old.port.port.now ≤ until }
+    requires within { until ≤ CAPTURE_END }
+    requires together { IsTogether (state sending.old (V.contents report.old) (W.contents capture.old)) }
+    ensures together { OnOk result (IsTogether (state sending.new (V.contents report.new) (W.contents capture.new))) }
+    ensures starts { (entries : List Entry) → Keeps entries (state sending.old (V.contents report.old) (W.contents capture.old)) →
+        AnswersStarts entries result until (state sending.old (V.contents report.old) (W.contents capture.old)) (state sending.new (V.contents report.new) (W.contents capture.new)) }
+{
+    loop {
+        match sending.port.step(until) {
+            Some(start) => put_start(sending, start, capture, report)?,
+            None => return Ok(()),
+        }
+    }
+}
+
+/// Takes a clock event, and writes what is told of it.
+pub fn put_clock<A: Allocator, W: Write, V: Write>(
+    sending: &mut Sending<A>,
+    moment: u128,
+    capture: &mut W,
+    report: &mut V,
+) -> Result<(), Stop>
+    requires within { moment ≤ CAPTURE_END }
+    requires together { IsTogether (state sending.old (V.contents report.old) (W.contents capture.old)) }
+    ensures together { OnOk result (IsTogether (state sending.new (V.contents report.new) (W.contents capture.new))) }
+    ensures answers { (entries : List Entry) → Keeps entries (state sending.old (V.contents report.old) (W.contents capture.old)) →
+        Answers entries result (Asks (Events.Clock moment) ∷ []) (state sending.old (V.contents report.old) (W.contents capture.old)) (state sending.new (V.contents report.new) (W.contents capture.new)) }
+{
+    if moment < sending.port.now() {
+        put_answer(report, &Answer::Backward)?;
+        return Ok(());
+    }
+    put_starts(sending, moment, capture, report)
+}
+
+/// A frame arrives, and where it is queued its octets are kept.
+pub fn put_arrival<A: Allocator + Clone, V: Write>(
+    sending: &mut Sending<A>,
+    frame: Frame,
+    original: u32,
+    octets: &[u8],
+    report: &mut V,
+) -> Result<(), Stop>
+    requires together { IsTogether (state sending.old (V.contents report.old) None) }
+    requires size { length octets.now ≤ MAX_RECORD_OCTETS }
+    ensures together { OnOk result (IsTogether (state sending.new (V.contents report.new) None)) }
+    ensures answers { (entries : List Entry) (captured : Option (List ℕ)) → kept_in entries frame.id ≡ kept original octets.now
+        → Keeps entries (state sending.old (V.contents report.old) captured) →
+        Answers entries result (Asks (Events.Arrive frame) ∷ []) (state sending.old (V.contents report.old) captured) (state sending.new (V.contents report.new) captured) }
+{
+    match sending.port.arrive(frame) {
+        Ok(class) => {
+            sending.store.put(class, original, octets)?;
+            let id = frame.id;
+            put_answer(report, &Answer::Queued { id, class })?;
+        }
+        Err(why) => {
+            let id = frame.id;
+            put_answer(report, &Answer::Dropped { id, why })?;
+        }
+    }
+    Ok(())
+}
