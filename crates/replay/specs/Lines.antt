@@ -43,6 +43,7 @@ abbrev pub some_line : Result Line ScriptFault → Result (Option Line) ScriptFa
 some_line (Ok line) = Ok (Some line)
 some_line (Err fault) = Err fault
 
+-- the same of a line, where it says anything
 abbrev pub line_if_said : Result (Option Said) ScriptFault → Result (Option Line) ScriptFault
 line_if_said (Err fault) = Err fault
 line_if_said (Ok None) = Ok None

@@ -18,6 +18,7 @@ pub record Output : Type 0 where
   pub report : List ℕ
   pub capture : List ℕ
 
+-- nothing on either
 abbrev pub nothing : Output
 nothing = record { report = []; capture = [] }
 
@@ -58,6 +59,7 @@ pub record Got : Type 0 where
   pub report : Option (List ℕ)
   pub capture : Option (List ℕ)
 
+-- the same of two writers
 abbrev pub got : Option (List ℕ) → Option (List ℕ) → Got
 got report capture = record { report = report; capture = capture }
 

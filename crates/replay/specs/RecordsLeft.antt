@@ -21,6 +21,7 @@ abbrev pub ending : List Entry → End → Option (ℕ × CapFault)
 ending entries Whole = None
 ending entries (Broken fault) = Some (length entries, fault)
 
+-- they end so
 abbrev pub EndsSo : List Entry → End → Option (ℕ × CapFault) → Type 0
 EndsSo entries last found = found ≡ ending entries last
 

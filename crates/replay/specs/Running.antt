@@ -19,6 +19,7 @@ pub record State : Type 0 where
   pub store : Stored
   pub got : Got
 
+-- the same of what runs
 abbrev pub state : {A : Type 0} → Sending A → Option (List ℕ) → Option (List ℕ) → State
 state s report capture = record { port = s.port.port; store = s.store; got = record { report = report; capture = capture } }
 

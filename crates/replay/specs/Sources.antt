@@ -23,6 +23,7 @@ lines_among [] = []
 lines_among (FromScript line ∷ rest) = line ∷ lines_among rest
 lines_among (FromCapture c ∷ rest) = lines_among rest
 
+-- the records among what is taken
 abbrev pub records_among : List Taken → List Came
 records_among [] = []
 records_among (FromScript line ∷ rest) = records_among rest

@@ -27,6 +27,7 @@ capture_fault_name Memory = codes "Memory"
 abbrev pub header_text : CapFault → List ℕ
 header_text fault = concat (codes "taprio_port: capture header: " ∷ capture_fault_name fault ∷ codes "\n" ∷ [])
 
+-- the text of the fault of a record
 abbrev pub record_text : ℕ → CapFault → List ℕ
 record_text number fault = concat (codes "taprio_port: capture record " ∷ decimal number ∷ codes ": " ∷ capture_fault_name fault ∷ codes "\n" ∷ [])
 

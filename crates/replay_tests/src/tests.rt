@@ -1,0 +1,439 @@
+//! Scripts and captures, and what comes out.
+
+use capture::{CAPTURE_END, CapFault, CaptureWriter};
+use linked_list_allocator::LocalHeap;
+use replay::{ReplayFault, replay, say_replay_fault};
+use script::{ScriptFault, Settings};
+use std::alloc::Global;
+use std::io;
+use std::process::Abort;
+use std::test::Fail;
+use test_streams::{Narrow, Pieces};
+use wire_time::Rate;
+
+/// A frame of 60 octets of which 18 are captured, with a customer tag of priority 3.
+const PRIORITY_3: [u8; 18] = [2, 0, 0, 0, 0, 2, 2, 0, 0, 0, 0, 1, 0x81, 0, 0x60, 5, 8, 0];
+
+/// The same with priority 5.
+const PRIORITY_5: [u8; 18] = [2, 0, 0, 0, 0, 2, 2, 0, 0, 0, 0, 1, 0x81, 0, 0xa0, 5, 8, 0];
+
+/// What is told of the two frames where all gates are open: the second comes no earlier than the first, and goes first.
+const REPORT: &[u8] = b"queued 0 class 3\nqueued 1 class 5\n\
+start 1 class 5 at 2000500000000 end 2000500672000\nstart 0 class 3 at 2000500672000 end 2000501344000\n";
+
+/// A capture of records: a moment in picoseconds, the original length, and the octets captured.
+fn capture_of(alloc: Global, records: &[(u128, u32, &[u8])]) -> io::Result<Vec<u8>> {
+    let mut octets = Vec::new(alloc);
+    let Ok(mut writer) = CaptureWriter::begin(&mut octets) else {
+        return Err(io::Error::from(io::ErrorKind::Other));
+    };
+    for (moment, original, captured) in records {
+        if *moment >= CAPTURE_END
+            || captured.len() > 262_144
+            || writer
+                .put(&mut octets, *moment, *original, captured)
+                .is_err()
+        {
+            return Err(io::Error::from(io::ErrorKind::Other));
+        }
+    }
+    Ok(octets)
+}
+
+/// The two frames, at 2 s and 500 microseconds and at 2 s and 400 microseconds.
+fn two_frames(alloc: Global) -> io::Result<Vec<u8>> {
+    capture_of(
+        alloc,
+        &[
+            (2_000_500_000_000, 60, &PRIORITY_3),
+            (2_000_400_000_000, 60, &PRIORITY_5),
+        ],
+    )
+}
+
+/// What leaves of them.
+fn two_starts(alloc: Global) -> io::Result<Vec<u8>> {
+    capture_of(
+        alloc,
+        &[
+            (2_000_500_000_000, 60, &PRIORITY_5),
+            (2_000_500_672_000, 60, &PRIORITY_3),
+        ],
+    )
+}
+
+/// Settings with a rate of 1 Gb/s, an mtu of 1500 octets and room for 128 frames a class.
+fn settings(rt: &impl Abort, until: Option<u128>) -> Settings {
+    let rate = Rate::from_mbps(1000).expect(rt, "a rate");
+    Settings::new(rate, 1500, 128, until).expect(rt, "settings")
+}
+
+/// What a replay answers, its report, and its output capture.
+#[derive(Drop)]
+struct Replayed {
+    result: Result<(), ReplayFault>,
+    report: Vec<u8>,
+    capture: Vec<u8>,
+}
+
+/// A replay of octets in memory.
+fn run_in_memory(alloc: Global, script: &[u8], capture: &[u8], settings: Settings) -> Replayed {
+    let mut report = Vec::new(alloc);
+    let mut written = Vec::new(alloc);
+    let result = replay(alloc, script, capture, &mut written, &mut report, settings);
+    Replayed {
+        result,
+        report,
+        capture: written,
+    }
+}
+
+#[test]
+fn two_frames_leave(rt: HostRuntime) -> Result<(), Fail> {
+    let capture = two_frames(rt.alloc())?;
+    let got = run_in_memory(
+        rt.alloc(),
+        b"",
+        capture.as_slice(),
+        settings(&rt, Some(3_000_000_000_000)),
+    );
+    assert_eq!(rt; got.result, Ok(()));
+    assert_eq!(rt; got.report.as_slice(), REPORT);
+    assert_eq!(rt; got.capture.as_slice(), two_starts(rt.alloc())?.as_slice());
+    Ok(())
+}
+
+/// The records before a cut, the rest of the script, the moment to run to and the frames that are left: all are told, and then the fault.
+#[test]
+fn a_cut_capture_ends_as_one_that_ends_there(rt: HostRuntime) -> Result<(), Fail> {
+    let capture = two_frames(rt.alloc())?;
+    let script = b"clock 2000500000001\nclock 3000000000000\ncount 3\n".as_slice();
+    for cut in 59..92usize {
+        let got = run_in_memory(
+            rt.alloc(),
+            script,
+            &capture.as_slice()[..cut],
+            settings(&rt, None),
+        );
+        assert_eq!(rt;
+            got.result,
+            Err(ReplayFault::Capture(1, CapFault::ShortRecord))
+        );
+        assert_eq!(rt;
+            got.report.as_slice(),
+            b"queued 0 class 3\nstart 0 class 3 at 2000500000000 end 2000500672000\n\
+count class 3 accepted 1 sent 1 octets 60 runt 0 too-long 0 over-sdu 0 full 0 waiting 0\n"
+                .as_slice()
+        );
+        let left = capture_of(rt.alloc(), &[(2_000_500_000_000, 60, &PRIORITY_3)])?;
+        assert_eq!(rt; got.capture.as_slice(), left.as_slice());
+    }
+    Ok(())
+}
+
+/// A line comes before a record of the same moment, so the schedule is given before the first frame comes.
+#[test]
+fn lines_come_before_records_of_their_moment(rt: HostRuntime) -> Result<(), Fail> {
+    let capture = two_frames(rt.alloc())?;
+    let script =
+        b"clock 2000500000000\ntc qdisc replace dev eth0 root taprio num_tc 8 map 0 1 2 3 4 5 6 7 \
+base-time 0 sched-entry S 20 1000000\n"
+            .as_slice();
+    let got = run_in_memory(
+        rt.alloc(),
+        script,
+        capture.as_slice(),
+        settings(&rt, Some(3_000_000_000_000)),
+    );
+    assert_eq!(rt; got.result, Ok(()));
+    let installed = b"installed change 2001000000000\n".as_slice();
+    assert!(rt; got.report.as_slice().starts_with(installed));
+    assert_eq!(rt; &got.report.as_slice()[installed.len()..], REPORT);
+    assert_eq!(rt; got.capture.as_slice(), two_starts(rt.alloc())?.as_slice());
+    Ok(())
+}
+
+/// What comes of a header alone: the lines, an output capture without records, and the frames that never leave where there is no
+/// moment to run to.
+#[test]
+fn without_records_and_without_an_end(rt: HostRuntime) -> Result<(), Fail> {
+    let empty = capture_of(rt.alloc(), &[])?;
+    let got = run_in_memory(
+        rt.alloc(),
+        b"count 0\n",
+        empty.as_slice(),
+        settings(&rt, Some(1)),
+    );
+    assert_eq!(rt; got.result, Ok(()));
+    assert_eq!(rt;
+        got.report.as_slice(),
+        b"count class 0 accepted 0 sent 0 octets 0 runt 0 too-long 0 over-sdu 0 full 0 waiting 0\n".as_slice()
+    );
+    assert_eq!(rt; got.capture.as_slice(), empty.as_slice());
+    let capture = two_frames(rt.alloc())?;
+    let got = run_in_memory(rt.alloc(), b"", capture.as_slice(), settings(&rt, None));
+    assert_eq!(rt; got.result, Ok(()));
+    assert_eq!(rt;
+        got.report.as_slice(),
+        b"queued 0 class 3\nqueued 1 class 5\nleft class 3 frames 1\nleft class 5 frames 1\n".as_slice()
+    );
+    assert_eq!(rt; got.capture.as_slice(), empty.as_slice());
+    Ok(())
+}
+
+/// A frame that is dropped leaves no octets behind: those of the frames round it leave in their order.
+#[test]
+fn octets_stay_with_their_frames(rt: HostRuntime) -> Result<(), Fail> {
+    let long = [7u8; 1515];
+    let other = [8u8; 100];
+    let capture = capture_of(
+        rt.alloc(),
+        &[
+            (1_000_999, 60, &PRIORITY_3),
+            (1_000_999, 13, &[1u8; 13]),
+            (1_000_999, 1515, &long),
+            (1_000_999, 2000, &other),
+            (1_000_999, 100, &other),
+            (1_000_999, 60, &PRIORITY_3),
+        ],
+    )?;
+    let got = run_in_memory(
+        rt.alloc(),
+        b"",
+        capture.as_slice(),
+        settings(&rt, Some(10_000_000)),
+    );
+    assert_eq!(rt; got.result, Ok(()));
+    assert_eq!(rt;
+        got.report.as_slice(),
+        b"queued 0 class 3\ndropped 1 Runt\ndropped 2 TooLong\ndropped 3 TooLong\nqueued 4 class 0\nqueued 5 class 3\n\
+start 0 class 3 at 1000000 end 1672000\nstart 5 class 3 at 1672000 end 2344000\nstart 4 class 0 at 2344000 end 3336000\n"
+            .as_slice()
+    );
+    let left = capture_of(
+        rt.alloc(),
+        &[
+            (1_000_000, 60, &PRIORITY_3),
+            (1_672_000, 60, &PRIORITY_3),
+            (2_344_000, 100, &other),
+        ],
+    )?;
+    assert_eq!(rt; got.capture.as_slice(), left.as_slice());
+    Ok(())
+}
+
+/// Nothing is written where the script or the file header has a fault, or the moment to run to is too late.
+#[test]
+fn refusals_write_nothing(rt: HostRuntime) -> Result<(), Fail> {
+    let capture = two_frames(rt.alloc())?;
+    let rows: [(&[u8], &[u8], Option<u128>, ReplayFault); 8] = [
+        (
+            b"query\nframe 1 0 60\n",
+            &capture,
+            None,
+            ReplayFault::Script(2, ScriptFault::FrameInReplay),
+        ),
+        (
+            b"frame\n",
+            &capture,
+            None,
+            ReplayFault::Script(1, ScriptFault::FrameInReplay),
+        ),
+        (
+            b"clock 4294967296000000000001\n",
+            &capture,
+            None,
+            ReplayFault::Script(1, ScriptFault::ClockTooLate),
+        ),
+        (
+            b"clock x\n",
+            b"",
+            None,
+            ReplayFault::Script(1, ScriptFault::BadNumber),
+        ),
+        (
+            b"query\n",
+            b"",
+            None,
+            ReplayFault::Capture(0, CapFault::ShortHeader),
+        ),
+        (
+            b"",
+            &[0u8; 24],
+            None,
+            ReplayFault::Capture(0, CapFault::BadMagic),
+        ),
+        (b"x\n", b"", Some(CAPTURE_END + 1), ReplayFault::Until),
+        (
+            b"query \\\nx\n",
+            b"",
+            None,
+            ReplayFault::Script(1, ScriptFault::WordCount),
+        ),
+    ];
+    for (script, capture, until, fault) in rows {
+        let got = run_in_memory(rt.alloc(), script, capture, settings(&rt, until));
+        assert_eq!(rt; got.result, Err(fault));
+        assert!(rt; got.report.is_empty() && got.capture.is_empty());
+    }
+    let got = run_in_memory(
+        rt.alloc(),
+        b"clock 4294967296000000000000\n",
+        &capture,
+        settings(&rt, Some(CAPTURE_END)),
+    );
+    assert_eq!(rt; got.result, Ok(()));
+    Ok(())
+}
+
+#[test]
+fn refuses_each_growth(rt: HostRuntime) -> Result<(), Fail> {
+    let capture = two_frames(rt.alloc())?;
+    let starts = two_starts(rt.alloc())?;
+    let mut done = false;
+    for size in 1..60usize {
+        let heap = LocalHeap::new(rt.alloc(), 12_000 * size)?;
+        let mut report = Vec::new(rt.alloc());
+        let mut written = Vec::new(rt.alloc());
+        let result = replay(
+            &heap,
+            b"clock 1\n".as_slice(),
+            capture.as_slice(),
+            &mut written,
+            &mut report,
+            settings(&rt, Some(3_000_000_000_000)),
+        );
+        if result.is_ok() {
+            done = true;
+            assert_eq!(rt; report.as_slice(), REPORT);
+            assert_eq!(rt; written.as_slice(), starts.as_slice());
+        } else {
+            assert_eq!(rt; result, Err(ReplayFault::Memory));
+            assert!(rt;
+                !done && REPORT.starts_with(&report) && starts.as_slice().starts_with(&written)
+            );
+        }
+    }
+    assert!(rt; done);
+    Ok(())
+}
+
+/// Each read of either input fails in turn, once or for ever: it isn't tried again, and what is written is a front.
+#[test]
+fn stops_at_each_read(rt: HostRuntime) -> Result<(), Fail> {
+    let capture = two_frames(rt.alloc())?;
+    let starts = two_starts(rt.alloc())?;
+    for fails_at in 0..20u32 {
+        for recovers in [false, true] {
+            for of_script in [false, true] {
+                let mut script = Pieces::new(b"clock 1\n", 1);
+                let mut records = Pieces::new(capture.as_slice(), 9);
+                if of_script {
+                    script.fails_at = fails_at;
+                    script.recovers = recovers;
+                } else {
+                    records.fails_at = fails_at;
+                    records.recovers = recovers;
+                }
+                let mut report = Vec::new(rt.alloc());
+                let mut written = Vec::new(rt.alloc());
+                let result = replay(
+                    rt.alloc(),
+                    script,
+                    records,
+                    &mut written,
+                    &mut report,
+                    settings(&rt, Some(3_000_000_000_000)),
+                );
+                assert!(rt; REPORT.starts_with(&report) && starts.as_slice().starts_with(&written));
+                if result.is_ok() {
+                    assert_eq!(rt; report.as_slice(), REPORT);
+                    assert_eq!(rt; written.as_slice(), starts.as_slice());
+                } else {
+                    assert_eq!(rt; result, Err(ReplayFault::Read));
+                }
+            }
+        }
+    }
+    Ok(())
+}
+
+/// Each write of either output fails in turn, or takes nothing: no write is tried again, and not all of both is written.
+#[test]
+fn stops_at_each_write(rt: HostRuntime) -> Result<(), Fail> {
+    let capture = two_frames(rt.alloc())?;
+    let starts = two_starts(rt.alloc())?;
+    for room in 0..=REPORT.len() {
+        for recovers in [false, true] {
+            let mut report = Narrow {
+                got: Vec::new(rt.alloc()),
+                piece: 10,
+                room,
+                fails: recovers,
+                recovers,
+            };
+            let mut written = Narrow {
+                got: Vec::new(rt.alloc()),
+                piece: 10,
+                room,
+                fails: recovers,
+                recovers,
+            };
+            let result = replay(
+                rt.alloc(),
+                b"".as_slice(),
+                capture.as_slice(),
+                &mut written,
+                &mut report,
+                settings(&rt, Some(3_000_000_000_000)),
+            );
+            assert!(rt;
+                REPORT.starts_with(&report.got) && starts.as_slice().starts_with(&written.got)
+            );
+            if room < REPORT.len() {
+                assert_eq!(rt; result, Err(ReplayFault::Write));
+                assert!(rt; report.got.len() < REPORT.len() || written.got.len() < starts.len());
+            } else {
+                assert_eq!(rt; result, Ok(()));
+            }
+        }
+    }
+    Ok(())
+}
+
+/// The text and the exit status of each fault.
+#[test]
+fn says_faults(rt: HostRuntime) {
+    let rows: [(ReplayFault, u8, &[u8]); 7] = [
+        (
+            ReplayFault::Until,
+            2,
+            b"taprio_port: bad value of --until\n",
+        ),
+        (
+            ReplayFault::Script(7, ScriptFault::FrameInReplay),
+            3,
+            b"taprio_port: script line 7: FrameInReplay\n",
+        ),
+        (
+            ReplayFault::Capture(0, CapFault::BadMagic),
+            3,
+            b"taprio_port: capture header: BadMagic\n",
+        ),
+        (
+            ReplayFault::Capture(12, CapFault::ShortRecord),
+            3,
+            b"taprio_port: capture record 12: ShortRecord\n",
+        ),
+        (ReplayFault::Read, 4, b"taprio_port: read failed\n"),
+        (ReplayFault::Write, 4, b"taprio_port: write failed\n"),
+        (ReplayFault::Memory, 4, b"taprio_port: out of memory\n"),
+    ];
+    for (fault, status, text) in rows {
+        let mut got = Vec::new(rt.alloc());
+        let ended = say_replay_fault(&fault, &mut got);
+        assert_eq!(rt; ended.status, status);
+        assert!(rt; ended.told);
+        assert_eq!(rt; got.as_slice(), text);
+    }
+}
