@@ -1,7 +1,8 @@
-//! Runs each example script, the worked scripts and the example of a check, and says whether their answers are those that lie beside
-//! them.
+//! Runs each example script, the worked scripts and the examples of a check and of a replay, and says whether their answers are those
+//! that lie beside them.
 #![tactic(auto)]
 
+use replay::{Unwatched, replay};
 use schedule_check::check;
 use script::{Settings, run_script};
 use std::rt::Files;
@@ -18,12 +19,15 @@ const EXAMPLES: [(&str, &str); 6] = [
     ("extension.script", "extension.answers"),
 ];
 
+/// The settings that the program has where no words are given, with a moment to run to.
+fn settings(until: Option<u128>) -> Option<Settings> {
+    let rate = Rate::from_mbps(1000).ok()?;
+    Settings::new(rate, 1500, 128, until).ok()
+}
+
 /// Whether a script is answered with these octets, by the settings that the program has where no words are given.
 fn answers_with<R: AllocGlobal>(rt: &R, script: &[u8], answers: &[u8]) -> bool {
-    let Ok(rate) = Rate::from_mbps(1000) else {
-        return false;
-    };
-    let Ok(settings) = Settings::new(rate, 1500, 128, None) else {
+    let Some(settings) = settings(None) else {
         return false;
     };
     let mut got = Vec::new(rt.alloc());
@@ -47,6 +51,33 @@ fn check_agrees<R: Files + AllocGlobal>(rt: &R) -> io::Result<bool> {
     let mut got = Vec::new(rt.alloc());
     let checked = check(rt.alloc(), schedules.as_bytes(), &mut got, rate);
     Ok(checked.is_ok() && got.as_slice() == answers.as_bytes())
+}
+
+/// Whether the example of a replay gives the report and the capture that lie beside it, run to 2 ms.
+fn replay_agrees<R: Files + AllocGlobal>(rt: &R) -> io::Result<bool> {
+    let script = fs::read(rt, "machine.script")?;
+    let capture = fs::read(rt, "machine.pcap")?;
+    let report = fs::read(rt, "machine.report")?;
+    let departures = fs::read(rt, "machine.departures.pcap")?;
+    let Some(settings) = settings(Some(2_000_000_000)) else {
+        return Ok(false);
+    };
+    let mut told = Vec::new(rt.alloc());
+    let mut left = Vec::new(rt.alloc());
+    let replayed = replay(
+        rt.alloc(),
+        script.as_slice(),
+        capture.as_slice(),
+        &mut left,
+        &mut told,
+        settings,
+        &mut Unwatched,
+    );
+    Ok(
+        replayed.is_ok()
+            && told.as_slice() == report.as_slice()
+            && left.as_slice() == departures.as_slice(),
+    )
 }
 
 /// The words behind the name of an example.
@@ -80,8 +111,10 @@ fn main(rt: HostRuntime) -> io::Result<()> {
         let told = told(agrees(&rt, script, answers)?);
         println!(rt; "{script} {told}")?;
     }
-    let told = told(check_agrees(&rt)?);
-    println!(rt; "apart.schedules {told}")?;
+    let checked = told(check_agrees(&rt)?);
+    println!(rt; "apart.schedules {checked}")?;
+    let replayed = told(replay_agrees(&rt)?);
+    println!(rt; "machine.script {replayed}")?;
     let (scripts, answered) = worked(&rt)?;
     println!(rt; "{answered} of {scripts} worked scripts answer as they should")?;
     Ok(())

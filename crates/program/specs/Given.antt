@@ -6,10 +6,10 @@ use Rattle.script.specs.Ending.{rate_given, settings_given}
 use Rattle.script.specs.Setup.{Setup}
 use Rattle.script.specs.declared.settings.BadValue.{BadValue}
 
--- the settings of the values that are given to the options
-abbrev pub settings_in : Found → Result Setup BadValue
-settings_in found =
-    settings_given (first_value found (codes "rate")) (first_value found (codes "mtu")) (first_value found (codes "room")) (first_value found (codes "until"))
+-- the settings of the values that are given to the options, with a moment of at most `greatest`
+abbrev pub settings_in : ℕ → Found → Result Setup BadValue
+settings_in greatest found =
+    settings_given greatest (first_value found (codes "rate")) (first_value found (codes "mtu")) (first_value found (codes "room")) (first_value found (codes "until"))
 
 -- the rate of the value that is given to its option
 abbrev pub rate_in : Found → Result ℕ BadValue

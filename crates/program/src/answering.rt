@@ -6,15 +6,20 @@ ghost use Rattle.clap.specs.Matches.{found_of};
 ghost use Rattle.schedule_check.specs.Checked.{whole_check};
 ghost use Rattle.program.specs.Given.{rate_in, settings_in};
 ghost use Rattle.script.specs.Ending.{IsEnding, whole_script};
+ghost use Rattle.wire_time.specs.Moment.{greatest_moment};
 
 use crate::end_without_memory;
 use crate::options::{command, rate_of, values_of};
+use crate::progress::Progress;
+use crate::replaying::replay_given;
 use clap::error::ErrorKind;
 use clap::{ArgMatches, Error};
 use schedule_check::answer_check;
 use script::{Ended, answer_script};
 use std::alloc::{Allocator, Global};
 use std::io::{BufWriter, Read, Write};
+use std::rt::Files;
+use std::time::Clock;
 
 /// Answers the script that `reader` gives, by the values that the words give to the options, through `answers`, with the text of
 /// a fault on `errors`; and gives the writer of the answers back.
@@ -25,9 +30,9 @@ pub fn answer_given<B: Allocator, R: Read, W: Write + Drop, E: Write>(
     answers: BufWriter<W, B>,
     errors: &mut E,
 ) -> (Ended, W)
-    ensures ending { IsEnding whole_script (settings_in (found_of matches.now))
+    ensures ending { IsEnding whole_script (settings_in greatest_moment (found_of matches.now))
         (R.remaining reader.old) result.0 (writer_contents W.contents answers) (W.contents result.1) (E.contents errors.old) (E.contents errors.new) }
-    ensures unread { IfErr (settings_in (found_of matches.now)) (λ _. reader.new ≡ reader.old) }
+    ensures unread { IfErr (settings_in greatest_moment (found_of matches.now)) (λ _. reader.new ≡ reader.old) }
 {
     answer_script(alloc, values_of(matches), reader, answers, errors)
 }
@@ -79,15 +84,25 @@ fn answer_refusal<B: Allocator, W: Write + Drop, E: Write>(
     (ended, writer)
 }
 
-/// Answers the words of the program, the first of which is its name: a script, the check of schedules, help, or why they
-/// are refused. What is answered goes
-/// through `answers`, whose writer is given back, and the text of a fault to `errors`.
-pub fn answer_words<B: Allocator, R: Read, W: Write + Drop, E: Write>(
+/// Answers the words of the program, the first of which is its name: a script, a replay of files, the check of schedules, help, or why
+/// they are refused. What is answered goes through `answers`, whose writer is given back, and the text of a fault to `errors`; how far
+/// a replay has come is said through `progress`, where the words ask for it.
+pub fn answer_words<
+    F: Files,
+    B: Allocator,
+    R: Read,
+    W: Write + Drop,
+    E: Write,
+    C: Clock,
+    P: Write + Drop,
+>(
+    files: &F,
     alloc: Global,
     words: &[String],
     reader: &mut R,
     answers: BufWriter<W, B>,
     errors: &mut E,
+    progress: &mut Progress<'_, C, P>,
 ) -> (Ended, W) {
     let Ok(command) = command(alloc) else {
         let ended = end_without_memory(errors);
@@ -99,6 +114,12 @@ pub fn answer_words<B: Allocator, R: Read, W: Write + Drop, E: Write>(
     };
     if let Some(script) = matches.subcommand_matches("script") {
         return answer_given(alloc, script, reader, answers, errors);
+    }
+    if let Some(replay) = matches.subcommand_matches("replay") {
+        if replay.get_flag("progress") {
+            progress.start();
+        }
+        return replay_given(files, alloc, replay, reader, answers, errors, progress);
     }
     if let Some(check) = matches.subcommand_matches("check") {
         return check_given(alloc, check, reader, answers, errors);

@@ -1,16 +1,20 @@
 //! The program: what it does with its words, its input and its two outputs.
 //!
 //! The exit status is 0 where all is done, 2 where the words are refused, 3 where the input is, and 4 where a read, a write
-//! or memory failed. `run` lends the process's own streams; all else is over any reader and writers.
+//! or memory failed, or a file can't be opened. `run` lends the process's own streams; all else is over any reader, writers and files.
 #![tactic(auto)]
 
 mod answering;
 mod options;
+mod progress;
+mod replaying;
 
-pub use answering::{answer_given, answer_words};
+pub use answering::{answer_given, answer_words, check_given};
 pub use options::values_of;
+pub use progress::Progress;
+pub use replaying::replay_given;
 use script::{Ended, RunFault, say_fault};
-use std::io::{BufWriter, Write};
+use std::io::{BufWriter, IsTerminal, Write};
 use std::process::ExitCode;
 
 /// How the program ends where memory is wanting before it has begun.
@@ -30,8 +34,18 @@ pub fn run(rt: &HostRuntime) -> ExitCode {
     let Ok(answers) = BufWriter::new(rt.alloc(), rt.stdout()) else {
         return ExitCode::from(end_without_memory(&mut errors).status);
     };
-    let mut reader = rt.stdin();
-    let words = words.as_slice();
-    let (ended, _stdout) = answer_words(rt.alloc(), words, &mut reader, answers, &mut errors);
+    let mut progress = Progress::new(rt, rt.stderr());
+    if errors.is_terminal() {
+        progress.start();
+    }
+    let (ended, _stdout) = answer_words(
+        rt,
+        rt.alloc(),
+        words.as_slice(),
+        &mut rt.stdin(),
+        answers,
+        &mut errors,
+        &mut progress,
+    );
     ExitCode::from(ended.status)
 }

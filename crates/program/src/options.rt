@@ -3,7 +3,7 @@
 ghost use Rattle.std.specs.Prelude.{◌≡◌, codes, option_map};
 ghost use Rattle.clap.specs.Matches.{first_value, found_of};
 
-use clap::{Arg, ArgMatches, Command};
+use clap::{Arg, ArgAction, ArgMatches, Command};
 use script::Values;
 use std::alloc::{AllocError, Global};
 
@@ -38,7 +38,11 @@ fn with_rate<'a>(alloc: Global, command: Command<'a>) -> Result<Command<'a>, All
     )
 }
 
-fn with_options<'a>(alloc: Global, command: Command<'a>) -> Result<Command<'a>, AllocError> {
+fn with_options<'a>(
+    alloc: Global,
+    command: Command<'a>,
+    needs_until: bool,
+) -> Result<Command<'a>, AllocError> {
     with_rate(alloc, command)?
         .arg(
             Arg::new(alloc, "mtu").long("mtu").value_name("OCTETS").help(
@@ -55,7 +59,38 @@ fn with_options<'a>(alloc: Global, command: Command<'a>) -> Result<Command<'a>, 
             Arg::new(alloc, "until")
                 .long("until")
                 .value_name("PS")
+                .required(needs_until)
                 .help("Run to this moment after the input, in picoseconds"),
+        )
+}
+
+fn with_files<'a>(alloc: Global, command: Command<'a>) -> Result<Command<'a>, AllocError> {
+    command
+        .arg(
+            Arg::new(alloc, "progress")
+                .long("progress")
+                .action(ArgAction::SetTrue)
+                .help(
+                    "Say on standard error how far the replay has come, also where that is no terminal",
+                ),
+        )?
+        .arg(
+            Arg::new(alloc, "script")
+                .value_name("SCRIPT")
+                .required(true)
+                .help("The file with the script"),
+        )?
+        .arg(
+            Arg::new(alloc, "capture")
+                .value_name("CAPTURE")
+                .required(true)
+                .help("The file with the capture, or - for the standard input"),
+        )?
+        .arg(
+            Arg::new(alloc, "out")
+                .value_name("OUT")
+                .required(true)
+                .help("The file for the capture of what leaves, made or emptied"),
         )
 }
 
@@ -64,12 +99,16 @@ pub fn command<'a>(alloc: Global) -> Result<Command<'a>, AllocError> {
     let script = Command::new(alloc, "script").about(
         "Answers the lines of a script on standard input",
     );
+    let replay = Command::new(alloc, "replay").about(
+        "Runs a script and a capture by moment: a report on standard output, and a capture of what leaves",
+    );
     let check = Command::new(alloc, "check").about(
         "Tells of the schedule commands on standard input which classes they keep apart",
     );
     Command::new(alloc, "taprio_port")
         .about("An IEEE 802.1Qbv time-aware transmit port")
         .subcommand_required(true)
-        .subcommand(with_options(alloc, script)?)?
+        .subcommand(with_options(alloc, script, false)?)?
+        .subcommand(with_files(alloc, with_options(alloc, replay, true)?)?)?
         .subcommand(with_rate(alloc, check)?)
 }

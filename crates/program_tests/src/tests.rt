@@ -1,8 +1,11 @@
-use program::answer_words;
+use program::{Progress, answer_words};
 use script::Ended;
 use std::alloc::Global;
+use std::cell::Cell;
 use std::io::{self, BufWriter};
 use std::test::Fail;
+use std::time::{Clock, Duration};
+use std::{env, fs, process};
 
 /// A script of two lines, of which the second is no line of a script.
 const BROKEN: &[u8] = b"frame 1 0 60\nframe 2 0\nframe 3 0 60\n";
@@ -17,14 +20,62 @@ fn with_name(alloc: Global, words: &[&str]) -> io::Result<Vec<String>> {
     Ok(all)
 }
 
-/// The status for these words and this script, what is answered, and what is told of a fault.
-fn answered(alloc: Global, words: &[&str], script: &[u8]) -> io::Result<(u8, Vec<u8>, Vec<u8>)> {
+/// A clock that goes on by a tenth of a second each time that it is asked.
+struct Ticks {
+    asked: Cell<u64>,
+}
+
+impl Clock for Ticks {
+    fn monotonic(&self) -> io::Result<Duration> {
+        let asked = self.asked.get().min(1_000_000);
+        self.asked.set(asked + 1);
+        Ok(Duration::from_millis(asked * 100))
+    }
+
+    fn since_1970(&self) -> io::Result<Duration> {
+        Err(io::Error::from(io::ErrorKind::Unsupported))
+    }
+}
+
+/// What the program has answered.
+#[derive(Drop)]
+struct Told {
+    /// The exit status.
+    status: u8,
+    /// What was written to the standard output.
+    answers: Vec<u8>,
+    /// The text of a fault.
+    errors: Vec<u8>,
+    /// The lines that say how far a replay has come.
+    progress: Vec<u8>,
+}
+
+/// What is answered to these words and this input.
+fn told(rt: &HostRuntime, words: &[&str], input: &[u8]) -> io::Result<Told> {
+    let alloc = rt.alloc();
     let words = with_name(alloc, words)?;
     let answers = BufWriter::new(alloc, Vec::new(alloc))?;
     let mut errors = Vec::new(alloc);
-    let mut reader = script;
-    let (ended, got) = answer_words(alloc, words.as_slice(), &mut reader, answers, &mut errors);
-    Ok((ended.status, got, errors))
+    let mut reader = input;
+    let ticks = Ticks {
+        asked: Cell::new(0),
+    };
+    let mut progress = Progress::new(&ticks, Vec::new(alloc));
+    let (ended, answers) = answer_words(
+        rt,
+        alloc,
+        words.as_slice(),
+        &mut reader,
+        answers,
+        &mut errors,
+        &mut progress,
+    );
+    Ok(Told {
+        status: ended.status,
+        answers,
+        errors,
+        progress: progress.into_writer(),
+    })
 }
 
 /// Words and a script, with the status, what is answered, and what is told of a fault.
@@ -103,10 +154,11 @@ fn answers_and_faults_are_told_apart(rt: HostRuntime) -> Result<(), Fail> {
         ),
     ];
     for (words, script, status, answers, text) in rows {
-        let (ended, got, errors) = answered(rt.alloc(), words, script)?;
-        assert_eq!(rt; ended, status);
-        assert_eq!(rt; got.as_slice(), answers);
-        assert_eq!(rt; errors.as_slice(), text);
+        let told = told(&rt, words, script)?;
+        assert_eq!(rt; told.status, status);
+        assert_eq!(rt; told.answers.as_slice(), answers);
+        assert_eq!(rt; told.errors.as_slice(), text);
+        assert!(rt; told.progress.is_empty());
     }
     Ok(())
 }
@@ -114,7 +166,7 @@ fn answers_and_faults_are_told_apart(rt: HostRuntime) -> Result<(), Fail> {
 /// Words that are refused are told on the errors alone, and help on the answers alone.
 #[test]
 fn refused_words_answer_nothing(rt: HostRuntime) -> Result<(), Fail> {
-    let rows: [(&[&str], &[u8]); 3] = [
+    let rows: [(&[&str], &[u8]); 5] = [
         (
             &["script", "--speed", "1"],
             b"error: unexpected argument '--speed' found\n",
@@ -123,17 +175,25 @@ fn refused_words_answer_nothing(rt: HostRuntime) -> Result<(), Fail> {
             &["script", "--rate"],
             b"error: a value is required for '--rate <MBPS>'",
         ),
-        (&["replay"], b"error: unrecognized subcommand 'replay'\n"),
+        (&["play"], b"error: unrecognized subcommand 'play'\n"),
+        (
+            &["replay", "--until", "1", "a", "b"],
+            b"error: the following required arguments were not provided:\n",
+        ),
+        (
+            &["replay", "a", "b", "c"],
+            b"error: the following required arguments were not provided:\n",
+        ),
     ];
     for (words, text) in rows {
-        let (status, got, errors) = answered(rt.alloc(), words, BROKEN)?;
-        assert_eq!(rt; status, 2);
-        assert!(rt; got.is_empty());
-        assert!(rt; errors.starts_with(text));
+        let told = told(&rt, words, BROKEN)?;
+        assert_eq!(rt; told.status, 2);
+        assert!(rt; told.answers.is_empty());
+        assert!(rt; told.errors.starts_with(text));
     }
-    let (status, got, errors) = answered(rt.alloc(), &["script", "--help"], BROKEN)?;
-    assert_eq!(rt; status, 0);
-    assert!(rt; !got.is_empty() && errors.is_empty());
+    let told = told(&rt, &["script", "--help"], BROKEN)?;
+    assert_eq!(rt; told.status, 0);
+    assert!(rt; !told.answers.is_empty() && told.errors.is_empty());
     Ok(())
 }
 
@@ -145,8 +205,18 @@ fn a_failed_write_is_told(rt: HostRuntime) -> Result<(), Fail> {
     let answers = BufWriter::new(rt.alloc(), room.as_mut_slice())?;
     let mut errors = Vec::new(rt.alloc());
     let mut reader = BROKEN;
-    let words = words.as_slice();
-    let (ended, _full) = answer_words(rt.alloc(), words, &mut reader, answers, &mut errors);
+    let ticks = Ticks {
+        asked: Cell::new(0),
+    };
+    let (ended, _full) = answer_words(
+        &rt,
+        rt.alloc(),
+        words.as_slice(),
+        &mut reader,
+        answers,
+        &mut errors,
+        &mut Progress::new(&ticks, Vec::new(rt.alloc())),
+    );
     assert_eq!(rt;
         ended,
         Ended {
@@ -158,5 +228,202 @@ fn a_failed_write_is_told(rt: HostRuntime) -> Result<(), Fail> {
         errors.as_slice(),
         b"taprio_port: write failed\n".as_slice()
     );
+    Ok(())
+}
+
+/// The file header of a capture in microseconds, and a frame at 2 s and 500 microseconds with a customer tag of priority 3.
+const CAPTURE: [u8; 58] = [
+    0xa1, 0xb2, 0xc3, 0xd4, 0, 2, 0, 4, 0, 0, 0, 0, 0, 0, 0, 0, 0, 4, 0, 0, 0, 0, 0, 1, 0, 0, 0, 2,
+    0, 0, 1, 0xf4, 0, 0, 0, 18, 0, 0, 0, 60, 2, 0, 0, 0, 0, 2, 2, 0, 0, 0, 0, 1, 0x81, 0, 0x60, 5,
+    8, 0,
+];
+
+/// What leaves of it, when the gates are open.
+const DEPARTURES: [u8; 58] = [
+    0x4d, 0x3c, 0xb2, 0xa1, 2, 0, 4, 0, 0, 0, 0, 0, 0, 0, 0, 0, 0, 0, 4, 0, 1, 0, 0, 0, 2, 0, 0, 0,
+    0x20, 0xa1, 7, 0, 18, 0, 0, 0, 60, 0, 0, 0, 2, 0, 0, 0, 0, 2, 2, 0, 0, 0, 0, 1, 0x81, 0, 0x60,
+    5, 8, 0,
+];
+
+/// What is told of it.
+const REPORT: &[u8] = b"queued 0 class 3\nstart 0 class 3 at 2000500000000 end 2000500672000\n";
+
+/// A folder for the files of a test, which is taken away with them at the test's end.
+struct Folder<'a> {
+    rt: &'a HostRuntime,
+    path: String,
+}
+
+impl<'a> Folder<'a> {
+    fn new(rt: &'a HostRuntime, name: &str) -> io::Result<Folder<'a>> {
+        let parent = env::temp_dir(rt)?;
+        let id = process::id(rt.process());
+        let path = format!(in rt.alloc(); "{}/taprio_port-{id}-{name}", parent.display())?;
+        fs::create_dir(rt, path.as_str())?;
+        Ok(Folder { rt, path })
+    }
+
+    /// The path of a file of this name in it.
+    fn path_of(&self, name: &str) -> io::Result<String> {
+        Ok(format!(in self.rt.alloc(); "{}/{name}", self.path)?)
+    }
+
+    /// The same of a file with these octets.
+    fn file(&self, name: &str, octets: &[u8]) -> io::Result<String> {
+        let path = self.path_of(name)?;
+        fs::write(self.rt, path.as_str(), octets)?;
+        Ok(path)
+    }
+
+    fn remove(self) -> io::Result<()> {
+        fs::remove_dir_all(self.rt, self.rt.alloc(), self.path.as_str())
+    }
+}
+
+/// A replay from files into a file, and of the standard input.
+#[test]
+fn replays_files(rt: HostRuntime) -> Result<(), Fail> {
+    let folder = Folder::new(&rt, "replays")?;
+    let script = folder.file("script", b"# nothing\n")?;
+    let capture = folder.file("capture", &CAPTURE)?;
+    let out = folder.file("out", b"what was there before")?;
+    let words = [
+        "replay",
+        "--until",
+        "3000000000000",
+        &script,
+        &capture,
+        &out,
+    ];
+    let told_of = told(&rt, &words, b"not read")?;
+    assert_eq!(rt; told_of.status, 0);
+    assert_eq!(rt; told_of.answers.as_slice(), REPORT);
+    assert!(rt; told_of.errors.is_empty() && told_of.progress.is_empty());
+    assert_eq!(rt;
+        fs::read(&rt, out.as_str())?.as_slice(),
+        DEPARTURES.as_slice()
+    );
+    let words = ["replay", "--until=3000000000000", &script, "-", &out];
+    let told_of = told(&rt, &words, &CAPTURE)?;
+    assert_eq!(rt; told_of.status, 0);
+    assert_eq!(rt; told_of.answers.as_slice(), REPORT);
+    assert_eq!(rt;
+        fs::read(&rt, out.as_str())?.as_slice(),
+        DEPARTURES.as_slice()
+    );
+    folder.remove()?;
+    Ok(())
+}
+
+/// A line is written where half a second has passed since the one before it, and only where the words ask for it.
+#[test]
+fn says_how_far_it_has_come(rt: HostRuntime) -> Result<(), Fail> {
+    let folder = Folder::new(&rt, "progress")?;
+    let script = folder.file("script", b"")?;
+    let out = folder.path_of("out")?;
+    let mut octets = Vec::new(rt.alloc());
+    octets.extend_from_slice(&CAPTURE)?;
+    for _ in 1..12u32 {
+        octets.extend_from_slice(&CAPTURE[24..])?;
+    }
+    let words = ["replay", "--progress", "--until", "1", &script, "-", &out];
+    let told = told(&rt, &words, octets.as_slice())?;
+    assert_eq!(rt; told.status, 0);
+    assert_eq!(rt;
+        told.progress.as_slice(),
+        b"taprio_port: 5 records, at 2000500000000 ps, 10 records a second\n\
+taprio_port: 10 records, at 2000500000000 ps, 10 records a second\n"
+            .as_slice()
+    );
+    folder.remove()?;
+    Ok(())
+}
+
+/// Files are opened in their order, after the values are judged and before anything is read.
+#[test]
+fn files_that_can_not_be_opened(rt: HostRuntime) -> Result<(), Fail> {
+    let folder = Folder::new(&rt, "unopened")?;
+    let script = folder.file("script", b"clock x\n")?;
+    let capture = folder.file("capture", &CAPTURE)?;
+    let out = folder.file("out", b"kept")?;
+    let missing = folder.path_of("missing")?;
+    let nowhere = folder.path_of("missing/out")?;
+    let here = folder.path_of(".")?;
+    let rows: [(&str, &str, &str, &str); 7] = [
+        (&missing, &missing, &out, &missing),
+        ("-", &capture, &out, "-"),
+        (&script, &missing, &out, &missing),
+        (&script, &missing, &nowhere, &missing),
+        (&script, &capture, &nowhere, &nowhere),
+        (&script, &capture, &here, &here),
+        (&script, "-", "-", "-"),
+    ];
+    for (script, capture, out, unopened) in rows {
+        let words = ["replay", "--until", "1", script, capture, out];
+        let told = told(&rt, &words, b"")?;
+        assert_eq!(rt; told.status, 4);
+        assert!(rt; told.answers.is_empty());
+        let text = format!(in rt.alloc(); "taprio_port: cannot open {unopened}\n")?;
+        assert_eq!(rt; told.errors.as_slice(), text.as_bytes());
+    }
+    let words = [
+        "replay", "--room", "0", "--until", "1", &missing, &missing, &nowhere,
+    ];
+    let told_of = told(&rt, &words, b"")?;
+    assert_eq!(rt; told_of.status, 2);
+    assert_eq!(rt;
+        told_of.errors.as_slice(),
+        b"taprio_port: bad value of --room\n".as_slice()
+    );
+    let words = [
+        "replay",
+        "--until",
+        "4294967296000000000001",
+        &script,
+        &capture,
+        &out,
+    ];
+    let told_of = told(&rt, &words, b"")?;
+    assert_eq!(rt;
+        told_of.errors.as_slice(),
+        b"taprio_port: bad value of --until\n".as_slice()
+    );
+    assert_eq!(rt; fs::read(&rt, out.as_str())?.as_slice(), b"kept".as_slice());
+    folder.remove()?;
+    Ok(())
+}
+
+/// The output is emptied before a fault of the script is found. A folder is opened, and can't be read.
+#[test]
+fn faults_behind_the_opening(rt: HostRuntime) -> Result<(), Fail> {
+    let folder = Folder::new(&rt, "faults")?;
+    let script = folder.file("script", b"clock x\n")?;
+    let capture = folder.file("capture", &CAPTURE)?;
+    let out = folder.file("out", b"emptied")?;
+    let here = folder.path_of(".")?;
+    let rows: [(&str, &str, u8, &[u8]); 3] = [
+        (
+            &script,
+            &capture,
+            3,
+            b"taprio_port: script line 1: BadNumber\n",
+        ),
+        (
+            &capture,
+            &script,
+            3,
+            b"taprio_port: script line 1: UnknownLine\n",
+        ),
+        (&here, &capture, 4, b"taprio_port: read failed\n"),
+    ];
+    for (script, capture, status, text) in rows {
+        fs::write(&rt, out.as_str(), b"emptied")?;
+        let told = told(&rt, &["replay", "--until", "1", script, capture, &out], b"")?;
+        assert_eq!(rt; told.status, status);
+        assert_eq!(rt; told.errors.as_slice(), text);
+        assert!(rt; told.answers.is_empty());
+        assert!(rt; fs::read(&rt, out.as_str())?.is_empty());
+    }
+    folder.remove()?;
     Ok(())
 }

@@ -54,6 +54,10 @@ replay_text Faults.Read = fault_text RunFaults.Read
 replay_text Faults.Write = fault_text RunFaults.Write
 replay_text Faults.Memory = fault_text RunFaults.Memory
 
+-- the text of a path that can't be opened
+abbrev pub open_text : List ℕ → List ℕ
+open_text path = concat (codes "taprio_port: cannot open " ∷ path ∷ codes "\n" ∷ [])
+
 -- 3: the input is refused; 4: a read, a write or memory failed
 abbrev pub capture_status : CapFault → ℕ
 capture_status ShortHeader = 3

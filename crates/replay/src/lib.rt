@@ -7,12 +7,16 @@ mod keeping;
 mod kept_script;
 pub mod laws;
 mod lines;
+mod program;
 mod reading;
 mod records;
 mod running;
 mod sending;
 mod texts;
+mod watch;
 
 pub use faults::ReplayFault;
+pub use program::{Inputs, Outputs, answer_replay};
 pub use running::replay;
-pub use texts::say_replay_fault;
+pub use texts::{say_replay_fault, say_unopened};
+pub use watch::{Unwatched, Watch};

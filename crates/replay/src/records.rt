@@ -24,6 +24,7 @@ use crate::faults::Stop;
 use crate::kept_script::KeptScript;
 use crate::lines::run_lines;
 use crate::sending::{Sending, put_arrival, put_clock};
+use crate::watch::Watch;
 use capture::{CapFault, CaptureReader, Record, frame_of};
 use std::alloc::Allocator;
 use std::io::{Read, Write};
@@ -60,15 +61,24 @@ fn found(number: u32, fault: CapFault) -> Result<Option<(u32, CapFault)>, Stop>
     }
 }
 
-/// Runs the records that are to come, each after the lines up to its moment; later lines are left. The number of the record at
-/// which the capture ends with a fault, and the fault.
-pub fn run_records<A: Allocator + Clone, B: Allocator, C: Allocator, R: Read, W: Write, V: Write>(
+/// Runs the records that are to come, each after the lines up to its moment, and tells who watches of each; later lines are left. The
+/// number of the record at which the capture ends with a fault, and the fault.
+pub fn run_records<
+    A: Allocator + Clone,
+    B: Allocator,
+    C: Allocator,
+    R: Read,
+    W: Write,
+    V: Write,
+    P: Watch,
+>(
     sending: &mut Sending<A>,
     script: &KeptScript<B>,
     cursor: &mut Cursor,
     records: &mut CaptureReader<R, C>,
     capture: &mut W,
     report: &mut V,
+    watch: &mut P,
 ) -> Result<Option<(u32, CapFault)>, Stop>
     requires together { IsTogether (state sending.old (V.contents report.old) (W.contents capture.old)) }
     requires begun { (left records.old).ended ≡ None }
@@ -95,5 +105,6 @@ pub fn run_records<A: Allocator + Clone, B: Allocator, C: Allocator, R: Read, W:
         run_lines(sending, script, cursor, latest, capture, report)?;
         take_record(sending, latest, number, &record, capture, report)?;
         number += 1;
+        watch.records_taken(number, latest);
     }
 }

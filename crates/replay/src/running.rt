@@ -27,6 +27,7 @@ use crate::kept_script::KeptScript;
 use crate::lines::run_lines;
 use crate::records::run_records;
 use crate::sending::{Sending, put_clock};
+use crate::watch::Watch;
 use capture::{CAPTURE_END, CapFault, CaptureReader, CaptureWriter};
 use octet_store::OctetStore;
 use script::{RunningPort, Settings, put_all_left};
@@ -85,13 +86,14 @@ fn finish<A: Allocator, B: Allocator, W: Write, V: Write>(
 }
 
 // Runs the records and the lines, to the end of both.
-fn run<A: Allocator + Clone, B: Allocator, C: Allocator, R: Read, W: Write, V: Write>(
+fn run<A: Allocator + Clone, B: Allocator, C: Allocator, R: Read, W: Write, V: Write, P: Watch>(
     sending: &mut Sending<A>,
     script: &KeptScript<B>,
     until: Option<u128>,
     records: &mut CaptureReader<R, C>,
     capture: &mut W,
     report: &mut V,
+    watch: &mut P,
 ) -> Result<(), ReplayFault>
     requires until { is_too_late until ≡ false }
     requires together { IsTogether (state sending.old (V.contents report.old) (W.contents capture.old)) }
@@ -104,7 +106,15 @@ fn run<A: Allocator + Clone, B: Allocator, C: Allocator, R: Read, W: Write, V: W
         (record { output = told_and_left entries (all_requests (kept_requests read script.now.octets.items script.now.lines.items) entries until) sending.old.port.port; fault = end_fault (length entries) last }) }
 {
     let mut cursor = Cursor { at: 0, clock: 0 };
-    let broken = run_records(sending, script, &mut cursor, records, capture, report)?;
+    let broken = run_records(
+        sending,
+        script,
+        &mut cursor,
+        records,
+        capture,
+        report,
+        watch,
+    )?;
     finish(sending, script, &mut cursor, until, capture, report)?;
     match broken {
         None => Ok(()),
@@ -176,14 +186,15 @@ fn begin<A: Allocator + Clone, W: Write>(
 /// the other lines, the moment to run to, where the settings have one, and how many frames each class still has.
 ///
 /// A read or a write that fails, or takes nothing, isn't tried again. Nothing that is kept grows with the capture: of a script its
-/// lines are kept, and of a capture the octets of the frames that wait.
-pub fn replay<A: Allocator, R: Read + Drop, S: Read + Drop, W: Write, V: Write>(
+/// lines are kept, and of a capture the octets of the frames that wait. Who watches is told of each record once it is taken.
+pub fn replay<A: Allocator, R: Read + Drop, S: Read + Drop, W: Write, V: Write, P: Watch>(
     alloc: A,
     script: R,
     capture: S,
     out_capture: &mut W,
     out_report: &mut V,
     settings: Settings,
+    watch: &mut P,
 ) -> Result<(), ReplayFault>
     ensures replay { (read : List (List ℕ) → Result Command TcFault) → IsReader read → IfSome (R.remaining script) (λ lines. IfSome (S.remaining capture) (λ octets.
         (records : Result (List Entry × End) CapFault) → ReadsAs octets records →
@@ -205,5 +216,6 @@ pub fn replay<A: Allocator, R: Read + Drop, S: Read + Drop, W: Write, V: Write>(
         &mut records,
         out_capture,
         out_report,
+        watch,
     )
 }

@@ -3,7 +3,7 @@
 ghost use Rattle.std.specs.Prelude.{◌≡◌};
 ghost use Rattle.octet_writer.specs.Writes.{Writes};
 ghost use Rattle.script.specs.Ending.{IsTold};
-ghost use Rattle.replay.specs.Texts.{capture_fault_name, capture_status, capture_text, header_text, record_text, replay_status, replay_text};
+ghost use Rattle.replay.specs.Texts.{capture_fault_name, capture_status, capture_text, header_text, record_text, open_text, replay_status, replay_text};
 
 use crate::faults::ReplayFault;
 use answer_text::{Part, WriteFault, put_parts};
@@ -110,4 +110,21 @@ pub fn say_replay_fault<W: Write>(fault: &ReplayFault, writer: &mut W) -> Ended
         ReplayFault::Write => say_fault(&RunFault::Write, writer),
         ReplayFault::Memory => say_fault(&RunFault::Memory, writer),
     }
+}
+
+/// Writes the text of a path that can't be opened. The exit status that goes with it is 4, also where that write fails.
+pub fn say_unopened<W: Write>(path: &str, writer: &mut W) -> Ended
+    ensures status { result.status ≡ 4 }
+    ensures told { IsTold result.told (W.contents writer.old) (W.contents writer.new) (open_text path.now) }
+{
+    let told = put_parts(
+        writer,
+        &[
+            Part::Text(b"taprio_port: cannot open "),
+            Part::Text(path.as_bytes()),
+            Part::Text(b"\n"),
+        ],
+    )
+    .is_ok();
+    Ended { status: 4, told }
 }

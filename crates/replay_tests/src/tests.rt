@@ -2,10 +2,13 @@
 
 use capture::{CAPTURE_END, CapFault, CaptureWriter};
 use linked_list_allocator::LocalHeap;
-use replay::{ReplayFault, replay, say_replay_fault};
-use script::{ScriptFault, Settings};
+use replay::{
+    Inputs, Outputs, ReplayFault, Unwatched, Watch, answer_replay, replay, say_replay_fault,
+    say_unopened,
+};
+use script::{Ended, ScriptFault, Settings};
 use std::alloc::Global;
-use std::io;
+use std::io::{self, BufWriter, Read, Write};
 use std::process::Abort;
 use std::test::Fail;
 use test_streams::{Narrow, Pieces};
@@ -80,7 +83,15 @@ struct Replayed {
 fn run_in_memory(alloc: Global, script: &[u8], capture: &[u8], settings: Settings) -> Replayed {
     let mut report = Vec::new(alloc);
     let mut written = Vec::new(alloc);
-    let result = replay(alloc, script, capture, &mut written, &mut report, settings);
+    let result = replay(
+        alloc,
+        script,
+        capture,
+        &mut written,
+        &mut report,
+        settings,
+        &mut Unwatched,
+    );
     Replayed {
         result,
         report,
@@ -219,6 +230,290 @@ start 0 class 3 at 1000000 end 1672000\nstart 5 class 3 at 1672000 end 2344000\n
     Ok(())
 }
 
+/// A moment to run to that is before the records is a clock that goes back: they stay.
+#[test]
+fn runs_to_no_moment_that_has_passed(rt: HostRuntime) -> Result<(), Fail> {
+    let capture = two_frames(rt.alloc())?;
+    let got = run_in_memory(rt.alloc(), b"", capture.as_slice(), settings(&rt, Some(1)));
+    assert_eq!(rt; got.result, Ok(()));
+    assert_eq!(rt;
+        got.report.as_slice(),
+        b"queued 0 class 3\nqueued 1 class 5\nbackward\nleft class 3 frames 1\nleft class 5 frames 1\n".as_slice()
+    );
+    assert_eq!(rt;
+        got.capture.as_slice(),
+        capture_of(rt.alloc(), &[])?.as_slice()
+    );
+    Ok(())
+}
+
+/// A frame with fewer octets than a header is a runt; one whose tag is cut has none, and is as long as was captured.
+#[test]
+fn short_frames(rt: HostRuntime) -> Result<(), Fail> {
+    let cut = &PRIORITY_3[..15];
+    let capture = capture_of(rt.alloc(), &[(0, 13, &PRIORITY_3[..13]), (0, 10, cut)])?;
+    let got = run_in_memory(
+        rt.alloc(),
+        b"",
+        capture.as_slice(),
+        settings(&rt, Some(1_000_000)),
+    );
+    assert_eq!(rt; got.result, Ok(()));
+    assert_eq!(rt;
+        got.report.as_slice(),
+        b"dropped 0 Runt\nqueued 1 class 0\nstart 1 class 0 at 0 end 672000\n".as_slice()
+    );
+    assert_eq!(rt;
+        got.capture.as_slice(),
+        capture_of(rt.alloc(), &[(0, 10, cut)])?.as_slice()
+    );
+    Ok(())
+}
+
+/// A read that fails behind the last whole record ends a replay after what the records before it give.
+#[test]
+fn what_comes_before_a_failed_read_is_told(rt: HostRuntime) -> Result<(), Fail> {
+    let capture = capture_of(
+        rt.alloc(),
+        &[
+            (2_000_500_000_000, 60, &PRIORITY_3),
+            (2_000_400_000_000, 60, &PRIORITY_5),
+            (3_000_000_000_000, 60, &PRIORITY_3),
+        ],
+    )?;
+    let mut records = Pieces::new(capture.as_slice(), 200);
+    records.fails_at = 1;
+    let mut report = Vec::new(rt.alloc());
+    let mut written = Vec::new(rt.alloc());
+    let result = replay(
+        rt.alloc(),
+        b"".as_slice(),
+        records,
+        &mut written,
+        &mut report,
+        settings(&rt, Some(4_000_000_000_000)),
+        &mut Unwatched,
+    );
+    assert_eq!(rt; result, Err(ReplayFault::Read));
+    assert!(rt; report.as_slice().starts_with(REPORT));
+    assert_eq!(rt;
+        &report.as_slice()[REPORT.len().min(report.len())..],
+        b"queued 2 class 3\n"
+    );
+    assert_eq!(rt; written.as_slice(), two_starts(rt.alloc())?.as_slice());
+    Ok(())
+}
+
+/// Gives a capture of so many frames of 1,000 octets, one every 10 microseconds, and makes each when it is read.
+#[derive(Drop)]
+struct Made {
+    /// What of the header or of a record is still to be given.
+    octets: Vec<u8>,
+    /// How much of it is given.
+    given: usize,
+    /// The number of the next record.
+    next: u32,
+    /// How many records there are.
+    records: u32,
+}
+
+impl Made {
+    /// Makes the next record, if there is one.
+    fn make(&mut self) -> io::Result<()> {
+        self.octets.clear();
+        self.given = 0;
+        if self.next >= self.records {
+            return Ok(());
+        }
+        let seconds = self.next / 100_000;
+        let nanoseconds = self.next % 100_000 * 10_000;
+        for field in [seconds, nanoseconds, 1000, 1000] {
+            self.octets.extend_from_slice(&field.to_le_bytes())?;
+        }
+        self.octets.extend_from_slice(&[0; 1000])?;
+        self.next += 1;
+        Ok(())
+    }
+}
+
+impl Read for Made {
+    fn read(&mut self, buf: &mut [u8]) -> io::Result<usize> {
+        if self.given >= self.octets.len() {
+            self.make()?;
+        }
+        let rest = &self.octets.as_slice()[self.given.min(self.octets.len())..];
+        let count = rest.len().min(buf.len());
+        buf[..count].copy_from_slice(&rest[..count]);
+        self.given += count;
+        Ok(count)
+    }
+}
+
+/// Counts the octets that it gets.
+#[derive(Drop)]
+struct Counting {
+    octets: u64,
+}
+
+impl Write for Counting {
+    fn write(&mut self, buf: &[u8]) -> io::Result<usize> {
+        self.octets = self.octets.saturating_add(buf.len() as u64);
+        Ok(buf.len())
+    }
+
+    fn flush(&mut self) -> io::Result<()> {
+        Ok(())
+    }
+}
+
+/// Sees how often it is told how far a replay has come, and what it was told last.
+struct Seen {
+    calls: u32,
+    records: u32,
+    moment: u128,
+}
+
+impl Watch for Seen {
+    fn records_taken(&mut self, records: u32, moment: u128) {
+        self.calls = self.calls.saturating_add(1);
+        self.records = records;
+        self.moment = moment;
+    }
+}
+
+/// With room for one frame a class, 100,000 frames of 1,000 octets all leave, each when it comes.
+#[test]
+fn octets_are_kept_while_frames_wait_alone(rt: HostRuntime) -> Result<(), Fail> {
+    let made = Made {
+        octets: capture_of(rt.alloc(), &[])?,
+        given: 0,
+        next: 0,
+        records: 100_000,
+    };
+    let rate = Rate::from_mbps(1000).expect(&rt, "a rate");
+    let room_of_one = Settings::new(rate, 1500, 1, Some(2_000_000_000_000)).expect(&rt, "settings");
+    let mut report = Counting { octets: 0 };
+    let mut written = Counting { octets: 0 };
+    let mut seen = Seen {
+        calls: 0,
+        records: 0,
+        moment: 0,
+    };
+    let result = replay(
+        rt.alloc(),
+        b"".as_slice(),
+        made,
+        &mut written,
+        &mut report,
+        room_of_one,
+        &mut seen,
+    );
+    assert_eq!(rt; result, Ok(()));
+    assert_eq!(rt; written.octets, 24 + 100_000 * 1016);
+    assert_eq!(rt; (seen.calls, seen.records), (100_000, 100_000));
+    assert_eq!(rt; seen.moment, 999_990_000_000);
+    Ok(())
+}
+
+/// What is answered to a script and a capture, with the report, the output capture and the text of a fault.
+fn ended_in_memory(
+    alloc: Global,
+    script: &[u8],
+    capture: &[u8],
+    settings: Settings,
+) -> io::Result<(Ended, Vec<u8>, Vec<u8>, Vec<u8>)> {
+    let inputs = Inputs { script, capture };
+    let outputs = Outputs {
+        report: BufWriter::new(alloc, Vec::new(alloc))?,
+        departures: BufWriter::new(alloc, Vec::new(alloc))?,
+    };
+    let mut errors = Vec::new(alloc);
+    let (ended, report, written) = answer_replay(
+        alloc,
+        settings,
+        inputs,
+        outputs,
+        &mut errors,
+        &mut Unwatched,
+    );
+    Ok((ended, report, written, errors))
+}
+
+/// What was written is let out before a fault is told, and the status is the fault's.
+#[test]
+fn both_outputs_are_let_out(rt: HostRuntime) -> Result<(), Fail> {
+    let capture = two_frames(rt.alloc())?;
+    let until = Some(3_000_000_000_000);
+    let (ended, report, written, errors) = ended_in_memory(
+        rt.alloc(),
+        b"",
+        capture.as_slice(),
+        settings(&rt, until),
+    )?;
+    assert_eq!(rt;
+        ended,
+        Ended {
+            status: 0,
+            told: true
+        }
+    );
+    assert_eq!(rt; report.as_slice(), REPORT);
+    assert_eq!(rt; written.as_slice(), two_starts(rt.alloc())?.as_slice());
+    assert!(rt; errors.is_empty());
+    let front = &capture.as_slice()[..capture.len().min(68)];
+    let (ended, report, written, errors) = ended_in_memory(
+        rt.alloc(),
+        b"",
+        front,
+        settings(&rt, until),
+    )?;
+    assert_eq!(rt; ended.status, 3);
+    assert_eq!(rt;
+        report.as_slice(),
+        b"queued 0 class 3\nstart 0 class 3 at 2000500000000 end 2000500672000\n".as_slice()
+    );
+    assert_eq!(rt; written.len(), 58);
+    assert_eq!(rt;
+        errors.as_slice(),
+        b"taprio_port: capture record 1: ShortRecord\n".as_slice()
+    );
+    Ok(())
+}
+
+/// A writer that is full when the buffers are let out: the write fails, and no other is tried.
+#[test]
+fn a_failed_last_write_is_told(rt: HostRuntime) -> Result<(), Fail> {
+    let capture = two_frames(rt.alloc())?;
+    for (of_report, of_departures) in [(5usize, 1000usize), (1000, 5)] {
+        let mut report_room = [0u8; 1000];
+        let mut departures_room = [0u8; 1000];
+        let inputs = Inputs {
+            script: b"".as_slice(),
+            capture: capture.as_slice(),
+        };
+        let outputs = Outputs {
+            report: BufWriter::new(rt.alloc(), &mut report_room[..of_report])?,
+            departures: BufWriter::new(rt.alloc(), &mut departures_room[..of_departures])?,
+        };
+        let mut errors = Vec::new(rt.alloc());
+        let (ended, _report, left) = answer_replay(
+            rt.alloc(),
+            settings(&rt, Some(3_000_000_000_000)),
+            inputs,
+            outputs,
+            &mut errors,
+            &mut Unwatched,
+        );
+        assert_eq!(rt; ended.status, 4);
+        assert_eq!(rt;
+            errors.as_slice(),
+            b"taprio_port: write failed\n".as_slice()
+        );
+        assert!(rt; of_report == 1000 || left.len() == of_departures);
+    }
+    Ok(())
+}
+
 /// Nothing is written where the script or the file header has a fault, or the moment to run to is too late.
 #[test]
 fn refusals_write_nothing(rt: HostRuntime) -> Result<(), Fail> {
@@ -299,6 +594,7 @@ fn refuses_each_growth(rt: HostRuntime) -> Result<(), Fail> {
             &mut written,
             &mut report,
             settings(&rt, Some(3_000_000_000_000)),
+            &mut Unwatched,
         );
         if result.is_ok() {
             done = true;
@@ -341,6 +637,7 @@ fn stops_at_each_read(rt: HostRuntime) -> Result<(), Fail> {
                     &mut written,
                     &mut report,
                     settings(&rt, Some(3_000_000_000_000)),
+                    &mut Unwatched,
                 );
                 assert!(rt; REPORT.starts_with(&report) && starts.as_slice().starts_with(&written));
                 if result.is_ok() {
@@ -383,6 +680,7 @@ fn stops_at_each_write(rt: HostRuntime) -> Result<(), Fail> {
                 &mut written,
                 &mut report,
                 settings(&rt, Some(3_000_000_000_000)),
+                &mut Unwatched,
             );
             assert!(rt;
                 REPORT.starts_with(&report.got) && starts.as_slice().starts_with(&written.got)
@@ -433,4 +731,17 @@ fn says_faults(rt: HostRuntime) {
         assert!(rt; ended.told);
         assert_eq!(rt; got.as_slice(), text);
     }
+}
+
+/// A path that can't be opened is told as it was given.
+#[test]
+fn says_an_unopened_path(rt: HostRuntime) {
+    let mut got = Vec::new(rt.alloc());
+    let ended = say_unopened("no/such file", &mut got);
+    assert_eq!(rt; ended.status, 4);
+    assert!(rt; ended.told);
+    assert_eq!(rt;
+        got.as_slice(),
+        b"taprio_port: cannot open no/such file\n".as_slice()
+    );
 }

@@ -12,17 +12,22 @@ use Rattle.script.specs.declared.faults.Ended.{Ended}
 use Rattle.script.specs.declared.faults.RunFault.{RunFault}
 use Rattle.script.specs.declared.faults.RunFault.TheVariants as Faults
 
-appends_kept : (a b c : Option (List ℕ)) (text : List ℕ) → Appends a b text → Keeps b c → Appends a c text
+-- known octets that stay leave what was appended, and a front of it, as they were
+pub appends_kept : (a b c : Option (List ℕ)) (text : List ℕ) → Appends a b text → Keeps b c → Appends a c text
 appends_kept None b c text p k = tt
 appends_kept (Some x) None c text p k = absurd p
 appends_kept (Some x) (Some y) None text p k = absurd k
 appends_kept (Some x) (Some y) (Some z) text p k = k ∙ p
 
-sent_kept : (a b c : Option (List ℕ)) (text left : List ℕ) → Sent a b text left → Keeps b c → Sent a c text left
+pub sent_kept : (a b c : Option (List ℕ)) (text left : List ℕ) → Sent a b text left → Keeps b c → Sent a c text left
 sent_kept a b c text left s k = record { done = s.done; appended = appends_kept a b c s.done s.appended k; parts = s.parts }
 
+-- what was appended whole is a front with nothing left
+pub sent_whole : (a b : Option (List ℕ)) (text : List ℕ) → Appends a b text → Sent a b text []
+sent_whole a b text p = record { done = text; appended = p; parts = sym (append-nil text) }
+
 front_of_all : (a b : Option (List ℕ)) (text : List ℕ) → Appends a b text → AppendsFront a b text
-front_of_all a b text p = ([], record { done = text; appended = p; parts = sym (append-nil text) })
+front_of_all a b text p = ([], sent_whole a b text p)
 
 runs_kept : (r : Result (Unit {0}) RunFault) (old mid out : Option (List ℕ)) (whole : Outcome) → Runs r old mid whole → Keeps mid out → Runs r old out whole
 runs_kept (Ok x) old mid out whole w k = (w.0, appends_kept old mid out whole.text w.1 k)

@@ -3,5 +3,5 @@ mod StartsLaws
 pub mod LeftLaws
 pub mod ReaderLaws
 mod Going
-mod EndingLaws
+pub mod EndingLaws
 mod SeparatedLaws

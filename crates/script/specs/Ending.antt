@@ -1,7 +1,6 @@
 -- What a run of the program on a script leaves: its exit status, what the writer got, and the text of a fault.
 use Rattle.std.specs.Prelude.{◌≡◌, ◌⊎◌, ⊤, List, ℕ, [], Bool, true, false, Option, Some, None, Result, Ok, Err, IfSome, MatchResult, unwrap_or, codes}
 use Rattle.std.specs.Io.KnownBytes.{Appends, append_known}
-use Rattle.wire_time.specs.Moment.{greatest_moment}
 use Rattle.abstract_port.specs.declared.Command.{Command}
 use Rattle.tc_reader.specs.declared.fault.TcFault.{TcFault}
 use Rattle.octet_writer.specs.Writes.{AppendsFront, FallsShort}
@@ -16,9 +15,10 @@ use Rattle.script.specs.declared.faults.Ended.{Ended}
 use Rattle.script.specs.declared.faults.RunFault.{RunFault}
 use Rattle.script.specs.declared.faults.RunFault.TheVariants as Faults
 
--- The settings of the values that are given: 1000 Mb/s, an mtu of 1500 octets and room for 128 frames a class where none is.
-abbrev pub settings_given : Option (List ℕ) → Option (List ℕ) → Option (List ℕ) → Option (List ℕ) → Result Setup BadValue
-settings_given rate mtu room until = settings_of (unwrap_or rate (codes "1000")) (unwrap_or mtu (codes "1500")) (unwrap_or room (codes "128")) until greatest_moment
+-- The settings of the values that are given, with a moment of at most `greatest`: 1000 Mb/s, an mtu of 1500 octets and room for 128
+-- frames a class where none is.
+abbrev pub settings_given : ℕ → Option (List ℕ) → Option (List ℕ) → Option (List ℕ) → Option (List ℕ) → Result Setup BadValue
+settings_given greatest rate mtu room until = settings_of (unwrap_or rate (codes "1000")) (unwrap_or mtu (codes "1500")) (unwrap_or room (codes "128")) until greatest
 
 -- a rate in picoseconds an octet, if there is one
 abbrev pub rate_where_good : Option ℕ → Result ℕ BadValue
@@ -67,12 +67,16 @@ pub record IsRunEnding (whole : Whole) (input : Option (List ℕ)) (ended : Ende
   pub let_out : (unwritten ≡ []) ⊎ (run ≡ Err Faults.Write)
   pub wrote : (read : List (List ℕ) → Result Command TcFault) → IsReader read → IfSome input (λ octets. RunsOut run old (append_known got unwritten) (whole read octets))
 
--- The end where a value is bad: status 2, its text is told, and nothing is answered.
-pub record IsRefusal (value : BadValue) (ended : Ended) (old got : Option (List ℕ)) (errors_old errors_new : Option (List ℕ)) : Type 0 where
-  pub status : ended.status ≡ 2
-  pub told : IsTold ended.told errors_old errors_new (value_text value)
+-- An end before anything is answered: the status of this number, this text is told, and the writer has got what it had, with what no write let out.
+pub record IsUnanswered (number : ℕ) (text : List ℕ) (ended : Ended) (old got : Option (List ℕ)) (errors_old errors_new : Option (List ℕ)) : Type 0 where
+  pub status : ended.status ≡ number
+  pub told : IsTold ended.told errors_old errors_new text
   pub unwritten : List ℕ
   pub wrote : append_known got unwritten ≡ old
+
+-- the end where a value is bad: status 2, and its text is told
+abbrev pub IsRefusal : BadValue → Ended → (old got errors_old errors_new : Option (List ℕ)) → Type 0
+IsRefusal value ended old got errors_old errors_new = IsUnanswered 2 (value_text value) ended old got errors_old errors_new
 
 -- by the settings of the values, and what is to be written by them
 abbrev pub IsEnding : {S : Type 0} → (S → Whole) → Result S BadValue → Option (List ℕ) → Ended → (old got errors_old errors_new : Option (List ℕ)) → Type 0

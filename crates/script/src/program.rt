@@ -1,12 +1,13 @@
 //! The program's main job: a script is answered by the values of options.
 
-ghost use Rattle.std.specs.Prelude.{◌≡◌, ◌⊎◌, ℕ, List, [], Option, Result, Err, IfErr, IfSome, option_map};
+ghost use Rattle.std.specs.Prelude.{◌≡◌, ◌≤◌, ◌⊎◌, ℕ, List, [], Option, Result, Err, IfErr, IfSome, option_map};
 ghost use Rattle.std.specs.Io.Buffered.{writer_buffer, writer_contents};
 ghost use Rattle.std.specs.Io.KnownBytes.{Keeps};
 ghost use Rattle.abstract_port.specs.declared.Command.{Command};
 ghost use Rattle.tc_reader.specs.Reader.{IsReader};
 ghost use Rattle.tc_reader.specs.declared.fault.TcFault.{TcFault};
 ghost use Rattle.script.specs.Outcome.{Runs};
+ghost use Rattle.wire_time.specs.Moment.{greatest_moment};
 ghost use Rattle.script.specs.Ending.{IsEnding, IsRefusal, IsRunEnding, IsTold, Whole, rate_given, run_status, run_text, settings_given, whole_script};
 
 use crate::faults::{Ended, RunFault, say_fault, say_value};
@@ -48,16 +49,18 @@ pub fn rate_given(rate: Option<&str>) -> Result<Rate, BadValue>
     }
 }
 
-// The settings of the values that are given, and of those that stand for the others.
-fn settings_given(values: Values<'_>) -> Result<Settings, BadValue>
-    ensures { result ≡ settings_given (option_map (λ text. text.now) values.entry.rate) (option_map (λ text. text.now) values.entry.mtu) (option_map (λ text. text.now) values.entry.room) (option_map (λ text. text.now) values.entry.until) }
+/// The settings of the values that are given, and of those that stand for the others, with a moment of at most `greatest`, in
+/// picoseconds. The first bad value is the fault.
+pub fn settings_given(values: Values<'_>, greatest: u128) -> Result<Settings, BadValue>
+    requires { greatest ≤ MAX_MOMENT }
+    ensures { result ≡ settings_given greatest (option_map (λ text. text.now) values.entry.rate) (option_map (λ text. text.now) values.entry.mtu) (option_map (λ text. text.now) values.entry.room) (option_map (λ text. text.now) values.entry.until) }
 {
     Settings::read(
         values.rate.unwrap_or(RATE),
         values.mtu.unwrap_or(MTU),
         values.room.unwrap_or(ROOM),
         values.until,
-        MAX_MOMENT,
+        greatest,
     )
 }
 
@@ -134,11 +137,11 @@ pub fn answer_script<A: Allocator, B: Allocator, R: Read, W: Write + Drop, E: Wr
     mut answers: BufWriter<W, B>,
     errors: &mut E,
 ) -> (Ended, W)
-    ensures ending { IsEnding whole_script (settings_given (option_map (λ text. text.now) values.entry.rate) (option_map (λ text. text.now) values.entry.mtu) (option_map (λ text. text.now) values.entry.room) (option_map (λ text. text.now) values.entry.until))
+    ensures ending { IsEnding whole_script (settings_given greatest_moment (option_map (λ text. text.now) values.entry.rate) (option_map (λ text. text.now) values.entry.mtu) (option_map (λ text. text.now) values.entry.room) (option_map (λ text. text.now) values.entry.until))
         (R.remaining reader.old) result.0 (writer_contents W.contents answers) (W.contents result.1) (E.contents errors.old) (E.contents errors.new) }
-    ensures unread { IfErr (settings_given (option_map (λ text. text.now) values.entry.rate) (option_map (λ text. text.now) values.entry.mtu) (option_map (λ text. text.now) values.entry.room) (option_map (λ text. text.now) values.entry.until)) (λ _. reader.new ≡ reader.old) }
+    ensures unread { IfErr (settings_given greatest_moment (option_map (λ text. text.now) values.entry.rate) (option_map (λ text. text.now) values.entry.mtu) (option_map (λ text. text.now) values.entry.room) (option_map (λ text. text.now) values.entry.until)) (λ _. reader.new ≡ reader.old) }
 {
-    match settings_given(values) {
+    match settings_given(values, MAX_MOMENT) {
         Ok(settings) => {
             let run = run_script(alloc, reader, &mut answers, settings);
             end_run(run, answers, errors)

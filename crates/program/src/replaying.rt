@@ -1,0 +1,151 @@
+//! A script and a capture from files through the port.
+
+ghost use Rattle.std.specs.Prelude.{◌≡◌, IfErr};
+ghost use Rattle.std.specs.Io.Buffered.{writer_contents};
+ghost use Rattle.clap.specs.Matches.{found_of};
+ghost use Rattle.program.specs.Given.{settings_in};
+ghost use Rattle.capture.specs.declared.writer.TheConstants.{CAPTURE_END};
+ghost use Rattle.script.specs.Ending.{IsRefusal, IsUnanswered};
+ghost use Rattle.replay.specs.Texts.{open_text};
+
+use crate::end_without_memory;
+use crate::options::values_of;
+use capture::CAPTURE_END;
+use clap::ArgMatches;
+use replay::{Inputs, Outputs, Watch, answer_replay, say_unopened};
+use script::{Ended, Settings, end_with_value, settings_given};
+use std::alloc::{Allocator, Global};
+use std::fs;
+use std::io::{BufWriter, Read, Write};
+use std::rt::Files;
+
+/// The path that is given for one of the files.
+fn path_of<'a>(matches: &ArgMatches<'a>, name: &str) -> &'a str {
+    matches.get_str(name).unwrap_or("")
+}
+
+/// Opens the file of a path to be read, or gives the path back. `-` is no file: one of that name is reached as `./-`.
+fn open<'a, F: Files>(files: &F, path: &'a str) -> Result<F::File, &'a str> {
+    if path == "-" {
+        return Err(path);
+    }
+    fs::open(files, path).map_err(|_| path)
+}
+
+/// Makes the file of a path, or empties it, or gives the path back. `-` is no file: one of that name is reached as `./-`.
+fn create<'a, F: Files>(files: &F, path: &'a str) -> Result<F::File, &'a str> {
+    if path == "-" {
+        return Err(path);
+    }
+    fs::create(files, path).map_err(|_| path)
+}
+
+/// The files of a replay.
+#[derive(Drop)]
+struct Opened<T: Drop> {
+    /// The script.
+    script: T,
+    /// The capture; it is the standard input where there is none.
+    capture: Option<T>,
+    /// The capture of what leaves.
+    out: T,
+}
+
+/// Opens the files in their order, or gives the first path back that can't be opened.
+fn open_all<'a, F: Files>(files: &F, matches: &ArgMatches<'a>) -> Result<Opened<F::File>, &'a str> {
+    let script = open(files, path_of(matches, "script"))?;
+    let capture = match path_of(matches, "capture") {
+        "-" => None,
+        path => Some(open(files, path)?),
+    };
+    let out = create(files, path_of(matches, "out"))?;
+    Ok(Opened {
+        script,
+        capture,
+        out,
+    })
+}
+
+/// Tells a path that can't be opened, and gives the writer of the answers back. Nothing is answered.
+fn end_unopened<B: Allocator, W: Write + Drop, E: Write>(
+    path: &str,
+    answers: BufWriter<W, B>,
+    errors: &mut E,
+) -> (Ended, W)
+    ensures { IsUnanswered 4 (open_text path.now) result.0 (writer_contents W.contents answers) (W.contents result.1) (E.contents errors.old) (E.contents errors.new) }
+{
+    let ended = say_unopened(path, errors);
+    let (writer, _unwritten) = answers.into_parts();
+    (ended, writer)
+}
+
+/// Replays what is open, the capture from `reader` where that is the standard input.
+fn replay_opened<
+    T: Read + Write + Drop,
+    B: Allocator,
+    R: Read,
+    W: Write + Drop,
+    E: Write,
+    P: Watch,
+>(
+    alloc: Global,
+    settings: Settings,
+    opened: Opened<T>,
+    reader: &mut R,
+    answers: BufWriter<W, B>,
+    errors: &mut E,
+    watch: &mut P,
+) -> (Ended, W) {
+    let Opened {
+        script,
+        capture,
+        out,
+    } = opened;
+    let Ok(departures) = BufWriter::new(alloc, out) else {
+        return (end_without_memory(errors), answers.into_parts().0);
+    };
+    let outputs = Outputs {
+        report: answers,
+        departures,
+    };
+    let (ended, writer, _out) = match capture {
+        Some(capture) => {
+            let inputs = Inputs { script, capture };
+            answer_replay(alloc, settings, inputs, outputs, errors, watch)
+        }
+        None => {
+            let inputs = Inputs {
+                script,
+                capture: reader,
+            };
+            answer_replay(alloc, settings, inputs, outputs, errors, watch)
+        }
+    };
+    (ended, writer)
+}
+
+/// Replays a script and a capture from files into a file, by the values that the words give to the options, with the report through
+/// `answers` and the text of a fault on `errors`; and gives the writer of the report back. The values are judged first; then the
+/// files are opened: the script, the capture, which is `reader` where its path is `-`, and the output, which is made or emptied.
+pub fn replay_given<F: Files, B: Allocator, R: Read, W: Write + Drop, E: Write, P: Watch>(
+    files: &F,
+    alloc: Global,
+    matches: &ArgMatches<'_>,
+    reader: &mut R,
+    answers: BufWriter<W, B>,
+    errors: &mut E,
+    watch: &mut P,
+) -> (Ended, W)
+    ensures refused { IfErr (settings_in CAPTURE_END (found_of matches.now)) (λ value.
+        IsRefusal value result.0 (writer_contents W.contents answers) (W.contents result.1) (E.contents errors.old) (E.contents errors.new)) }
+    ensures unread { IfErr (settings_in CAPTURE_END (found_of matches.now)) (λ _. (reader.new ≡ reader.old) × (watch.new ≡ watch.old)) }
+{
+    let settings = match settings_given(values_of(matches), CAPTURE_END) {
+        Ok(settings) => settings,
+        Err(value) => return end_with_value(value, answers, errors),
+    };
+    match open_all(files, matches) {
+        Ok(opened) => replay_opened(alloc, settings, opened, reader, answers, errors, watch),
+        Err(path) => end_unopened(path, answers, errors),
+    }
+}

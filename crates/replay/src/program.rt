@@ -1,0 +1,113 @@
+//! The program's job with a capture: a script and a capture are run with settings, and the exit status is answered.
+
+ghost use Rattle.std.specs.Prelude.{◌≡◌, ◌⊎◌, [], Err};
+ghost use Rattle.std.specs.Io.Buffered.{writer_buffer, writer_contents};
+ghost use Rattle.std.specs.Io.KnownBytes.{Keeps};
+ghost use Rattle.script.specs.Ending.{IsTold};
+ghost use Rattle.replay.specs.Ending.{IsReplayEnding, ended_status, ended_text};
+ghost use Rattle.replay.specs.Outputs.{got};
+
+use crate::faults::ReplayFault;
+use crate::running::replay;
+use crate::texts::say_replay_fault;
+use crate::watch::Watch;
+use script::{Ended, Settings};
+use std::alloc::Allocator;
+use std::io::{BufWriter, Read, Write};
+
+// Lets out what was written, the report first, also before a fault, unless a write failed already: no write is tried again.
+fn let_out<W: Write + Drop, V: Write + Drop, A: Allocator, B: Allocator>(
+    run: Result<(), ReplayFault>,
+    report: &mut BufWriter<W, A>,
+    departures: &mut BufWriter<V, B>,
+) -> Result<(), ReplayFault>
+    ensures kept { (result ≡ run) ⊎ (result ≡ Err ReplayFault.Write) }
+    ensures out { ((writer_buffer report.new ≡ []) × (writer_buffer departures.new ≡ [])) ⊎ (result ≡ Err ReplayFault.Write) }
+    ensures report { Keeps (writer_contents W.contents report.old) (writer_contents W.contents report.new) }
+    ensures departures { Keeps (writer_contents V.contents departures.old) (writer_contents V.contents departures.new) }
+    ensures once { run ≡ Err ReplayFault.Write → (report.new ≡ report.old) × (departures.new ≡ departures.old) }
+{
+    if run == Err(ReplayFault::Write) {
+        return run;
+    }
+    if report.flush().is_err() {
+        return Err(ReplayFault::Write);
+    }
+    if departures.flush().is_err() {
+        return Err(ReplayFault::Write);
+    }
+    run
+}
+
+// Tells how a replay ended: a fault's text, where there is one, and the status.
+fn say_replay<E: Write>(run: Result<(), ReplayFault>, errors: &mut E) -> Ended
+    ensures status { result.status ≡ ended_status run }
+    ensures told { IsTold result.told (E.contents errors.old) (E.contents errors.new) (ended_text run) }
+{
+    match run {
+        Ok(()) => Ended {
+            status: 0,
+            told: true,
+        },
+        Err(fault) => say_replay_fault(&fault, errors),
+    }
+}
+
+/// What a replay reads.
+#[derive(Drop)]
+pub struct Inputs<R: Read + Drop, S: Read + Drop> {
+    /// The script.
+    pub script: R,
+    /// The capture.
+    pub capture: S,
+}
+
+/// Where a replay writes: both outputs go through buffers.
+#[derive(Drop)]
+pub struct Outputs<W: Write + Drop, V: Write + Drop, A: Allocator, B: Allocator> {
+    /// The report.
+    pub report: BufWriter<W, A>,
+    /// The capture of the frames that leave.
+    pub departures: BufWriter<V, B>,
+}
+
+/// Runs a script and a capture with settings, the text of a fault on `errors`; and gives the writers of the report and of the
+/// output capture back. What was written is let out before a fault is told, the report first; after a failed write no other is tried.
+pub fn answer_replay<
+    A: Allocator,
+    B: Allocator,
+    C: Allocator,
+    R: Read + Drop,
+    S: Read + Drop,
+    W: Write + Drop,
+    V: Write + Drop,
+    E: Write,
+    P: Watch,
+>(
+    alloc: A,
+    settings: Settings,
+    inputs: Inputs<R, S>,
+    mut outputs: Outputs<W, V, B, C>,
+    errors: &mut E,
+    watch: &mut P,
+) -> (Ended, W, V)
+    ensures { IsReplayEnding settings (R.remaining inputs.script) (S.remaining inputs.capture) result.0
+        (got (writer_contents W.contents outputs.report) (writer_contents V.contents outputs.departures)) (got (W.contents result.1) (V.contents result.2))
+        (E.contents errors.old) (E.contents errors.new) }
+{
+    let run = replay(
+        alloc,
+        inputs.script,
+        inputs.capture,
+        &mut outputs.departures,
+        &mut outputs.report,
+        settings,
+        watch,
+    );
+    let run = let_out(run, &mut outputs.report, &mut outputs.departures);
+    let ended = say_replay(run, errors);
+    let Outputs { report, departures } = outputs;
+    let (report, _unwritten) = report.into_parts();
+    let (departures, _unwritten) = departures.into_parts();
+    (ended, report, departures)
+}
