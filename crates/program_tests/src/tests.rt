@@ -21,6 +21,7 @@ fn with_name(alloc: Global, words: &[&str]) -> io::Result<Vec<String>> {
 }
 
 /// A clock that goes on by a tenth of a second each time that it is asked.
+#[derive(Drop)]
 struct Ticks {
     asked: Cell<u64>,
 }
@@ -39,7 +40,7 @@ impl Clock for Ticks {
 
 /// What the program has answered.
 #[derive(Drop)]
-struct Told {
+struct Outcome {
     /// The exit status.
     status: u8,
     /// What was written to the standard output.
@@ -51,7 +52,7 @@ struct Told {
 }
 
 /// What is answered to these words and this input.
-fn told(rt: &HostRuntime, words: &[&str], input: &[u8]) -> io::Result<Told> {
+fn outcome_of(rt: &HostRuntime, words: &[&str], input: &[u8]) -> io::Result<Outcome> {
     let alloc = rt.alloc();
     let words = with_name(alloc, words)?;
     let answers = BufWriter::new(alloc, Vec::new(alloc))?;
@@ -70,7 +71,7 @@ fn told(rt: &HostRuntime, words: &[&str], input: &[u8]) -> io::Result<Told> {
         &mut errors,
         &mut progress,
     );
-    Ok(Told {
+    Ok(Outcome {
         status: ended.status,
         answers,
         errors,
@@ -154,11 +155,11 @@ fn answers_and_faults_are_told_apart(rt: HostRuntime) -> Result<(), Fail> {
         ),
     ];
     for (words, script, status, answers, text) in rows {
-        let told = told(&rt, words, script)?;
-        assert_eq!(rt; told.status, status);
-        assert_eq!(rt; told.answers.as_slice(), answers);
-        assert_eq!(rt; told.errors.as_slice(), text);
-        assert!(rt; told.progress.is_empty());
+        let outcome = outcome_of(&rt, words, script)?;
+        assert_eq!(rt; outcome.status, status);
+        assert_eq!(rt; outcome.answers.as_slice(), answers);
+        assert_eq!(rt; outcome.errors.as_slice(), text);
+        assert!(rt; outcome.progress.is_empty());
     }
     Ok(())
 }
@@ -186,14 +187,14 @@ fn refused_words_answer_nothing(rt: HostRuntime) -> Result<(), Fail> {
         ),
     ];
     for (words, text) in rows {
-        let told = told(&rt, words, BROKEN)?;
-        assert_eq!(rt; told.status, 2);
-        assert!(rt; told.answers.is_empty());
-        assert!(rt; told.errors.starts_with(text));
+        let outcome = outcome_of(&rt, words, BROKEN)?;
+        assert_eq!(rt; outcome.status, 2);
+        assert!(rt; outcome.answers.is_empty());
+        assert!(rt; outcome.errors.starts_with(text));
     }
-    let told = told(&rt, &["script", "--help"], BROKEN)?;
-    assert_eq!(rt; told.status, 0);
-    assert!(rt; !told.answers.is_empty() && told.errors.is_empty());
+    let outcome = outcome_of(&rt, &["script", "--help"], BROKEN)?;
+    assert_eq!(rt; outcome.status, 0);
+    assert!(rt; !outcome.answers.is_empty() && outcome.errors.is_empty());
     Ok(())
 }
 
@@ -249,6 +250,7 @@ const DEPARTURES: [u8; 58] = [
 const REPORT: &[u8] = b"queued 0 class 3\nstart 0 class 3 at 2000500000000 end 2000500672000\n";
 
 /// A folder for the files of a test, which is taken away with them at the test's end.
+#[derive(Drop)]
 struct Folder<'a> {
     rt: &'a HostRuntime,
     path: String,
@@ -276,7 +278,7 @@ impl<'a> Folder<'a> {
     }
 
     fn remove(self) -> io::Result<()> {
-        fs::remove_dir_all(self.rt, self.rt.alloc(), self.path.as_str())
+        fs::remove_dir_all(self.rt, self.path.as_str())
     }
 }
 
@@ -295,18 +297,18 @@ fn replays_files(rt: HostRuntime) -> Result<(), Fail> {
         &capture,
         &out,
     ];
-    let told_of = told(&rt, &words, b"not read")?;
-    assert_eq!(rt; told_of.status, 0);
-    assert_eq!(rt; told_of.answers.as_slice(), REPORT);
-    assert!(rt; told_of.errors.is_empty() && told_of.progress.is_empty());
+    let outcome = outcome_of(&rt, &words, b"not read")?;
+    assert_eq!(rt; outcome.status, 0);
+    assert_eq!(rt; outcome.answers.as_slice(), REPORT);
+    assert!(rt; outcome.errors.is_empty() && outcome.progress.is_empty());
     assert_eq!(rt;
         fs::read(&rt, out.as_str())?.as_slice(),
         DEPARTURES.as_slice()
     );
     let words = ["replay", "--until=3000000000000", &script, "-", &out];
-    let told_of = told(&rt, &words, &CAPTURE)?;
-    assert_eq!(rt; told_of.status, 0);
-    assert_eq!(rt; told_of.answers.as_slice(), REPORT);
+    let outcome = outcome_of(&rt, &words, &CAPTURE)?;
+    assert_eq!(rt; outcome.status, 0);
+    assert_eq!(rt; outcome.answers.as_slice(), REPORT);
     assert_eq!(rt;
         fs::read(&rt, out.as_str())?.as_slice(),
         DEPARTURES.as_slice()
@@ -327,10 +329,10 @@ fn says_how_far_it_has_come(rt: HostRuntime) -> Result<(), Fail> {
         octets.extend_from_slice(&CAPTURE[24..])?;
     }
     let words = ["replay", "--progress", "--until", "1", &script, "-", &out];
-    let told = told(&rt, &words, octets.as_slice())?;
-    assert_eq!(rt; told.status, 0);
+    let outcome = outcome_of(&rt, &words, octets.as_slice())?;
+    assert_eq!(rt; outcome.status, 0);
     assert_eq!(rt;
-        told.progress.as_slice(),
+        outcome.progress.as_slice(),
         b"taprio_port: 5 records, at 2000500000000 ps, 10 records a second\n\
 taprio_port: 10 records, at 2000500000000 ps, 10 records a second\n"
             .as_slice()
@@ -360,19 +362,19 @@ fn files_that_can_not_be_opened(rt: HostRuntime) -> Result<(), Fail> {
     ];
     for (script, capture, out, unopened) in rows {
         let words = ["replay", "--until", "1", script, capture, out];
-        let told = told(&rt, &words, b"")?;
-        assert_eq!(rt; told.status, 4);
-        assert!(rt; told.answers.is_empty());
+        let outcome = outcome_of(&rt, &words, b"")?;
+        assert_eq!(rt; outcome.status, 4);
+        assert!(rt; outcome.answers.is_empty());
         let text = format!(in rt.alloc(); "taprio_port: cannot open {unopened}\n")?;
-        assert_eq!(rt; told.errors.as_slice(), text.as_bytes());
+        assert_eq!(rt; outcome.errors.as_slice(), text.as_bytes());
     }
     let words = [
         "replay", "--room", "0", "--until", "1", &missing, &missing, &nowhere,
     ];
-    let told_of = told(&rt, &words, b"")?;
-    assert_eq!(rt; told_of.status, 2);
+    let outcome = outcome_of(&rt, &words, b"")?;
+    assert_eq!(rt; outcome.status, 2);
     assert_eq!(rt;
-        told_of.errors.as_slice(),
+        outcome.errors.as_slice(),
         b"taprio_port: bad value of --room\n".as_slice()
     );
     let words = [
@@ -383,9 +385,9 @@ fn files_that_can_not_be_opened(rt: HostRuntime) -> Result<(), Fail> {
         &capture,
         &out,
     ];
-    let told_of = told(&rt, &words, b"")?;
+    let outcome = outcome_of(&rt, &words, b"")?;
     assert_eq!(rt;
-        told_of.errors.as_slice(),
+        outcome.errors.as_slice(),
         b"taprio_port: bad value of --until\n".as_slice()
     );
     assert_eq!(rt; fs::read(&rt, out.as_str())?.as_slice(), b"kept".as_slice());
@@ -401,28 +403,31 @@ fn faults_behind_the_opening(rt: HostRuntime) -> Result<(), Fail> {
     let capture = folder.file("capture", &CAPTURE)?;
     let out = folder.file("out", b"emptied")?;
     let here = folder.path_of(".")?;
-    let rows: [(&str, &str, u8, &[u8]); 3] = [
+    let rows: [(&str, &str, &str, u8, &[u8]); 3] = [
         (
             &script,
             &capture,
+            &out,
             3,
             b"taprio_port: script line 1: BadNumber\n",
         ),
         (
             &capture,
             &script,
+            &out,
             3,
             b"taprio_port: script line 1: UnknownLine\n",
         ),
-        (&here, &capture, 4, b"taprio_port: read failed\n"),
+        (&here, &capture, &out, 4, b"taprio_port: read failed\n"),
     ];
-    for (script, capture, status, text) in rows {
-        fs::write(&rt, out.as_str(), b"emptied")?;
-        let told = told(&rt, &["replay", "--until", "1", script, capture, &out], b"")?;
-        assert_eq!(rt; told.status, status);
-        assert_eq!(rt; told.errors.as_slice(), text);
-        assert!(rt; told.answers.is_empty());
-        assert!(rt; fs::read(&rt, out.as_str())?.is_empty());
+    for (script, capture, out, status, text) in rows {
+        fs::write(&rt, out, b"emptied")?;
+        let words = ["replay", "--until", "1", script, capture, out];
+        let outcome = outcome_of(&rt, &words, b"")?;
+        assert_eq!(rt; outcome.status, status);
+        assert_eq!(rt; outcome.errors.as_slice(), text);
+        assert!(rt; outcome.answers.is_empty());
+        assert!(rt; fs::read(&rt, out)?.is_empty());
     }
     folder.remove()?;
     Ok(())

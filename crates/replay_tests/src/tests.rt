@@ -281,8 +281,8 @@ fn what_comes_before_a_failed_read_is_told(rt: HostRuntime) -> Result<(), Fail> 
             (3_000_000_000_000, 60, &PRIORITY_3),
         ],
     )?;
-    let mut records = Pieces::new(capture.as_slice(), 200);
-    records.fails_at = 1;
+    let mut records = Pieces::new(capture.as_slice(), 1);
+    records.fails_at = 126;
     let mut report = Vec::new(rt.alloc());
     let mut written = Vec::new(rt.alloc());
     let result = replay(
@@ -298,7 +298,7 @@ fn what_comes_before_a_failed_read_is_told(rt: HostRuntime) -> Result<(), Fail> 
     assert!(rt; report.as_slice().starts_with(REPORT));
     assert_eq!(rt;
         &report.as_slice()[REPORT.len().min(report.len())..],
-        b"queued 2 class 3\n"
+        b"queued 2 class 3\n".as_slice()
     );
     assert_eq!(rt; written.as_slice(), two_starts(rt.alloc())?.as_slice());
     Ok(())
@@ -331,7 +331,7 @@ impl Made {
             self.octets.extend_from_slice(&field.to_le_bytes())?;
         }
         self.octets.extend_from_slice(&[0; 1000])?;
-        self.next += 1;
+        self.next = self.next.saturating_add(1);
         Ok(())
     }
 }
@@ -344,7 +344,7 @@ impl Read for Made {
         let rest = &self.octets.as_slice()[self.given.min(self.octets.len())..];
         let count = rest.len().min(buf.len());
         buf[..count].copy_from_slice(&rest[..count]);
-        self.given += count;
+        self.given = self.given.saturating_add(count);
         Ok(count)
     }
 }
@@ -367,6 +367,7 @@ impl Write for Counting {
 }
 
 /// Sees how often it is told how far a replay has come, and what it was told last.
+#[derive(Drop)]
 struct Seen {
     calls: u32,
     records: u32,
