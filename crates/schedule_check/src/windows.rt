@@ -217,7 +217,8 @@ impl Windows {
     /// What the schedule gives a class at a rate.
     pub fn window(&self, rate: Rate, class: u8) -> Window
         requires { class < CLASSES }
-        ensures { IsWindow rate self.now class result }
+        ensures window { IsWindow rate self.now class result }
+        ensures cycle { 0 < self.now.cycle }
     {
         Window {
             open_time: self.open_time(class),
