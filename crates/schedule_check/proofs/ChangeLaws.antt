@@ -1,5 +1,5 @@
 -- What is told of an accepted schedule.
-use Rattle.std.proofs.Common.{◌≡◌, ℕ, ◌++◌, Option, Some, None, Ok, refl, sym, ap}
+use Rattle.std.proofs.Common.{◌≡◌, ◌++◌, Option, Some, None, Ok, refl, sym, ap}
 use Rattle.gate_list.specs.declared.PlanFault.{PlanFault}
 use Rattle.gate_list.specs.Gate.{Plan, ok_unless, plan_fault}
 use Rattle.abstract_port.specs.AbstractPort.{plan_asked}
@@ -8,7 +8,6 @@ use Rattle.schedule_check.specs.Apart.{apart_line, change_lines, class_count, cl
 use Rattle.schedule_check.specs.WindowLines.{asked_lines}
 use Rattle.schedule_check.specs.declared.settings.CheckSettings.{CheckSettings}
 use Rattle.schedule_check.specs.Windows.{Teller}
-use Rattle.schedule_check.specs.declared.windows.Window.{Window}
 
 -- what is made has no fault, and is what was asked
 pub made_without_fault : (fault : Option PlanFault) (asked made : Plan) → ok_unless fault asked ≡ Ok made → (fault ≡ None) × (made ≡ asked)

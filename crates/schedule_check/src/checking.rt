@@ -5,7 +5,7 @@ ghost use Rattle.abstract_port.specs.declared.Command.{Command};
 ghost use Rattle.schedule_check.specs.Apart.{verdict_lines};
 ghost use Rattle.schedule_check.specs.Checked.{checked_in, checked_of, is_command};
 ghost use Rattle.schedule_check.specs.Windows.{IsTeller, Teller};
-ghost use Rattle.line_reader.specs.LineReader.{script_left};
+ghost use Rattle.line_reader.specs.LineReader.{current_number, script_left};
 ghost use Rattle.script.specs.Outcome.{Runs};
 ghost use Rattle.tc_reader.specs.Reader.{IsReader};
 ghost use Rattle.tc_reader.specs.declared.fault.TcFault.{TcFault};
@@ -37,6 +37,16 @@ fn is_command(line: &[u8]) -> Result<bool, ScriptFault>
     }
 }
 
+// A fault of the line that was read last.
+fn fault_here<A: Allocator, R: Read + Drop>(
+    lines: &LineReader<R, A>,
+    fault: ScriptFault,
+) -> RunFault
+    ensures { result ≡ RunFault.Script (current_number lines.now) fault }
+{
+    RunFault::Script(lines.line_number(), fault)
+}
+
 // Tells of the lines that are to come.
 fn check_lines<A: Allocator, R: Read + Drop, W: Write>(
     lines: &mut LineReader<R, A>,
@@ -52,7 +62,7 @@ fn check_lines<A: Allocator, R: Read + Drop, W: Write>(
         match is_command(line) {
             Ok(false) => {}
             Ok(true) => put_line(writer, *settings, line)?,
-            Err(fault) => return Err(RunFault::Script(lines.line_number(), fault)),
+            Err(fault) => return Err(fault_here(lines, fault)),
         }
     }
     Ok(())

@@ -1,7 +1,6 @@
 use Rattle.std.proofs.Common.{◌≡◌, Ok, Err, true, false, refl, ap, ◌∙◌}
 use Rattle.std.proofs.lemmas.Result.{err_from_is_err_and}
 use Rattle.words.specs.Words.{words_of}
-use Rattle.script.specs.declared.faults.RunFault.TheVariants as Faults
 use Rattle.schedule_check.specs.Apart.{verdict_lines}
 use Rattle.schedule_check.specs.Checked.{is_command}
 use Rattle.schedule_check.proofs.LineLaws.{begun, goes_past, goes_on, goes_no_further, goes_wrong, ends, stops}
@@ -39,7 +38,7 @@ pub returns-in-Err : goal.returns-in-Err
 returns-in-Err g c = λ tell tells read is.
     let e : is_command (words_of c.advance.new.self.line.items) ≡ Err c.in-Err.fault = cc in
     let a = rw c.if-branch.true at c.in_ok-advance.ensures.line in
-    goes_wrong read (verdict_lines tell c.args.settings.now) _ _ {T = Unit {0}} _ _ _ _ _ c.in-Err.fault (c.lines.invariant tell tells read is) a e (ap (λ n. Err (Faults.Script n c.in-Err.fault)) c.line_number.ensures)
+    goes_wrong read (verdict_lines tell c.args.settings.now) _ _ {T = Unit {0}} _ _ _ _ _ c.in-Err.fault (c.lines.invariant tell tells read is) a e (ap Err c.fault_here.ensures)
 
 pub returns : goal.returns
 returns g c = λ tell tells read is.

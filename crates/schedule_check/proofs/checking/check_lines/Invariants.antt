@@ -3,10 +3,8 @@ use Rattle.abstract_port.specs.declared.Command.{Command}
 use Rattle.tc_reader.specs.declared.fault.TcFault.{TcFault}
 use Rattle.tc_reader.specs.Reader.{IsReader}
 use Rattle.line_reader.specs.LineReader.{script_left, most_lines}
-use Rattle.gate_list.specs.Gate.{Plan}
 use Rattle.schedule_check.specs.Apart.{verdict_lines}
 use Rattle.schedule_check.specs.Windows.{Teller, IsTeller}
-use Rattle.schedule_check.specs.declared.windows.Window.{Window}
 use Rattle.schedule_check.proofs.LineLaws.{Goes}
 use Rattle.schedule_check.proofs.checking.check_lines.Given as goal
 

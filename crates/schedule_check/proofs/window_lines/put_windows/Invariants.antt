@@ -1,7 +1,5 @@
-use Rattle.std.proofs.Common.{ℕ, ◌-◌}
-use Rattle.gate_list.specs.Gate.{Plan}
+use Rattle.std.proofs.Common.{◌-◌}
 use Rattle.octet_writer.specs.Writes.{Sent}
-use Rattle.schedule_check.specs.declared.windows.Window.{Window}
 use Rattle.schedule_check.specs.Windows.{Teller, IsTeller}
 use Rattle.schedule_check.specs.WindowLines.{open_lines}
 use Rattle.schedule_check.proofs.window_lines.put_windows.Given as goal
