@@ -1,9 +1,9 @@
-//! Runs each example script, the worked scripts and the examples of a check and of a replay, and says whether their answers are those
+//! Runs each example script, the worked scripts and the examples of checks and of a replay, and says whether their answers are those
 //! that lie beside them.
 #![tactic(auto)]
 
 use replay::{Unwatched, replay};
-use schedule_check::check;
+use schedule_check::{CheckSettings, check};
 use script::{Settings, run_script};
 use std::rt::Files;
 use std::{fs, io};
@@ -17,6 +17,12 @@ const EXAMPLES: [(&str, &str); 6] = [
     ("manual.script", "manual.answers"),
     ("guard_band.script", "guard_band.answers"),
     ("extension.script", "extension.answers"),
+];
+
+/// The examples of a check, each with its schedules, its answers, and whether windows are asked for.
+const CHECKS: [(&str, &str, bool); 2] = [
+    ("apart.schedules", "apart.answers", false),
+    ("windows.schedules", "windows.answers", true),
 ];
 
 /// The settings that the program has where no words are given, with a moment to run to.
@@ -41,15 +47,21 @@ fn agrees<R: Files + AllocGlobal>(rt: &R, script: &str, answers: &str) -> io::Re
     Ok(answers_with(rt, script.as_bytes(), answers.as_bytes()))
 }
 
-/// Whether the example of a check is told with the octets that lie beside it, at 1000 Mb/s.
-fn check_agrees<R: Files + AllocGlobal>(rt: &R) -> io::Result<bool> {
-    let schedules = fs::read_to_string(rt, "apart.schedules")?;
-    let answers = fs::read_to_string(rt, "apart.answers")?;
+/// Whether an example of a check is told with the octets that lie beside it, at 1000 Mb/s, with windows or without.
+fn check_agrees<R: Files + AllocGlobal>(
+    rt: &R,
+    schedules: &str,
+    answers: &str,
+    windows: bool,
+) -> io::Result<bool> {
+    let schedules = fs::read_to_string(rt, schedules)?;
+    let answers = fs::read_to_string(rt, answers)?;
     let Ok(rate) = Rate::from_mbps(1000) else {
         return Ok(false);
     };
+    let settings = CheckSettings { rate, windows };
     let mut got = Vec::new(rt.alloc());
-    let checked = check(rt.alloc(), schedules.as_bytes(), &mut got, rate);
+    let checked = check(rt.alloc(), schedules.as_bytes(), &mut got, settings);
     Ok(checked.is_ok() && got.as_slice() == answers.as_bytes())
 }
 
@@ -111,8 +123,10 @@ fn main(rt: HostRuntime) -> io::Result<()> {
         let told = told(agrees(&rt, script, answers)?);
         println!(rt; "{script} {told}")?;
     }
-    let checked = told(check_agrees(&rt)?);
-    println!(rt; "apart.schedules {checked}")?;
+    for (schedules, answers, windows) in CHECKS {
+        let told = told(check_agrees(&rt, schedules, answers, windows)?);
+        println!(rt; "{schedules} {told}")?;
+    }
     let replayed = told(replay_agrees(&rt)?);
     println!(rt; "machine.script {replayed}")?;
     let (scripts, answered) = worked(&rt)?;

@@ -1,15 +1,16 @@
 //! What is answered to the words of the program.
 
-ghost use Rattle.std.specs.Prelude.{◌≡◌, IfErr};
+ghost use Rattle.std.specs.Prelude.{◌≡◌, ℕ, IfErr};
 ghost use Rattle.std.specs.Io.Buffered.{writer_contents};
 ghost use Rattle.clap.specs.Matches.{found_of};
 ghost use Rattle.schedule_check.specs.Checked.{whole_check};
-ghost use Rattle.program.specs.Given.{rate_in, settings_in};
+ghost use Rattle.schedule_check.specs.Windows.{IsTeller, Teller};
+ghost use Rattle.program.specs.Given.{rate_in, settings_in, windows_in};
 ghost use Rattle.script.specs.Ending.{IsEnding, whole_script};
 ghost use Rattle.wire_time.specs.Moment.{greatest_moment};
 
 use crate::end_without_memory;
-use crate::options::{command, rate_of, values_of};
+use crate::options::{command, rate_of, values_of, windows_of};
 use crate::progress::Progress;
 use crate::replaying::replay_given;
 use clap::error::ErrorKind;
@@ -37,8 +38,8 @@ pub fn answer_given<B: Allocator, R: Read, W: Write + Drop, E: Write>(
     answer_script(alloc, values_of(matches), reader, answers, errors)
 }
 
-/// Checks the schedules that `reader` gives, by the value that the words give to the rate, through `answers`, with the text of a
-/// fault on `errors`; and gives the writer of the answers back.
+/// Checks the schedules that `reader` gives, by the value that the words give to the rate, and with windows where they ask for them,
+/// through `answers`, with the text of a fault on `errors`; and gives the writer of the answers back.
 pub fn check_given<B: Allocator, R: Read, W: Write + Drop, E: Write>(
     alloc: Global,
     matches: &ArgMatches<'_>,
@@ -46,11 +47,12 @@ pub fn check_given<B: Allocator, R: Read, W: Write + Drop, E: Write>(
     answers: BufWriter<W, B>,
     errors: &mut E,
 ) -> (Ended, W)
-    ensures ending { IsEnding whole_check (rate_in (found_of matches.now))
+    ensures ending { (tell : Teller) → IsTeller tell → IsEnding (whole_check tell (windows_in (found_of matches.now))) (rate_in (found_of matches.now))
         (R.remaining reader.old) result.0 (writer_contents W.contents answers) (W.contents result.1) (E.contents errors.old) (E.contents errors.new) }
     ensures unread { IfErr (rate_in (found_of matches.now)) (λ _. reader.new ≡ reader.old) }
 {
-    answer_check(alloc, rate_of(matches), reader, answers, errors)
+    let windows = windows_of(matches);
+    answer_check(alloc, rate_of(matches), windows, reader, answers, errors)
 }
 
 /// Whether a text is written whole and let out.

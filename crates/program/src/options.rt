@@ -2,6 +2,7 @@
 
 ghost use Rattle.std.specs.Prelude.{◌≡◌, codes, option_map};
 ghost use Rattle.clap.specs.Matches.{first_value, found_of};
+ghost use Rattle.program.specs.Given.{windows_in};
 
 use clap::{Arg, ArgAction, ArgMatches, Command};
 use script::Values;
@@ -29,12 +30,31 @@ pub fn rate_of<'a>(matches: &ArgMatches<'a>) -> Option<&'a str>
     matches.get_str("rate")
 }
 
+/// Whether a subcommand is asked for windows.
+pub fn windows_of(matches: &ArgMatches<'_>) -> bool
+    ensures { result ≡ windows_in (found_of matches.now) }
+{
+    match matches.get_str("windows") {
+        Some(text) => text == "true",
+        None => false,
+    }
+}
+
 fn with_rate<'a>(alloc: Global, command: Command<'a>) -> Result<Command<'a>, AllocError> {
     command.arg(
         Arg::new(alloc, "rate")
             .long("rate")
             .value_name("MBPS")
             .help("The line rate, in Mb/s [default: 1000]"),
+    )
+}
+
+fn with_windows<'a>(alloc: Global, command: Command<'a>) -> Result<Command<'a>, AllocError> {
+    command.arg(
+        Arg::new(alloc, "windows")
+            .long("windows")
+            .action(ArgAction::SetTrue)
+            .help("Tell for how long each class is open and closed, and its longest frame"),
     )
 }
 
@@ -110,5 +130,5 @@ pub fn command<'a>(alloc: Global) -> Result<Command<'a>, AllocError> {
         .subcommand_required(true)
         .subcommand(with_options(alloc, script, false)?)?
         .subcommand(with_files(alloc, with_options(alloc, replay, true)?)?)?
-        .subcommand(with_rate(alloc, check)?)
+        .subcommand(with_windows(alloc, with_rate(alloc, check)?)?)
 }

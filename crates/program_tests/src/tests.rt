@@ -82,7 +82,7 @@ fn outcome_of(rt: &HostRuntime, words: &[&str], input: &[u8]) -> io::Result<Outc
 /// Words and a script, with the status, what is answered, and what is told of a fault.
 #[test]
 fn answers_and_faults_are_told_apart(rt: HostRuntime) -> Result<(), Fail> {
-    let rows: [(&[&str], &[u8], u8, &[u8], &[u8]); 10] = [
+    let rows: [(&[&str], &[u8], u8, &[u8], &[u8]); 11] = [
         (
             &["script"],
             b"frame 1 0 60\nclock 1",
@@ -137,6 +137,13 @@ fn answers_and_faults_are_told_apart(rt: HostRuntime) -> Result<(), Fail> {
             b"tc qdisc replace dev eth0 root taprio sched-entry S 01 480\n",
             0,
             b"refused IntervalTooShort 0\n",
+            b"",
+        ),
+        (
+            &["check", "--rate=10000", "--windows"],
+            b"tc qdisc replace dev eth0 root taprio num_tc 2 map 0 1 sched-entry S 05 1000\n",
+            0,
+            b"apart 1\nwindow class 0 open always closed 0 share 1000000 of 1000000 frame any\n",
             b"",
         ),
         (

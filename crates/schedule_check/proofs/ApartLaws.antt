@@ -1,5 +1,5 @@
 -- The classes that are kept apart, class by class.
-use Rattle.std.proofs.Common.{◌≡◌, ◌<◌, ◌≤◌, ◌+◌, ◌-◌, ℕ, suc, List, [], ◌++◌, sym, ap, ◌∙◌, arith, append_assoc, append-nil}
+use Rattle.std.proofs.Common.{◌≡◌, ◌<◌, ◌≤◌, ◌+◌, ◌-◌, ℕ, suc, List, ◌++◌, sym, ap, ◌∙◌, arith, append_assoc, append-nil}
 use Rattle.gate_list.specs.declared.Entry.{Entry}
 use Rattle.schedule_check.specs.Apart.{classes_apart, itself_apart}
 

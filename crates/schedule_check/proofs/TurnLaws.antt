@@ -1,7 +1,7 @@
 -- A plan whose entries open what those of another close.
-use Rattle.std.proofs.Common.{◌≡◌, ◌<◌, ℕ, ◌+◌, ◌-◌, ◌%◌, ◌==◌, Bool, true, false, cond, map, sum_by, List, [], ◌∷◌, length, All, Option, Some, None, Result, Ok, Err, nat_lt, refl, sym, ap, ◌∙◌, arith}
+use Rattle.std.proofs.Common.{◌≡◌, ◌<◌, ℕ, ◌+◌, ◌-◌, ◌%◌, ◌^◌, ◌==◌, Bool, true, false, not, cond, map, sum_by, List, [], ◌∷◌, length, All, Option, Some, None, Result, Ok, Err, nat_lt, refl, sym, ap, ◌∙◌, arith}
 use Rattle.std.specs.List.{list_any}
-use Rattle.std.proofs.lemmas.Bool.{ne_eqb}
+use Rattle.std.proofs.lemmas.Bool.{agree_below, agree_below_at, ne_eqb}
 use Rattle.std.proofs.lemmas.List.{length-map}
 use Rattle.std.proofs.lemmas.List.Elements.{All-head, All-tail}
 use Rattle.std.proofs.lemmas.List.Sums.{sum_by-cons}
@@ -10,7 +10,7 @@ use Rattle.gate_list.specs.declared.PlanFault.{PlanFault}
 use Rattle.gate_list.specs.declared.PlanFault.TheVariants.{IntervalTooShort}
 use Rattle.gate_list.specs.declared.Stay.{Stay}
 use Rattle.gate_list.specs.declared.Stay.TheVariants.{Lasts, Always}
-use Rattle.gate_list.specs.Gate.{Plan, IsGateList, in_ps, mask_at, plan_with, first_shorter, least_interval, limits_fault, plan_fault, gate_fault, ok_unless}
+use Rattle.gate_list.specs.Gate.{Plan, IsGateList, in_ps, mask_at, opens, plan_with, first_shorter, least_interval, limits_fault, plan_fault, gate_fault, ok_unless}
 use Rattle.gate_list.specs.Open.{open_while}
 use Rattle.gate_list.proofs.GateLaws.{no_gate_fault}
 use Rattle.gate_list.proofs.OpenLaws.{same_while}
@@ -106,3 +106,16 @@ turned_stay plan class (Lasts d) some is = record {
 
 pub turned_some : (p : Plan) → 0 < length (turned_plan p).entries → 0 < length p.entries
 turned_some p some = let same : length (map turned_entry p.entries) ≡ length p.entries = length-map p.entries turned_entry in omega arith
+
+-- ---- masks, one by one
+
+-- a turned mask opens just what the mask closes, of eight classes
+abbrev turns : ℕ → Bool
+turns mask = agree_below (opens (turned_mask mask)) (λ class. not (opens mask class)) 8
+
+all_turn : agree_below turns (λ mask. true) 256 ≡ true
+all_turn = refl
+
+pub turned_opens : (mask class : ℕ) → mask < 2 ^ 8 → class < 8 → opens (turned_mask mask) class ≡ not (opens mask class)
+turned_opens mask class byte low =
+    agree_below_at (opens (turned_mask mask)) (λ k. not (opens mask k)) 8 class (agree_below_at turns (λ m. true) 256 mask all_turn byte) low

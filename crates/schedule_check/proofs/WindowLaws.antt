@@ -1,8 +1,8 @@
 -- How long a class stays open, by the entries that a schedule shows.
-use Rattle.std.proofs.Common.{◌≡◌, ◌<◌, ◌≤◌, ℕ, zero, suc, ◌+◌, ◌-◌, ◌*◌, ◌/◌, ◌%◌, max, true, List, length, get_or, slice_get, All, Some, ◌⊎◌, inl, inr, refl, sym, ap, ◌∙◌, subst, arith, mod-lt, le_refl}
+use Rattle.std.proofs.Common.{◌≡◌, ◌<◌, ◌≤◌, ℕ, zero, suc, ◌+◌, ◌-◌, ◌*◌, ◌/◌, ◌%◌, max, true, List, length, slice_get, All, Some, ◌⊎◌, inl, inr, refl, sym, ap, ◌∙◌, subst, arith, mod-lt, le_refl}
 use Rattle.std.proofs.Math.Nat.{div-add-mod, add-mod_left, le-div_iff_mul-le}
 use Rattle.std.proofs.lemmas.Bool.{cases_lt, leb-true, le-leb}
-use Rattle.std.proofs.lemmas.Option.{same_Some, slice_get_within, get_or_from_slice_get, slice_get-get_or}
+use Rattle.std.proofs.lemmas.Option.{same_Some, slice_get_within, get_or_from_slice_get}
 use Rattle.std.proofs.lemmas.List.Elements.{All-get_or}
 use Rattle.wire_time.specs.Wire.{occupancy_of}
 use Rattle.gate_list.specs.declared.Entry.{Entry}
@@ -10,7 +10,7 @@ use Rattle.gate_list.specs.declared.Stay.{Stay}
 use Rattle.gate_list.specs.declared.Stay.TheVariants.{Lasts, Always}
 use Rattle.gate_list.specs.Gate.{Plan, IsShownAt, in_ps, prefix, mask_at}
 use Rattle.gate_list.specs.Open.{open_while}
-use Rattle.gate_list.specs.Stay.{AreStays, AreClosed, TellOpenTime, stay_lasts}
+use Rattle.gate_list.specs.Stay.{AreClosed, TellOpenTime, stay_lasts}
 use Rattle.gate_list.proofs.OpenLaws.{open_within, shift_while}
 use Rattle.gate_list.proofs.PhaseLaws.{phase_is}
 use Rattle.gate_list.proofs.RowLaws.{prefix_next}
@@ -119,15 +119,6 @@ module _ (plan : Plan) (class i : ℕ) (stays : List Stay) (low : class < 8) (ab
         | inl soon ↦ shown_reaches told there soon
         | inr late ↦ subst (Reaches (alone plan) class) (same_Some _ _ (sym (unseen late class low) ∙ there)) (reaches_none (alone plan) class)
       ]
-
--- what a row tells of a class
-pub row_told : (plan : Plan) (i class : ℕ) (stays : List Stay) (d : Stay) → class < 8 → (prefix plan.entries i < in_ps plan.cycle → AreStays plan i stays)
-    → (in_ps plan.cycle ≤ prefix plan.entries i → AreClosed stays) → slice_get stays class ≡ Some (get_or stays class d)
-row_told plan i class stays d low seen unseen =
-    elim (cases_lt (prefix plan.entries i) (in_ps plan.cycle)) [
-      | inl soon ↦ slice_get-get_or stays class d (slice_get_within stays class _ (seen soon class low))
-      | inr late ↦ slice_get-get_or stays class d (slice_get_within stays class _ (unseen late class low))
-    ]
 
 -- ---- all entries
 

@@ -1,5 +1,5 @@
--- What is told of a schedule command: the classes that its schedule keeps apart from all others.
-use Rattle.std.specs.Prelude.{◌+◌, List, ℕ, zero, suc, [], ◌∷◌, ◌++◌, Option, Some, None, Result, Ok, Err, decimal, codes, if◌then◌else◌}
+-- What is told of a schedule command: the classes that its schedule keeps apart from all others, and what it gives each class.
+use Rattle.std.specs.Prelude.{◌+◌, List, ℕ, zero, suc, [], ◌∷◌, ◌++◌, Bool, Option, Some, None, Result, Ok, Err, decimal, codes, if◌then◌else◌}
 use Rattle.std.specs.List.{concat, flat_map}
 use Rattle.wire_time.specs.declared.TheConstants.{CLASSES}
 use Rattle.class_map.specs.declared.ClassMap.{ClassMap}
@@ -13,6 +13,10 @@ use Rattle.abstract_port.specs.declared.Command.TheVariants.{Replace, Delete}
 use Rattle.abstract_port.specs.declared.Refused.TheVariants.{Schedule}
 use Rattle.tc_reader.specs.declared.fault.TcFault.{TcFault}
 use Rattle.answer_text.specs.Lines.{refused_line, tc_fault_line}
+use Rattle.schedule_check.specs.WindowLines.{asked_lines}
+use Rattle.schedule_check.specs.declared.settings.CheckSettings.{CheckSettings}
+use Rattle.schedule_check.specs.Windows.{Teller}
+use Rattle.schedule_check.specs.declared.windows.Window.{Window}
 
 -- how many classes a change speaks of: those of its map, or all where it gives none
 abbrev pub class_count : Option ClassMap → ℕ
@@ -41,17 +45,20 @@ abbrev pub apart_line : List ℕ → List ℕ
 apart_line [] = codes "apart none\n"
 apart_line (class ∷ classes) = some_line (class ∷ classes)
 
--- the line of a change: the refusal of its schedule, or the classes that it keeps apart
-abbrev pub schedule_line : Option PlanFault → Change → List ℕ
-schedule_line (Some fault) c = refused_line (Schedule fault)
-schedule_line None c = apart_line (classes_apart (class_count c.map) 0 (plan_asked c).entries)
+-- The lines of a change: the refusal of its schedule; or the classes that it keeps apart and, where windows are asked for, what it gives
+-- each class.
+abbrev pub schedule_lines : Option PlanFault → Bool → (ℕ → Window) → Change → List ℕ
+schedule_lines (Some fault) windows tell c = refused_line (Schedule fault)
+schedule_lines None windows tell c =
+    apart_line (classes_apart (class_count c.map) 0 (plan_asked c).entries) ++ asked_lines windows tell (class_count c.map)
 
--- the same at a line rate, in picoseconds an octet
-abbrev pub change_line : ℕ → Change → List ℕ
-change_line ps c = schedule_line (plan_fault ps (plan_asked c)) c
+-- the same by settings, with the function that says what a plan gives each class
+abbrev pub change_lines : Teller → CheckSettings → Change → List ℕ
+change_lines tell s c = schedule_lines (plan_fault s.rate (plan_asked c)) s.windows (tell s.rate (plan_asked c)) c
 
--- the line of a line that begins with tc: it is no command, or what is told of the command; a deletion keeps nothing apart
-abbrev pub verdict_line : ℕ → Result Command TcFault → List ℕ
-verdict_line ps (Err fault) = tc_fault_line fault
-verdict_line ps (Ok Delete) = apart_line []
-verdict_line ps (Ok (Replace c)) = change_line ps c
+-- What is told of a line that begins with tc: it is no command, or what is told of the command. A deletion keeps nothing apart, and has
+-- no windows.
+abbrev pub verdict_lines : Teller → CheckSettings → Result Command TcFault → List ℕ
+verdict_lines tell s (Err fault) = tc_fault_line fault
+verdict_lines tell s (Ok Delete) = apart_line []
+verdict_lines tell s (Ok (Replace c)) = change_lines tell s c

@@ -1,5 +1,5 @@
 -- What is told of the lines of schedule commands, and the fault that ends them.
-use Rattle.std.specs.Prelude.{List, ℕ, [], ◌∷◌, ◌++◌, Bool, true, false, Option, Some, None, Result, Ok, Err, codes, if◌then◌else◌}
+use Rattle.std.specs.Prelude.{List, ℕ, [], ◌∷◌, ◌++◌, Bool, true, false, Some, None, Result, Ok, Err, codes, if◌then◌else◌}
 use Rattle.std.specs.Str.{bytes_eq}
 use Rattle.words.specs.Words.{words_of}
 use Rattle.line_reader.specs.Script.{Script, End, Broken, Line, script_of}
@@ -10,7 +10,8 @@ use Rattle.script.specs.Outcome.{Outcome, limit_fault}
 use Rattle.script.specs.declared.faults.ScriptFault.{ScriptFault}
 use Rattle.script.specs.declared.faults.ScriptFault.TheVariants.{UnknownLine}
 use Rattle.script.specs.Ending.{Whole}
-use Rattle.schedule_check.specs.Apart.{verdict_line}
+use Rattle.schedule_check.specs.Apart.{verdict_lines}
+use Rattle.schedule_check.specs.Windows.{Teller}
 
 -- whether the words of a line begin with tc; a line without words and a comment are skipped, and there are no other lines
 abbrev pub is_command : List (List ℕ) → Result Bool ScriptFault
@@ -23,17 +24,17 @@ with_verdict number (Err fault) verdict rest = record { text = []; fault = Some 
 with_verdict number (Ok false) verdict rest = rest
 with_verdict number (Ok true) verdict rest = record { text = verdict ++ rest.text; fault = rest.fault }
 
--- what is told of lines, at a line rate in picoseconds an octet
-abbrev pub checked_in : (List (List ℕ) → Result Command TcFault) → ℕ → Script → Outcome
-checked_in read ps End = record { text = []; fault = None }
-checked_in read ps (Broken number limit) = record { text = []; fault = Some (number, limit_fault limit) }
-checked_in read ps (Line number octets rest) =
-    with_verdict number (is_command (words_of octets)) (verdict_line ps (read (words_of octets))) (checked_in read ps rest)
+-- what is told of lines, by what is told of each that begins with tc
+abbrev pub checked_in : (List (List ℕ) → Result Command TcFault) → (Result Command TcFault → List ℕ) → Script → Outcome
+checked_in read told End = record { text = []; fault = None }
+checked_in read told (Broken number limit) = record { text = []; fault = Some (number, limit_fault limit) }
+checked_in read told (Line number octets rest) =
+    with_verdict number (is_command (words_of octets)) (told (read (words_of octets))) (checked_in read told rest)
 
 -- what is told of the octets of an input
-abbrev pub checked_of : (List (List ℕ) → Result Command TcFault) → ℕ → List ℕ → Outcome
-checked_of read ps input = checked_in read ps (script_of input)
+abbrev pub checked_of : (List (List ℕ) → Result Command TcFault) → (Result Command TcFault → List ℕ) → List ℕ → Outcome
+checked_of read told input = checked_in read told (script_of input)
 
--- the same, as what is to be written
-abbrev pub whole_check : ℕ → Whole
-whole_check ps read input = checked_of read ps input
+-- the same at a rate, with windows or without, as what is to be written
+abbrev pub whole_check : Teller → Bool → ℕ → Whole
+whole_check tell windows ps read input = checked_of read (verdict_lines tell (record { rate = ps; windows = windows })) input

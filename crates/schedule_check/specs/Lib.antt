@@ -1,3 +1,4 @@
 pub mod Apart
 pub mod Checked
 pub mod Windows
+pub mod WindowLines

@@ -1,6 +1,6 @@
 -- What a schedule gives a class: how long its gate stays open and closed, by the gates of its plan alone, which go on for ever
 -- (IEEE Std 802.1Q-2018, 8.6.8.4, 8.6.9.2).
-use Rattle.std.specs.Prelude.{◌≡◌, ◌≤◌, ℕ, zero, suc, ◌+◌, ◌-◌, true, map, Some, None, if◌then◌else◌}
+use Rattle.std.specs.Prelude.{◌≡◌, ◌<◌, ◌≤◌, ℕ, zero, suc, ◌+◌, ◌-◌, true, map, Some, None, if◌then◌else◌}
 use Rattle.wire_time.specs.Wire.{occupancy_of}
 use Rattle.gate_list.specs.Gate.{Plan, in_ps, mask_since, opens}
 use Rattle.gate_list.specs.Open.{open_while}
@@ -64,3 +64,12 @@ pub record IsWindow (ps : ℕ) (plan : Plan) (class : ℕ) (w : Window) : Type 0
   pub share : w.share ≡ open_total (alone plan) class (in_ps plan.cycle)
   pub cycle : w.cycle ≡ in_ps plan.cycle
   pub longest_frame : IsLongestFrame ps (alone plan) class w.longest_frame
+
+-- functions that say of a plan what it gives a class, at a rate in picoseconds an octet
+abbrev pub Teller : Type 0
+Teller = ℕ → Plan → ℕ → Window
+
+-- To each plan that has a cycle, and each class, what the plan gives the class at each rate. There is one such function, since there is
+-- just one such window (`one_teller`).
+abbrev pub IsTeller : Teller → Type 0
+IsTeller tell = (ps : ℕ) (plan : Plan) (class : ℕ) → 0 < plan.cycle → IsWindow ps plan class (tell ps plan class)

@@ -2,19 +2,21 @@
 
 ghost use Rattle.std.specs.Prelude.{◌≡◌, ℕ, List, Result, IfSome};
 ghost use Rattle.abstract_port.specs.declared.Command.{Command};
+ghost use Rattle.schedule_check.specs.Apart.{verdict_lines};
 ghost use Rattle.schedule_check.specs.Checked.{checked_in, checked_of, is_command};
-ghost use Rattle.line_reader.specs.LineReader.{script_left};
+ghost use Rattle.schedule_check.specs.Windows.{IsTeller, Teller};
+ghost use Rattle.line_reader.specs.LineReader.{current_number, script_left};
 ghost use Rattle.script.specs.Outcome.{Runs};
 ghost use Rattle.tc_reader.specs.Reader.{IsReader};
 ghost use Rattle.tc_reader.specs.declared.fault.TcFault.{TcFault};
 ghost use Rattle.words.specs.Words.{words_of};
 
+use crate::settings::CheckSettings;
 use crate::telling::put_line;
 use line_reader::LineReader;
 use script::{RunFault, ScriptFault};
 use std::alloc::Allocator;
 use std::io::{Read, Write};
-use wire_time::Rate;
 use words::Words;
 
 // Whether a line is a schedule command. It is skipped where it has no words or is a comment.
@@ -35,21 +37,32 @@ fn is_command(line: &[u8]) -> Result<bool, ScriptFault>
     }
 }
 
+// A fault of the line that was read last.
+fn fault_here<A: Allocator, R: Read + Drop>(
+    lines: &LineReader<R, A>,
+    fault: ScriptFault,
+) -> RunFault
+    ensures { result ≡ RunFault.Script (current_number lines.now) fault }
+{
+    RunFault::Script(lines.line_number(), fault)
+}
+
 // Tells of the lines that are to come.
 fn check_lines<A: Allocator, R: Read + Drop, W: Write>(
     lines: &mut LineReader<R, A>,
     writer: &mut W,
-    rate: Rate,
+    settings: &CheckSettings,
 ) -> Result<(), RunFault>
-    ensures { (read : List (List ℕ) → Result Command TcFault) → IsReader read → IfSome (script_left R.remaining lines.old) (λ script.
-        Runs result (W.contents writer.old) (W.contents writer.new) (checked_in read rate script)) }
+    ensures { (tell : Teller) → IsTeller tell → (read : List (List ℕ) → Result Command TcFault) → IsReader read
+        → IfSome (script_left R.remaining lines.old) (λ script.
+        Runs result (W.contents writer.old) (W.contents writer.new) (checked_in read (verdict_lines tell settings.now) script)) }
 {
     'lines: while lines.advance()? {
         let line = lines.line();
         match is_command(line) {
             Ok(false) => {}
-            Ok(true) => put_line(writer, rate, line)?,
-            Err(fault) => return Err(RunFault::Script(lines.line_number(), fault)),
+            Ok(true) => put_line(writer, *settings, line)?,
+            Err(fault) => return Err(fault_here(lines, fault)),
         }
     }
     Ok(())
@@ -57,7 +70,8 @@ fn check_lines<A: Allocator, R: Read + Drop, W: Write>(
 
 /// Reads schedule commands to the end of the input, and tells of each at the line rate: its fault where it is no command; the
 /// refusal of its schedule; or `apart` with the classes that the schedule keeps apart, in rising order, of those that the
-/// command's map has, or of all eight where it gives no map; a deletion keeps none apart.
+/// command's map has, or of all eight where it gives no map; a deletion keeps none apart. Where windows are asked for, a line
+/// follows for each of these classes that the schedule ever opens, of what it gives the class.
 ///
 /// Lines without words and comments are skipped; any other line is an `UnknownLine`, which ends the call after what is told of the
 /// lines before it. A read or a write that fails, or takes nothing, isn't tried again.
@@ -65,11 +79,12 @@ pub fn check<A: Allocator, R: Read + Drop, W: Write>(
     alloc: A,
     reader: R,
     writer: &mut W,
-    rate: Rate,
+    settings: CheckSettings,
 ) -> Result<(), RunFault>
-    ensures { (read : List (List ℕ) → Result Command TcFault) → IsReader read → IfSome (R.remaining reader) (λ input.
-        Runs result (W.contents writer.old) (W.contents writer.new) (checked_of read rate input)) }
+    ensures { (tell : Teller) → IsTeller tell → (read : List (List ℕ) → Result Command TcFault) → IsReader read
+        → IfSome (R.remaining reader) (λ input.
+        Runs result (W.contents writer.old) (W.contents writer.new) (checked_of read (verdict_lines tell settings) input)) }
 {
     let mut lines = LineReader::new(&alloc, reader)?;
-    check_lines(&mut lines, writer, rate)
+    check_lines(&mut lines, writer, &settings)
 }

@@ -3,10 +3,15 @@
 #![tactic(auto)]
 
 mod checking;
+mod laws;
 mod program;
+mod settings;
 mod telling;
+mod window_lines;
 mod windows;
 
 pub use checking::check;
+pub use laws::{ever_open, one_teller, turned_masks};
 pub use program::answer_check;
+pub use settings::CheckSettings;
 pub use windows::{Longest, Window, Windows};

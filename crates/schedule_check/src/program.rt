@@ -1,32 +1,36 @@
-//! The program's second job: schedules are checked at the rate that an option gives.
+//! The program's second job: schedules are checked by the values of options.
 
-ghost use Rattle.std.specs.Prelude.{◌≡◌, IfErr, option_map};
+ghost use Rattle.std.specs.Prelude.{◌≡◌, ℕ, IfErr, option_map};
 ghost use Rattle.std.specs.Io.Buffered.{writer_contents};
 ghost use Rattle.schedule_check.specs.Checked.{whole_check};
+ghost use Rattle.schedule_check.specs.Windows.{IsTeller, Teller};
 ghost use Rattle.script.specs.Ending.{IsEnding, rate_given};
 
 use crate::checking::check;
+use crate::settings::CheckSettings;
 use script::{Ended, end_run, end_with_value, rate_given};
 use std::alloc::Allocator;
 use std::io::{BufWriter, Read, Write};
 
-/// Checks the schedules that `reader` gives at the rate of this value in Mb/s, 1000 where none is given, through `answers`, with the text
-/// of a fault on `errors`; and gives the writer of the answers back. What was told is let out before a fault is; after a failed
+/// Checks the schedules that `reader` gives at the rate of this value in Mb/s, 1000 where none is given, with windows or without, through
+/// `answers`, with the text of a fault on `errors`; and gives the writer of the answers back. What was told is let out before a fault is; after a failed
 /// write no other is tried. Where the value is bad nothing is read.
 pub fn answer_check<A: Allocator, B: Allocator, R: Read, W: Write + Drop, E: Write>(
     alloc: A,
     rate: Option<&str>,
+    windows: bool,
     reader: &mut R,
     mut answers: BufWriter<W, B>,
     errors: &mut E,
 ) -> (Ended, W)
-    ensures ending { IsEnding whole_check (rate_given (option_map (λ text. text.now) rate.entry))
+    ensures ending { (tell : Teller) → IsTeller tell → IsEnding (whole_check tell windows) (rate_given (option_map (λ text. text.now) rate.entry))
         (R.remaining reader.old) result.0 (writer_contents W.contents answers) (W.contents result.1) (E.contents errors.old) (E.contents errors.new) }
     ensures unread { IfErr (rate_given (option_map (λ text. text.now) rate.entry)) (λ _. reader.new ≡ reader.old) }
 {
     match rate_given(rate) {
         Ok(rate) => {
-            let run = check(alloc, reader, &mut answers, rate);
+            let settings = CheckSettings { rate, windows };
+            let run = check(alloc, reader, &mut answers, settings);
             end_run(run, answers, errors)
         }
         Err(value) => end_with_value(value, answers, errors),

@@ -1,16 +1,21 @@
 //! What is told of a schedule command.
 
-ghost use Rattle.std.specs.Prelude.{◌≡◌, ◌<◌, ◌≤◌, ◌+◌, ◌++◌, ℕ, List, Result};
+ghost use Rattle.std.specs.Prelude.{◌≡◌, ◌<◌, ◌≤◌, ◌+◌, ◌++◌, ℕ, List, None, Result};
 ghost use Rattle.arrayvec.specs.ArrayVec.{array_vec_len};
 ghost use Rattle.std.specs.List.{flat_map};
-ghost use Rattle.schedule_check.specs.Apart.{apart_line, change_line, class_count, class_word, classes_apart, itself_apart, some_line, verdict_line};
+ghost use Rattle.schedule_check.specs.Apart.{apart_line, change_lines, class_count, class_word, classes_apart, itself_apart, some_line, verdict_lines};
+ghost use Rattle.schedule_check.specs.Windows.{IsTeller, Teller};
 ghost use Rattle.octet_writer.specs.Writes.{Writes};
+ghost use Rattle.abstract_port.specs.AbstractPort.{plan_asked};
 ghost use Rattle.abstract_port.specs.declared.Command.{Command};
+ghost use Rattle.gate_list.specs.Gate.{plan_fault};
 ghost use Rattle.tc_reader.specs.Reader.{IsReader};
 ghost use Rattle.tc_reader.specs.declared.fault.TcFault.{TcFault};
 ghost use Rattle.wire_time.specs.declared.TheConstants.{CLASSES};
 ghost use Rattle.words.specs.Words.{words_of};
 
+use crate::settings::CheckSettings;
+use crate::window_lines::put_asked;
 use abstract_port::{Answer, Change, Command, Refused};
 use answer_text::{Part, WriteFault, put, put_answer, put_parts, put_tc_fault};
 use arrayvec::ArrayVec;
@@ -19,7 +24,7 @@ use gate_list::Schedule;
 use script::read_tc;
 use std::io::Write;
 use tc_reader::TcFault;
-use wire_time::{CLASSES, Rate};
+use wire_time::CLASSES;
 
 // How many classes a change speaks of: those of its map, or all.
 fn class_count(map: Option<ClassMap>) -> u8
@@ -92,19 +97,41 @@ fn put_apart<W: Write>(writer: &mut W, classes: &[u8]) -> Result<(), WriteFault>
     }
 }
 
-// Tells of a change: the refusal of its schedule, or the classes that it keeps apart.
-fn put_change<W: Write>(writer: &mut W, rate: Rate, change: &Change) -> Result<(), WriteFault>
-    ensures { Writes result (W.contents writer.old) (W.contents writer.new) (change_line rate change.now) }
+// Tells of an accepted schedule: the classes that it keeps apart and, where windows are asked for, what it gives each class.
+fn put_schedule<W: Write>(
+    writer: &mut W,
+    settings: CheckSettings,
+    change: &Change,
+    schedule: &Schedule,
+) -> Result<(), WriteFault>
+    requires plan { schedule.now ≡ plan_asked change.now }
+    requires accepted { plan_fault settings.rate (plan_asked change.now) ≡ None }
+    ensures { (tell : Teller) → IsTeller tell →
+        Writes result (W.contents writer.old) (W.contents writer.new) (change_lines tell settings change.now) }
+{
+    let count = class_count(change.map);
+    put_apart(writer, &classes_apart(schedule, count))?;
+    put_asked(writer, settings, change, count)
+}
+
+// Tells of a change: the refusal of its schedule, or what the schedule promises.
+fn put_change<W: Write>(
+    writer: &mut W,
+    settings: CheckSettings,
+    change: &Change,
+) -> Result<(), WriteFault>
+    ensures { (tell : Teller) → IsTeller tell →
+        Writes result (W.contents writer.old) (W.contents writer.new) (change_lines tell settings change.now) }
 {
     let schedule = Schedule::new(
         &change.list,
         change.base_ns,
         change.cycle_ns,
         change.extension_ns,
-        rate,
+        settings.rate,
     );
     match schedule {
-        Ok(schedule) => put_apart(writer, &classes_apart(&schedule, class_count(change.map))),
+        Ok(schedule) => put_schedule(writer, settings, change, &schedule),
         Err(fault) => put_answer(writer, &Answer::Refused(Refused::Schedule(fault))),
     }
 }
@@ -112,22 +139,27 @@ fn put_change<W: Write>(writer: &mut W, rate: Rate, change: &Change) -> Result<(
 // Writes what is told of a command, or of a line that is none.
 fn put_verdict<W: Write>(
     writer: &mut W,
-    rate: Rate,
+    settings: CheckSettings,
     read: Result<Command, TcFault>,
 ) -> Result<(), WriteFault>
-    ensures { Writes result (W.contents writer.old) (W.contents writer.new) (verdict_line rate read) }
+    ensures { (tell : Teller) → IsTeller tell →
+        Writes result (W.contents writer.old) (W.contents writer.new) (verdict_lines tell settings read) }
 {
     match read {
-        Ok(Command::Replace(change)) => put_change(writer, rate, &change),
+        Ok(Command::Replace(change)) => put_change(writer, settings, &change),
         Ok(Command::Delete) => put_apart(writer, &[]),
         Err(fault) => put_tc_fault(writer, fault),
     }
 }
 
-/// Writes what is told of a line that begins with `tc`, at a line rate. At a fault a front of that is written.
-pub fn put_line<W: Write>(writer: &mut W, rate: Rate, line: &[u8]) -> Result<(), WriteFault>
-    ensures { (read : List (List ℕ) → Result Command TcFault) → IsReader read →
-        Writes result (W.contents writer.old) (W.contents writer.new) (verdict_line rate (read (words_of line.now))) }
+/// Writes what is told of a line that begins with `tc`, by settings. At a fault a front of that is written.
+pub fn put_line<W: Write>(
+    writer: &mut W,
+    settings: CheckSettings,
+    line: &[u8],
+) -> Result<(), WriteFault>
+    ensures { (tell : Teller) → IsTeller tell → (read : List (List ℕ) → Result Command TcFault) → IsReader read →
+        Writes result (W.contents writer.old) (W.contents writer.new) (verdict_lines tell settings (read (words_of line.now))) }
 {
-    put_verdict(writer, rate, read_tc(line))
+    put_verdict(writer, settings, read_tc(line))
 }

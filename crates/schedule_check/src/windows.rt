@@ -1,13 +1,13 @@
 //! What a schedule gives each class: how long it stays open and closed, its share of a cycle, and the longest frame that can start.
 
-ghost use Rattle.std.specs.Prelude.{◌≡◌, ◌<◌, ◌≤◌, ◌⊎◌, ◌*◌, ◌^◌, ◌+◌, ℕ, if◌then◌else◌, length, map, min, true};
+ghost use Rattle.std.specs.Prelude.{◌≡◌, ◌<◌, ◌≤◌, ◌⊎◌, ◌*◌, ◌^◌, ◌+◌, ℕ, Some, if◌then◌else◌, length, map, min, slice_get, true};
 ghost use Rattle.gate_list.specs.Gate.{in_ps, ok_unless, opens, plan_fault, plan_with};
 ghost use Rattle.gate_list.specs.Stay.{stay_lasts};
 ghost use Rattle.schedule_check.specs.Windows.{IsLongestFrame, IsOpenStay, IsWindow, alone, open_total, turned, turned_entry};
 ghost use Rattle.wire_time.specs.declared.TheConstants.{CLASSES};
 
 use arrayvec::ArrayVec;
-use gate_list::{Entry, GateList, MAX_ENTRIES, PlanFault, Schedule, Stay, Visits, is_open};
+use gate_list::{Entry, GateList, MAX_ENTRIES, PlanFault, Row, Schedule, Stay, Visits, is_open};
 use std::marker::Model;
 use wire_time::{CLASSES, Rate};
 
@@ -70,6 +70,14 @@ fn longer(one: Stay, other: Stay) -> Stay
     }
 }
 
+/// How long a class stays open from the start of a row's entry on, round the cycle's end too.
+fn stay_from(row: &Row, class: u8) -> Stay
+    requires { class < CLASSES }
+    ensures { slice_get row.now.stay class ≡ Some result }
+{
+    row.stay[usize::from(class)]
+}
+
 /// The longest time that a class stays open.
 fn longest_open(schedule: &Schedule, class: u8) -> Stay
     requires { class < CLASSES }
@@ -80,7 +88,7 @@ fn longest_open(schedule: &Schedule, class: u8) -> Stay
     let mut longest = Stay::Lasts(0);
     for i in 0..schedule.len() {
         let row = schedule.row(i, &mut visits);
-        longest = longer(longest, row.stay[usize::from(class)]);
+        longest = longer(longest, stay_from(&row, class));
     }
     longest
 }
@@ -217,7 +225,8 @@ impl Windows {
     /// What the schedule gives a class at a rate.
     pub fn window(&self, rate: Rate, class: u8) -> Window
         requires { class < CLASSES }
-        ensures { IsWindow rate self.now class result }
+        ensures window { IsWindow rate self.now class result }
+        ensures cycle { 0 < self.now.cycle }
     {
         Window {
             open_time: self.open_time(class),

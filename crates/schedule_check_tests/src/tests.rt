@@ -1,7 +1,7 @@
 //! Schedule commands, and what is told of them.
 
 use linked_list_allocator::LocalHeap;
-use schedule_check::check;
+use schedule_check::{CheckSettings, check};
 use script::{RunFault, ScriptFault};
 use std::process::Abort;
 use std::test::Fail;
@@ -22,16 +22,66 @@ tc qdisc replace dev eth0 root taprio base-time 0\n";
 const TOLD: &[u8] =
     b"apart 0 1 2\napart 2 3 4 5 6 7\napart none\nrefused IntervalTooShort 0\ntc-fault NoEntries\n";
 
-/// A line rate in Mb/s.
-fn rate(rt: &impl Abort, mbps: u32) -> Rate {
-    Rate::from_mbps(mbps).expect(rt, "a rate")
+/// What is told of them with windows.
+const TOLD_WITH_WINDOWS: &[u8] = b"apart 0 1 2\n\
+window class 0 open 300000000 closed 700000000 share 300000000 of 1000000000 frame 37476\n\
+window class 1 open 300000000 closed 700000000 share 300000000 of 1000000000 frame 37476\n\
+window class 2 open 400000000 closed 600000000 share 400000000 of 1000000000 frame 49976\n\
+apart 2 3 4 5 6 7\n\
+window class 0 open always closed 0 share 600000000 of 600000000 frame any\n\
+window class 1 open 300000000 closed 300000000 share 300000000 of 600000000 frame 37476\n\
+apart none\n\
+refused IntervalTooShort 0\n\
+tc-fault NoEntries\n";
+
+/// With windows or without, at a line rate in Mb/s.
+fn settings(rt: &impl Abort, mbps: u32, windows: bool) -> CheckSettings {
+    let rate = Rate::from_mbps(mbps).expect(rt, "a rate");
+    CheckSettings { rate, windows }
 }
 
 #[test]
 fn tells_of_each_command(rt: HostRuntime) -> Result<(), Fail> {
     let mut got = Vec::new(rt.alloc());
-    check(rt.alloc(), SCHEDULES, &mut got, rate(&rt, 1000))?;
+    check(rt.alloc(), SCHEDULES, &mut got, settings(&rt, 1000, false))?;
     assert_eq!(rt; got.as_slice(), TOLD);
+    got.clear();
+    check(rt.alloc(), SCHEDULES, &mut got, settings(&rt, 1000, true))?;
+    assert_eq!(rt; got.as_slice(), TOLD_WITH_WINDOWS);
+    Ok(())
+}
+
+/// Of classes at and above the map's number, and of those that are never open, there is no line.
+#[test]
+fn tells_of_the_maps_classes_that_are_ever_open(rt: HostRuntime) -> Result<(), Fail> {
+    let rows: [(&[u8], &[u8]); 4] = [
+        (
+            b"num_tc 2 map 0 1 sched-entry S 86 1000",
+            b"apart 0\nwindow class 1 open always closed 0 share 1000000 of 1000000 frame any\n",
+        ),
+        (b"num_tc 1 map 0 sched-entry S fe 1000", b"apart 0\n"),
+        (
+            b"sched-entry S 00 1000 sched-entry S 80 1000",
+            b"apart 0 1 2 3 4 5 6 7\nwindow class 7 open 1000000 closed 1000000 share 1000000 of 2000000 frame 101\n",
+        ),
+        (
+            b"num_tc 1 map 0 cycle-time 1000 sched-entry S 00 1000 sched-entry S 01 1000",
+            b"apart 0\n",
+        ),
+    ];
+    for (options, told) in rows {
+        let mut line = Vec::new(rt.alloc());
+        line.extend_from_slice(b"tc qdisc replace dev eth0 root taprio ")?;
+        line.extend_from_slice(options)?;
+        let mut got = Vec::new(rt.alloc());
+        check(
+            rt.alloc(),
+            line.as_slice(),
+            &mut got,
+            settings(&rt, 1000, true),
+        )?;
+        assert_eq!(rt; got.as_slice(), told);
+    }
     Ok(())
 }
 
@@ -53,7 +103,12 @@ fn looks_at_all_eight_classes(rt: HostRuntime) -> Result<(), Fail> {
         line.extend_from_slice(b"tc qdisc replace dev eth0 root taprio ")?;
         line.extend_from_slice(options)?;
         let mut got = Vec::new(rt.alloc());
-        check(rt.alloc(), line.as_slice(), &mut got, rate(&rt, 1000))?;
+        check(
+            rt.alloc(),
+            line.as_slice(),
+            &mut got,
+            settings(&rt, 1000, false),
+        )?;
         assert_eq!(rt; got.as_slice(), told);
     }
     Ok(())
@@ -64,7 +119,7 @@ fn looks_at_all_eight_classes(rt: HostRuntime) -> Result<(), Fail> {
 fn judges_at_the_rate(rt: HostRuntime) -> Result<(), Fail> {
     let line = b"tc qdisc replace dev eth0 root taprio sched-entry S 01 479\n".as_slice();
     let mut got = Vec::new(rt.alloc());
-    check(rt.alloc(), line, &mut got, rate(&rt, 10_000))?;
+    check(rt.alloc(), line, &mut got, settings(&rt, 10_000, false))?;
     assert_eq!(rt; got.as_slice(), b"apart 0 1 2 3 4 5 6 7\n".as_slice());
     Ok(())
 }
@@ -85,7 +140,7 @@ fn ends_at_faults(rt: HostRuntime) {
     for (input, line, told) in rows {
         let mut got = Vec::new(rt.alloc());
         assert_eq!(rt;
-            check(rt.alloc(), input, &mut got, rate(&rt, 1000)),
+            check(rt.alloc(), input, &mut got, settings(&rt, 1000, false)),
             Err(RunFault::Script(line, ScriptFault::UnknownLine))
         );
         assert_eq!(rt; got.as_slice(), told);
@@ -98,7 +153,7 @@ fn refuses_each_growth(rt: HostRuntime) -> Result<(), Fail> {
     for size in 1..40usize {
         let heap = LocalHeap::new(rt.alloc(), 6000 * size)?;
         let mut got = Vec::new(rt.alloc());
-        let result = check(&heap, SCHEDULES, &mut got, rate(&rt, 1000));
+        let result = check(&heap, SCHEDULES, &mut got, settings(&rt, 1000, false));
         if result.is_ok() {
             done = true;
             assert_eq!(rt; got.as_slice(), TOLD);
@@ -120,7 +175,7 @@ fn stops_at_each_read(rt: HostRuntime) -> Result<(), Fail> {
             reader.fails_at = fails_at;
             reader.recovers = recovers;
             let mut got = Vec::new(rt.alloc());
-            let result = check(rt.alloc(), reader, &mut got, rate(&rt, 1000));
+            let result = check(rt.alloc(), reader, &mut got, settings(&rt, 1000, false));
             assert!(rt; TOLD.starts_with(&got));
             if result.is_ok() {
                 assert_eq!(rt; got.as_slice(), TOLD);
@@ -135,7 +190,7 @@ fn stops_at_each_read(rt: HostRuntime) -> Result<(), Fail> {
 /// Each write in turn fails, or takes nothing: what was taken before is a front of what is told.
 #[test]
 fn stops_at_each_write(rt: HostRuntime) -> Result<(), Fail> {
-    for room in 0..=TOLD.len() {
+    for room in 0..=TOLD_WITH_WINDOWS.len() {
         for (fails, recovers) in [(false, false), (true, false), (true, true)] {
             let mut writer = Narrow {
                 got: Vec::new(rt.alloc()),
@@ -144,13 +199,18 @@ fn stops_at_each_write(rt: HostRuntime) -> Result<(), Fail> {
                 fails,
                 recovers,
             };
-            let result = check(rt.alloc(), SCHEDULES, &mut writer, rate(&rt, 1000));
-            if room < TOLD.len() {
+            let result = check(
+                rt.alloc(),
+                SCHEDULES,
+                &mut writer,
+                settings(&rt, 1000, true),
+            );
+            if room < TOLD_WITH_WINDOWS.len() {
                 assert_eq!(rt; result, Err(RunFault::Write));
             } else {
                 result?;
             }
-            assert_eq!(rt; writer.got.as_slice(), &TOLD[..room]);
+            assert_eq!(rt; writer.got.as_slice(), &TOLD_WITH_WINDOWS[..room]);
         }
     }
     Ok(())

@@ -1,7 +1,7 @@
 use Rattle.std.proofs.Common.{arith}
 use Rattle.gate_list.specs.declared.Stay.TheVariants.{Lasts}
 use Rattle.schedule_check.specs.Windows.{alone}
-use Rattle.schedule_check.proofs.WindowLaws.{reaches_none, bounds_none, reaches_either, bounds_more, row_reaches, row_told, open_stay}
+use Rattle.schedule_check.proofs.WindowLaws.{reaches_none, bounds_none, reaches_either, bounds_more, row_reaches, open_stay}
 use Rattle.schedule_check.proofs.windows.longest_open.Goals as goal
 
 pub loop-i-init : goal.loop-i-init
@@ -16,8 +16,8 @@ loop-i-preserved c =
     let sound = c.len-i-end.ensures.sound in
     let plan_is = sound.plan_is in
     let row = c.row-row.ensures in
-    let longer = rw c.from.ensures at c.longer-longest.ensures in
-    let there = row_told c.args.schedule.now c.loop-i.i c.args.class c.row-row.result.stay _ c.requires row.stays row.unseen in
+    let longer = c.longer-longest.ensures in
+    let there = c.stay_from.ensures in
     record {
       reaches = reaches_either (alone c.args.schedule.now) c.args.class _ _ _ longer.either c.loop-i.invariant.reaches
           (row_reaches c.args.schedule.now c.args.class c.loop-i.i c.row-row.result.stay c.requires plan_is.cycle row.open c.row-row.result.entry row.entry plan_is.intervals _ there row.unseen);

@@ -1,0 +1,67 @@
+-- Which classes are told of, and their lines one after another.
+use Rattle.std.proofs.Common.{◌≡◌, ◌<◌, ◌≤◌, ℕ, zero, suc, ◌+◌, ◌-◌, ◌%◌, true, false, cond, List, [], ◌++◌, Option, inl, inr, sym, ap, ◌∙◌, subst, arith, mod-lt, mod-eq_of_lt}
+use Rattle.std.proofs.lemmas.Bool.{cases_Bool, cases_lt}
+use Rattle.gate_list.specs.Gate.{Plan, in_ps, mask_at, opens}
+use Rattle.octet_writer.specs.Writes.{Sent}
+use Rattle.octet_writer.proofs.Fronts.{sent_none}
+use Rattle.schedule_check.specs.declared.windows.Window.{Window}
+use Rattle.schedule_check.specs.Windows.{alone, open_total}
+use Rattle.schedule_check.specs.WindowLines.{open_line, open_lines}
+
+-- ---- lines
+
+-- before the first
+pub lines_first : (tell : ℕ → Window) (count : ℕ) (old : Option (List ℕ)) → Sent old old (open_lines tell count 0) (open_lines tell (count - 0) 0)
+lines_first tell count old =
+    let same : count ≡ count - 0 = omega arith in
+    subst (λ n. Sent old old (open_lines tell count 0) (open_lines tell n 0)) same (sent_none old (open_lines tell count 0))
+
+-- the lines of one class more
+pub lines_more : (tell : ℕ → Window) (count class : ℕ) (w : Window) → class < count → w ≡ tell class
+    → open_lines tell (count - class) class ≡ open_line class w ++ open_lines tell (count - (class + 1)) (class + 1)
+unfolding open_lines
+lines_more tell count class w less is =
+    let step : count - class ≡ suc (count - (class + 1)) = omega arith in
+    ap (λ n. open_lines tell n class) step ∙ ap (λ v. open_line class v ++ open_lines tell (count - (class + 1)) (class + 1)) (sym is)
+
+-- there are no more
+pub lines_end : (tell : ℕ → Window) (count class : ℕ) → count ≤ class → open_lines tell (count - class) class ≡ []
+unfolding open_lines
+lines_end tell count class over = ap (λ n. open_lines tell n class) (let none : count - class ≡ 0 = omega arith in none)
+
+-- ---- classes that are ever open
+
+open_then : (mask : ℕ → ℕ) (class n : ℕ) → 0 < open_total mask class n → (m : ℕ) × (opens (mask m) class ≡ true)
+unfolding open_total
+open_then mask class zero more = absurd (omega arith)
+open_then mask class (suc n) more =
+    elim (cases_Bool (opens (mask n) class)) [
+      | inl here ↦ (n, here)
+      | inr shut ↦ open_then mask class n (let before : 0 < open_total mask class n + cond false 1 0 = subst (λ b. 0 < open_total mask class n + cond b 1 0) shut more in omega arith)
+    ]
+
+counts : (mask : ℕ → ℕ) (class n m : ℕ) → m < n → opens (mask m) class ≡ true → 0 < open_total mask class n
+unfolding open_total
+counts mask class zero m less here = absurd (omega arith)
+counts mask class (suc n) m less here =
+    elim (cases_lt m n) [
+      | inl before ↦ (let rest = counts mask class n m before here in omega arith)
+      | inr at ↦
+          (let now : opens (mask n) class ≡ true = subst (λ k. opens (mask k) class ≡ true) (let same : m ≡ n = omega arith in same) here in
+          let one : 0 < open_total mask class n + cond true 1 0 = omega arith in
+          subst (λ b. 0 < open_total mask class n + cond b 1 0) (sym now) one)
+    ]
+
+pub open_ever : (plan : Plan) (class m : ℕ) → 0 < plan.cycle → opens (alone plan m) class ≡ true → 0 < open_total (alone plan) class (in_ps plan.cycle)
+open_ever plan class m above here =
+    let cycle : ℕ = in_ps plan.cycle in
+    let some : 0 < cycle = omega arith in
+    let inside : m % cycle < cycle = mod-lt m some in
+    let now : m - 0 ≡ m = omega arith in
+    let then : m % cycle - 0 ≡ m % cycle = omega arith in
+    let same : alone plan m ≡ alone plan (m % cycle) =
+    ap (λ n. mask_at plan.entries (n % cycle)) now ∙ (sym (ap (mask_at plan.entries) (mod-eq_of_lt inside)) ∙ sym (ap (λ n. mask_at plan.entries (n % cycle)) then)) in
+    counts (alone plan) class cycle (m % cycle) inside (subst (λ k. opens k class ≡ true) same here)
+
+pub ever_is : (plan : Plan) (class : ℕ) → 0 < open_total (alone plan) class (in_ps plan.cycle) → (m : ℕ) × (opens (alone plan m) class ≡ true)
+ever_is plan class more = open_then (alone plan) class (in_ps plan.cycle) more

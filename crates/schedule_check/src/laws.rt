@@ -1,0 +1,24 @@
+//! Laws of what a schedule gives a class. The functions run nothing: the contract of each is its law.
+
+ghost use Rattle.std.specs.Prelude.{◌≡◌, ◌<◌, ◌^◌, ◌↔◌, ℕ, not, true};
+ghost use Rattle.gate_list.specs.Gate.{Plan, in_ps, opens};
+ghost use Rattle.schedule_check.specs.Windows.{IsTeller, Teller, alone, open_total, turned_mask};
+ghost use Rattle.wire_time.specs.declared.TheConstants.{CLASSES};
+
+/// A turned mask opens just the classes that the mask closes, of the eight of a mask of eight bits.
+pub fn turned_masks()
+    ensures { (mask class : ℕ) → mask < 2 ^ CLASSES → class < CLASSES → opens (turned_mask mask) class ≡ not (opens mask class) }
+{}
+
+/// There is a function that says of each plan with a cycle what it gives each class at each rate, and just one.
+pub fn one_teller()
+    ensures some { (tell : Teller) × IsTeller tell }
+    ensures one { (tell other : Teller) → IsTeller tell → IsTeller other
+        → (ps : ℕ) (plan : Plan) (class : ℕ) → 0 < plan.cycle → tell ps plan class ≡ other ps plan class }
+{}
+
+/// A class is ever open just where it is for some part of a cycle.
+pub fn ever_open()
+    ensures { (plan : Plan) (class : ℕ) → 0 < plan.cycle
+        → ((m : ℕ) × (opens (alone plan m) class ≡ true)) ↔ (0 < open_total (alone plan) class (in_ps plan.cycle)) }
+{}

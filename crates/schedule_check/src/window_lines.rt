@@ -1,0 +1,119 @@
+//! The lines of what a schedule gives each class.
+
+ghost use Rattle.std.specs.Prelude.{◌≡◌, ◌≤◌, ℕ, None};
+ghost use Rattle.abstract_port.specs.AbstractPort.{plan_asked};
+ghost use Rattle.answer_text.specs.Part.{text_of};
+ghost use Rattle.gate_list.specs.Gate.{plan_fault};
+ghost use Rattle.octet_writer.specs.Writes.{Writes};
+ghost use Rattle.schedule_check.specs.Windows.{IsTeller, Teller};
+ghost use Rattle.schedule_check.specs.WindowLines.{asked_lines, frame_text, open_line, open_lines, time_text, window_line};
+ghost use Rattle.wire_time.specs.declared.TheConstants.{CLASSES};
+
+use crate::settings::CheckSettings;
+use crate::windows::{Longest, Window, Windows};
+use abstract_port::Change;
+use answer_text::{Part, WriteFault, put_parts};
+use gate_list::Stay;
+use std::io::Write;
+use wire_time::Rate;
+
+// A time, as a part of a line.
+fn time_part(time: Stay) -> Part<'static>
+    ensures { text_of result ≡ time_text time }
+{
+    match time {
+        Stay::Lasts(picoseconds) => Part::Number(picoseconds),
+        Stay::Always => Part::Text(b"always"),
+    }
+}
+
+// The longest frame, as a part of a line.
+fn frame_part(frame: Longest) -> Part<'static>
+    ensures { text_of result ≡ frame_text frame }
+{
+    match frame {
+        Longest::NoFrame => Part::Text(b"none"),
+        Longest::Octets(octets) => Part::Number(octets),
+        Longest::AnyFrame => Part::Text(b"any"),
+    }
+}
+
+// Writes the line of a class.
+fn put_window<W: Write>(writer: &mut W, class: u8, window: &Window) -> Result<(), WriteFault>
+    ensures { Writes result (W.contents writer.old) (W.contents writer.new) (window_line class window.now) }
+{
+    put_parts(
+        writer,
+        &[
+            Part::Text(b"window class "),
+            Part::Number(u128::from(class)),
+            Part::Text(b" open "),
+            time_part(window.open_time),
+            Part::Text(b" closed "),
+            time_part(window.closed_time),
+            Part::Text(b" share "),
+            Part::Number(window.share),
+            Part::Text(b" of "),
+            Part::Number(window.cycle),
+            Part::Text(b" frame "),
+            frame_part(window.longest_frame),
+            Part::Text(b"\n"),
+        ],
+    )
+}
+
+// Writes the line of a class that is ever open.
+fn put_if_open<W: Write>(writer: &mut W, class: u8, window: &Window) -> Result<(), WriteFault>
+    ensures { Writes result (W.contents writer.old) (W.contents writer.new) (open_line class window.now) }
+{
+    if window.share == 0 {
+        return Ok(());
+    }
+    put_window(writer, class, window)
+}
+
+// Writes the lines of the classes below a number that are ever open.
+fn put_windows<W: Write>(
+    writer: &mut W,
+    rate: Rate,
+    windows: &Windows,
+    count: u8,
+) -> Result<(), WriteFault>
+    requires { count ≤ CLASSES }
+    ensures { (tell : Teller) → IsTeller tell →
+        Writes result (W.contents writer.old) (W.contents writer.new) (open_lines (tell rate windows.now) count 0) }
+{
+    for class in 0..count {
+        put_if_open(writer, class, &windows.window(rate, class))?;
+    }
+    Ok(())
+}
+
+/// Writes, where windows are asked for, a line for each class below a number that is ever open, of what the schedule of a change gives it.
+/// At a fault a front of them is written.
+pub fn put_asked<W: Write>(
+    writer: &mut W,
+    settings: CheckSettings,
+    change: &Change,
+    count: u8,
+) -> Result<(), WriteFault>
+    requires accepted { plan_fault settings.rate (plan_asked change.now) ≡ None }
+    requires few { count ≤ CLASSES }
+    ensures { (tell : Teller) → IsTeller tell →
+        Writes result (W.contents writer.old) (W.contents writer.new) (asked_lines settings.windows (tell settings.rate (plan_asked change.now)) count) }
+{
+    if !settings.windows {
+        return Ok(());
+    }
+    let windows = Windows::new(
+        &change.list,
+        change.base_ns,
+        change.cycle_ns,
+        change.extension_ns,
+        settings.rate,
+    );
+    match windows {
+        Ok(windows) => put_windows(writer, settings.rate, &windows, count),
+        Err(_) => unreachable!(),
+    }
+}
