@@ -296,8 +296,8 @@ fn near_clocks_look_at_the_next_entry_alone(rt: HostRuntime) -> Result<(), Fail>
     let installed = Answer::Installed(20_000_000);
     steps(&rt, &mut port, Event::Install(&list), &[(installed, 0)], 0);
     steps(&rt, &mut port, Event::Clock(20_000_000), &[], 1);
-    for i in 1..256 {
-        let begins = 20_000_000 + 500_000 * i;
+    for i in 1..256u32 {
+        let begins = 20_000_000 + 500_000 * u128::from(i);
         steps(&rt, &mut port, Event::Clock(begins - 1), &[], 0);
         steps(&rt, &mut port, Event::Clock(begins), &[], 1);
     }
