@@ -1,28 +1,24 @@
 -- The gates by the commands that count, and by where the list in force stands.
-use Rattle.std.proofs.Common.{◌≡◌, ◌<◌, ◌≤◌, ℕ, min, Bool, true, cond, ◌&&◌, leb, ltb, List, [], ◌∷◌, Option, Some, None, MatchOption, option_map, inl, inr, refl, sym, ap, ◌∙◌, subst, arith, le_refl, lt_of_lt_of_le, le_of_lt, ◌⊎◌, Any, IfSome}
-use Rattle.std.proofs.lemmas.Bool.{lt-leb, lt-ltb, le-ltb, cases_lt, le-leb}
+use Rattle.std.proofs.Common.{◌≡◌, ◌<◌, ◌≤◌, ℕ, min, Bool, cond, ◌&&◌, leb, ltb, List, [], ◌∷◌, ◌++◌, Option, Some, None, MatchOption, option_map, inl, inr, refl, sym, ap, ◌∙◌, subst, arith, le_refl, lt_of_lt_of_le, le_of_lt, ◌⊎◌, Any, IfSome}
+use Rattle.std.proofs.lemmas.Bool.{lt-leb, lt-ltb, le-ltb, cases_lt}
 use Rattle.std.proofs.lemmas.Option.{same_Some}
 use Rattle.std.specs.Option.{ForSome, option_or}
 use Rattle.gate_list.specs.Gate.{Plan, IsSchedule, mask_since}
 use Rattle.gate_list.specs.Open.{open_while}
 use Rattle.list_config.specs.History.{Accepted, pending, announced, gates, kept, mask_under, open_through, cons_some, three, is_in_time, only_if, plan_of, start_of, mask_of_plan, IsWaiting, IsAhead}
 use Rattle.list_config.specs.Stretch.{mask_in, stretches_from}
-use Rattle.list_config.specs.Current.{IsCurrent}
+use Rattle.list_config.specs.Current.{IsCurrent, with_command, with_command_by}
 use Rattle.list_config.specs.Event.{BeginsEntry, ComesAt, IsGateEvent}
 use Rattle.list_config.proofs.EventLaws.{any_after, any_here}
 use Rattle.list_config.proofs.HistoryLaws.{cons_some_push, push_gates, three_force, three_pending, three_announced, settled_force, settled_pending, settled_announced, settled_kept, past_three}
 use Rattle.list_config.proofs.StretchLaws.{HasBegun, begun_from, begun_later, has_cycle, start_before, planned_stretch, unheld_stretch, stretches_open_through}
 use Rattle.list_position.specs.declared.Position.{Position}
 use Rattle.list_position.specs.Position.{IsFlat}
-use Rattle.accepted_commands.specs.Commands.{Commands, AreCommands, IsUsable, history_of, settled_at, in_force_by, pending_by}
-use Rattle.accepted_commands.specs.Standing.{Stands, StandsUnder, earlier, hold_for, shown_by, shows_under, ComesTo, IsLedAt, StoodUnder, boundary_in_force, boundary_under, edge_at}
+use Rattle.accepted_commands.specs.Commands.{Commands, AreCommands, IsUsable, NoneBy, history_of, settled_at, in_force_by, pending_by, announced_by}
+use Rattle.accepted_commands.specs.Standing.{Stands, StandsUnder, earlier, hold_for, shown_by, shows_under, boundary_in_force, boundary_under, edge_at}
 use Rattle.list_position.proofs.PositionLaws.{boundary_begins, placed_mask}
 
 -- ---- what shows now and up to the next command
-
--- no command comes before its change, or its lead moment
-abbrev pub NoneBy : Option Accepted → Option Accepted → ℕ → Type 0
-NoneBy p x m = ForSome p (λ a. m < a.change) × ForSome x (λ a. m < a.lead)
 
 -- what is at or before the earlier of two moments is so before both
 upto_parts : (m : ℕ) (a b : Option ℕ) → ForSome (earlier a b) (λ u. m ≤ u) → ForSome a (λ u. m ≤ u) × ForSome b (λ u. m ≤ u)
@@ -96,6 +92,16 @@ module _ (c : Commands) (s : AreCommands c) where
         by : (p : Option Accepted) → ForSome p (λ a. m < a.change) → only_if (λ a. ltb m a.change) (option_or p c.in_force) ≡ p
         by None h = old_now
         by (Some a) h = ap (λ b. cond b (Some a) None) (lt-ltb m a.change (h a refl))
+
+    pub same_commands : settled_at c m ≡ record c { moment = m }
+    same_commands =
+        ap (λ f. record { moment = m; in_force = f; pending = (settled_at c m).pending; announced = (settled_at c m).announced }) force_still
+        ∙ (ap (λ p. record { moment = m; in_force = c.in_force; pending = p; announced = (settled_at c m).announced }) pending_still
+        ∙ ap (λ x. record { moment = m; in_force = c.in_force; pending = c.pending; announced = x }) (by c.announced none.1))
+      where
+        by : (x : Option Accepted) → ForSome x (λ a. m < a.lead) → announced_by x m ≡ x
+        by None h = refl
+        by (Some a) h = ap (λ b. cond b (Some a) None) (lt-ltb m a.lead (h a refl))
 
     pub gates_ahead : gates (history_of c) m ≡ shows_under c.in_force c.pending m
     gates_ahead =
@@ -225,84 +231,6 @@ module _ (c : Commands) (s : AreCommands c) where
   edge_events position stands None is later = tt
   edge_events position stands (Some u) is later = edge_event position stands u (le_of_lt (later u refl)) (sym is)
 
-  -- what comes at the next edge, or before it, where the list in force stands as it stood unless a command comes
-  pub comes_to : (position : Option Position) → Stands c.in_force c.pending c.moment position → (m : ℕ) → c.moment ≤ m → ForSome (edge_at c position) (λ u. m ≤ u) → (then : Option Position) → (NoneBy c.pending c.announced m → then ≡ position) → ComesTo (in_force_by c.in_force c.pending c.announced m) (pending_by c.in_force c.pending c.announced m) m then
-  comes_to position stands m l upto then still =
-      elim (cases c.pending c.announced (changes c.pending commands.0) (leads c.announced commands.1) s.announced_usable) [
-        | inl none ↦
-            subst (λ f. ComesTo f (pending_by c.in_force c.pending c.announced m) m then) (sym (force_still m l none))
-            (subst (λ p. ComesTo c.in_force p m then) (sym (pending_still m l none))
-            (subst (ComesTo c.in_force c.pending m) (sym (still none))
-            (inr (inr (record { from = c.moment; stands = stands; onward = l; upto = parts.0 })))))
-        | inr moved ↦ moved
-      ]
-    where
-      parts : ForSome (boundary_in_force c.in_force c.pending position) (λ u. m ≤ u) × ForSome (earlier (option_map (λ a. a.change) c.pending) (option_map (λ a. a.lead) c.announced)) (λ u. m ≤ u)
-      parts = upto_parts m (boundary_in_force c.in_force c.pending position) _ upto
-
-      commands : ForSome (option_map (λ a. a.change) c.pending) (λ u. m ≤ u) × ForSome (option_map (λ a. a.lead) c.announced) (λ u. m ≤ u)
-      commands = upto_parts m (option_map (λ a. a.change) c.pending) (option_map (λ a. a.lead) c.announced) parts.1
-
-      changes : (p : Option Accepted) → ForSome (option_map (λ a. a.change) p) (λ u. m ≤ u) → ForSome p (λ a. m ≤ a.change)
-      changes None h a is = cc
-      changes (Some b) h a is = subst (λ (k : Accepted). m ≤ k.change) (same_Some b a is) (h b.change refl)
-
-      leads : (p : Option Accepted) → ForSome (option_map (λ a. a.lead) p) (λ u. m ≤ u) → ForSome p (λ a. m ≤ a.lead)
-      leads None h a is = cc
-      leads (Some b) h a is = subst (λ (k : Accepted). m ≤ k.lead) (same_Some b a is) (h b.lead refl)
-
-      -- nothing new, or a command that comes into force or has its lead moment
-      Moved : Option Accepted → Option Accepted → Type 0
-      Moved p x = (start_of (in_force_by c.in_force p x m) ≡ m) ⊎ (IsLedAt (pending_by c.in_force p x m) m ⊎ StoodUnder (in_force_by c.in_force p x m) (pending_by c.in_force p x m) m then)
-
-      -- the announced one has its lead moment
-      led : (p : Option Accepted) (b : Accepted) → b.lead ≡ m → b.lead ≤ b.change → Moved p (Some b)
-      led p b at timely =
-          elim (cases_lt m b.change) [
-            | inl after ↦
-                (let pend : pending_by c.in_force p (Some b) m ≡ Some b =
-                ap (λ t. only_if (λ a. ltb m a.change) (option_or (cond t (Some b) None) (option_or p c.in_force))) (le-leb b.lead m (omega arith)) ∙ ap (λ t. cond t (Some b) None) (lt-ltb m b.change after) in
-                inr (inl (subst (λ q. IsLedAt q m) (sym pend) at)))
-            | inr now ↦
-                (let force : in_force_by c.in_force p (Some b) m ≡ Some b =
-                ap (λ t. option_or (cond t (Some b) None) (option_or (only_if (λ a. leb a.change m && is_in_time a (b ∷ [])) p) c.in_force)) (le-leb b.change m now) in
-                inl (ap start_of force ∙ (let same : b.change ≡ m = omega arith in same)))
-          ]
-
-      -- the pending one changes the gates
-      begins : (a : Accepted) (x : Option Accepted) → a.change ≡ m → ForSome x (λ b. m < b.lead) → ForSome x IsUsable → Moved (Some a) x
-      begins a x at ahead u = inl (ap start_of force ∙ at)
-        where
-          not_yet : (x : Option Accepted) → ForSome x (λ b. m < b.lead) → ForSome x IsUsable → only_if (λ b. leb b.change m) x ≡ None
-          not_yet None h u = refl
-          not_yet (Some b) h u = ap (λ t. cond t (Some b) None) (lt-leb b.change m (lt_of_lt_of_le (h b refl) (u b refl).timely))
-
-          in_time : (x : Option Accepted) → ForSome x (λ b. m < b.lead) → is_in_time a (cons_some x []) ≡ true
-          in_time None h = refl
-          in_time (Some b) h = le-leb a.change b.lead (let before : m < b.lead = h b refl in omega arith)
-
-          force : in_force_by c.in_force (Some a) x m ≡ Some a
-          force =
-              ap (λ y. option_or y (option_or (only_if (λ k. leb k.change m && is_in_time k (cons_some x [])) (Some a)) c.in_force)) (not_yet x ahead u)
-              ∙ (ap (λ t. option_or (cond (t && is_in_time a (cons_some x [])) (Some a) None) c.in_force) (le-leb a.change m (omega arith))
-              ∙ ap (λ t. option_or (cond t (Some a) None) c.in_force) (in_time x ahead))
-
-      waiting : (p x : Option Accepted) → ForSome p (λ a. m ≤ a.change) → ForSome x (λ a. m < a.lead) → ForSome x IsUsable → NoneBy p x m ⊎ Moved p x
-      waiting None x hp ahead u = inl (λ a is. cc, ahead)
-      waiting (Some a) x hp ahead u =
-          elim (cases_lt m a.change) [
-            | inl before ↦ inl (λ k is. subst (λ (j : Accepted). m < j.change) (same_Some a k is) before, ahead)
-            | inr at ↦ inr (begins a x (let le : m ≤ a.change = hp a refl in omega arith) ahead u)
-          ]
-
-      cases : (p x : Option Accepted) → ForSome p (λ a. m ≤ a.change) → ForSome x (λ a. m ≤ a.lead) → ForSome x IsUsable → NoneBy p x m ⊎ Moved p x
-      cases p None hp hx u = waiting p None hp (λ a is. cc) u
-      cases p (Some b) hp hx u =
-          elim (cases_lt m b.lead) [
-            | inl before ↦ waiting p (Some b) hp (λ k is. subst (λ (j : Accepted). m < j.lead) (same_Some b k is) before) u
-            | inr at ↦ inr (led p b (let le : m ≤ b.lead = hx b refl in omega arith) (u b refl).timely)
-          ]
-
   -- what is kept at a later moment
   pub settled_history : (t : ℕ) → c.moment ≤ t → history_of (settled_at c t) ≡ kept (history_of c) t
   settled_history t l =
@@ -337,6 +265,14 @@ announced_later c new x is free timely n ahead =
     ∙ (ap (λ h. gates h n) (cons_some_push c.in_force c.pending x)
     ∙ (push_gates x n ahead timely (cons_some c.in_force (cons_some c.pending []))
     ∙ ap (λ y. gates (three c.in_force c.pending y) n) (sym free)))
+
+-- a command that is announced is the last of the history
+pub announced_history : (c new : Commands) (x : Accepted) → AreCommands c → new ≡ record c { announced = Some x } → c.announced ≡ None → history_of new ≡ with_command (history_of c) c.moment x
+announced_history c new x s is free =
+    ap history_of is
+    ∙ (cons_some_push c.in_force c.pending x
+    ∙ (ap (λ y. three c.in_force c.pending y ++ (x ∷ [])) (sym free)
+    ∙ ap (λ y. with_command_by y (history_of c) x) (sym (settled_announced c.moment c.in_force c.pending c.announced s.settled ∙ free))))
 
 pub lead_none : (o : Option Accepted) → option_map (λ a. a.lead) o ≡ None → o ≡ None
 lead_none None e = refl

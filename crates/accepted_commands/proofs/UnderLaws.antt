@@ -1,5 +1,7 @@
 -- What the command in force shows.
-use Rattle.std.proofs.Common.{◌≡◌, ◌≤◌, ℕ, Option, Some, refl, sym, subst}
+use Rattle.std.proofs.Common.{◌≡◌, ◌<◌, ◌≤◌, ℕ, ltb, IsTrue, Option, Some, refl, sym, ap, ◌∙◌, subst, arith}
+use Rattle.std.proofs.lemmas.Bool.{ltb-true, lt-ltb}
+use Rattle.std.proofs.lemmas.Option.{same_Some}
 use Rattle.std.specs.Option.{ForSome}
 use Rattle.gate_list.specs.Gate.{IsSchedule, last_mask, mask_since}
 use Rattle.list_config.specs.History.{Accepted}
@@ -28,3 +30,13 @@ module _ (f : Option Accepted) (position : Option Position) (list : AcceptedList
 
   pub list_flat : (pending : Option Accepted) (n : ℕ) (until : Option ℕ) → IsFlat (mask_since (Some list.schedule) list.change (hold_for (Some list.schedule) list.change pending)) n until → IsFlat (shows_under f pending) n until
   list_flat pending n until flat = subst (λ g. IsFlat (shows_under g pending) n until) (sym of.0) flat
+
+-- a moment of a command is later, if there is one
+pub is_after : (of : Accepted → ℕ) (o : Option Accepted) (a : Accepted) (m n : ℕ) → o ≡ Some a → n ≡ of a → (IsTrue (ltb m n) → ForSome o (λ k. m < of k)) × (ForSome o (λ k. m < of k) → IsTrue (ltb m n))
+is_after of o a m n is at = (
+  λ before k same.
+      (let here = ltb-true m n before in
+      let one : of a ≡ of k = ap of (same_Some a k (sym is ∙ same)) in
+      omega (arith, here, at, one)),
+  λ after. lt-ltb m n (let here : m < of a = after a is in omega (arith, here, at)),
+)

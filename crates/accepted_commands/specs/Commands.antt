@@ -1,5 +1,5 @@
 -- The commands that count at a moment (IEEE Std 802.1Q-2018, 8.6.9.3 List Config).
-use Rattle.std.specs.Prelude.{◌≤◌, ℕ, ◌*◌, ◌&&◌, nat_le, nat_lt, List, [], Option, Some, None, option_map}
+use Rattle.std.specs.Prelude.{◌<◌, ◌≤◌, ℕ, ◌*◌, ◌&&◌, nat_le, nat_lt, List, [], Option, Some, None, option_map}
 use denote.Bor.{Bor}
 use Rattle.std.specs.Option.{ForSome, option_or}
 use Rattle.wire_time.specs.Moment.{greatest_moment}
@@ -68,3 +68,7 @@ settled_at c n = record {
   pending = pending_by c.in_force c.pending c.announced n;
   announced = announced_by c.announced n;
 }
+
+-- the one that is pending changes the gates later, and the lead moment of the one that is announced is later
+abbrev pub NoneBy : Option Accepted → Option Accepted → ℕ → Type 0
+NoneBy p x m = ForSome p (λ a. m < a.change) × ForSome x (λ a. m < a.lead)

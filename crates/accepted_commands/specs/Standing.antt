@@ -1,6 +1,5 @@
 -- Where the list of the command in force stands, and what shows with a change pending (IEEE Std 802.1Q-2018, 8.6.9.1 to 8.6.9.3).
-use Rattle.std.specs.Prelude.{◌≡◌, ◌≤◌, ℕ, ◌⊎◌, min, Option, Some, None, option_map}
-use Rattle.std.specs.Option.{ForSome}
+use Rattle.std.specs.Prelude.{◌≡◌, ℕ, min, Option, Some, None, option_map}
 use denote.Bor.{Bor}
 use Rattle.gate_list.specs.Gate.{Plan, last_mask, mask_since}
 use Rattle.list_config.specs.History.{Accepted, plan_of, start_of}
@@ -38,22 +37,6 @@ boundary_under (Some plan) start next (Some position) = boundary_of (hold_for (S
 -- the next boundary of the command in force, with a change pending
 abbrev pub boundary_in_force : Option Accepted → Option Accepted → Option Position → Option ℕ
 boundary_in_force now next position = boundary_under (plan_of now) (start_of now) next position
-
--- A command has its lead moment then.
-abbrev pub IsLedAt : Option Accepted → ℕ → Type 0
-IsLedAt None n = ⊥
-IsLedAt (Some a) n = a.lead ≡ n
-
--- A list stood so at a moment from which it comes to n with no boundary between.
-pub record StoodUnder (now next : Option Accepted) (n : ℕ) (position : Option Position) : Type 0 where
-  pub from : ℕ
-  pub stands : Stands now next from position
-  pub onward : from ≤ n
-  pub upto : ForSome (boundary_in_force now next position) (λ u. n ≤ u)
-
--- What is in force begins then, or what is pending has its lead moment then, or neither is new.
-abbrev pub ComesTo : Option Accepted → Option Accepted → ℕ → Option Position → Type 0
-ComesTo now next n position = (start_of now ≡ n) ⊎ (IsLedAt next n ⊎ StoodUnder now next n position)
 
 -- what the command in force shows, with this change pending
 abbrev pub shows_under : Option Accepted → Option Accepted → ℕ → ℕ

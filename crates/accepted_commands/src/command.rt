@@ -4,11 +4,12 @@ ghost use Rattle.wire_time.specs.Moment.{greatest_moment, greatest_lead};
 ghost use Rattle.gate_list.specs.Gate.{IsSchedule};
 ghost use Rattle.list_config.specs.Current.{accepted_at, deletion_at, installed_of};
 ghost use Rattle.list_config.specs.Stretch.{hold_of};
+ghost use Rattle.list_execute.specs.Walk.{more};
 ghost use Rattle.accepted_commands.specs.Commands.{IsUsable, accepted_in, command_of};
 ghost use Rattle.accepted_commands.specs.Standing.{IsFirst};
 
 use cycle_timer::CycleTimer;
-use gate_list::Schedule;
+use gate_list::{Schedule, Visits};
 use list_config::Installed;
 use list_position::Position;
 
@@ -35,17 +36,19 @@ pub enum AcceptedCommand {
 }
 
 impl AcceptedCommand {
-    /// The command of a schedule that is accepted for a lead moment, in picoseconds.
-    pub fn install(schedule: Schedule, lead: u128) -> AcceptedCommand
+    /// The command of a schedule that is accepted for a lead moment, in picoseconds. It looks at the last entry of the list and
+    /// at the first.
+    pub fn install(schedule: Schedule, lead: u128, visits: &mut Visits) -> AcceptedCommand
         requires { lead ≤ greatest_moment + greatest_lead }
         ensures value { accepted_in result ≡ accepted_at lead schedule }
         ensures usable { IsUsable (accepted_in result) }
         ensures first { IsFirst result }
         ensures sound { IsSchedule schedule }
+        ensures visits { visits.new ≡ more visits.old 2 }
     {
         let _ = schedule.len();
         let change = schedule.change_moment(lead);
-        let position = Position::first(&schedule, change);
+        let position = Position::first(&schedule, change, visits);
         AcceptedCommand::Install(AcceptedList {
             lead,
             change,

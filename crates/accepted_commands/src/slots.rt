@@ -1,11 +1,12 @@
 //! The commands that count, in three slots.
-ghost use Rattle.std.specs.Prelude.{◌≡◌, ◌+◌, ◌<◌, ◌≤◌, None, Some, option_map};
+ghost use Rattle.std.specs.Prelude.{◌≡◌, ℕ, ◌+◌, ◌<◌, ◌≤◌, ◌↔◌, IsTrue, None, Some, option_map};
 ghost use Rattle.std.specs.Option.{ForSome};
 ghost use Rattle.wire_time.specs.Moment.{greatest_moment};
-ghost use Rattle.list_config.specs.History.{IsSound, plan_of};
+ghost use Rattle.list_config.specs.History.{IsSound, plan_of, start_of};
 ghost use Rattle.list_config.specs.Current.{entry_count};
-ghost use Rattle.accepted_commands.specs.Commands.{AreCommands, IsUsable, accepted_in, command_of, no_commands, settled_at};
-ghost use Rattle.accepted_commands.specs.Standing.{ComesTo, EndsSo, IsFirst, Stands, position_lent, option_position};
+ghost use Rattle.list_position.specs.Position.{BeginsAtMost};
+ghost use Rattle.accepted_commands.specs.Commands.{AreCommands, IsUsable, NoneBy, accepted_in, command_of, no_commands, settled_at};
+ghost use Rattle.accepted_commands.specs.Standing.{EndsSo, IsFirst, Stands, position_lent, option_position};
 
 use crate::command::AcceptedCommand;
 use gate_list::Visits;
@@ -43,6 +44,26 @@ fn lent(slot: &Option<AcceptedCommand>) -> Option<&AcceptedCommand>
     match slot {
         Some(command) => Some(command),
         None => None,
+    }
+}
+
+/// Whether a command, if there is one, changes the gates after a moment, in picoseconds.
+fn changes_after(command: Option<&AcceptedCommand>, moment: u128) -> bool
+    ensures { IsTrue result ↔ ForSome (command_of command.entry) (λ a. moment < a.change) }
+{
+    match command {
+        None => true,
+        Some(command) => moment < command.change(),
+    }
+}
+
+/// Whether a command, if there is one, has its lead moment after a moment, in picoseconds.
+fn leads_after(command: Option<&AcceptedCommand>, moment: u128) -> bool
+    ensures { IsTrue result ↔ ForSome (command_of command.entry) (λ a. moment < a.lead) }
+{
+    match command {
+        None => true,
+        Some(command) => moment < command.lead(),
     }
 }
 
@@ -99,7 +120,7 @@ impl Slots {
         requires later { self.old.commands.moment ≤ t }
         requires within { t ≤ greatest_moment }
         ensures value { self.new.commands ≡ settled_at self.old.commands t }
-        ensures position { ForSome self.old.commands.pending (λ a. t < a.change) → ForSome self.old.commands.announced (λ a. t < a.lead) → self.new.position ≡ self.old.position }
+        ensures position { NoneBy self.old.commands.pending self.old.commands.announced t → self.new.position ≡ self.old.position }
         ensures sound { AreCommands self.new.commands }
     {
         self.moment = t;
@@ -120,20 +141,29 @@ impl Slots {
         }
     }
 
-    /// Lets the list in force go on to now, which is at or before its next boundary and those of the commands.
-    pub fn go_on(&mut self, visits: &mut Visits)
-        requires comes { ComesTo self.old.commands.in_force self.old.commands.pending self.old.commands.moment self.old.position }
+    /// Whether no command comes up to a moment, in picoseconds.
+    fn is_alone_until(&self, t: u128) -> bool
+        ensures { IsTrue result ↔ NoneBy self.now.commands.pending self.now.commands.announced t }
+    {
+        changes_after(self.pending(), t) && leads_after(self.announced(), t)
+    }
+
+    /// Lets the list in force go on to now, from where it stood with the same change pending.
+    fn go_on(&mut self, visits: &mut Visits)
+        requires stood { (n : ℕ) × (n ≤ self.old.commands.moment) × Stands self.old.commands.in_force self.old.commands.pending n self.old.position }
         ensures commands { self.new.commands ≡ self.old.commands }
         ensures stands { Stands self.new.commands.in_force self.new.commands.pending self.new.commands.moment self.new.position }
         ensures counted { visits.old ≤ visits.new }
+        ensures visits { visits.new ≤ visits.old + (entry_count (plan_of self.old.commands.in_force) + 1) }
+        ensures next { (n e : ℕ) → Stands self.old.commands.in_force self.old.commands.pending n self.old.position → BeginsAtMost (plan_of self.old.commands.in_force) (start_of self.old.commands.in_force) n self.old.commands.moment e → visits.new ≤ visits.old + 2 }
     {
         if let Some(command) = &mut self.in_force {
-            command.move_on(lent(&self.pending), self.moment, visits);
+            command.go_on(lent(&self.pending), self.moment, visits);
         }
     }
 
     /// Lets the list in force stand where it stands now, wherever it stood.
-    pub fn place(&mut self, visits: &mut Visits)
+    fn place(&mut self, visits: &mut Visits)
         ensures commands { self.new.commands ≡ self.old.commands }
         ensures stands { Stands self.new.commands.in_force self.new.commands.pending self.new.commands.moment self.new.position }
         ensures counted { visits.old ≤ visits.new }
@@ -141,6 +171,30 @@ impl Slots {
     {
         if let Some(command) = &mut self.in_force {
             command.place_at(lent(&self.pending), self.moment, visits);
+        }
+    }
+
+    /// Goes on to a moment, in picoseconds, and lets the list in force stand where it stands then. Where no command comes up to
+    /// that moment the list goes on from where it stood, and else it is placed anew.
+    pub fn move_on(&mut self, t: u128, visits: &mut Visits)
+        requires later { self.old.commands.moment ≤ t }
+        requires within { t ≤ greatest_moment }
+        requires stands { Stands self.old.commands.in_force self.old.commands.pending self.old.commands.moment self.old.position }
+        ensures value { self.new.commands ≡ settled_at self.old.commands t }
+        ensures stands { Stands self.new.commands.in_force self.new.commands.pending self.new.commands.moment self.new.position }
+        ensures sound { AreCommands self.new.commands }
+        ensures counted { visits.old ≤ visits.new }
+        ensures visits { visits.new ≤ visits.old + (entry_count (plan_of self.new.commands.in_force) + 1) }
+        ensures next { (e : ℕ) → NoneBy self.old.commands.pending self.old.commands.announced t → BeginsAtMost (plan_of self.old.commands.in_force) (start_of self.old.commands.in_force) self.old.commands.moment t e → visits.new ≤ visits.old + 2 }
+    {
+        // What holds of the slots is used below.
+        let _ = &self.moment;
+        let goes_on = self.is_alone_until(t);
+        self.settle(t);
+        if goes_on {
+            self.go_on(visits);
+        } else {
+            self.place(visits);
         }
     }
 

@@ -1,13 +1,13 @@
 //! What the command in force shows: its list, or else all classes open.
-ghost use Rattle.std.specs.Prelude.{◌≡◌, ℕ, ◌*◌, ◌<◌, ◌≤◌, ◌↔◌, ◌+◌, IsTrue, Some, None, length};
+ghost use Rattle.std.specs.Prelude.{◌≡◌, ℕ, ◌*◌, ◌<◌, ◌≤◌, ◌+◌, Some, None, length};
 ghost use Rattle.std.specs.Option.{ForSome};
 ghost use Rattle.wire_time.specs.Moment.{greatest_moment};
 ghost use Rattle.gate_list.specs.Gate.{IsSchedule, last_mask, mask_since};
 ghost use Rattle.gate_list.specs.Open.{open_while};
 ghost use Rattle.list_config.specs.Current.{entry_count};
-ghost use Rattle.list_position.specs.Position.{IsFlat, IsPlaced};
+ghost use Rattle.list_position.specs.Position.{BeginsAtMost, IsFlat, IsPlaced, StoodBy};
 ghost use Rattle.accepted_commands.specs.Commands.{IsUsable, accepted_in, command_of};
-ghost use Rattle.accepted_commands.specs.Standing.{ComesTo, EndsSo, IsLedAt, IsListOf, Stands, accepted_list, boundary_in_force, hold_for, position_in, position_lent, shown_by, shows_under};
+ghost use Rattle.accepted_commands.specs.Standing.{EndsSo, IsListOf, Stands, accepted_list, boundary_in_force, hold_for, position_in, position_lent, shown_by, shows_under};
 
 use crate::command::{AcceptedCommand, AcceptedList};
 use gate_list::Visits;
@@ -54,53 +54,53 @@ impl AcceptedList {
         )
     }
 
-    /// Where the list stands at `t`, in picoseconds, which is at or before its next boundary and those of the commands.
-    fn position_on(
+    /// Where the list stands at a later moment `t`, in picoseconds, with the same change pending.
+    pub fn position_later(
         &self,
         pending: Option<&AcceptedCommand>,
         t: u128,
         visits: &mut Visits,
     ) -> Position
-        requires sound { IsSchedule self.now.schedule }
-        requires start { self.now.change ≤ 2 * greatest_moment }
-        requires usable { ForSome (command_of pending) IsUsable }
-        requires masked { self.now.position.last_mask ≡ last_mask self.now.schedule.entries }
-        requires begun { self.now.change ≤ t }
+        requires usable { IsUsable (accepted_list self.now) }
+        requires pending { ForSome (command_of pending) IsUsable }
         requires within { t ≤ 2 * greatest_moment }
-        requires comes { ComesTo (Some (accepted_list self.now)) (command_of pending) t (Some self.now.position) }
+        requires stood { StoodBy self.now.schedule self.now.change (hold_for (Some self.now.schedule) self.now.change (command_of pending)) t self.now.position }
         ensures placed { IsPlaced self.now.schedule self.now.change (hold_for (Some self.now.schedule) self.now.change (command_of pending.entry)) t result }
         ensures counted { visits.old ≤ visits.new }
+        ensures visits { visits.new ≤ visits.old + (length self.now.schedule.entries + 1) }
+        ensures next { (n e : ℕ) → IsPlaced self.now.schedule self.now.change (hold_for (Some self.now.schedule) self.now.change (command_of pending.entry)) n self.now.position → BeginsAtMost (Some self.now.schedule) self.now.change n t e → visits.new ≤ visits.old + 2 }
     {
-        if self.change == t || is_led_at(pending, t) {
-            return self.position_at(pending, t, visits);
-        }
-        self.position
-            .on(&self.schedule, self.held_from(pending), t, visits)
+        self.position.later(
+            &self.schedule,
+            self.change,
+            self.held_from(pending),
+            t,
+            visits,
+        )
     }
 }
 
 impl AcceptedCommand {
-    /// Lets the list of the command, if it is one, go on to `t`, in picoseconds, which is at or before the list's next boundary
-    /// and those of the commands.
-    pub fn move_on(&mut self, pending: Option<&AcceptedCommand>, t: u128, visits: &mut Visits)
+    /// Lets the list of the command, if it is one, go on to a later moment `t`, in picoseconds, with the same change pending.
+    pub fn go_on(&mut self, pending: Option<&AcceptedCommand>, t: u128, visits: &mut Visits)
         requires usable { IsUsable (accepted_in self.old) }
         requires pending { ForSome (command_of pending) IsUsable }
-        requires ends { EndsSo (Some (accepted_in self.old)) (position_in self.old) }
-        requires begun { (accepted_in self.old).change ≤ t }
         requires within { t ≤ 2 * greatest_moment }
-        requires comes { ComesTo (Some (accepted_in self.old)) (command_of pending) t (position_in self.old) }
+        requires stood { (n : ℕ) × (n ≤ t) × Stands (Some (accepted_in self.old)) (command_of pending) n (position_in self.old) }
         ensures same { accepted_in self.new ≡ accepted_in self.old }
         ensures stands { Stands (Some (accepted_in self.old)) (command_of pending.entry) t (position_in self.new) }
         ensures counted { visits.old ≤ visits.new }
+        ensures visits { visits.new ≤ visits.old + (entry_count (accepted_in self.old).plan + 1) }
+        ensures next { (n e : ℕ) → Stands (Some (accepted_in self.old)) (command_of pending.entry) n (position_in self.old) → BeginsAtMost (accepted_in self.old).plan (accepted_in self.old).change n t e → visits.new ≤ visits.old + 2 }
     {
         match self {
-            AcceptedCommand::Install(list) => list.position = list.position_on(pending, t, visits),
+            AcceptedCommand::Install(list) => list.position = list.position_later(
+                pending, t, visits,
+            ),
             AcceptedCommand::Delete(_) => {}
         }
     }
-}
 
-impl AcceptedCommand {
     /// Lets the list of the command, if it is one, stand where it stands at `t`, in picoseconds.
     pub fn place_at(&mut self, pending: Option<&AcceptedCommand>, t: u128, visits: &mut Visits)
         requires usable { IsUsable (accepted_in self.old) }
@@ -117,16 +117,6 @@ impl AcceptedCommand {
             AcceptedCommand::Install(list) => list.position = list.position_at(pending, t, visits),
             AcceptedCommand::Delete(_) => {}
         }
-    }
-}
-
-/// Whether a command has its lead moment then, in picoseconds.
-fn is_led_at(command: Option<&AcceptedCommand>, moment: u128) -> bool
-    ensures { IsTrue result ↔ IsLedAt (command_of command.entry) moment }
-{
-    match command {
-        None => false,
-        Some(command) => command.lead() == moment,
     }
 }
 

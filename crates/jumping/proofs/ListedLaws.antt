@@ -15,7 +15,8 @@ use Rattle.accepted_commands.specs.declared.leg.ListedLeg.{ListedLeg}
 use Rattle.accepted_commands.specs.declared.leg.Rest.{Rest}
 use Rattle.accepted_commands.specs.Leg.{AreReady, stretch_of, stretches_in, stretches_ahead}
 use Rattle.accepted_commands.proofs.LegLaws.{ready_later}
-use Rattle.jumping.specs.Search.{NoneFits}
+use Rattle.jumping.specs.declared.search.ListSearch.{ListSearch}
+use Rattle.jumping.specs.Search.{IsSearch, NoneFits}
 use Rattle.jumping.proofs.RepeatLaws.{not_yet, shows_own, stretch_repeats}
 use Rattle.jumping.proofs.SearchLaws.{fits_flat}
 
@@ -95,3 +96,13 @@ leg_repeats leg rest ready stop unheld unended m from below =
     (le_trans (placed_after leg.schedule.now leg.start leg.held_from leg.from leg.position ((ready.first).stands).1) from)
     (not_yet leg.until (m + in_ps leg.schedule.now.cycle) stop below unended)
     (not_yet leg.held_from (m + in_ps leg.schedule.now.cycle) stop below unheld)
+
+-- a search goes on where the same list stands elsewhere
+pub search_later : (search : ListSearch) (leg next : ListedLeg) → IsSearch search leg → next ≡ record leg { from = next.from; position = next.position } → AreReady (Listed next) search.rest.now → next.from < search.stop → IsSearch search next
+search_later search leg next is same ready some = record {
+  ready = ready;
+  needs = is.needs;
+  some = some;
+  within = is.within;
+  unended = subst (λ (t : Option ℕ). ForSome t (λ u. search.stop ≤ u)) (sym (ap (λ (g : ListedLeg). g.until) same)) is.unended;
+}

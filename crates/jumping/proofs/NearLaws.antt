@@ -1,17 +1,21 @@
 -- What stays the same up to the next edge.
-use Rattle.std.proofs.Common.{◌≡◌, ◌<◌, ◌≤◌, ℕ, min, cond, ltb, Bool, true, IsTrue, ◌⊎◌, inl, inr, Option, Some, None, option_map, refl, sym, ap, ◌∙◌, subst, arith}
-use Rattle.std.proofs.lemmas.Bool.{cases_lt, lt-leb, lt-ltb, le-ltb}
+use Rattle.std.proofs.Common.{◌≡◌, ◌<◌, ◌≤◌, ℕ, min, cond, ltb, Bool, true, IsTrue, ◌⊎◌, inl, inr, [], Any, Option, Some, None, option_map, refl, sym, ap, ◌∙◌, subst, arith}
+use Rattle.std.proofs.lemmas.Bool.{cases_lt, lt-leb, le-ltb}
 use Rattle.std.proofs.lemmas.Option.{same_Some}
 use Rattle.std.specs.Option.{ForSome, option_or}
 use Rattle.gate_list.specs.Gate.{Plan, IsSchedule}
-use Rattle.list_config.specs.History.{Accepted, only_if, plan_of, start_of}
+use Rattle.list_config.specs.History.{Accepted, cons_some, only_if, plan_of, start_of, three}
+use Rattle.list_config.specs.Event.{BeginsEntry, ComesAt}
+use Rattle.list_config.proofs.EventLaws.{any_after, any_here}
+use Rattle.list_config.proofs.HistoryLaws.{three_force}
 use Rattle.list_position.specs.declared.Position.{Position}
+use Rattle.list_position.specs.Position.{BeginsAtMost}
 use Rattle.list_position.proofs.PositionLaws.{placed_later}
-use Rattle.accepted_commands.specs.Commands.{Commands, AreCommands, IsUsable, history_of, settled_at, announced_by, pending_by}
+use Rattle.accepted_commands.specs.Commands.{Commands, AreCommands, IsUsable, NoneBy, history_of, settled_at, announced_by, pending_by}
 use Rattle.accepted_commands.specs.Standing.{Stands, StandsUnder, boundary_in_force, boundary_under, earlier, edge_at, hold_for}
 use Rattle.accepted_commands.specs.Resume.{Resumes, ResumesBy}
-use Rattle.jumping.specs.Edge.{IsEdge, NothingComes}
-use Rattle.accepted_commands.proofs.CommandLaws.{NoneBy, force_still, pending_still}
+use Rattle.jumping.specs.Edge.{IsEdge, NothingComes, OneEntryComes}
+use Rattle.accepted_commands.proofs.CommandLaws.{force_still, none_now, same_commands}
 
 -- what is before the earlier of two moments is before both
 parts : (m : ℕ) (a b : Option ℕ) → ForSome (earlier a b) (λ u. m < u) → ForSome a (λ u. m < u) × ForSome b (λ u. m < u)
@@ -36,17 +40,6 @@ stands_later f p n m position usable stands l soon = by (plan_of f) planned posi
     by None ok position stands soon = stands
     by (Some plan) ok None stands soon = stands
     by (Some plan) ok (Some position) stands soon = placed_later plan (ok plan refl) (start_of f) (hold_for (Some plan) (start_of f) p) n position stands m l soon
-
--- where no command comes the same commands count
-pub same_commands : (c : Commands) → AreCommands c → (m : ℕ) → c.moment ≤ m → NoneBy c.pending c.announced m → settled_at c m ≡ record c { moment = m }
-same_commands c s m l none =
-    ap (λ f. record { moment = m; in_force = f; pending = (settled_at c m).pending; announced = (settled_at c m).announced }) (force_still c s m l none)
-    ∙ (ap (λ p. record { moment = m; in_force = c.in_force; pending = p; announced = (settled_at c m).announced }) (pending_still c s m l none)
-    ∙ ap (λ x. record { moment = m; in_force = c.in_force; pending = c.pending; announced = x }) (by c.announced none.1))
-  where
-    by : (x : Option Accepted) → ForSome x (λ a. m < a.lead) → announced_by x m ≡ x
-    by None h = refl
-    by (Some a) h = ap (λ b. cond b (Some a) None) (lt-ltb m a.lead (h a refl))
 
 module _ (c : Commands) (s : AreCommands c) (position : Option Position) (m : ℕ) (l : c.moment ≤ m) (soon : ForSome (edge_at c position) (λ u. m < u)) where
   both : ForSome (boundary_in_force c.in_force c.pending position) (λ u. m < u) × ForSome (earlier (option_map (λ a. a.change) c.pending) (option_map (λ a. a.lead) c.announced)) (λ u. m < u)
@@ -116,3 +109,31 @@ edge_ahead c position (Some e) t is nothing near soon =
       | inl before ↦ soon (λ u same. subst (λ k. t < k) (same_Some e u same) before)
       | inr come ↦ absurd (nothing e (is.later e refl) come is.event)
     ]
+
+-- where no command comes by t, and at most one entry of the list in force begins
+module _ (c : Commands) (s : AreCommands c) (t e : ℕ) (one : OneEntryComes (history_of c) c.moment t e) where
+  pub alone_by : NoneBy c.pending c.announced t
+  alone_by = (
+    λ a is. elim (cases_lt t a.change) [
+      | inl after ↦ after
+      | inr come ↦ absurd ((one a.change ((none_now c s).0 a is) come (inl (changes c.pending a is))).1 (changes c.pending a is))
+    ],
+    λ a is. elim (cases_lt t a.lead) [
+      | inl after ↦ after
+      | inr come ↦ absurd ((one a.lead ((none_now c s).1 a is) come (inl (leads c.announced a is))).1 (leads c.announced a is))
+    ],
+  )
+    where
+      changes : (p : Option Accepted) (a : Accepted) → p ≡ Some a → Any (ComesAt a.change) (three c.in_force p c.announced)
+      changes None a is = cc
+      changes (Some b) a is = any_after (ComesAt a.change) c.in_force _ (any_here (ComesAt a.change) b (cons_some c.announced []) (inr (ap (λ (k : Accepted). k.change) (sym (same_Some b a is)))))
+
+      leads : (x : Option Accepted) (a : Accepted) → x ≡ Some a → Any (ComesAt a.lead) (three c.in_force c.pending x)
+      leads None a is = cc
+      leads (Some b) a is = any_after (ComesAt a.lead) c.in_force _ (any_after (ComesAt a.lead) c.pending _ (any_here (ComesAt a.lead) b [] (inl (ap (λ (k : Accepted). k.lead) (sym (same_Some b a is))))))
+
+  pub begins_at_most : BeginsAtMost (plan_of c.in_force) (start_of c.in_force) c.moment t e
+  begins_at_most m after upto begins =
+      let before : NoneBy c.pending c.announced m = (λ a is. (let far : t < a.change = alone_by.0 a is in omega arith), λ a is. (let far : t < a.lead = alone_by.1 a is in omega arith)) in
+      let same = three_force c.moment c.in_force c.pending c.announced s.settled m (omega arith) ∙ force_still c s m (omega arith) before in
+      (one m after upto (inr (subst (λ f. BeginsEntry (plan_of f) (start_of f) m) (sym same) begins))).0

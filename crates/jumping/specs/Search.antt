@@ -1,9 +1,15 @@
 -- The search for the first moment at which some class that needs the wire is open for as long as it needs.
-use Rattle.std.specs.Prelude.{◌≡◌, ◌<◌, ◌≤◌, ℕ, ◌+◌, ◌*◌, min, true, List, [], ◌∷◌, Option, Some, None, slice_get}
+use Rattle.std.specs.Prelude.{◌≡◌, ◌<◌, ◌≤◌, ℕ, ◌+◌, ◌*◌, min, true, List, [], ◌∷◌, All, Option, Some, None, slice_get}
+use Rattle.std.specs.Option.{ForSome}
+use Rattle.wire_time.specs.Moment.{greatest_moment}
 use Rattle.gate_list.specs.Open.{open_while}
 use Rattle.gate_list.specs.Stay.{NoneFrom}
 use Rattle.list_config.specs.Stretch.{Stretch}
 use Rattle.list_config.specs.Current.{entry_count}
+use Rattle.accepted_commands.specs.declared.leg.ListedLeg.{ListedLeg}
+use Rattle.accepted_commands.specs.declared.leg.Leg.TheVariants.{Listed}
+use Rattle.accepted_commands.specs.Leg.{AreReady}
+use Rattle.jumping.specs.declared.search.ListSearch.{ListSearch}
 
 -- no class with a need is open through it from t on and below u
 abbrev pub NoneFits : (ℕ → ℕ) → List (Option ℕ) → ℕ → ℕ → Type 0
@@ -20,6 +26,14 @@ pub record Fits (mask : ℕ → ℕ) (needs : List (Option ℕ)) (u : ℕ) : Typ
 abbrev pub Searched : (ℕ → ℕ) → List (Option ℕ) → ℕ → ℕ → Option ℕ → Type 0
 Searched mask needs t stop None = NoneFits mask needs t stop
 Searched mask needs t stop (Some u) = (t ≤ u) × (u < stop) × NoneFits mask needs t u × Fits mask needs u
+
+-- A search in a list from where it stands: up to its stop the list is in force.
+pub record IsSearch (search : ListSearch) (leg : ListedLeg) : Type 0 where
+  pub ready : AreReady (Listed leg) search.rest.now
+  pub needs : All (λ need. ForSome need (λ d. d ≤ greatest_moment)) search.needs.now
+  pub some : leg.from < search.stop
+  pub within : search.stop ≤ 2 * greatest_moment
+  pub unended : ForSome leg.until (λ u. search.stop ≤ u)
 
 -- ---- how far a search goes, and how much it looks at
 

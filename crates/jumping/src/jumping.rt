@@ -9,7 +9,7 @@ ghost use Rattle.accepted_commands.specs.Commands.{AreCommands, accepted_in, com
 ghost use Rattle.accepted_commands.specs.Standing.{Stands};
 ghost use Rattle.accepted_commands.specs.Leg.{AreReady, from_of, stretches_ahead};
 ghost use Rattle.accepted_commands.specs.Resume.{Resumes};
-ghost use Rattle.jumping.specs.Edge.{IsEdge, NothingComes};
+ghost use Rattle.jumping.specs.Edge.{IsEdge, NothingComes, OneEntryComes};
 
 use crate::search::search;
 use accepted_commands::{
@@ -120,7 +120,8 @@ impl Gates for Jumping {
         }
     }
 
-    /// Goes on to the moment `t`, in picoseconds. Where nothing comes by then, no entry is looked at.
+    /// Goes on to the moment `t`, in picoseconds. Where nothing comes by then, no entry is looked at, and where one entry begins
+    /// and no command comes, at most two are.
     fn move_to(&mut self, t: u128, visits: &mut Visits)
         requires sound { IsCurrent self.old.history self.old.moment }
         requires later { self.old.moment ≤ t }
@@ -131,13 +132,14 @@ impl Gates for Jumping {
         ensures counted { visits.old ≤ visits.new }
         ensures visits { visits.new ≤ visits.old + 2 * (longest self.old.history + 1) }
         ensures still { NothingComes self.old.history self.old.moment t → visits.new ≡ visits.old }
+        ensures next { (e : ℕ) → OneEntryComes self.old.history self.old.moment t e → visits.new ≤ visits.old + 2 }
     {
-        let is_near = is_before(t, self.edge);
-        self.slots.settle(t);
-        if !is_near {
-            self.slots.place(visits);
-            self.edge = next_edge(&self.slots);
+        if is_before(t, self.edge) {
+            self.slots.settle(t);
+            return;
         }
+        self.slots.move_on(t, visits);
+        self.edge = next_edge(&self.slots);
     }
 
     #[tactic(auto, using(accepted_commands::proofs::CommandLaws::current_of, list_config::proofs::HistoryLaws::settled_announced, list_config::proofs::HistoryLaws::cons_some_push))]
@@ -145,10 +147,11 @@ impl Gates for Jumping {
         if let Some(waited) = lead_moment(self.slots.announced()) {
             return Err(NotNow::Busy(waited));
         }
-        let command = AcceptedCommand::install(schedule, lead);
+        let mut visits = Visits::zero();
+        let command = AcceptedCommand::install(schedule, lead, &mut visits);
         let change = command.change();
         self.slots.announce(command);
-        self.resumed = resumed(&self.slots, &mut Visits::zero());
+        self.resumed = resumed(&self.slots, &mut visits);
         self.edge = next_edge(&self.slots);
         Ok(change)
     }

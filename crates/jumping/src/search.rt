@@ -9,7 +9,7 @@ ghost use Rattle.list_execute.specs.Walk.{end_of};
 ghost use Rattle.list_position.specs.Position.{IsFlat, boundary_in};
 ghost use Rattle.accepted_commands.specs.declared.leg.Leg.TheVariants.{Listed};
 ghost use Rattle.accepted_commands.specs.Leg.{AreReady, DoFollow, IsReady, stretch_in, from_of, until_of, stretch_of, stretches_ahead};
-ghost use Rattle.jumping.specs.Search.{Fits, Searched, up_to, most_visits, most_in};
+ghost use Rattle.jumping.specs.Search.{Fits, IsSearch, Searched, up_to, most_visits, most_in};
 
 use accepted_commands::{Leg, ListedLeg, Rest, copied};
 use gate_list::Visits;
@@ -50,129 +50,142 @@ fn boundary(position: &Position) -> u128
     }
 }
 
-/// The first such moment from where a list stands, before `stop` and before the end of its cycle, in picoseconds. It is in
-/// force and in no hold up to `stop`. Each further entry is a visit.
-fn search_cycle(
-    leg: &ListedLeg<'_>,
-    rest: &Rest<'_>,
-    needs: &[Option<u128>; CLASSES],
+/// A search in a list: what comes after it, what each class needs, and the moment before which it ends. All times are in
+/// picoseconds.
+#[derive(Drop)]
+struct ListSearch<'a> {
+    rest: &'a Rest<'a>,
+    needs: &'a [Option<u128>; CLASSES],
     stop: u128,
-    visits: &mut Visits,
-) -> Option<u128>
-    requires ready { AreReady (Listed leg.now) rest.now }
-    requires needs { All (λ need. ForSome need (λ d. d ≤ greatest_moment)) needs.now }
-    requires some { leg.now.from < stop }
-    requires within { stop ≤ 2 * greatest_moment }
-    requires unheld { ForSome leg.now.held_from (λ h. stop ≤ h) }
-    requires unended { ForSome leg.now.until (λ u. stop ≤ u) }
-    ensures searched { Searched (mask_in (stretches_ahead (Listed leg.now) rest.now)) needs.now leg.now.from (min stop leg.now.position.timer.next_start) result }
-    ensures counted { visits.old ≤ visits.new }
-    ensures visits { visits.new + leg.now.position.walk.index + 1 ≤ visits.old + length leg.now.schedule.now.entries }
-{
-    let limit = stop.min(leg.position.timer.next_start());
-    let mut from = leg.from;
-    let mut position = leg.position;
-    while !fits(&Leg::Listed(leg.at(from, position)), rest, needs) {
-        let end = boundary(&position);
-        if limit <= end {
+}
+
+impl ListSearch<'_> {
+    /// The first moment at which some class fits, from where a list stands and before the end of its cycle. Each further entry is
+    /// a visit.
+    fn in_cycle(&self, leg: &ListedLeg<'_>, visits: &mut Visits) -> Option<u128>
+        requires search { IsSearch self.now leg.now }
+        requires unheld { ForSome leg.now.held_from (λ h. self.now.stop ≤ h) }
+        ensures searched { Searched (mask_in (stretches_ahead (Listed leg.now) self.now.rest.now)) self.now.needs.now leg.now.from (min self.now.stop leg.now.position.timer.next_start) result }
+        ensures counted { visits.old ≤ visits.new }
+        ensures visits { visits.new + leg.now.position.walk.index + 1 ≤ visits.old + length leg.now.schedule.now.entries }
+    {
+        let limit = self.stop.min(leg.position.timer.next_start());
+        let mut from = leg.from;
+        let mut position = leg.position;
+        while !fits(&Leg::Listed(leg.at(from, position)), self.rest, self.needs) {
+            let end = boundary(&position);
+            if limit <= end {
+                return None;
+            }
+            position = position.next_entry(leg.schedule, visits);
+            from = end;
+        }
+        Some(from)
+    }
+
+    /// The first such moment from where a list stands, where the search ends at most one cycle after the list's cycle.
+    fn in_two(&self, leg: &ListedLeg<'_>, visits: &mut Visits) -> Option<u128>
+        requires search { IsSearch self.now leg.now }
+        requires unheld { ForSome leg.now.held_from (λ h. self.now.stop ≤ h) }
+        requires near { self.now.stop ≤ leg.now.position.timer.next_start + in_ps leg.now.schedule.now.cycle }
+        ensures searched { Searched (mask_in (stretches_ahead (Listed leg.now) self.now.rest.now)) self.now.needs.now leg.now.from self.now.stop result }
+        ensures counted { visits.old ≤ visits.new }
+        ensures visits { visits.new + leg.now.position.walk.index + 1 ≤ visits.old + 2 * length leg.now.schedule.now.entries }
+    {
+        if let Some(found) = self.in_cycle(leg, visits) {
+            return Some(found);
+        }
+        let cycle_end = leg.position.timer.next_start();
+        if self.stop <= cycle_end {
             return None;
         }
-        position = position.next_entry(leg.schedule, visits);
-        from = end;
+        let next = leg.cycle_at(cycle_end, visits);
+        self.in_cycle(&next, visits)
     }
-    Some(from)
-}
 
-/// The first such moment from where a list stands and before `stop`, which is at most one cycle after the end of its cycle.
-fn search_two(
-    leg: &ListedLeg<'_>,
-    rest: &Rest<'_>,
-    needs: &[Option<u128>; CLASSES],
-    stop: u128,
-    visits: &mut Visits,
-) -> Option<u128>
-    requires ready { AreReady (Listed leg.now) rest.now }
-    requires needs { All (λ need. ForSome need (λ d. d ≤ greatest_moment)) needs.now }
-    requires some { leg.now.from < stop }
-    requires near { stop ≤ leg.now.position.timer.next_start + in_ps leg.now.schedule.now.cycle }
-    requires within { stop ≤ 2 * greatest_moment }
-    requires unheld { ForSome leg.now.held_from (λ h. stop ≤ h) }
-    requires unended { ForSome leg.now.until (λ u. stop ≤ u) }
-    ensures searched { Searched (mask_in (stretches_ahead (Listed leg.now) rest.now)) needs.now leg.now.from stop result }
-    ensures counted { visits.old ≤ visits.new }
-    ensures visits { visits.new + leg.now.position.walk.index + 1 ≤ visits.old + 2 * length leg.now.schedule.now.entries }
-{
-    if let Some(found) = search_cycle(leg, rest, needs, stop, visits) {
-        return Some(found);
+    /// The first such moment from where a cycle begins. Where there is none in that cycle, there is none up to a cycle before
+    /// the end of the search, since what is shown repeats: what lies between is passed by division.
+    fn in_cycles(&self, leg: &ListedLeg<'_>, visits: &mut Visits) -> Option<u128>
+        requires search { IsSearch self.now leg.now }
+        requires unheld { ForSome leg.now.held_from (λ h. self.now.stop ≤ h) }
+        requires begins { leg.now.from ≡ leg.now.position.timer.started }
+        ensures searched { Searched (mask_in (stretches_ahead (Listed leg.now) self.now.rest.now)) self.now.needs.now leg.now.from self.now.stop result }
+        ensures counted { visits.old ≤ visits.new }
+        ensures visits { visits.new + leg.now.position.walk.index + 1 ≤ visits.old + 3 * length leg.now.schedule.now.entries }
+    {
+        if let Some(found) = self.in_cycle(leg, visits) {
+            return Some(found);
+        }
+        let cycle_end = leg.position.timer.next_start();
+        if self.stop <= cycle_end {
+            return None;
+        }
+        let cycle = cycle_end - leg.position.timer.started();
+        let near = leg.cycle_at(cycle_end.max(self.stop - cycle), visits);
+        self.in_two(&near, visits)
     }
-    let cycle_end = leg.position.timer.next_start();
-    if stop <= cycle_end {
-        return None;
-    }
-    let next = leg.cycle_at(cycle_end, visits);
-    search_cycle(&next, rest, needs, stop, visits)
-}
 
-/// The first such moment from where a cycle begins and before `stop`. Where there is none in that cycle, there is none
-/// up to a cycle before `stop`, since what is shown repeats: what lies between is passed by division.
-fn search_cycles(
-    leg: &ListedLeg<'_>,
-    rest: &Rest<'_>,
-    needs: &[Option<u128>; CLASSES],
-    stop: u128,
-    visits: &mut Visits,
-) -> Option<u128>
-    requires ready { AreReady (Listed leg.now) rest.now }
-    requires needs { All (λ need. ForSome need (λ d. d ≤ greatest_moment)) needs.now }
-    requires some { leg.now.from < stop }
-    requires begins { leg.now.from ≡ leg.now.position.timer.started }
-    requires within { stop ≤ 2 * greatest_moment }
-    requires unheld { ForSome leg.now.held_from (λ h. stop ≤ h) }
-    requires unended { ForSome leg.now.until (λ u. stop ≤ u) }
-    ensures searched { Searched (mask_in (stretches_ahead (Listed leg.now) rest.now)) needs.now leg.now.from stop result }
-    ensures counted { visits.old ≤ visits.new }
-    ensures visits { visits.new + leg.now.position.walk.index + 1 ≤ visits.old + 3 * length leg.now.schedule.now.entries }
-{
-    if let Some(found) = search_cycle(leg, rest, needs, stop, visits) {
-        return Some(found);
+    /// The first such moment from where a list stands.
+    fn in_list(&self, leg: &ListedLeg<'_>, visits: &mut Visits) -> Option<u128>
+        requires search { IsSearch self.now leg.now }
+        requires unheld { ForSome leg.now.held_from (λ h. self.now.stop ≤ h) }
+        ensures searched { Searched (mask_in (stretches_ahead (Listed leg.now) self.now.rest.now)) self.now.needs.now leg.now.from self.now.stop result }
+        ensures counted { visits.old ≤ visits.new }
+        ensures visits { visits.new + leg.now.position.walk.index + 1 ≤ visits.old + 4 * length leg.now.schedule.now.entries }
+    {
+        if let Some(found) = self.in_cycle(leg, visits) {
+            return Some(found);
+        }
+        let cycle_end = leg.position.timer.next_start();
+        if self.stop <= cycle_end {
+            return None;
+        }
+        let next = leg.cycle_at(cycle_end, visits);
+        self.in_cycles(&next, visits)
     }
-    let cycle_end = leg.position.timer.next_start();
-    if stop <= cycle_end {
-        return None;
-    }
-    let cycle = cycle_end - leg.position.timer.started();
-    let near = leg.cycle_at(cycle_end.max(stop - cycle), visits);
-    search_two(&near, rest, needs, stop, visits)
-}
 
-/// The first such moment from where a list stands and before `stop`, in picoseconds. It is in force and in no hold up to
-/// `stop`.
-fn search_list(
-    leg: &ListedLeg<'_>,
-    rest: &Rest<'_>,
-    needs: &[Option<u128>; CLASSES],
-    stop: u128,
-    visits: &mut Visits,
-) -> Option<u128>
-    requires ready { AreReady (Listed leg.now) rest.now }
-    requires needs { All (λ need. ForSome need (λ d. d ≤ greatest_moment)) needs.now }
-    requires some { leg.now.from < stop }
-    requires within { stop ≤ 2 * greatest_moment }
-    requires unheld { ForSome leg.now.held_from (λ h. stop ≤ h) }
-    requires unended { ForSome leg.now.until (λ u. stop ≤ u) }
-    ensures searched { Searched (mask_in (stretches_ahead (Listed leg.now) rest.now)) needs.now leg.now.from stop result }
-    ensures counted { visits.old ≤ visits.new }
-    ensures visits { visits.new + leg.now.position.walk.index + 1 ≤ visits.old + 4 * length leg.now.schedule.now.entries }
-{
-    if let Some(found) = search_cycle(leg, rest, needs, stop, visits) {
-        return Some(found);
+    /// The first such moment from where a list stands in its hold.
+    fn in_hold(&self, leg: &ListedLeg<'_>) -> Option<u128>
+        requires search { IsSearch self.now leg.now }
+        requires held { has_come leg.now.held_from leg.now.from ≡ true }
+        ensures { Searched (mask_in (stretches_ahead (Listed leg.now) self.now.rest.now)) self.now.needs.now leg.now.from self.now.stop result }
+    {
+        search_flat(
+            &Leg::Listed(leg.at(leg.from, leg.position)),
+            self.rest,
+            self.needs,
+        )
     }
-    let cycle_end = leg.position.timer.next_start();
-    if stop <= cycle_end {
-        return None;
+
+    /// The first such moment from where a list stands, up to its hold and in it.
+    fn in_listed(&self, leg: &ListedLeg<'_>, visits: &mut Visits) -> Option<u128>
+        requires { IsSearch self.now leg.now }
+        ensures searched { Searched (mask_in (stretches_ahead (Listed leg.now) self.now.rest.now)) self.now.needs.now leg.now.from self.now.stop result }
+        ensures counted { visits.old ≤ visits.new }
+        ensures visits { visits.new ≤ visits.old + (4 * length leg.now.schedule.now.entries + 1) }
+    {
+        let Some(held_from) = leg.held_from else {
+            return self.in_list(leg, visits);
+        };
+        if held_from <= leg.from {
+            return self.in_hold(leg);
+        }
+        let listed = ListSearch {
+            rest: self.rest,
+            needs: self.needs,
+            stop: self.stop.min(held_from),
+        };
+        if let Some(found) = listed.in_list(leg, visits) {
+            return Some(found);
+        }
+        if self.stop <= held_from {
+            return None;
+        }
+        let held = leg
+            .position
+            .at(leg.schedule, leg.start, leg.held_from, held_from, visits);
+        self.in_hold(&leg.at(held_from, held))
     }
-    let next = leg.cycle_at(cycle_end, visits);
-    search_cycles(&next, rest, needs, stop, visits)
 }
 
 /// The leg's own moment, if some class with a need stays open through it from then on.
@@ -186,58 +199,6 @@ fn search_flat(leg: &Leg<'_>, rest: &Rest<'_>, needs: &[Option<u128>; CLASSES]) 
     } else {
         None
     }
-}
-
-/// The first such moment from where a list stands in its hold and before `stop`.
-fn search_hold(
-    leg: &ListedLeg<'_>,
-    rest: &Rest<'_>,
-    needs: &[Option<u128>; CLASSES],
-    stop: u128,
-) -> Option<u128>
-    requires ready { AreReady (Listed leg.now) rest.now }
-    requires needs { All (λ need. ForSome need (λ d. d ≤ greatest_moment)) needs.now }
-    requires some { leg.now.from < stop }
-    requires held { has_come leg.now.held_from leg.now.from ≡ true }
-    requires unended { ForSome leg.now.until (λ u. stop ≤ u) }
-    ensures { Searched (mask_in (stretches_ahead (Listed leg.now) rest.now)) needs.now leg.now.from stop result }
-{
-    search_flat(&Leg::Listed(leg.at(leg.from, leg.position)), rest, needs)
-}
-
-/// The first such moment from where a list stands and before `stop`, which is at or before the list's end.
-fn search_listed(
-    leg: &ListedLeg<'_>,
-    rest: &Rest<'_>,
-    needs: &[Option<u128>; CLASSES],
-    stop: u128,
-    visits: &mut Visits,
-) -> Option<u128>
-    requires ready { AreReady (Listed leg.now) rest.now }
-    requires needs { All (λ need. ForSome need (λ d. d ≤ greatest_moment)) needs.now }
-    requires some { leg.now.from < stop }
-    requires within { stop ≤ 2 * greatest_moment }
-    requires unended { ForSome leg.now.until (λ u. stop ≤ u) }
-    ensures searched { Searched (mask_in (stretches_ahead (Listed leg.now) rest.now)) needs.now leg.now.from stop result }
-    ensures counted { visits.old ≤ visits.new }
-    ensures visits { visits.new ≤ visits.old + (4 * length leg.now.schedule.now.entries + 1) }
-{
-    let Some(held_from) = leg.held_from else {
-        return search_list(leg, rest, needs, stop, visits);
-    };
-    if held_from <= leg.from {
-        return search_hold(leg, rest, needs, stop);
-    }
-    if let Some(found) = search_list(leg, rest, needs, stop.min(held_from), visits) {
-        return Some(found);
-    }
-    if stop <= held_from {
-        return None;
-    }
-    let held = leg
-        .position
-        .at(leg.schedule, leg.start, leg.held_from, held_from, visits);
-    search_hold(&leg.at(held_from, held), rest, needs, stop)
 }
 
 /// The first such moment from a leg on and before `stop`, which is at or before the leg's end.
@@ -258,7 +219,7 @@ fn search_leg(
     ensures visits { visits.new ≤ visits.old + most_visits (stretch_of leg.now) }
 {
     match leg {
-        Leg::Listed(listed) => search_listed(listed, rest, needs, stop, visits),
+        Leg::Listed(listed) => ListSearch { rest, needs, stop }.in_listed(listed, visits),
         Leg::Open(_) => search_flat(leg, rest, needs),
     }
 }

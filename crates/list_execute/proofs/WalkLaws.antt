@@ -2,7 +2,7 @@
 use Rattle.std.proofs.Common.{◌≡◌, ◌<◌, ◌≤◌, ℕ, zero, suc, ◌+◌, ◌-◌, ◌*◌, List, [], ◌∷◌, length, slice_get, Option, Some, None, cond, true, false, inl, inr, refl, sym, ap, ◌∙◌, subst, arith}
 use Rattle.std.proofs.lemmas.Bool.{lt-ltb, le-ltb, leb-true, leb-false, cases_lt, false≢true}
 use Rattle.std.proofs.lemmas.Option.{same_Some}
-use Rattle.gate_list.specs.Gate.{Plan, IsShownAt, in_ps, prefix, mask_at, last_mask, has_come}
+use Rattle.gate_list.specs.Gate.{Plan, IsShownAt, in_ps, prefix, mask_at, has_come}
 use Rattle.gate_list.specs.declared.Entry.{Entry}
 use Rattle.gate_list.proofs.RowLaws.{prefix_next}
 use Rattle.list_execute.specs.Walk.{Walk, ShowsEntry, until_of, walk_mask}

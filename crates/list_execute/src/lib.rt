@@ -1,7 +1,7 @@
 //! What a gate control list shows, entry after entry: List Execute (IEEE Std 802.1Q-2018, 8.6.9.2).
 #![tactic(auto)]
 
-ghost use Rattle.std.specs.Prelude.{◌≡◌, ◌+◌, ◌*◌, ◌<◌, ◌≤◌, ◌^◌, None, IsSome, length};
+ghost use Rattle.std.specs.Prelude.{◌≡◌, ◌+◌, ◌-◌, ◌*◌, ◌<◌, ◌≤◌, ◌^◌, None, IsSome, length};
 ghost use Rattle.wire_time.specs.Moment.{greatest_moment};
 ghost use Rattle.gate_list.specs.Gate.{IsShownAt, prefix, mask_at, has_come};
 ghost use Rattle.gate_list.specs.Visits.{one_more};
@@ -175,17 +175,22 @@ impl ListExecute {
         }
     }
 
-    /// Goes to the entry of a phase of the cycle.
+    /// Goes on to the entry of a later phase of the same cycle: each entry that begins up to then is a visit.
     #[tactic(auto, using(crate::proofs::WalkLaws::until_come, crate::proofs::WalkLaws::until_ahead, crate::proofs::WalkLaws::mask_of_shown))]
-    pub fn place(&mut self, schedule: &Schedule, phase: u128, visits: &mut Visits)
-        requires of { IsOf schedule.now self.old }
+    pub fn go_on(&mut self, schedule: &Schedule, phase: u128, visits: &mut Visits)
+        requires shown { ShowsEntry schedule.now self.old.began self.old.index self.old }
+        requires begun { prefix schedule.now.entries self.old.index ≤ phase }
         requires within { phase ≤ 4 * greatest_moment }
         ensures entry { ShowsEntry schedule.now self.old.began self.new.index self.new }
         ensures phase { IsShownAt schedule.now.entries phase self.new.index }
         ensures mask { walk_mask self.new ≡ mask_at schedule.now.entries phase }
-        ensures visits { visits.new ≡ more visits.old (self.new.index + 1) }
+        ensures onward { self.old.index ≤ self.new.index }
+        ensures visits { visits.new ≡ more visits.old (self.new.index - self.old.index) }
+        ensures counted { visits.old ≤ visits.new }
     {
-        let mut walk = ListExecute::begin(schedule, self.began, visits);
+        // The count fits a u64, which makes it no less after none.
+        let _ = visits.count();
+        let mut walk = *self;
         while walk.has_ended_by(self.began + phase) {
             walk.next(schedule, visits);
         }

@@ -9,16 +9,17 @@ use Rattle.gate_list.specs.declared.Stay.{Stay}
 use Rattle.gate_list.specs.Gate.{Plan, IsSchedule, IsShownAt, in_ps, prefix, mask_at, last_mask, has_come, mask_since, opens}
 use Rattle.gate_list.specs.Open.{open_while}
 use Rattle.gate_list.specs.Stay.{stay_lasts}
+use Rattle.gate_list.proofs.PhaseLaws.{prefix_rises}
 use Rattle.gate_list.proofs.RowLaws.{prefix_next}
 use Rattle.gate_list.proofs.OpenLaws.{open_from}
 use Rattle.list_config.specs.Event.{BeginsEntry}
 use Rattle.list_config.specs.History.{cycle_start}
 use Rattle.list_config.proofs.StretchLaws.{come_later, held_while, hold_parts, same_mask_while}
 use Rattle.list_config.proofs.StepLaws.{boundary_is, mask_of_cycle}
-use Rattle.list_execute.specs.Walk.{Walk, ShowsEntry, ShowsHold, IsOf, until_of, walk_mask, end_of}
+use Rattle.list_execute.specs.Walk.{Walk, ShowsEntry, ShowsHold, IsOf, until_of, walk_mask, end_of, more}
 use Rattle.list_execute.proofs.WalkLaws.{until_of_more, until_of_last, shown_mask, mask_of_entry}
 use Rattle.list_position.specs.declared.Position.{Position}
-use Rattle.list_position.specs.Position.{IsPlaced, IsFlat, IsCycleStart, Shows, ShowsList, boundary_in, boundary_of}
+use Rattle.list_position.specs.Position.{BeginsAtMost, IsPlaced, IsFlat, IsCycleStart, Shows, ShowsList, boundary_in, boundary_of}
 
 -- the mask of a walk in a hold
 pub mask_of_held : (walk : Walk) (mask : ℕ) → walk.held ≡ Some mask → walk_mask walk ≡ mask
@@ -74,6 +75,13 @@ prefix_grows es ok i within =
     let some : 0 < e.interval = ok i (record { mask = 0; interval = 0 }) within in
     omega arith
 
+-- a later entry begins later
+prefix_apart : (es : List Entry) → All (λ e. 0 < e.interval) es → (i j : ℕ) → i < j → j < length es → prefix es i < prefix es j
+prefix_apart es ok i j less within =
+    let grows = prefix_grows es ok i (omega arith) in
+    let rises = prefix_rises es (i + 1) j (omega arith) in
+    omega arith
+
 module _ (plan : Plan) (ok : IsSchedule plan) (start : ℕ) (held : Option ℕ) where
   -- in one cycle the hold is decided at its start
   pub hold_in : IsCycleStart plan start held → (k m : ℕ) → start + in_ps plan.cycle * k ≤ m → m < start + in_ps plan.cycle * k + in_ps plan.cycle → has_come held m ≡ has_come held (start + in_ps plan.cycle * k)
@@ -98,6 +106,27 @@ module _ (plan : Plan) (ok : IsSchedule plan) (start : ℕ) (held : Option ℕ) 
   pub list_mask : (k m i : ℕ) (e : Entry) → start + in_ps plan.cycle * k ≤ m → m < start + in_ps plan.cycle * k + in_ps plan.cycle → slice_get plan.entries i ≡ Some e → IsShownAt plan.entries (m - (start + in_ps plan.cycle * k)) i → mask_since (Some plan) start None m ≡ e.mask
   list_mask k m i e from to there shown =
       mask_of_cycle plan start k m (ok.plan_is).cycle from to None ∙ shown_mask plan.entries (m - (start + in_ps plan.cycle * k)) i e there shown
+
+  -- an entry of a cycle begins within it
+  entry_in : (k s i u : ℕ) → s ≡ start + in_ps plan.cycle * k → i < length plan.entries → u ≡ s + prefix plan.entries i → u < s + in_ps plan.cycle → BeginsEntry (Some plan) start u
+  entry_in k s i u at listed is before =
+      let above : 0 < in_ps plan.cycle = (let l = (ok.plan_is).cycle in omega arith) in
+      let here = boundary_is start (in_ps plan.cycle) k u above (omega arith) (omega arith) ∙ sym at in
+      (i, listed, is ∙ ap (λ m. m + prefix plan.entries i) (sym here))
+
+  -- where at most one entry begins after n, the one that is shown at t is none after j, if j begins after n
+  few_begun : (n t e k s i j : ℕ) → BeginsAtMost (Some plan) start n t e → s ≡ start + in_ps plan.cycle * k → s ≤ t → t < s + in_ps plan.cycle → IsShownAt plan.entries (t - s) i → (j < i → n < s + prefix plan.entries j) → i ≤ j
+  few_begun n t e k s i j only at from to shown after = elim (cases_lt j i) [
+    | inr upto ↦ upto
+    | inl less ↦
+        (let within = shown.within in
+        let begun = shown.begun in
+        let apart = prefix_apart plan.entries (ok.plan_is).intervals j i less within in
+        let ahead = after less in
+        let first : s + prefix plan.entries j ≡ e = only (s + prefix plan.entries j) ahead (omega arith) (entry_in k s j (s + prefix plan.entries j) at (omega arith) refl (omega arith)) in
+        let second : s + prefix plan.entries i ≡ e = only (s + prefix plan.entries i) (omega arith) (omega arith) (entry_in k s i (s + prefix plan.entries i) at within refl (omega arith)) in
+        absurd (omega arith))
+  ]
 
   module _ (n : ℕ) (position : Position) (p : IsPlaced plan start held n position) where
     cycle_above : 0 < in_ps plan.cycle
@@ -346,9 +375,9 @@ module _ (plan : Plan) (ok : IsSchedule plan) (start : ℕ) (held : Option ℕ) 
 
     -- ---- going on
 
-    -- in the same entry
-    pub same_entry : has_come held position.timer.started ≡ false → (m : ℕ) → n ≤ m → m < position.timer.next_start → ForSome (end_of position.walk) (λ u. m < u) → IsPlaced plan start held m position
-    same_entry off m l before soon = record {
+    -- later in the same cycle, where the walk has come to
+    goes_on : (m : ℕ) → n ≤ m → (walk : Walk) → Shows (has_come held position.timer.started) plan m (record position { walk = walk }) → IsPlaced plan start held m (record position { walk = walk })
+    goes_on m l walk showing = record {
       cycles = p.cycles;
       held_at = p.held_at;
       last_is = p.last_is;
@@ -356,41 +385,43 @@ module _ (plan : Plan) (ok : IsSchedule plan) (start : ℕ) (held : Option ℕ) 
       started_is = p.started_is;
       next_is = p.next_is;
       begun = (let b = p.begun in omega arith);
-      showing = by (has_come held position.timer.started) off p.showing;
+      showing = showing;
     }
-      where
-        by : (b : Bool) → b ≡ false → Shows b plan n position → Shows b plan m position
-        by true f shows = absurd (false≢true (sym f))
-        by false f shows = record { before_next = before; shows = shows.shows; shown = still_shown plan n position p.begun shows m l soon }
+
+    -- in no hold the list shows an entry
+    pub shows_list : has_come held position.timer.started ≡ false → ShowsList plan n position
+    shows_list off = subst (λ b. Shows b plan n position) off p.showing
+
+    -- in the entry of that moment
+    pub entry_at : has_come held position.timer.started ≡ false → (m : ℕ) → n ≤ m → m < position.timer.next_start → (walk : Walk) → ShowsEntry plan position.walk.began walk.index walk → IsShownAt plan.entries (m - position.timer.started) walk.index → IsPlaced plan start held m (record position { walk = walk })
+    entry_at off m l before walk shows shown =
+        goes_on m l walk (subst (λ b. Shows b plan m (record position { walk = walk })) (sym off) (record {
+          before_next = before;
+          shows = subst (λ k. ShowsEntry plan k walk.index walk) ((shows_list off).shows).began_then shows;
+          shown = shown;
+        }))
+
+    -- in the same entry
+    pub same_entry : has_come held position.timer.started ≡ false → (m : ℕ) → n ≤ m → m < position.timer.next_start → ForSome (end_of position.walk) (λ u. m < u) → IsPlaced plan start held m position
+    same_entry off m l before soon =
+        goes_on m l position.walk (subst (λ b. Shows b plan m position) (sym off) (record {
+          before_next = before;
+          shows = (shows_list off).shows;
+          shown = still_shown plan n position p.begun (shows_list off) m l soon;
+        }))
 
     -- in the entry after
     pub next_entry : has_come held position.timer.started ≡ false → (m : ℕ) → n ≤ m → m < position.timer.next_start → end_of position.walk ≡ Some m → (walk : Walk) → ShowsEntry plan position.walk.began (position.walk.index + 1) walk → IsPlaced plan start held m (record position { walk = walk })
-    next_entry off m l before ends walk after = record {
-      cycles = p.cycles;
-      held_at = p.held_at;
-      last_is = p.last_is;
-      length_is = p.length_is;
-      started_is = p.started_is;
-      next_is = p.next_is;
-      begun = (let b = p.begun in omega arith);
-      showing = by (has_come held position.timer.started) off p.showing;
-    }
-      where
-        by : (b : Bool) → b ≡ false → Shows b plan n position → Shows b plan m (record position { walk = walk })
-        by true f shows = absurd (false≢true (sym f))
-        by false f shows =
-            let began : ShowsEntry plan position.timer.started (position.walk.index + 1) walk = subst (λ k. ShowsEntry plan k (position.walk.index + 1) walk) (shows.shows).began_then after in
-            let at : until_of plan.entries position.timer.started position.walk.index ≡ Some m = sym (shows.shows).until_is ∙ (sym (end_of_entry plan position.timer.started position.walk.index position.walk shows.shows) ∙ ends) in
-            let within = began.listed in
-            let more : position.walk.index + 1 < length plan.entries = omega arith in
-            let phase : position.timer.started + prefix plan.entries (position.walk.index + 1) ≡ m = same_Some _ m (sym (until_of_more plan.entries position.timer.started position.walk.index more) ∙ at) in
-            let grows = prefix_grows plan.entries (ok.plan_is).intervals (position.walk.index + 1) more in
-            let index : walk.index ≡ position.walk.index + 1 = began.index_is in
-            record {
-              before_next = before;
-              shows = subst (λ i. ShowsEntry plan position.timer.started i walk) (sym index) began;
-              shown = subst (λ i. IsShownAt plan.entries (m - position.timer.started) i) (sym index) (record { within = more; begun = omega arith; before_next = λ next_more. omega arith });
-            }
+    next_entry off m l before ends walk after =
+        let shows = shows_list off in
+        let at : until_of plan.entries position.timer.started position.walk.index ≡ Some m = sym (shows.shows).until_is ∙ (sym (end_of_entry plan position.timer.started position.walk.index position.walk shows.shows) ∙ ends) in
+        let more : position.walk.index + 1 < length plan.entries = after.listed in
+        let phase : position.timer.started + prefix plan.entries (position.walk.index + 1) ≡ m = same_Some _ m (sym (until_of_more plan.entries position.timer.started position.walk.index more) ∙ at) in
+        let grows = prefix_grows plan.entries (ok.plan_is).intervals (position.walk.index + 1) more in
+        let index : walk.index ≡ position.walk.index + 1 = after.index_is in
+        entry_at off m l before walk
+        (subst (λ i. ShowsEntry plan position.walk.began i walk) (sym index) after)
+        (subst (λ i. IsShownAt plan.entries (m - position.timer.started) i) (sym index) (record { within = more; begun = omega arith; before_next = λ next_more. omega arith }))
 
     -- what the next boundary is where the list is in no hold
     pub boundary_ahead : has_come held position.timer.started ≡ false → (m : ℕ) → ForSome (boundary_of held position) (λ u. m ≤ u) → (m ≤ position.timer.next_start) × ForSome (end_of position.walk) (λ u. m ≤ u)
@@ -400,21 +431,9 @@ module _ (plan : Plan) (ok : IsSchedule plan) (start : ℕ) (held : Option ℕ) 
         by None l = (l, λ u is. cc)
         by (Some e) l = (omega arith, λ u is. (let same : e ≡ u = same_Some e u is in omega arith))
 
+    -- in a hold
     pub held_still : has_come held position.timer.started ≡ true → (m : ℕ) → n ≤ m → IsPlaced plan start held m position
-    held_still on m l = record {
-      cycles = p.cycles;
-      held_at = p.held_at;
-      last_is = p.last_is;
-      length_is = p.length_is;
-      started_is = p.started_is;
-      next_is = p.next_is;
-      begun = (let b = p.begun in omega arith);
-      showing = by (has_come held position.timer.started) on p.showing;
-    }
-      where
-        by : (b : Bool) → b ≡ true → Shows b plan n position → Shows b plan m position
-        by true f shows = shows
-        by false f shows = absurd (false≢true f)
+    held_still on m l = goes_on m l position.walk (subst (λ b. Shows b plan m position) (sym on) (subst (λ b. Shows b plan n position) on p.showing))
 
     -- later, before the next boundary
     pub placed_later : (m : ℕ) → n ≤ m → ForSome (boundary_of held position) (λ u. m < u) → IsPlaced plan start held m position
@@ -423,3 +442,48 @@ module _ (plan : Plan) (ok : IsSchedule plan) (start : ℕ) (held : Option ℕ) 
         by : (b : Bool) → has_come held position.timer.started ≡ b → IsPlaced plan start held m position
         by true on = held_still on m l
         by false off = let ahead = boundary_ahead off (suc m) soon in same_entry off m l ahead.0 ahead.1
+
+    -- ---- how many entries a list goes on by where at most one begins
+
+    -- in the same cycle by one
+    pub next_on : has_come held position.timer.started ≡ false → (t e : ℕ) → position.timer.started ≤ t → t < position.timer.next_start → BeginsAtMost (Some plan) start n t e → (i : ℕ) → IsShownAt plan.entries (t - position.timer.started) i → i ≤ position.walk.index + 1
+    next_on off t e begun before only i shown =
+        let next_is = p.next_is in
+        let shows = shows_list off in
+        few_begun n t e p.cycles position.timer.started i (position.walk.index + 1) only p.started_is begun (omega arith) shown
+        (λ less. (let within = shown.within in let soon = (shows.shown).before_next (omega arith) in omega arith))
+
+  -- and in another to its first
+  module _ (n t e : ℕ) (position later : Position) (p : IsPlaced plan start held n position) (q : IsPlaced plan start held t later) (off : has_come held position.timer.started ≡ false) (past : position.timer.next_start ≤ t) (only : BeginsAtMost (Some plan) start n t e) where
+    -- another cycle has begun since
+    begun_since : t < later.timer.next_start → n < later.timer.started
+    begun_since soon =
+        let shows = shows_list n position p off in
+        let before = shows.before_next in
+        let here = p.started_is in
+        let next_is = p.next_is in
+        let there = q.started_is in
+        let later_next = q.next_is in
+        elim (cases_lt p.cycles q.cycles) [
+          | inl after ↦
+              (let far : in_ps plan.cycle * (p.cycles + 1) ≤ in_ps plan.cycle * q.cycles = mul-le-mul_left (in_ps plan.cycle) (omega arith) in
+              let one : in_ps plan.cycle * (p.cycles + 1) ≡ in_ps plan.cycle * p.cycles + in_ps plan.cycle = (let a = mul_comm (in_ps plan.cycle) p.cycles in let b = mul_comm (in_ps plan.cycle) (p.cycles + 1) in omega arith) in
+              omega arith)
+          | inr same ↦
+              (let near : in_ps plan.cycle * q.cycles ≤ in_ps plan.cycle * p.cycles = mul-le-mul_left (in_ps plan.cycle) same in
+              absurd (omega arith))
+        ]
+
+    pub next_cycle : (old new : ℕ) → (has_come held t ≡ true → new ≤ old + 2) → (has_come held t ≡ false → new ≡ more old (later.walk.index + 1)) → new ≤ old + 2
+    next_cycle old new held_few listed_few = by (has_come held t) refl
+      where
+        by : (b : Bool) → has_come held t ≡ b → new ≤ old + 2
+        by true on = held_few on
+        by false on =
+            let shows = shows_list t later q (sym (placed_hold t later q) ∙ on) in
+            let next_is = q.next_is in
+            let before = shows.before_next in
+            let since = begun_since before in
+            let first = few_begun n t e q.cycles later.timer.started later.walk.index 0 only q.started_is q.begun (omega arith) shows.shown (λ some. omega arith) in
+            let few = listed_few on in
+            omega arith

@@ -3,6 +3,7 @@
 use Rattle.std.specs.Prelude.{◌≡◌, ◌<◌, ◌≤◌, ℕ, ◌+◌, ◌-◌, ◌*◌, min, Bool, true, false, if◌then◌else◌, Option, Some, None}
 use Rattle.std.specs.Option.{ForSome}
 use Rattle.gate_list.specs.Gate.{Plan, IsSchedule, IsShownAt, in_ps, last_mask, has_come}
+use Rattle.list_config.specs.Event.{BeginsEntry}
 use Rattle.list_execute.specs.Walk.{ShowsEntry, ShowsHold, end_of}
 use Rattle.list_position.specs.declared.Position.{Position}
 
@@ -50,12 +51,13 @@ abbrev pub boundary_of : Option ℕ → Position → Option ℕ
 boundary_of held position =
     if has_come held position.timer.started then None else Some (boundary_in position.timer.next_start (end_of position.walk))
 
--- A list stood so at a moment from which it comes to n with no boundary between.
-pub record StoodBefore (plan : Plan) (start : ℕ) (held : Option ℕ) (n : ℕ) (position : Position) : Type 0 where
-  pub from : ℕ
-  pub placed : IsPlaced plan start held from position
-  pub onward : from ≤ n
-  pub upto : ForSome (boundary_of held position) (λ u. n ≤ u)
+-- A list stood so at n or before.
+abbrev pub StoodBy : Plan → ℕ → Option ℕ → ℕ → Position → Type 0
+StoodBy plan start held n position = (m : ℕ) × (m ≤ n) × IsPlaced plan start held m position
+
+-- Whatever entry begins after t and by u begins at e: at most one does. Cycles began at start.
+abbrev pub BeginsAtMost : Option Plan → ℕ → ℕ → ℕ → ℕ → Type 0
+BeginsAtMost plan start t u e = (m : ℕ) → t < m → m ≤ u → BeginsEntry plan start m → m ≡ e
 
 -- Masks stay the same from a moment on, up to a later one, if any.
 pub record IsFlat (mask : ℕ → ℕ) (n : ℕ) (until : Option ℕ) : Type 0 where

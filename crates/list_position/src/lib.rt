@@ -8,8 +8,8 @@ ghost use Rattle.gate_list.specs.Open.{open_while};
 ghost use Rattle.gate_list.specs.Stay.{stay_lasts};
 ghost use Rattle.gate_list.specs.Visits.{one_more};
 ghost use Rattle.cycle_timer.specs.Cycle.{begun_at};
-ghost use Rattle.list_execute.specs.Walk.{IsOf, end_of};
-ghost use Rattle.list_position.specs.Position.{IsPlaced, IsCycleStart, IsFlat, StandsSo, StoodBefore, boundary_of};
+ghost use Rattle.list_execute.specs.Walk.{IsOf, end_of, more};
+ghost use Rattle.list_position.specs.Position.{BeginsAtMost, IsPlaced, IsCycleStart, IsFlat, StandsSo, StoodBy, boundary_of};
 
 use cycle_timer::CycleTimer;
 use gate_list::{Schedule, Stay, Visits, is_open};
@@ -98,16 +98,17 @@ fn begin_cycle(
 }
 
 impl Position {
-    /// The position of a list at `start`, the moment at which its first cycle begins, in picoseconds.
-    pub fn first(schedule: &Schedule, start: u128) -> Position
+    /// The position of a list at `start`, the moment at which its first cycle begins, in picoseconds. It looks at the last entry
+    /// and at the first.
+    pub fn first(schedule: &Schedule, start: u128, visits: &mut Visits) -> Position
         requires sound { IsSchedule schedule.now }
         requires start { start ≤ 2 * greatest_moment }
-        ensures { IsPlaced schedule.now start None start result }
+        ensures placed { IsPlaced schedule.now start None start result }
+        ensures visits { visits.new ≡ more visits.old 2 }
     {
-        let mut visits = Visits::zero();
-        let last = schedule.entry(schedule.len() - 1, &mut visits);
+        let last = schedule.entry(schedule.len() - 1, visits);
         let timer = timer_from(schedule, start);
-        begin_cycle(schedule, timer, last.mask, None, &mut visits)
+        begin_cycle(schedule, timer, last.mask, None, visits)
     }
 
     /// The position of the same list at the moment `t`, whose cycles began at `start`, and whose last state is held from
@@ -129,6 +130,7 @@ impl Position {
         ensures counted { visits.old ≤ visits.new }
         ensures visits { visits.new ≤ visits.old + (length schedule.now.entries + 1) }
         ensures held { has_come held_from t ≡ true → visits.new ≤ visits.old + 2 }
+        ensures listed { has_come held_from t ≡ false → visits.new ≡ more visits.old (result.walk.index + 1) }
     {
         let mut timer = timer_from(schedule, start);
         timer.jump_to(t);
@@ -136,7 +138,7 @@ impl Position {
         if has_come(held_from, timer.started()) {
             walk.hold(schedule, visits);
         } else {
-            walk.place(schedule, t - timer.started(), visits);
+            walk.go_on(schedule, t - timer.started(), visits);
         }
         Position {
             timer,
@@ -216,44 +218,34 @@ impl Position {
         })
     }
 
-    /// The position of the same list at `m`, with no boundary between: the next cycle or the next entry begins there, or
-    /// nothing does. Its last state is held from `held_from` on; none: from no moment on. All are in picoseconds.
-    pub fn on(
+    /// The position of the same list at a later moment `t`, where the same hold counts: in the cycle that runs it goes on from
+    /// the entry that is shown, and in a further one from the first. Its cycles began at `start`, and its last state is held
+    /// from `held_from` on; none: from no moment on. All are in picoseconds.
+    pub fn later(
         &self,
         schedule: &Schedule,
+        start: u128,
         held_from: Option<u128>,
-        m: u128,
+        t: u128,
         visits: &mut Visits,
     ) -> Position
         requires sound { IsSchedule schedule.now }
-        requires within { m ≤ 2 * greatest_moment }
-        requires stood { (start : ℕ) × StoodBefore schedule.now start held_from m self.now }
-        ensures placed { (start : ℕ) → StoodBefore schedule.now start held_from m self.now → IsPlaced schedule.now start held_from m result }
+        requires within { t ≤ 2 * greatest_moment }
+        requires stood { StoodBy schedule.now start held_from t self.now }
+        ensures placed { IsPlaced schedule.now start held_from t result }
         ensures counted { visits.old ≤ visits.new }
+        ensures visits { visits.new ≤ visits.old + (length schedule.now.entries + 1) }
+        ensures next { (n e : ℕ) → IsPlaced schedule.now start held_from n self.now → BeginsAtMost (Some schedule.now) start n t e → visits.new ≤ visits.old + 2 }
     {
         if has_come(held_from, self.timer.started()) {
             return *self;
         }
-        if self.timer.next_start() == m {
-            return begin_cycle(
-                schedule,
-                self.timer.fire(),
-                self.last_mask,
-                held_from,
-                visits,
-            );
+        if self.timer.next_start() <= t {
+            return self.at(schedule, start, held_from, t, visits);
         }
         let mut walk = self.walk;
-        if let Some(entry_end) = walk.entry_end() {
-            if entry_end == m {
-                walk.next(schedule, visits);
-            }
-        }
-        Position {
-            timer: self.timer,
-            walk,
-            last_mask: self.last_mask,
-        }
+        walk.go_on(schedule, t - self.timer.started(), visits);
+        Position { walk, ..*self }
     }
 
     /// The position of the same list at the end of its entry, where the next one begins in the same cycle. Its last state is

@@ -1,8 +1,8 @@
 //! How many entries each step of a port on jumping gates looks at, counted by hand: no more for a far clock than for a near one.
 //!
 //! A list of N entries that is searched without a find takes N - 1 entries up to the end of its cycle, as many and the first
-//! of the next cycle, and as many and the first of the last whole cycle before its end. A list that is placed takes its first
-//! entry, and all up to the one of the moment.
+//! of the next cycle, and as many and the first of the last whole cycle before its end. A list that goes on takes each entry
+//! that it comes to in its cycle, and in another cycle all from the first up to the one of the moment.
 use super::ports::{command, frame, plain_map};
 use super::*;
 use abstract_port::{Answer, Command, Event, Start};
@@ -75,25 +75,25 @@ struct Waiting {
 fn a_frame_waits_through_far_clocks(rt: HostRuntime) -> Result<(), Fail> {
     for waiting in [
         // The second entry of three cycles, the first of two cycles and of the last one, which the clock cuts at 180 us, and the
-        // second of that one; placed there: 1 + 2.
+        // second of that one; placed there: both.
         Waiting {
             many: 2,
             interval: 100_000,
-            visits: 3 + 3 + 1 + 3,
+            visits: 3 + 3 + 1 + 2,
             mask: 0x04,
         },
-        // The clock stops where a cycle begins: no cycle is cut, and the list is placed in the first entry, 1 + 1.
+        // The clock stops where a cycle begins: no cycle is cut, and the list is placed in the first entry.
         Waiting {
             many: 2,
             interval: 500,
-            visits: 3 + 2 + 2,
+            visits: 3 + 2 + 1,
             mask: 0x02,
         },
         // The clock cuts the last cycle at 236 us: in its 237th entry, which begins there.
         Waiting {
             many: 256,
             interval: 1000,
-            visits: 3 * 255 + 3 + 235 + 238,
+            visits: 3 * 255 + 3 + 235 + 237,
             mask: 0x02,
         },
     ] {
@@ -102,13 +102,13 @@ fn a_frame_waits_through_far_clocks(rt: HostRuntime) -> Result<(), Fail> {
         let installed = Answer::Installed(20_000_000);
         let queued = Answer::Queued { id: 1, class: 0 };
         steps(&rt, &mut port, Event::Install(&list), &[(installed, 0)], 0);
-        steps(&rt, &mut port, Event::Clock(20_000_000), &[], 2);
+        steps(&rt, &mut port, Event::Clock(20_000_000), &[], 1);
         steps(
             &rt,
             &mut port,
             Event::Arrive(frame(1, 0, 60)),
-            &[(queued, 2)],
-            2,
+            &[(queued, 1)],
+            1,
         );
         steps(&rt, &mut port, Event::Clock(FAR), &[], waiting.visits);
         assert_eq!(rt; port.now(), FAR);
@@ -188,15 +188,15 @@ fn starts_at_the_change<R: Abort + AllocGlobal>(rt: &R, change: &Change) -> Resu
         end: change.end,
     });
     steps(rt, &mut port, Event::Install(&first), &[(at, 0)], 0);
-    steps(rt, &mut port, Event::Clock(20_000_000), &[], 2);
+    steps(rt, &mut port, Event::Clock(20_000_000), &[], 1);
     steps(
         rt,
         &mut port,
         Event::Arrive(frame(1, 1, 1514)),
-        &[(queued, 2)],
-        2,
+        &[(queued, 1)],
+        1,
     );
-    steps(rt, &mut port, Event::Install(&second), &[(then, 2)], 2);
+    steps(rt, &mut port, Event::Install(&second), &[(then, 1)], 1);
     let starts = [(start, change.visits[0])];
     steps(
         rt,
@@ -224,7 +224,7 @@ fn changes_are_found_from_afar(rt: HostRuntime) -> Result<(), Fail> {
             base: 1_000_000_020_000,
             start: 1_000_000_015_000_000,
             end: 1_000_000_027_304_000,
-            visits: [3 + 2 + 3, 2 + 3 + 2],
+            visits: [3 + 2 + 2, 1 + 3 + 1],
         },
         Change {
             many: 2,
@@ -233,7 +233,7 @@ fn changes_are_found_from_afar(rt: HostRuntime) -> Result<(), Fail> {
             base: 1_000_000_050_000,
             start: 1_000_000_015_000_000,
             end: 1_000_000_027_304_000,
-            visits: [3 + 2 + 3, 2 + 3 + 2],
+            visits: [3 + 2 + 2, 2 + 3 + 1],
         },
         Change {
             many: 2,
@@ -242,7 +242,7 @@ fn changes_are_found_from_afar(rt: HostRuntime) -> Result<(), Fail> {
             base: 1_000_000_050_000,
             start: 1_000_000_050_000_000,
             end: 1_000_000_062_304_000,
-            visits: [3 + 3 + 2, 3 + 2],
+            visits: [3 + 3 + 1, 3 + 1],
         },
     ] {
         starts_at_the_change(&rt, &change)?;
@@ -261,7 +261,7 @@ fn changes_of_long_lists_are_found_from_afar(rt: HostRuntime) -> Result<(), Fail
             base: 1_300_000_020_000,
             start: 1_300_000_015_000_000,
             end: 1_300_000_027_304_000,
-            visits: [3 * 255 + 2 + 257, 2 + 3 + 2],
+            visits: [3 * 255 + 2 + 256, 1 + 3 + 1],
         },
         Change {
             many: 256,
@@ -270,7 +270,7 @@ fn changes_of_long_lists_are_found_from_afar(rt: HostRuntime) -> Result<(), Fail
             base: 1_300_000_050_000,
             start: 1_300_000_015_000_000,
             end: 1_300_000_027_304_000,
-            visits: [3 * 255 + 2 + 257, 2 + 3 + 2],
+            visits: [3 * 255 + 2 + 256, 2 + 3 + 1],
         },
         Change {
             many: 256,
@@ -279,10 +279,42 @@ fn changes_of_long_lists_are_found_from_afar(rt: HostRuntime) -> Result<(), Fail
             base: 1_300_000_050_000,
             start: 1_300_000_050_000_000,
             end: 1_300_000_062_304_000,
-            visits: [3 * 255 + 3 + 29 + 2, 3 + 2],
+            visits: [3 * 255 + 3 + 29 + 1, 3 + 1],
         },
     ] {
         starts_at_the_change(&rt, &change)?;
+    }
+    Ok(())
+}
+
+/// Clock events over 256 entries of 500 ns: within an entry none is looked at, and at the next boundary only the one that begins, also
+/// where a cycle begins. Further on each entry that begins is looked at twice: while it is searched for a start, and on the way.
+#[test]
+fn near_clocks_look_at_the_next_entry_alone(rt: HostRuntime) -> Result<(), Fail> {
+    let list = by_turns(256, 500).ok_or("a command")?;
+    let mut port = new_port(&rt)?;
+    let installed = Answer::Installed(20_000_000);
+    steps(&rt, &mut port, Event::Install(&list), &[(installed, 0)], 0);
+    steps(&rt, &mut port, Event::Clock(20_000_000), &[], 1);
+    for i in 1..256u32 {
+        let begins = 20_000_000 + 500_000 * u128::from(i);
+        steps(&rt, &mut port, Event::Clock(begins - 1), &[], 0);
+        steps(&rt, &mut port, Event::Clock(begins), &[], 1);
+    }
+    for (moment, visits) in [
+        // The second cycle, from 148 us on.
+        (148_000_000, 1),
+        // Its fourth entry, which begins there, from its first.
+        (149_500_000, 2 + 3),
+        // Its last, from its fourth.
+        (275_999_999, 252 + 252),
+        // The third entry of the third cycle, which began at 276 us.
+        (277_499_999, 3 + 3),
+        // The first of the fifth, from 532 us on: all that is left of the third and the fourth are searched.
+        (532_000_000, 253 + 256 + 1),
+        (532_499_999, 0),
+    ] {
+        steps(&rt, &mut port, Event::Clock(moment), &[], visits);
     }
     Ok(())
 }

@@ -51,9 +51,9 @@ fn counts<R: Abort + AllocGlobal>(rt: &R, port: &mut Port<Stepped>, steps: &[(Ev
     }
 }
 
-/// A list that comes into force, or is placed anew at a lead moment, looks at its first entry, and goes from there to the
-/// entry of the moment, the first again; each entry that begins later is one more, also where a cycle begins. A cycle that
-/// begins in a hold looks at its first entry and at the last. No other event than the clock's changes what is shown.
+/// A list that comes into force, or is placed anew at a lead moment, looks at its entries from the first up to the one of the
+/// moment; each entry that begins later is one more, also where a cycle begins. A cycle that begins in a hold looks at its
+/// first entry and at the last. No other event than the clock's changes what is shown.
 #[test]
 fn each_step_counts_what_it_looks_at(rt: HostRuntime) -> Result<(), Fail> {
     let first = three_entries().ok_or("a command")?;
@@ -63,23 +63,23 @@ fn each_step_counts_what_it_looks_at(rt: HostRuntime) -> Result<(), Fail> {
         (Event::Install(&first), 0),
         // The lead moment; no list is in force.
         (Event::Clock(12_336_000), 0),
-        // The list comes into force at its first entry: 1 + 1.
-        (Event::Clock(60_000_000), 2),
+        // The list comes into force at its first entry.
+        (Event::Clock(60_000_000), 1),
         // The second entry.
         (Event::Clock(80_000_000), 1),
         // The third at 100 us, and the first of the next cycle at 120 us.
         (Event::Clock(125_000_000), 2),
         (Event::Install(&second), 2),
         (Event::Install(&second), 2),
-        // The lead moment of the second command: the list is placed anew, at its first entry: 1 + 1.
-        (Event::Clock(137_336_000), 2),
-        (Event::Query, 2),
-        (Event::Count(0), 2),
-        (Event::Clock(137_335_999), 2),
+        // The lead moment of the second command: the list is placed anew, at its first entry.
+        (Event::Clock(137_336_000), 1),
+        (Event::Query, 1),
+        (Event::Count(0), 1),
+        (Event::Clock(137_335_999), 1),
         // The second entry at 140 us, the third at 160 us, and at 180 us a cycle that is held: 1 + 1 + 2.
         (Event::Clock(180_000_000), 4),
         // The second list comes into force.
-        (Event::Clock(190_000_000), 2),
+        (Event::Clock(190_000_000), 1),
         // Nothing begins.
         (Event::Clock(190_000_001), 0),
     ];
@@ -94,8 +94,8 @@ fn each_start_has_its_own_count(rt: HostRuntime) -> Result<(), Fail> {
     let mut port = new_port(&rt)?;
     let steps = [
         (Event::Install(&list), 0),
-        (Event::Clock(60_000_000), 2),
-        (Event::Arrive(frame(1, 2, 60)), 2),
+        (Event::Clock(60_000_000), 1),
+        (Event::Arrive(frame(1, 2, 60)), 1),
     ];
     counts(&rt, &mut port, &steps);
     let mut asked = Some(Event::Clock(130_000_000));
@@ -114,7 +114,7 @@ fn each_start_has_its_own_count(rt: HostRuntime) -> Result<(), Fail> {
     Ok(())
 }
 
-/// A list that is placed anew in its third entry looks at the first twice, and at the second and third.
+/// A list that is placed anew in its third entry looks at the first, the second and the third.
 #[test]
 fn a_list_is_placed_anew_entry_by_entry(rt: HostRuntime) -> Result<(), Fail> {
     let first = three_entries().ok_or("a command")?;
@@ -122,12 +122,12 @@ fn a_list_is_placed_anew_entry_by_entry(rt: HostRuntime) -> Result<(), Fail> {
     let mut port = new_port(&rt)?;
     let steps = [
         (Event::Install(&first), 0),
-        (Event::Clock(60_000_000), 2),
+        (Event::Clock(60_000_000), 1),
         // The second entry at 80 us, the third at 100 us.
         (Event::Clock(100_000_000), 2),
         (Event::Install(&second), 2),
-        // The lead moment, in the third entry: 1 + 3.
-        (Event::Clock(112_336_000), 4),
+        // The lead moment, in the third entry.
+        (Event::Clock(112_336_000), 3),
     ];
     counts(&rt, &mut port, &steps);
     Ok(())

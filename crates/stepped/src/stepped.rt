@@ -53,8 +53,7 @@ impl Stepped {
             Some(edge) => edge.min(t),
             None => t,
         };
-        self.slots.settle(m);
-        self.slots.go_on(visits);
+        self.slots.move_on(m, visits);
     }
 }
 
@@ -126,7 +125,7 @@ impl Gates for Stepped {
         if let Some(waited) = lead_moment(self.slots.announced()) {
             return Err(NotNow::Busy(waited));
         }
-        let command = AcceptedCommand::install(schedule, lead);
+        let command = AcceptedCommand::install(schedule, lead, &mut Visits::zero());
         let change = command.change();
         self.slots.announce(command);
         Ok(change)

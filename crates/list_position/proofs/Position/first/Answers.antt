@@ -1,5 +1,4 @@
-use Rattle.std.proofs.Common.{◌≡◌, ◌+◌, ◌-◌, ◌*◌, None, length, ap, sym, ◌∙◌, subst, arith}
-use Rattle.gate_list.specs.Gate.{in_ps}
+use Rattle.std.proofs.Common.{◌-◌, None, ap, sym, subst, arith}
 use Rattle.cycle_timer.specs.Cycle.{Cycle}
 use Rattle.gate_list.proofs.PhaseLaws.{last_mask_at_end}
 use Rattle.list_position.specs.Position.{IsPlaced}
@@ -11,8 +10,8 @@ begin_cycle-requires-clause-last c =
     let some = (c.requires.sound.plan_is).entries in
     sym (last_mask_at_end c.args.schedule.now.entries (c.len.result - 1) c.entry-last.result c.entry-last.ensures.entry (omega (arith, count, some)))
 
-pub returns : goal.returns
-returns c =
+pub returns-clause-placed : goal.returns-clause-placed
+returns-clause-placed c =
     let plan = c.args.schedule.now in
     let at = ap (λ (t : Cycle). t.started) c.timer_from-timer.ensures in
     subst (λ m. IsPlaced plan c.args.start None m c.begin_cycle.result) at (c.begin_cycle.ensures.placed c.args.start 0 (omega (arith, at)) tt)

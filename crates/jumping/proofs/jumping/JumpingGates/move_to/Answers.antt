@@ -4,52 +4,52 @@ use Rattle.std.specs.Option.{ForSome}
 use Rattle.list_config.specs.History.{kept, plan_of}
 use Rattle.list_config.specs.Current.{Clocked, entry_count}
 use Rattle.list_config.specs.Event.{IsGateEvent}
-use Rattle.accepted_commands.specs.Commands.{AreCommands, Commands, history_of}
+use Rattle.accepted_commands.specs.Commands.{Commands, history_of}
 use Rattle.accepted_commands.specs.Standing.{Stands, edge_at}
-use Rattle.accepted_commands.proofs.CommandLaws.{current_of, settled_history}
+use Rattle.accepted_commands.proofs.CommandLaws.{current_of, same_commands, settled_history}
 use Rattle.accepted_commands.specs.Resume.{Resumes}
-use Rattle.jumping.specs.Edge.{NothingComes}
+use Rattle.jumping.specs.Edge.{NothingComes, OneEntryComes}
 use Rattle.jumping.proofs.QuietLaws.{few_placed}
-use Rattle.jumping.proofs.NearLaws.{edge_ahead, none_by, resumes_settled, same_commands, still_stands}
+use Rattle.jumping.proofs.NearLaws.{alone_by, begins_at_most, edge_ahead, none_by, resumes_settled, still_stands}
 use Rattle.jumping.proofs.jumping.JumpingGates.move_to.Goals as goal
 
-pub returns-then-not-is_near-clause-history : goal.returns-then-not-is_near-clause-history
-returns-then-not-is_near-clause-history c =
+pub returns-clause-history : goal.returns-clause-history
+returns-clause-history c =
     let slots = c.self.inside.slots.commands in
     let later : slots.moment ≤ c.args.t = subst (λ (v : Clocked). v.moment ≤ c.args.t) (sym c.self.view_is) c.requires.later in
-    ap history_of (c.place.ensures.commands ∙ c.settle.ensures.value)
+    ap history_of c.move_on.ensures.value
     ∙ (settled_history slots c.self.invariant.0 c.args.t later ∙ ap (λ (v : Clocked). kept v.history c.args.t) c.self.view_is)
 
-pub returns-else-not-is_near-clause-history : goal.returns-else-not-is_near-clause-history
-returns-else-not-is_near-clause-history c =
+pub returns-then-is_before-clause-history : goal.returns-then-is_before-clause-history
+returns-then-is_before-clause-history c =
     let slots = c.self.inside.slots.commands in
     let later : slots.moment ≤ c.args.t = subst (λ (v : Clocked). v.moment ≤ c.args.t) (sym c.self.view_is) c.requires.later in
     ap history_of c.settle.ensures.value
     ∙ (settled_history slots c.self.invariant.0 c.args.t later ∙ ap (λ (v : Clocked). kept v.history c.args.t) c.self.view_is)
 
-pub invariant_of-self : goal.invariant_of-self
-invariant_of-self c =
+pub invariant_of-self-2 : goal.invariant_of-self-2
+invariant_of-self-2 c =
     let slots = c.self.inside.slots.commands in
     let resumed = c.self.inside.resumed in
     let later : slots.moment ≤ c.args.t = subst (λ (v : Clocked). v.moment ≤ c.args.t) (sym c.self.view_is) c.requires.later in (
-      subst AreCommands (sym c.place.ensures.commands) c.settle.ensures.sound,
-      c.place.ensures.stands,
-      subst (λ k. Resumes k resumed) (sym (c.place.ensures.commands ∙ c.settle.ensures.value)) (resumes_settled slots c.self.invariant.0 resumed c.args.t later c.self.invariant.2),
+      c.move_on.ensures.sound,
+      c.move_on.ensures.stands,
+      subst (λ k. Resumes k resumed) (sym c.move_on.ensures.value) (resumes_settled slots c.self.invariant.0 resumed c.args.t later c.self.invariant.2),
       c.next_edge-self-inside.ensures,
     )
 
-pub invariant_of-self-else-not-is_near : goal.invariant_of-self-else-not-is_near
-invariant_of-self-else-not-is_near c =
+pub invariant_of-self : goal.invariant_of-self
+invariant_of-self c =
     let slots = c.self.inside.slots.commands in
     let position = c.self.inside.slots.position in
     let resumed = c.self.inside.resumed in
     let t = c.args.t in
     let later : slots.moment ≤ t = subst (λ (v : Clocked). v.moment ≤ t) (sym c.self.view_is) c.requires.later in
     let edge = c.self.invariant.3 in
-    let near = c.is_before-is_near.ensures.0 c.if-not-is_near.false in
+    let near = c.is_before.ensures.0 c.if-is_before.true in
     let soon = subst (λ (e : Option ℕ). ForSome e (λ u. t < u)) edge.is near in
     let none = none_by slots c.self.invariant.0 position t later soon in
-    let stood = c.settle.ensures.position none.0 none.1 in
+    let stood = c.settle.ensures.position none in
     let same = c.settle.ensures.value ∙ same_commands slots c.self.invariant.0 t later none in (
       c.settle.ensures.sound,
       subst (λ (k : Commands). Stands k.in_force k.pending k.moment c.settle.new.self.position) (sym same)
@@ -62,18 +62,24 @@ invariant_of-self-else-not-is_near c =
       },
     )
 
-pub returns-then-not-is_near-clause-sound : goal.returns-then-not-is_near-clause-sound
-returns-then-not-is_near-clause-sound c = current_of c.place.new.self.commands (subst AreCommands (sym c.place.ensures.commands) c.settle.ensures.sound)
+pub returns-clause-sound : goal.returns-clause-sound
+returns-clause-sound c = current_of c.move_on.new.self.commands c.move_on.ensures.sound
 
-pub returns-then-not-is_near-clause-still : goal.returns-then-not-is_near-clause-still
-returns-then-not-is_near-clause-still c = λ nothing.
+pub returns-clause-still : goal.returns-clause-still
+returns-clause-still c = λ nothing.
     let slots = c.self.inside.slots.commands in
     let quiet = subst (λ (v : Clocked). NothingComes v.history v.moment c.args.t) (sym c.self.view_is) nothing in
-    absurd (false≢true (sym c.if-not-is_near.true ∙ edge_ahead slots c.self.inside.slots.position c.self.inside.edge c.args.t c.self.invariant.3 quiet c.is_before-is_near.result c.is_before-is_near.ensures.1))
+    absurd (false≢true (sym c.if-is_before.false ∙ edge_ahead slots c.self.inside.slots.position c.self.inside.edge c.args.t c.self.invariant.3 quiet c.is_before.result c.is_before.ensures.1))
 
-pub returns-then-not-is_near-clause-visits : goal.returns-then-not-is_near-clause-visits
-returns-then-not-is_near-clause-visits c =
+pub returns-clause-next : goal.returns-clause-next
+returns-clause-next c = λ e one.
+    let slots = c.self.inside.slots.commands in
+    let only = subst (λ (v : Clocked). OneEntryComes v.history v.moment c.args.t e) (sym c.self.view_is) one in
+    c.move_on.ensures.next e (alone_by slots c.self.invariant.0 c.args.t e only) (begins_at_most slots c.self.invariant.0 c.args.t e only)
+
+pub returns-clause-visits : goal.returns-clause-visits
+returns-clause-visits c =
     let slots = c.self.inside.slots.commands in
     let later : slots.moment ≤ c.args.t = subst (λ (v : Clocked). v.moment ≤ c.args.t) (sym c.self.view_is) c.requires.later in
-    few_placed slots c.self.invariant.0 c.args.self.now c.self.view_is c.args.t later c.args.visits.now c.place.new.visits
-    (subst (λ (k : Commands). c.place.new.visits ≤ c.args.visits.now + (entry_count (plan_of k.in_force) + 1)) c.settle.ensures.value c.place.ensures.visits)
+    few_placed slots c.self.invariant.0 c.args.self.now c.self.view_is c.args.t later c.args.visits.now c.move_on.new.visits
+    (subst (λ (k : Commands). c.move_on.new.visits ≤ c.args.visits.now + (entry_count (plan_of k.in_force) + 1)) c.move_on.ensures.value c.move_on.ensures.visits)

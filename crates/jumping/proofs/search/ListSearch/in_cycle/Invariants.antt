@@ -4,14 +4,14 @@ use Rattle.list_position.specs.Position.{IsPlaced}
 use Rattle.accepted_commands.specs.declared.leg.Leg.TheVariants.{Listed}
 use Rattle.accepted_commands.specs.Leg.{stretches_ahead}
 use Rattle.jumping.specs.Search.{NoneFits}
-use Rattle.jumping.proofs.search.search_cycle.Given as goal
+use Rattle.jumping.proofs.search.ListSearch.in_cycle.Given as goal
 
 abbrev pub invariant-loop-position : goal.invariant-loop-position
 invariant-loop-position l =
     (l.from < l.limit) × (l.leg.from ≤ l.from)
     × IsPlaced l.leg.schedule.now l.leg.start l.leg.held_from l.from l.position
     × (l.position.timer ≡ l.leg.position.timer)
-    × NoneFits (mask_in (stretches_ahead (Listed l.leg) l.rest)) l.needs l.leg.from l.from
+    × NoneFits (mask_in (stretches_ahead (Listed l.leg) l.self.rest.now)) l.self.needs.now l.leg.from l.from
     × (l.initial.visits ≤ l.visits)
     × (l.visits + l.leg.position.walk.index ≤ l.initial.visits + l.position.walk.index)
     × (l.position.walk.index < length l.leg.schedule.now.entries)

@@ -7,12 +7,12 @@ use Rattle.accepted_commands.specs.declared.leg.Leg.TheVariants.{Listed}
 use Rattle.accepted_commands.specs.Leg.{stretches_ahead}
 use Rattle.jumping.proofs.SearchLaws.{fits_join}
 use Rattle.jumping.proofs.ListedLaws.{ahead_here, end_there, entry_listed, none_here, off_here}
-use Rattle.jumping.proofs.search.search_cycle.Goals as goal
+use Rattle.jumping.proofs.search.ListSearch.in_cycle.Goals as goal
 
 pub returns-then-limit-end-clause-searched : goal.returns-then-limit-end-clause-searched
 returns-then-limit-end-clause-searched c =
     let leg = c.args.leg.now in
-    let rest = c.args.rest.now in
+    let rest = c.args.self.now.rest.now in
     let from = c.loop-position.from in
     let inv = c.loop-position.invariant in
     let some = inv.0 in
@@ -20,14 +20,14 @@ returns-then-limit-end-clause-searched c =
     let limit = c.min-limit.ensures in
     let ends = c.boundary-end.ensures in
     let past = c.if-limit-end.true in
-    fits_join (mask_in (stretches_ahead (Listed leg) rest)) c.args.needs.now leg.from from (min c.args.stop leg.position.timer.next_start) inv.4
-    (none_here leg rest c.requires.ready c.args.stop c.requires.within c.requires.unheld c.requires.unended from c.loop-position.position inv.2 (omega (arith, some, limit)) c.args.needs.now c.at.result c.at.ensures (min c.args.stop leg.position.timer.next_start)
+    fits_join (mask_in (stretches_ahead (Listed leg) rest)) c.args.self.now.needs.now leg.from from (min c.args.self.now.stop leg.position.timer.next_start) inv.4
+    (none_here leg rest c.requires.search.ready c.args.self.now.stop c.requires.search.within c.requires.unheld c.requires.search.unended from c.loop-position.position inv.2 (omega (arith, some, limit)) c.args.self.now.needs.now c.at.result c.at.ensures (min c.args.self.now.stop leg.position.timer.next_start)
     (omega (arith, next_start, limit, ends, past)) (omega arith) (c.fits.ensures.none c.loop-position-test.true))
 
 pub loop-position-preserved : goal.loop-position-preserved
 loop-position-preserved c =
     let leg = c.args.leg.now in
-    let rest = c.args.rest.now in
+    let rest = c.args.self.now.rest.now in
     let plan = leg.schedule.now in
     let from = c.loop-position.from in
     let position = c.loop-position.position in
@@ -40,14 +40,14 @@ loop-position-preserved c =
     let ends = c.boundary-end.ensures in
     let before = c.if-limit-end.false in
     let end : ℕ = boundary_in position.timer.next_start (end_of position.walk) in
-    let soon : from < c.args.stop = omega (arith, some, limit) in
-    let off = off_here leg rest c.requires.ready c.args.stop c.requires.within c.requires.unheld c.requires.unended from position inv.2 soon in
-    let ahead = ahead_here leg rest c.requires.ready c.args.stop c.requires.within c.requires.unheld c.requires.unended from position inv.2 soon in
+    let soon : from < c.args.self.now.stop = omega (arith, some, limit) in
+    let off = off_here leg rest c.requires.search.ready c.args.self.now.stop c.requires.search.within c.requires.unheld c.requires.search.unended from position inv.2 soon in
+    let ahead = ahead_here leg rest c.requires.search.ready c.args.self.now.stop c.requires.search.within c.requires.unheld c.requires.search.unended from position inv.2 soon in
     let same_next = ap (λ (t : Cycle). t.next_start) inv.3 in
     let inside : end < position.timer.next_start = omega (arith, before, limit, next_start, ends, same_next) in
     let at_end = c.next_entry-position.ensures.placed leg.start from end leg.held_from inv.2 off (end_there position.timer.next_start (end_of position.walk) inside) (omega (arith, ahead)) inside in
     let placed = subst (λ m. IsPlaced plan leg.start leg.held_from m c.next_entry-position.result) (sym ends) at_end in
-    let off_next = off_here leg rest c.requires.ready c.args.stop c.requires.within c.requires.unheld c.requires.unended c.boundary-end.result c.next_entry-position.result placed (omega (arith, before, limit)) in
+    let off_next = off_here leg rest c.requires.search.ready c.args.self.now.stop c.requires.search.within c.requires.unheld c.requires.search.unended c.boundary-end.result c.next_entry-position.result placed (omega (arith, before, limit)) in
     let listed = entry_listed plan leg.start leg.held_from c.boundary-end.result c.next_entry-position.result placed off_next in
     let index = c.next_entry-position.ensures.index in
     let counted = c.next_entry-position.ensures.counted in
@@ -58,8 +58,8 @@ loop-position-preserved c =
       omega (arith, early, ahead, ends),
       placed,
       c.next_entry-position.ensures.timer ∙ inv.3,
-      fits_join (mask_in (stretches_ahead (Listed leg) rest)) c.args.needs.now leg.from from c.boundary-end.result inv.4
-          (none_here leg rest c.requires.ready c.args.stop c.requires.within c.requires.unheld c.requires.unended from position inv.2 soon c.args.needs.now c.at.result c.at.ensures c.boundary-end.result
+      fits_join (mask_in (stretches_ahead (Listed leg) rest)) c.args.self.now.needs.now leg.from from c.boundary-end.result inv.4
+          (none_here leg rest c.requires.search.ready c.args.self.now.stop c.requires.search.within c.requires.unheld c.requires.search.unended from position inv.2 soon c.args.self.now.needs.now c.at.result c.at.ensures c.boundary-end.result
           (omega (arith, ends)) (omega (arith, before, limit)) (c.fits.ensures.none c.loop-position-test.true)),
       omega (arith, old, counted),
       omega (arith, so_far, visit, index),

@@ -7,16 +7,16 @@ use Rattle.accepted_commands.specs.declared.leg.ListedLeg.{ListedLeg}
 use Rattle.accepted_commands.specs.declared.leg.Leg.TheVariants.{Listed}
 use Rattle.accepted_commands.specs.Leg.{stretch_of, stretches_ahead}
 use Rattle.jumping.specs.Search.{Searched}
-use Rattle.jumping.proofs.search.search_hold.Goals as goal
+use Rattle.jumping.proofs.search.ListSearch.in_hold.Goals as goal
 
 pub returns : goal.returns
 returns c =
     let leg = c.args.leg.now in
-    let rest = c.args.rest.now in
-    let stands = (c.requires.ready.first).stands in
+    let rest = c.args.self.now.rest.now in
+    let stands = (c.requires.search.ready.first).stands in
     let held = sym (placed_hold leg.schedule.now stands.0 leg.start leg.held_from leg.from leg.position stands.1) ∙ c.requires.held in
     let flat = flat_held leg.schedule.now stands.0 leg.start leg.held_from leg.from leg.position stands.1 held in
-    subst (λ (g : ListedLeg). Searched (mask_in (stretches_ahead (Listed g) rest)) c.args.needs.now g.from c.args.stop c.search_flat.result) c.at.ensures
-    (c.search_flat.ensures c.args.stop (subst (λ (g : ListedLeg). g.from < c.args.stop) (sym c.at.ensures) c.requires.some)
-    (subst (λ (g : ListedLeg). ForSome g.until (λ u. c.args.stop ≤ u)) (sym c.at.ensures) c.requires.unended)
+    subst (λ (g : ListedLeg). Searched (mask_in (stretches_ahead (Listed g) rest)) c.args.self.now.needs.now g.from c.args.self.now.stop c.search_flat.result) c.at.ensures
+    (c.search_flat.ensures c.args.self.now.stop (subst (λ (g : ListedLeg). g.from < c.args.self.now.stop) (sym c.at.ensures) c.requires.search.some)
+    (subst (λ (g : ListedLeg). ForSome g.until (λ u. c.args.self.now.stop ≤ u)) (sym c.at.ensures) c.requires.search.unended)
     (subst (λ (g : ListedLeg). IsFlat (mask_of (stretch_of (Listed g))) g.from None) (sym c.at.ensures) flat))

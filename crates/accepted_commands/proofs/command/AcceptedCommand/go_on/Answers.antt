@@ -1,0 +1,12 @@
+use Rattle.std.proofs.Common.{Some, subst}
+use Rattle.list_position.specs.Position.{BeginsAtMost}
+use Rattle.accepted_commands.specs.Commands.{accepted_in, command_of}
+use Rattle.accepted_commands.specs.Standing.{Stands, position_in}
+use Rattle.accepted_commands.specs.declared.command.AcceptedCommand.{AcceptedCommand}
+use Rattle.accepted_commands.proofs.command.AcceptedCommand.go_on.Goals as goal
+
+pub returns-in-Install-clause-next : goal.returns-in-Install-clause-next
+returns-in-Install-clause-next c = λ n e stands only.
+    c.position_later-list.ensures.next n e
+    (subst (λ (k : AcceptedCommand). Stands (Some (accepted_in k)) (command_of c.args.pending) n (position_in k)) c.in-Install.is stands)
+    (subst (λ (k : AcceptedCommand). BeginsAtMost (accepted_in k).plan (accepted_in k).change n c.args.t e) c.in-Install.is only)

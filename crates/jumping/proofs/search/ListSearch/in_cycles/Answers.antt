@@ -1,0 +1,45 @@
+use Rattle.std.proofs.Common.{◌≡◌, ℕ, ◌+◌, min, List, ap, subst, arith}
+use Rattle.gate_list.specs.Gate.{in_ps}
+use Rattle.list_config.specs.Stretch.{Stretch, mask_in}
+use Rattle.accepted_commands.specs.declared.leg.Leg.TheVariants.{Listed}
+use Rattle.accepted_commands.specs.Leg.{stretches_ahead}
+use Rattle.jumping.specs.Search.{NoneFits, Searched}
+use Rattle.jumping.proofs.ListedLaws.{leg_repeats, search_later}
+use Rattle.jumping.proofs.SearchLaws.{none_jump, searched_join, searched_none}
+use Rattle.jumping.proofs.search.ListSearch.in_cycles.Goals as goal
+
+pub in_two-requires-clause-search : goal.in_two-requires-clause-search
+in_two-requires-clause-search c =
+    let near = c.cycle_at-near.ensures in
+    let end = c.next_start-cycle_end.ensures.value in
+    let begun = c.started.ensures.before in
+    let past = c.if-self-cycle_end.false in
+    let target = c.max.ensures in
+    let reached = near.reached in
+    search_later c.args.self.now c.args.leg.now c.cycle_at-near.result c.requires.search near.same (near.ready c.args.self.now.rest.now c.requires.search.ready) (omega (arith, end, begun, past, target, reached))
+
+pub returns-clause-searched : goal.returns-clause-searched
+returns-clause-searched c =
+    let leg = c.args.leg.now in
+    let rest = c.args.self.now.rest.now in
+    let needs = c.args.self.now.needs.now in
+    let stop = c.args.self.now.stop in
+    let f : ℕ → ℕ = mask_in (stretches_ahead (Listed leg) rest) in
+    let cycle : ℕ = in_ps leg.schedule.now.cycle in
+    let near = c.cycle_at-near in
+    let next_is = ((c.requires.search.ready.first).stands).1.next_is in
+    let above = (((c.requires.search.ready.first).stands).0.plan_is).cycle in
+    let begins = c.requires.begins in
+    let end_is = c.next_start-cycle_end.ensures.value in
+    let started_is = c.started.ensures.value in
+    let past = c.if-self-cycle_end.false in
+    let target = c.max.ensures in
+    let reached = c.cycle_at-near.ensures.reached in
+    let onto = c.cycle_at-near.ensures.onto (omega (arith, end_is, target)) in
+    let whole : leg.position.timer.next_start ≡ leg.from + cycle = omega (arith, next_is, begins) in
+    let first : NoneFits f needs leg.from (min stop leg.position.timer.next_start) = searched_none f needs leg.from (min stop leg.position.timer.next_start) c.in_cycle.result c.in_default.not-Some c.in_cycle.ensures.searched in
+    let in_first : NoneFits f needs leg.from (leg.from + cycle) = subst (NoneFits f needs leg.from) (omega (arith, whole, past, end_is)) first in
+    let between = none_jump f needs cycle leg.from stop near.result.from (omega (arith, above)) (leg_repeats leg rest c.requires.search.ready stop c.requires.unheld c.requires.search.unended) in_first
+    (omega (arith, reached, target, end_is, started_is, whole, begins)) in
+    searched_join f needs leg.from near.result.from stop c.in_two.result (omega (arith, onto, whole)) between
+    (subst (λ (s : List Stretch). Searched (mask_in s) needs near.result.from stop c.in_two.result) (ap (λ g. stretches_ahead (Listed g) rest) c.cycle_at-near.ensures.same) c.in_two.ensures.searched)
