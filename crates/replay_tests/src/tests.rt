@@ -697,6 +697,42 @@ fn stops_at_each_write(rt: HostRuntime) -> Result<(), Fail> {
     Ok(())
 }
 
+/// A failed write of the output capture ends the report too: no line follows that of the start whose record wasn't written.
+#[test]
+fn the_report_ends_where_the_capture_fails(rt: HostRuntime) -> Result<(), Fail> {
+    let capture = two_frames(rt.alloc())?;
+    let starts = two_starts(rt.alloc())?;
+    let first = b"queued 0 class 3\nqueued 1 class 5\nstart 1 class 5 at 2000500000000 end 2000500672000\n".as_slice();
+    for room in 0..starts.len() {
+        let mut written = Narrow {
+            got: Vec::new(rt.alloc()),
+            piece: 10,
+            room,
+            fails: true,
+            recovers: false,
+        };
+        let mut report = Vec::new(rt.alloc());
+        let result = replay(
+            rt.alloc(),
+            b"".as_slice(),
+            capture.as_slice(),
+            &mut written,
+            &mut report,
+            settings(&rt, Some(3_000_000_000_000)),
+            &mut Unwatched,
+        );
+        assert_eq!(rt; result, Err(ReplayFault::Write));
+        assert_eq!(rt; written.got.len(), room);
+        let told = match room {
+            0..24 => b"".as_slice(),
+            24..58 => first,
+            _ => REPORT,
+        };
+        assert_eq!(rt; report.as_slice(), told);
+    }
+    Ok(())
+}
+
 /// The text and the exit status of each fault.
 #[test]
 fn says_faults(rt: HostRuntime) {
