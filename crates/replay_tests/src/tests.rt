@@ -702,7 +702,8 @@ fn stops_at_each_write(rt: HostRuntime) -> Result<(), Fail> {
 fn the_report_ends_where_the_capture_fails(rt: HostRuntime) -> Result<(), Fail> {
     let capture = two_frames(rt.alloc())?;
     let starts = two_starts(rt.alloc())?;
-    let first = b"queued 0 class 3\nqueued 1 class 5\nstart 1 class 5 at 2000500000000 end 2000500672000\n".as_slice();
+    let first =
+        b"queued 0 class 3\nqueued 1 class 5\nstart 1 class 5 at 2000500000000 end 2000500672000\n".as_slice();
     for room in 0..starts.len() {
         let mut written = Narrow {
             got: Vec::new(rt.alloc()),
