@@ -9,3 +9,4 @@ pub mod MergeLaws
 pub mod EndLaws
 pub mod TellLaws
 pub mod ReplayLaws
+pub mod SeparatedLaws

@@ -10,3 +10,4 @@ pub mod LinesLeft
 pub mod RecordsLeft
 pub mod Outcome
 pub mod Texts
+pub mod Separated
