@@ -10,3 +10,4 @@ pub mod EndLaws
 pub mod TellLaws
 pub mod ReplayLaws
 mod EndingLaws
+pub mod SeparatedLaws

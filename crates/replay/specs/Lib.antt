@@ -11,3 +11,4 @@ pub mod RecordsLeft
 pub mod Outcome
 pub mod Texts
 pub mod Ending
+pub mod Separated

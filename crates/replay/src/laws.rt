@@ -8,7 +8,10 @@ ghost use Rattle.script.specs.Requests.{Request};
 ghost use Rattle.script.specs.Setup.{Setup};
 ghost use Rattle.wire_time.specs.declared.TheConstants.{MIN_MTU, MIN_PS_PER_OCTET};
 ghost use Rattle.replay.specs.Merge.{all_requests};
+ghost use Rattle.replay.specs.Separated.{IsSeparatedBy};
 ghost use Rattle.replay.specs.Sources.{MergeLaw};
+
+use separation::separation;
 
 /// What is told of a script and a capture are the abstract port's answers to the events of both. In each report every `start` line
 /// has its gate open from its start to its end, by the history of its time and by that at the end; no two frames are on the wire at
@@ -23,3 +26,13 @@ pub fn faithful()
 pub fn merge_law()
     ensures { MergeLaw }
 {}
+
+/// Of a replay whose events keep a class apart (every accepted schedule does, none is deleted, and one is in force at each arrival of the
+/// class): what concerns the class in both outputs, the lines of the report and the records of its starts, is that of the same script and
+/// capture without the other classes' arrivals; the clock events at their moments stay.
+pub fn separated()
+    ensures { (s : Setup) (script : List Request) (entries : List Entry) → MIN_PS_PER_OCTET ≤ s.rate → MIN_MTU ≤ s.mtu
+        → IsSeparatedBy entries (all_requests script entries s.until) (new_port s.rate s.mtu s.room) }
+{
+    separation();
+}

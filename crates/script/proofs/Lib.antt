@@ -4,4 +4,4 @@ pub mod LeftLaws
 pub mod ReaderLaws
 mod Going
 pub mod EndingLaws
-mod SeparatedLaws
+pub mod SeparatedLaws

@@ -19,7 +19,7 @@ one_more event true requests events same = same
 one_more event false requests events same = ap (λ later. event ∷ later) same
 
 -- the events of what is asked without the other classes' arrivals
-only-events : (class : ℕ) (requests : List Request) (p : AbstractPort) → events_of (only_asked class requests p) ≡ only class (events_of requests) p
+pub only-events : (class : ℕ) (requests : List Request) (p : AbstractPort) → events_of (only_asked class requests p) ≡ only class (events_of requests) p
 only-events class [] p = refl
 only-events class (NoCommand fault ∷ rest) p = only-events class rest p
 only-events class (Asks event ∷ rest) p = one_more event (is_other class event p) _ _ (only-events class rest (answers_to event p).1)
