@@ -2,8 +2,8 @@
 //! `Memory` fails each of these tests, since the largest heap serves.
 
 use super::rows::{
-    CLOSED_GATE, LAST_START, OPENED, TOLD, TWO_SCHEDULES, hundred_frames, rate, replay_in_memory,
-    settings, to_the_end,
+    CLOSED_GATE, LAST_START, OPENED, TOLD, TWO_SCHEDULES, as_told, hundred_frames, rate,
+    replay_in_memory, settings, to_the_end,
 };
 use abstract_port::{Answer, Event, Start};
 use capture::{CapFault, CaptureReader};
@@ -216,7 +216,7 @@ fn a_check_of_two_schedules(rt: HostRuntime) -> Result<(), Fail> {
     for size in 1..100usize {
         let heap = LocalHeap::new(rt.alloc(), 2048 * size)?;
         let mut got = Vec::new(rt.alloc());
-        let result = check(&heap, TWO_SCHEDULES, &mut got, rate(&rt));
+        let result = check(&heap, TWO_SCHEDULES, &mut got, as_told(&rt));
         assert!(rt; result == Ok(()) || result == Err(RunFault::Memory));
         assert!(rt;
             if result.is_ok() {

@@ -1,6 +1,6 @@
 //! Truncated and malicious input, and moments at the limits.
 
-use super::rows::{TWO_SCHEDULES, hundred_frames, rate, replay_in_memory, settings, to_the_end};
+use super::rows::{TWO_SCHEDULES, as_told, hundred_frames, replay_in_memory, settings, to_the_end};
 use capture::CapFault;
 use replay::{ReplayFault, Unwatched, replay};
 use schedule_check::check;
@@ -160,7 +160,7 @@ fn one_octet_over_and_over(rt: HostRuntime) -> Result<(), Fail> {
             result
         );
         let script = Repeated { octet, times, last };
-        assert_eq!(rt; check(rt.alloc(), script, &mut got, rate(&rt)), result);
+        assert_eq!(rt; check(rt.alloc(), script, &mut got, as_told(&rt)), result);
         assert!(rt; got.is_empty());
     }
     Ok(())
@@ -172,14 +172,14 @@ fn schedules_that_are_cut(rt: HostRuntime) -> Result<(), Fail> {
     for cut in 0..=TWO_SCHEDULES.len() {
         let front = &TWO_SCHEDULES[..cut];
         let mut got = Vec::new(rt.alloc());
-        let result = check(rt.alloc(), front, &mut got, rate(&rt));
+        let result = check(rt.alloc(), front, &mut got, as_told(&rt));
         let is_word = front.ends_with(b"\nt") || front == b"t".as_slice();
         assert_eq!(rt; result.is_err(), is_word);
     }
     Ok(())
 }
 
-/// A capture of a hundred frames, cut behind each of its octets: the whole records before the cut leave, and the fault is that of the rest.
+/// A capture of a hundred frames, cut behind each of its first 399 octets: the whole records before the cut leave, and the fault is that of the rest.
 #[test]
 fn captures_that_are_cut(rt: HostRuntime) -> Result<(), Fail> {
     let capture = hundred_frames(rt.alloc())?;

@@ -2,7 +2,7 @@
 //! `Write` fails each of these tests, since the last runs meet no fault.
 
 use super::rows::{
-    CLOSED_GATE, OPENED, TOLD, TWO_SCHEDULES, hundred_frames, rate, replay_in_memory, settings,
+    CLOSED_GATE, OPENED, TOLD, TWO_SCHEDULES, as_told, hundred_frames, replay_in_memory, settings,
     to_the_end,
 };
 use capture::CaptureReader;
@@ -136,21 +136,21 @@ fn each_read_of_a_check(rt: HostRuntime) -> Result<(), Fail> {
         for recovers in [false, true] {
             let reader = failing(TWO_SCHEDULES, 1, at as u32, recovers);
             let mut got = Vec::new(rt.alloc());
-            let result = check(rt.alloc(), reader, &mut got, rate(&rt));
+            let result = check(rt.alloc(), reader, &mut got, as_told(&rt));
             assert_eq!(rt; result, Err(RunFault::Read));
             assert!(rt; TOLD.starts_with(&got));
         }
         let mut want = Vec::new(rt.alloc());
         let front = &TWO_SCHEDULES[..at.min(TWO_SCHEDULES.len())];
-        let wanted = check(rt.alloc(), front, &mut want, rate(&rt));
+        let wanted = check(rt.alloc(), front, &mut want, as_told(&rt));
         let mut got = Vec::new(rt.alloc());
         let reader = Pausing::new(TWO_SCHEDULES, 1, at as u32);
-        assert_eq!(rt; check(rt.alloc(), reader, &mut got, rate(&rt)), wanted);
+        assert_eq!(rt; check(rt.alloc(), reader, &mut got, as_told(&rt)), wanted);
         assert_eq!(rt; got.as_slice(), want.as_slice());
     }
     let mut got = Vec::new(rt.alloc());
     let reader = Pieces::new(TWO_SCHEDULES, 1);
-    assert_eq!(rt; check(rt.alloc(), reader, &mut got, rate(&rt)), Ok(()));
+    assert_eq!(rt; check(rt.alloc(), reader, &mut got, as_told(&rt)), Ok(()));
     assert_eq!(rt; got.as_slice(), TOLD);
     Ok(())
 }
