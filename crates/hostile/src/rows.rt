@@ -2,6 +2,7 @@
 
 use capture::{CAPTURE_END, CaptureWriter};
 use replay::{ReplayFault, Unwatched, replay};
+use schedule_check::CheckSettings;
 use script::Settings;
 use std::alloc::Global;
 use std::io;
@@ -39,6 +40,14 @@ pub fn settings(rt: &impl Abort, until: Option<u128>) -> Settings {
 /// 1 Gb/s.
 pub fn rate(rt: &impl Abort) -> Rate {
     Rate::from_mbps(1000).expect(rt, "a rate")
+}
+
+/// How the two schedules are checked: at 1 Gb/s, without windows.
+pub fn as_told(rt: &impl Abort) -> CheckSettings {
+    CheckSettings {
+        rate: rate(rt),
+        windows: false,
+    }
 }
 
 /// Settings that run to behind the hundred frames.
