@@ -7,6 +7,7 @@ mod command;
 mod edge;
 mod leg;
 mod slots;
+mod staying;
 mod under;
 
 pub use ahead::{Ahead, legs_ahead, resumed};
@@ -14,4 +15,5 @@ pub use command::{AcceptedCommand, AcceptedList, installed};
 pub use edge::{edge_of, lead_moment};
 pub use leg::{Leg, ListedLeg, OpenLeg, Rest, copied};
 pub use slots::Slots;
+pub use staying::stays_open;
 pub use under::{list_in, mask_under, until_under};

@@ -1,6 +1,7 @@
 //! The text of a port's answers, and the writing of text.
 #![tactic(auto)]
 
+mod ending;
 mod lines;
 mod names;
 mod reports;

@@ -4,11 +4,12 @@ ghost use Rattle.std.specs.Prelude.{◌≡◌};
 ghost use Rattle.answer_text.specs.Lines.{queued_line, dropped_line, installed_line, refused_line, start_line, count_line, left_line, answer_lines, number_text, tc_fault_line};
 ghost use Rattle.octet_writer.specs.Writes.{Writes};
 
+use crate::ending::{LINE_CAPACITY, number_before, short_before, text_before};
 use crate::names::{
     dropped_name, refused_name, refused_number, tc_fault_name, tc_fault_place, tc_fault_word,
 };
 use crate::reports::put_report;
-use crate::writing::{LineBuffer, Part, add_number, add_text, put_parts};
+use crate::writing::{Part, put_parts};
 use abstract_port::{Answer, Counters, Dropped, Refused, Start};
 use octet_writer::{WriteFault, put};
 use std::io::Write;
@@ -17,13 +18,13 @@ use tc_reader::TcFault;
 fn put_queued<W: Write>(writer: &mut W, id: u64, class: u8) -> Result<(), WriteFault>
     ensures { Writes result (W.contents writer.old) (W.contents writer.new) (queued_line id class) }
 {
-    let mut line = LineBuffer::new();
-    add_text(&mut line, b"queued ");
-    add_number(&mut line, u128::from(id));
-    add_text(&mut line, b" class ");
-    add_number(&mut line, u128::from(class));
-    add_text(&mut line, b"\n");
-    put(writer, line.as_slice())
+    let mut line = [0; LINE_CAPACITY];
+    let end = text_before(b"\n", &mut line, LINE_CAPACITY);
+    let end = short_before(u64::from(class), &mut line, end);
+    let end = text_before(b" class ", &mut line, end);
+    let end = short_before(id, &mut line, end);
+    let start = text_before(b"queued ", &mut line, end);
+    put(writer, &line[start..])
 }
 
 fn put_dropped<W: Write>(writer: &mut W, id: u64, why: Dropped) -> Result<(), WriteFault>
@@ -79,17 +80,17 @@ fn put_refused<W: Write>(writer: &mut W, why: Refused) -> Result<(), WriteFault>
 fn put_start<W: Write>(writer: &mut W, start: &Start) -> Result<(), WriteFault>
     ensures { Writes result (W.contents writer.old) (W.contents writer.new) (start_line start.now) }
 {
-    let mut line = LineBuffer::new();
-    add_text(&mut line, b"start ");
-    add_number(&mut line, u128::from(start.id));
-    add_text(&mut line, b" class ");
-    add_number(&mut line, u128::from(start.class));
-    add_text(&mut line, b" at ");
-    add_number(&mut line, start.at);
-    add_text(&mut line, b" end ");
-    add_number(&mut line, start.end);
-    add_text(&mut line, b"\n");
-    put(writer, line.as_slice())
+    let mut line = [0; LINE_CAPACITY];
+    let end = text_before(b"\n", &mut line, LINE_CAPACITY);
+    let end = number_before(start.end, &mut line, end);
+    let end = text_before(b" end ", &mut line, end);
+    let end = number_before(start.at, &mut line, end);
+    let end = text_before(b" at ", &mut line, end);
+    let end = short_before(u64::from(start.class), &mut line, end);
+    let end = text_before(b" class ", &mut line, end);
+    let end = short_before(start.id, &mut line, end);
+    let first = text_before(b"start ", &mut line, end);
+    put(writer, &line[first..])
 }
 
 fn put_counters<W: Write>(writer: &mut W, class: u8, counters: &Counters) -> Result<(), WriteFault>

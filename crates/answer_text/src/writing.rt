@@ -1,9 +1,7 @@
 //! Writes text, with a loop over `write` of its own: a write that fails or takes nothing isn't tried again.
 
-ghost use Rattle.std.specs.Prelude.{◌≡◌, ◌<◌, ◌≤◌, ◌+◌, ◌++◌, length, List, ℕ, decimal, true};
+ghost use Rattle.std.specs.Prelude.{◌≡◌, ◌<◌, ◌++◌, List, ℕ, decimal, true};
 ghost use Rattle.std.specs.List.{flat_map};
-ghost use Rattle.arrayvec.specs.ArrayVec.{array_vec_len};
-ghost use Rattle.answer_text.specs.declared.writing.TheConstants.{LINE_CAPACITY, NUMBER_CAPACITY};
 ghost use Rattle.answer_text.specs.Part.{hex_digit, text_of};
 ghost use Rattle.octet_writer.specs.Writes.{Writes};
 
@@ -62,33 +60,11 @@ fn put_each<W: Write>(writer: &mut W, parts: &[Part<'_>]) -> Result<(), WriteFau
     Ok(())
 }
 
-/// The octets of a line that is put together before it is written.
-pub const LINE_CAPACITY: usize = 256;
+// The octets of a line that is put together before it is written.
+const PARTS_CAPACITY: usize = 256;
 
-/// The octets of such a line that a number in decimal may take.
-pub const NUMBER_CAPACITY: usize = 40;
-
-/// A line that is put together, to be written by one call.
-pub type LineBuffer = ArrayVec<u8, LINE_CAPACITY>;
-
-/// Adds a text to a line.
-pub fn add_text(line: &mut LineBuffer, text: &[u8])
-    requires { array_vec_len line.old + length text.now ≤ LINE_CAPACITY }
-    ensures items { line.new.items ≡ line.old.items ++ text.now }
-    ensures len { array_vec_len line.new ≡ array_vec_len line.old + length text.now }
-{
-    line.try_extend_from_slice(text).unwrap();
-}
-
-/// Adds a number in decimal to a line.
-pub fn add_number(line: &mut LineBuffer, number: u128)
-    requires { array_vec_len line.old + NUMBER_CAPACITY ≤ LINE_CAPACITY }
-    ensures items { line.new.items ≡ line.old.items ++ decimal number }
-    ensures len { array_vec_len line.new ≤ array_vec_len line.old + NUMBER_CAPACITY }
-{
-    let mut buffer = Buffer::new();
-    add_text(line, buffer.format(number).as_bytes());
-}
+// A line that is put together, to be written by one call.
+type LineBuffer = ArrayVec<u8, PARTS_CAPACITY>;
 
 // Adds a part to a line, if it fits.
 fn add_part(line: &mut LineBuffer, part: Part<'_>) -> bool

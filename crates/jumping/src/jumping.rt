@@ -1,19 +1,21 @@
 //! The gates, which pass whole cycles by division.
-ghost use Rattle.std.specs.Prelude.{◌≡◌, ℕ, ◌+◌, ◌*◌, ◌<◌, ◌≤◌, ◌↔◌, IsTrue, [], Some, None, true, option_map};
+ghost use Rattle.std.specs.Prelude.{All, ◌≡◌, ℕ, ◌+◌, ◌*◌, ◌<◌, ◌≤◌, ◌↔◌, IsTrue, [], Some, None, true, option_map};
 ghost use Rattle.std.specs.Option.{ForSome};
 ghost use Rattle.wire_time.specs.Moment.{greatest_moment, greatest_lead};
 ghost use Rattle.list_config.specs.History.{gates, kept, cons_some};
-ghost use Rattle.list_config.specs.Stretch.{stretches_from};
+ghost use Rattle.list_config.specs.Stretch.{mask_in, stretches_from};
 ghost use Rattle.list_config.specs.Current.{IsCurrent, longest};
 ghost use Rattle.accepted_commands.specs.Commands.{AreCommands, accepted_in, command_of, history_of};
 ghost use Rattle.accepted_commands.specs.Standing.{Stands};
 ghost use Rattle.accepted_commands.specs.Leg.{AreReady, from_of, stretches_ahead};
 ghost use Rattle.accepted_commands.specs.Resume.{Resumes};
 ghost use Rattle.jumping.specs.Edge.{IsEdge, NothingComes, OneEntryComes};
+ghost use Rattle.jumping.specs.Search.{Fits, Searched, most_in};
 
 use crate::search::search;
 use accepted_commands::{
     AcceptedCommand, Slots, edge_of, installed, lead_moment, legs_ahead, mask_under, resumed,
+    stays_open,
 };
 use gate_list::{Schedule, Visits};
 use list_config::{Gates, Installed, NotNow};
@@ -66,6 +68,54 @@ fn next_edge(slots: &Slots) -> Option<u128>
     edge_of(slots)
 }
 
+/// Whether some class with a need, in picoseconds, stays open through it from now on.
+fn fits_now(slots: &Slots, resumed: &Option<Position>, needs: &[Option<u128>; CLASSES]) -> bool
+    requires sound { AreCommands slots.now.commands }
+    requires stands { Stands slots.now.commands.in_force slots.now.commands.pending slots.now.commands.moment slots.now.position }
+    requires resumes { Resumes slots.now.commands resumed.now }
+    requires needs { All (λ need. ForSome need (λ d. d ≤ greatest_moment)) needs.now }
+    ensures { result ≡ true → Fits (mask_in (stretches_from slots.now.commands.in_force (cons_some slots.now.commands.pending (cons_some slots.now.commands.announced [])))) needs.now slots.now.commands.moment }
+{
+    let from = slots.moment();
+    for class in 0..CLASSES as u8 {
+        if let Some(length) = needs[class as usize] {
+            let need = Need {
+                class,
+                from,
+                length,
+            };
+            if stays_open(slots, resumed, need) {
+                return true;
+            }
+        }
+    }
+    false
+}
+
+/// The first moment from now on and before `before`, in picoseconds, at which some class with a need stays open through it. It
+/// makes the legs that a search wants, in a place of its own: the compiler would clear that place at each call of a body that it is
+/// taken into, wanted or not.
+#[inline(never)]
+fn search_from_now(
+    slots: &Slots,
+    resumed: &Option<Position>,
+    needs: &[Option<u128>; CLASSES],
+    before: u128,
+    visits: &mut Visits,
+) -> Option<u128>
+    requires sound { AreCommands slots.now.commands }
+    requires stands { Stands slots.now.commands.in_force slots.now.commands.pending slots.now.commands.moment slots.now.position }
+    requires resumes { Resumes slots.now.commands resumed.now }
+    requires needs { All (λ need. ForSome need (λ d. d ≤ greatest_moment)) needs.now }
+    requires within { before ≤ 2 * greatest_moment }
+    ensures searched { Searched (mask_in (stretches_from slots.now.commands.in_force (cons_some slots.now.commands.pending (cons_some slots.now.commands.announced [])))) needs.now slots.now.commands.moment before result }
+    ensures counted { visits.old ≤ visits.new }
+    ensures visits { visits.new ≤ visits.old + most_in (stretches_from slots.now.commands.in_force (cons_some slots.now.commands.pending (cons_some slots.now.commands.announced []))) }
+{
+    let ahead = legs_ahead(slots, *resumed);
+    search(&ahead.leg, &ahead.rest, needs, before, visits)
+}
+
 impl Gates for Jumping {
     ghost history = { λ s. s.history };
 
@@ -96,13 +146,12 @@ impl Gates for Jumping {
     }
 
     fn stays_open(&self, class: u8, for_ps: u128, _visits: &mut Visits) -> bool {
-        let ahead = legs_ahead(&self.slots, self.resumed);
         let need = Need {
             class,
             from: self.slots.moment(),
             length: for_ps,
         };
-        ahead.leg.stays_open_ahead(&ahead.rest, need)
+        stays_open(&self.slots, &self.resumed, need)
     }
 
     fn next_boundary(&self, before: u128) -> Option<u128> {
@@ -113,8 +162,10 @@ impl Gates for Jumping {
     }
 
     fn quiet(&self, needs: &[Option<u128>; CLASSES], before: u128, visits: &mut Visits) -> u128 {
-        let ahead = legs_ahead(&self.slots, self.resumed);
-        match search(&ahead.leg, &ahead.rest, needs, before, visits) {
+        if fits_now(&self.slots, &self.resumed, needs) {
+            return self.slots.moment();
+        }
+        match search_from_now(&self.slots, &self.resumed, needs, before, visits) {
             Some(start) => start,
             None => before,
         }

@@ -1,14 +1,16 @@
 //! What a gate control list shows, entry after entry: List Execute (IEEE Std 802.1Q-2018, 8.6.9.2).
 #![tactic(auto)]
 
-ghost use Rattle.std.specs.Prelude.{◌≡◌, ◌+◌, ◌-◌, ◌*◌, ◌<◌, ◌≤◌, ◌^◌, None, IsSome, length};
+ghost use Rattle.std.specs.Prelude.{◌≡◌, ◌+◌, ◌-◌, ◌*◌, ◌<◌, ◌≤◌, ◌^◌, None, IsSome, length, slice_index_or};
 ghost use Rattle.wire_time.specs.Moment.{greatest_moment};
 ghost use Rattle.gate_list.specs.Gate.{IsShownAt, prefix, mask_at, has_come};
 ghost use Rattle.gate_list.specs.Visits.{one_more};
+ghost use Rattle.gate_list.specs.declared.Stay.TheVariants.{Lasts};
 ghost use Rattle.list_execute.specs.Walk.{in_hold, IsRow, ShowsEntry, ShowsHold, IsOf, walk_mask, end_of, more};
 
-use gate_list::{Row, Schedule, Visits};
+use gate_list::{Row, Schedule, Stay, Visits};
 use std::marker::Model;
+use wire_time::CLASSES;
 
 /// Where a walk of a list stands: at an entry of a cycle, or in the hold of the last mask. All moments are in picoseconds.
 #[derive(Clone, Copy, Debug, PartialEq, Eq)]
@@ -130,6 +132,15 @@ impl ListExecute {
         ensures { result ≡ self.now.row }
     {
         self.row
+    }
+
+    /// How long a class stays open from the start of the entry.
+    pub fn stay(&self, class: u8) -> Stay
+        requires unheld { self.now.held ≡ None }
+        requires class { class < CLASSES }
+        ensures { result ≡ slice_index_or self.now.row.stay class (Lasts 0) }
+    {
+        self.row.stay[class as usize]
     }
 
     /// Goes on to the entry after.

@@ -157,7 +157,7 @@ impl Position {
         requires within { need.length ≤ greatest_moment }
         ensures { (plan : Plan) (start : ℕ) (held : Option ℕ) → IsSchedule plan → IsPlaced plan start held need.from self.now → has_come held self.now.timer.started ≡ false → result ≡ open_while (mask_since (Some plan) start None) need.class need.from need.length }
     {
-        let stay = self.walk.row().stay[need.class as usize];
+        let stay = self.walk.stay(need.class);
         stay_lasts(stay, need.from - self.walk.entry_start() + need.length)
     }
 

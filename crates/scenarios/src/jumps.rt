@@ -212,8 +212,8 @@ fn starts_at_the_change<R: Abort + AllocGlobal>(rt: &R, change: &Change) -> Resu
 /// that is too short, so that a cycle begins and is cut.
 ///
 /// Up to the start: three times all entries but the first, the first of two cycles (of the cut one too), and placed in the last
-/// entry, or in the one of the second list. After it: placed in the second list or in the hold, or not moved from the start's entry; the
-/// first entry of three cycles of the second list, and placed there.
+/// entry, or in the one of the second list. After it no frame waits and nothing is searched: placed in the second list or in the hold,
+/// or not moved from the start's entry, where the frame ends; and placed in the second list where the clock stops.
 #[test]
 fn changes_are_found_from_afar(rt: HostRuntime) -> Result<(), Fail> {
     for change in [
@@ -224,7 +224,7 @@ fn changes_are_found_from_afar(rt: HostRuntime) -> Result<(), Fail> {
             base: 1_000_000_020_000,
             start: 1_000_000_015_000_000,
             end: 1_000_000_027_304_000,
-            visits: [3 + 2 + 2, 1 + 3 + 1],
+            visits: [3 + 2 + 2, 1 + 1],
         },
         Change {
             many: 2,
@@ -233,7 +233,7 @@ fn changes_are_found_from_afar(rt: HostRuntime) -> Result<(), Fail> {
             base: 1_000_000_050_000,
             start: 1_000_000_015_000_000,
             end: 1_000_000_027_304_000,
-            visits: [3 + 2 + 2, 2 + 3 + 1],
+            visits: [3 + 2 + 2, 2 + 1],
         },
         Change {
             many: 2,
@@ -242,7 +242,7 @@ fn changes_are_found_from_afar(rt: HostRuntime) -> Result<(), Fail> {
             base: 1_000_000_050_000,
             start: 1_000_000_050_000_000,
             end: 1_000_000_062_304_000,
-            visits: [3 + 3 + 1, 3 + 1],
+            visits: [3 + 3 + 1, 1],
         },
     ] {
         starts_at_the_change(&rt, &change)?;
@@ -261,7 +261,7 @@ fn changes_of_long_lists_are_found_from_afar(rt: HostRuntime) -> Result<(), Fail
             base: 1_300_000_020_000,
             start: 1_300_000_015_000_000,
             end: 1_300_000_027_304_000,
-            visits: [3 * 255 + 2 + 256, 1 + 3 + 1],
+            visits: [3 * 255 + 2 + 256, 1 + 1],
         },
         Change {
             many: 256,
@@ -270,7 +270,7 @@ fn changes_of_long_lists_are_found_from_afar(rt: HostRuntime) -> Result<(), Fail
             base: 1_300_000_050_000,
             start: 1_300_000_015_000_000,
             end: 1_300_000_027_304_000,
-            visits: [3 * 255 + 2 + 256, 2 + 3 + 1],
+            visits: [3 * 255 + 2 + 256, 2 + 1],
         },
         Change {
             many: 256,
@@ -279,7 +279,7 @@ fn changes_of_long_lists_are_found_from_afar(rt: HostRuntime) -> Result<(), Fail
             base: 1_300_000_050_000,
             start: 1_300_000_050_000_000,
             end: 1_300_000_062_304_000,
-            visits: [3 * 255 + 3 + 29 + 1, 3 + 1],
+            visits: [3 * 255 + 3 + 29 + 1, 1],
         },
     ] {
         starts_at_the_change(&rt, &change)?;
@@ -288,7 +288,7 @@ fn changes_of_long_lists_are_found_from_afar(rt: HostRuntime) -> Result<(), Fail
 }
 
 /// Clock events over 256 entries of 500 ns: within an entry none is looked at, and at the next boundary only the one that begins, also
-/// where a cycle begins. Further on each entry that begins is looked at twice: while it is searched for a start, and on the way.
+/// where a cycle begins. No frame waits, so nothing is searched: further on each entry that begins is looked at once, on the way.
 #[test]
 fn near_clocks_look_at_the_next_entry_alone(rt: HostRuntime) -> Result<(), Fail> {
     let list = by_turns(256, 500).ok_or("a command")?;
@@ -305,13 +305,13 @@ fn near_clocks_look_at_the_next_entry_alone(rt: HostRuntime) -> Result<(), Fail>
         // The second cycle, from 148 us on.
         (148_000_000, 1),
         // Its fourth entry, which begins there, from its first.
-        (149_500_000, 2 + 3),
+        (149_500_000, 3),
         // Its last, from its fourth.
-        (275_999_999, 252 + 252),
+        (275_999_999, 252),
         // The third entry of the third cycle, which began at 276 us.
-        (277_499_999, 3 + 3),
-        // The first of the fifth, from 532 us on: all that is left of the third and the fourth are searched.
-        (532_000_000, 253 + 256 + 1),
+        (277_499_999, 3),
+        // The first of the fifth, from 532 us on: no entry between is looked at.
+        (532_000_000, 1),
         (532_499_999, 0),
     ] {
         steps(&rt, &mut port, Event::Clock(moment), &[], visits);

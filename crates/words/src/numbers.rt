@@ -16,6 +16,9 @@ fn digit_in(base: u8, octet: u8) -> Option<u8>
     if digit < base { Some(digit) } else { None }
 }
 
+// The greatest number that any decimal digit may follow in 64 bits.
+const LAST_SHORT: u64 = 1_844_674_407_370_955_160;
+
 // The number that decimal digits are, where a word has no other octet and its value fits 64 bits.
 fn short_number(word: &[u8]) -> Option<u64>
     ensures { IfSome result (λ n. value_behind 10 0 word.now ≡ Some n) }
@@ -23,7 +26,10 @@ fn short_number(word: &[u8]) -> Option<u64>
     let mut number = 0u64;
     for octet in word {
         let digit = digit_in(10, *octet)?;
-        number = number.checked_mul(10)?.checked_add(u64::from(digit))?;
+        if number > LAST_SHORT {
+            return None;
+        }
+        number = number * 10 + u64::from(digit);
     }
     Some(number)
 }

@@ -1,18 +1,47 @@
 //! The words of a line, one after another.
 
-ghost use Rattle.std.specs.Prelude.{◌≡◌, ◌≤◌, ◌<◌, ◌+◌, ◌^◌, ◌∷◌, [], length, MatchOption, IfSome, true, false};
-ghost use Rattle.words.specs.Words.{starts_blank, words_of};
+ghost use Rattle.std.specs.Prelude.{◌≡◌, ◌≤◌, ◌<◌, ◌+◌, ◌^◌, ◌∷◌, [], ℕ, List, drop, length, MatchOption, IfSome, true, false};
+ghost use Rattle.words.specs.Words.{starts_blank, word_length, words_of};
+
+// Whether an octet is no blank, whatever comes after it.
+fn is_ordinary(octet: u8) -> bool
+    ensures { result ≡ true → (rest : List ℕ) → starts_blank (octet ∷ rest) ≡ false }
+{
+    octet > b' ' && octet != b'\\'
+}
 
 fn starts_blank(octets: &[u8]) -> bool
     ensures { result ≡ starts_blank octets.now }
 {
     match octets {
-        // Most octets of a line.
-        [octet, ..] if *octet > b' ' && *octet != b'\\' => false,
-        [] | [b' ' | b'\t' | b'\r' | b'\n', ..] => true,
+        // Most octets of a line, and then most of the others.
+        [octet, ..] if is_ordinary(*octet) => false,
+        [b' ', ..] => true,
+        [] | [b'\t' | b'\r' | b'\n', ..] => true,
         [b'\\', b'\n', ..] | [b'\\', b'\r', b'\n', ..] => true,
         _ => false,
     }
+}
+
+// Whether there is an octet at this place, and it is no blank, whatever comes after it.
+fn is_ordinary_at(octets: &[u8], place: usize) -> bool
+    ensures { result ≡ true → starts_blank (drop place octets.now) ≡ false }
+{
+    place < octets.len() && is_ordinary(octets[place])
+}
+
+// Goes on in a word from an octet that is no blank, and past all that can be told to be none by themselves.
+fn word_on(octets: &[u8], place: usize) -> usize
+    requires { starts_blank (drop place octets.now) ≡ false }
+    ensures onward { place < result }
+    ensures within { result ≤ length octets.now }
+    ensures word { word_length (drop place octets.now) + place ≡ result + word_length (drop result octets.now) }
+{
+    let mut next = place + 1;
+    while is_ordinary_at(octets, next) {
+        next += 1;
+    }
+    next
 }
 
 // The first word, and what comes after it.
@@ -28,7 +57,7 @@ fn split_word(octets: &[u8]) -> Option<(&[u8], &[u8])>
     }
     let mut end = 0;
     while !starts_blank(&rest[end..]) {
-        end += 1;
+        end = word_on(rest, end);
     }
     Some(rest.split_at(end))
 }

@@ -1,6 +1,5 @@
 use Rattle.std.proofs.Common.{◌≡◌, ◌≤◌, ◌-◌, ◌+◌, length, drop}
-use Rattle.words.specs.Words.{words_of}
-use Rattle.words.proofs.FirstWord.{word_length}
+use Rattle.words.specs.Words.{word_length, words_of}
 use Rattle.words.proofs.words.split_word.Given as goal
 
 abbrev pub invariant-loop-rest : goal.invariant-loop-rest

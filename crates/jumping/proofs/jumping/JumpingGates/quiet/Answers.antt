@@ -1,42 +1,62 @@
-use Rattle.std.proofs.Common.{inl, subst}
-use Rattle.list_config.specs.History.{gates}
-use Rattle.accepted_commands.specs.Leg.{from_of, stretches_ahead}
+use Rattle.std.proofs.Common.{inl, subst, sym, ap, refl, [], ◌∙◌, IsSome}
+use Rattle.list_config.specs.Choice.{first_choice}
+use Rattle.list_config.specs.Current.{Clocked}
+use Rattle.list_config.specs.History.{cons_some, gates}
+use Rattle.list_config.specs.Stretch.{stretches_from}
 use Rattle.jumping.specs.Search.{Searched}
-use Rattle.jumping.proofs.QuietLaws.{few_visits, no_choice, searched_gates, some_choice}
+use Rattle.jumping.proofs.QuietLaws.{few_visits, fits_gates, no_choice, searched_gates, some_choice}
 use Rattle.jumping.proofs.jumping.JumpingGates.quiet.Goals as goal
+
+pub returns-then-fits_now-clause-onward : goal.returns-then-fits_now-clause-onward
+returns-then-fits_now-clause-onward c = λ below.
+    let now = c.args.self.now in
+    let fits = fits_gates c.self.inside.slots.commands c.self.invariant.0 now c.self.view_is c.args.needs.now (c.fits_now.ensures c.if-fits_now.true) in
+    inl (subst (λ m. IsSome (first_choice now.history m c.args.needs.now)) (sym (c.moment.ensures ∙ ap (λ (w : Clocked). w.moment) c.self.view_is)) (some_choice now.history c.args.needs.now now.moment c.told-needs fits))
+
+pub returns-then-fits_now-clause-first : goal.returns-then-fits_now-clause-first
+returns-then-fits_now-clause-first c = λ jumps below.
+    let now = c.args.self.now in
+    let fits = fits_gates c.self.inside.slots.commands c.self.invariant.0 now c.self.view_is c.args.needs.now (c.fits_now.ensures c.if-fits_now.true) in
+    subst (λ m. IsSome (first_choice now.history m c.args.needs.now)) (sym (c.moment.ensures ∙ ap (λ (w : Clocked). w.moment) c.self.view_is)) (some_choice now.history c.args.needs.now now.moment c.told-needs fits)
 
 pub returns-in-Some-clause-quiet : goal.returns-in-Some-clause-quiet
 returns-in-Some-clause-quiet c =
     let now = c.args.self.now in
+    let slots = c.self.inside.slots.commands in
     let found = subst (Searched (gates now.history) c.args.needs.now now.moment c.args.before) c.in-Some.is
-    (searched_gates c.self.inside.slots.commands c.self.invariant.0 now c.self.view_is (stretches_ahead c.legs_ahead-ahead.result.leg c.legs_ahead-ahead.result.rest) c.legs_ahead-ahead.ensures.shows (from_of c.legs_ahead-ahead.result.leg) c.legs_ahead-ahead.ensures.from c.args.needs.now c.args.before c.search.result c.search.ensures.searched) in
+    (searched_gates c.self.inside.slots.commands c.self.invariant.0 now c.self.view_is (stretches_from slots.in_force (cons_some slots.pending (cons_some slots.announced []))) refl slots.moment refl c.args.needs.now c.args.before c.search_from_now.result c.search_from_now.ensures.searched) in
     no_choice now.history c.args.needs.now now.moment c.in-Some.start c.told-needs found.2
 
 pub returns-in-Some-clause-onward : goal.returns-in-Some-clause-onward
 returns-in-Some-clause-onward c = λ below.
     let now = c.args.self.now in
+    let slots = c.self.inside.slots.commands in
     let found = subst (Searched (gates now.history) c.args.needs.now now.moment c.args.before) c.in-Some.is
-    (searched_gates c.self.inside.slots.commands c.self.invariant.0 now c.self.view_is (stretches_ahead c.legs_ahead-ahead.result.leg c.legs_ahead-ahead.result.rest) c.legs_ahead-ahead.ensures.shows (from_of c.legs_ahead-ahead.result.leg) c.legs_ahead-ahead.ensures.from c.args.needs.now c.args.before c.search.result c.search.ensures.searched) in
+    (searched_gates c.self.inside.slots.commands c.self.invariant.0 now c.self.view_is (stretches_from slots.in_force (cons_some slots.pending (cons_some slots.announced []))) refl slots.moment refl c.args.needs.now c.args.before c.search_from_now.result c.search_from_now.ensures.searched) in
     inl (some_choice now.history c.args.needs.now c.in-Some.start c.told-needs found.3)
 
 pub returns-in-Some-clause-first : goal.returns-in-Some-clause-first
 returns-in-Some-clause-first c = λ jumps below.
     let now = c.args.self.now in
+    let slots = c.self.inside.slots.commands in
     let found = subst (Searched (gates now.history) c.args.needs.now now.moment c.args.before) c.in-Some.is
-    (searched_gates c.self.inside.slots.commands c.self.invariant.0 now c.self.view_is (stretches_ahead c.legs_ahead-ahead.result.leg c.legs_ahead-ahead.result.rest) c.legs_ahead-ahead.ensures.shows (from_of c.legs_ahead-ahead.result.leg) c.legs_ahead-ahead.ensures.from c.args.needs.now c.args.before c.search.result c.search.ensures.searched) in
+    (searched_gates c.self.inside.slots.commands c.self.invariant.0 now c.self.view_is (stretches_from slots.in_force (cons_some slots.pending (cons_some slots.announced []))) refl slots.moment refl c.args.needs.now c.args.before c.search_from_now.result c.search_from_now.ensures.searched) in
     some_choice now.history c.args.needs.now c.in-Some.start c.told-needs found.3
 
 pub returns-in-Some-clause-visits : goal.returns-in-Some-clause-visits
 returns-in-Some-clause-visits c = λ jumps.
-    few_visits c.self.inside.slots.commands c.self.invariant.0 c.args.self.now c.self.view_is (stretches_ahead c.legs_ahead-ahead.result.leg c.legs_ahead-ahead.result.rest) c.legs_ahead-ahead.ensures.shows c.args.visits.now c.search.new.visits c.search.ensures.visits
+    let slots = c.self.inside.slots.commands in
+    few_visits c.self.inside.slots.commands c.self.invariant.0 c.args.self.now c.self.view_is (stretches_from slots.in_force (cons_some slots.pending (cons_some slots.announced []))) refl c.args.visits.now c.search_from_now.new.visits c.search_from_now.ensures.visits
 
 pub returns-in-None-clause-quiet : goal.returns-in-None-clause-quiet
 returns-in-None-clause-quiet c =
     let now = c.args.self.now in
+    let slots = c.self.inside.slots.commands in
     no_choice now.history c.args.needs.now now.moment c.args.before c.told-needs
     (subst (Searched (gates now.history) c.args.needs.now now.moment c.args.before) c.in-None.is
-    (searched_gates c.self.inside.slots.commands c.self.invariant.0 now c.self.view_is (stretches_ahead c.legs_ahead-ahead.result.leg c.legs_ahead-ahead.result.rest) c.legs_ahead-ahead.ensures.shows (from_of c.legs_ahead-ahead.result.leg) c.legs_ahead-ahead.ensures.from c.args.needs.now c.args.before c.search.result c.search.ensures.searched))
+    (searched_gates c.self.inside.slots.commands c.self.invariant.0 now c.self.view_is (stretches_from slots.in_force (cons_some slots.pending (cons_some slots.announced []))) refl slots.moment refl c.args.needs.now c.args.before c.search_from_now.result c.search_from_now.ensures.searched))
 
 pub returns-in-None-clause-visits : goal.returns-in-None-clause-visits
 returns-in-None-clause-visits c = λ jumps.
-    few_visits c.self.inside.slots.commands c.self.invariant.0 c.args.self.now c.self.view_is (stretches_ahead c.legs_ahead-ahead.result.leg c.legs_ahead-ahead.result.rest) c.legs_ahead-ahead.ensures.shows c.args.visits.now c.search.new.visits c.search.ensures.visits
+    let slots = c.self.inside.slots.commands in
+    few_visits c.self.inside.slots.commands c.self.invariant.0 c.args.self.now c.self.view_is (stretches_from slots.in_force (cons_some slots.pending (cons_some slots.announced []))) refl c.args.visits.now c.search_from_now.new.visits c.search_from_now.ensures.visits

@@ -1,7 +1,5 @@
-use Rattle.std.proofs.Common.{[], List, ap, refl, ◌∙◌}
-use Rattle.gate_list.specs.Open.{open_while}
+use Rattle.std.proofs.Common.{[], ap, refl, ◌∙◌}
 use Rattle.list_config.specs.History.{open_through, cons_some}
-use Rattle.list_config.specs.Stretch.{Stretch, mask_in}
 use Rattle.list_config.specs.Current.{Clocked}
 use Rattle.accepted_commands.proofs.CommandLaws.{open_answer}
 use Rattle.jumping.proofs.jumping.JumpingGates.stays_open.Goals as goal
@@ -9,6 +7,6 @@ use Rattle.jumping.proofs.jumping.JumpingGates.stays_open.Goals as goal
 pub returns-clause-stays : goal.returns-clause-stays
 returns-clause-stays c =
     let slots = c.self.inside.slots.commands in
-    open_answer slots c.self.invariant.0 slots.in_force (cons_some slots.pending (cons_some slots.announced [])) refl refl c.args.class c.moment.result c.args.for_ps c.moment.ensures c.stays_open_ahead.result
-    (c.stays_open_ahead.ensures ∙ ap (λ (s : List Stretch). open_while (mask_in s) c.args.class c.moment.result c.args.for_ps) c.legs_ahead-ahead.ensures.shows)
+    open_answer slots c.self.invariant.0 slots.in_force (cons_some slots.pending (cons_some slots.announced [])) refl refl c.args.class c.moment.result c.args.for_ps c.moment.ensures c.stays_open.result
+    c.stays_open.ensures
     ∙ ap (λ (v : Clocked). open_through v.history c.args.class v.moment c.args.for_ps) c.self.view_is

@@ -1,0 +1,16 @@
+use Rattle.std.proofs.Common.{None, sym, ap, ◌∙◌, subst}
+use Rattle.gate_list.specs.Gate.{mask_since}
+use Rattle.gate_list.specs.Open.{open_while}
+use Rattle.list_config.specs.History.{start_of}
+use Rattle.list_config.proofs.StretchLaws.{no_plan_while}
+use Rattle.accepted_commands.specs.Commands.{command_of}
+use Rattle.accepted_commands.specs.Standing.{IsListOf, position_lent}
+use Rattle.accepted_commands.proofs.staying.stays_open_alone.Goals as goal
+
+pub returns-in-None : goal.returns-in-None
+returns-in-None c =
+    let now = command_of c.args.in_force in
+    let need = c.args.need in
+    let none = subst (IsListOf now (position_lent c.args.in_force)) c.in-None.is c.list_in.ensures in
+    sym (ap (λ p. open_while (mask_since p (start_of now) None) need.class need.from need.length) none.0
+    ∙ no_plan_while (start_of now) None need.class need.from need.length c.requires.class)
