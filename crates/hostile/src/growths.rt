@@ -1,136 +1,104 @@
-//! Heaps that grow from one run to the next, so that one growth after another is refused, until none is. A body that always answers
-//! `Memory` fails each of these tests, since the largest heap serves.
+//! Each growth refused in turn, until a run meets none: once that growth alone, and once all from it on. Of what is answered then and
+//! of what was written before, nothing is left open but how much was written. A body that always answers `Memory` fails each of these
+//! tests, since the last runs meet no refusal.
 
-use super::rows::{
-    CLOSED_GATE, LAST_START, OPENED, TOLD, TWO_SCHEDULES, as_told, hundred_frames, rate,
-    replay_in_memory, settings, to_the_end,
-};
+use super::rows::{Job, Replaying, Runs, hundred_frames, rate};
 use abstract_port::{Answer, Event, Start};
 use capture::{CapFault, CaptureReader};
 use class_queue::{ClassQueue, QueueNew};
 use jumping::Jumping;
 use line_reader::LineReader;
-use linked_list_allocator::LocalHeap;
 use port::{Port, PortFault};
-use replay::{ReplayFault, Unwatched, replay};
-use schedule_check::check;
-use script::{RunFault, run_script};
+use refusing_heap::RefusingHeap;
+use replay::ReplayFault;
+use script::RunFault;
+use std::alloc::Global;
+use std::process::Abort;
 use std::test::Fail;
-use wire_time::{Frame, Rate};
+use wire_time::Frame;
 
-/// How many runs met a refusal, and how many none.
-#[derive(Clone, Copy, Drop, PartialEq, Eq, Debug)]
-struct Runs {
-    refused: u32,
-    served: u32,
+/// The heap of the run with this number: each growth has two runs, one in which it alone is refused, and one with all behind it.
+fn heap_of(alloc: Global, run: u64) -> RefusingHeap<Global> {
+    RefusingHeap::new(alloc, run / 2, run % 2 == 0)
 }
 
-impl Runs {
-    fn none() -> Runs {
-        Runs {
-            refused: 0,
-            served: 0,
-        }
-    }
-
-    /// Counts a run. A run that is refused behind one that was served counts as neither.
-    fn count(&mut self, served: bool) {
-        if served {
-            self.served = self.served.saturating_add(1);
-        } else if self.served == 0 {
-            self.refused = self.refused.saturating_add(1);
-        }
-    }
+/// Whether a growth was refused in the run with this number.
+fn is_refused(heap: &RefusingHeap<Global>, run: u64) -> bool {
+    heap.asked() > run / 2
 }
 
 #[test]
-fn a_queue_wants_its_room(rt: HostRuntime) -> Result<(), Fail> {
+fn a_queue_wants_its_room(rt: HostRuntime) {
     let mut runs = Runs::none();
-    for size in 1..40usize {
-        let heap = LocalHeap::new(rt.alloc(), 256 * size)?;
-        let queue = ClassQueue::new(&heap, 128);
-        assert!(rt; queue.is_ok() || matches!(queue, Err(QueueNew::Memory)));
-        runs.count(queue.is_ok());
+    for run in 0..6 {
+        let heap = heap_of(rt.alloc(), run);
+        let fault = ClassQueue::new(&heap, 128).err();
+        let refused = is_refused(&heap, run);
+        assert_eq!(rt; fault, refused.then_some(QueueNew::Memory));
+        runs.count(refused);
     }
-    assert_eq!(rt;
-        runs,
-        Runs {
-            refused: 11,
-            served: 28
-        }
-    );
-    Ok(())
+    assert_eq!(rt; runs, Runs { met: 2, free: 4 });
 }
 
 #[test]
-fn a_port_wants_the_room_of_eight_queues(rt: HostRuntime) -> Result<(), Fail> {
+fn a_port_wants_the_room_of_eight_queues(rt: HostRuntime) {
     let mut runs = Runs::none();
-    for size in 1..40usize {
-        let heap = LocalHeap::new(rt.alloc(), 1024 * size)?;
-        let port = Port::<Jumping, &LocalHeap>::new(&heap, rate(&rt), 1500, 128);
-        let fault = port.err();
-        assert!(rt; fault == None || fault == Some(PortFault::Memory));
-        runs.count(fault == None);
+    for run in 0..20 {
+        let heap = heap_of(rt.alloc(), run);
+        let fault = Port::<Jumping, &RefusingHeap<Global>>::new(&heap, rate(&rt), 1500, 128).err();
+        let refused = is_refused(&heap, run);
+        assert_eq!(rt; fault, refused.then_some(PortFault::Memory));
+        runs.count(refused);
     }
-    assert_eq!(rt;
-        runs,
-        Runs {
-            refused: 23,
-            served: 16
-        }
-    );
-    Ok(())
+    assert_eq!(rt; runs, Runs { met: 16, free: 4 });
 }
 
 #[test]
-fn a_line_reader_wants_its_room(rt: HostRuntime) -> Result<(), Fail> {
+fn a_line_reader_wants_its_room(rt: HostRuntime) {
     let mut runs = Runs::none();
-    for size in 1..80usize {
-        let heap = LocalHeap::new(rt.alloc(), 4096 * size)?;
-        runs.count(LineReader::new(&heap, CLOSED_GATE).is_ok());
+    for run in 0..8 {
+        let heap = heap_of(rt.alloc(), run);
+        let fails = LineReader::new(&heap, Job::FullQueue.input()).is_err();
+        let refused = is_refused(&heap, run);
+        assert_eq!(rt; fails, refused);
+        runs.count(refused);
     }
-    assert_eq!(rt;
-        runs,
-        Runs {
-            refused: 31,
-            served: 48
-        }
-    );
-    Ok(())
+    assert_eq!(rt; runs, Runs { met: 4, free: 4 });
 }
 
 #[test]
 fn a_capture_reader_wants_the_room_of_a_record(rt: HostRuntime) -> Result<(), Fail> {
     let capture = hundred_frames(rt.alloc())?;
     let mut runs = Runs::none();
-    for size in 1..80usize {
-        let heap = LocalHeap::new(rt.alloc(), 4096 * size)?;
+    for run in 0..6 {
+        let heap = heap_of(rt.alloc(), run);
         let fault = CaptureReader::new(&heap, capture.as_slice()).err();
-        assert!(rt; fault == None || fault == Some(CapFault::Memory));
-        runs.count(fault == None);
+        let refused = is_refused(&heap, run);
+        assert_eq!(rt; fault, refused.then_some(CapFault::Memory));
+        runs.count(refused);
     }
-    assert_eq!(rt;
-        runs,
-        Runs {
-            refused: 64,
-            served: 15
-        }
-    );
+    assert_eq!(rt; runs, Runs { met: 2, free: 4 });
     Ok(())
 }
 
-/// A frame that arrives, of class 0.
-fn arrival(id: u64) -> Event<'static> {
-    Event::Arrive(Frame {
-        id,
-        priority: 0,
-        len: 60,
-        tagged: false,
-    })
+/// Forty frames of class 0 that arrive at once, and a clock event by which all have left.
+fn forty_frames(alloc: Global) -> Result<Vec<Event<'static>>, Fail> {
+    let mut events = Vec::new(alloc);
+    for id in 0..40 {
+        events.push(Event::Arrive(Frame {
+            id,
+            priority: 0,
+            len: 60,
+            tagged: false,
+        }))?;
+    }
+    events.push(Event::Clock(100_000_000))?;
+    Ok(events)
 }
 
-/// The start of a frame of 60 octets at 1 Gb/s.
-fn start(id: u64, at: u128) -> Answer {
+/// The start of the frame with this number at 1 Gb/s, behind those with lower ones.
+fn start(id: u64) -> Answer {
+    let at = u128::from(id).saturating_mul(672_000);
     Answer::Start(Start {
         id,
         class: 0,
@@ -139,25 +107,29 @@ fn start(id: u64, at: u128) -> Answer {
     })
 }
 
+/// All is answered: the forty arrivals, and then the forty starts.
+fn assert_all_left(rt: &impl Abort, answers: &[Answer]) {
+    assert_eq!(rt; answers.len(), 80);
+    let (queued, started) = answers.split_at(40);
+    for id in 0..40u64 {
+        assert_eq!(rt;
+            queued.get(id as usize),
+            Some(&Answer::Queued { id, class: 0 })
+        );
+        assert_eq!(rt; started.get(id as usize), Some(&start(id)));
+    }
+}
+
 /// Where memory is wanting, the events that are left go on as if nothing had happened, also where it is wanting between two starts of one
-/// clock event. A body that always says that it took no event fails, since the rest would never be taken with memory to spare.
+/// clock event. A body that always says that it took no event fails, since the last runs want none.
 #[test]
 fn a_run_goes_on_where_it_stopped(rt: HostRuntime) -> Result<(), Fail> {
-    let events = [arrival(1), arrival(2), arrival(3), Event::Clock(2_000_000)];
-    let want = [
-        Answer::Queued { id: 1, class: 0 },
-        Answer::Queued { id: 2, class: 0 },
-        Answer::Queued { id: 3, class: 0 },
-        start(1, 0),
-        start(2, 672_000),
-        start(3, 1_344_000),
-    ];
+    let events = forty_frames(rt.alloc())?;
     let mut runs = Runs::none();
     let mut before = 0;
-    for size in 1..80usize {
-        let heap = LocalHeap::new(rt.alloc(), 256 * size)?;
-        let rate = Rate::from_mbps(1000).unwrap();
-        let mut port = Port::<Jumping>::new(rt.alloc(), rate, 1500, 4)
+    for run in 0..16 {
+        let heap = heap_of(rt.alloc(), run);
+        let mut port = Port::<Jumping>::new(rt.alloc(), rate(&rt), 1500, 40)
             .ok()
             .ok_or("a port")?;
         let mut few = Vec::new(&heap);
@@ -165,116 +137,83 @@ fn a_run_goes_on_where_it_stopped(rt: HostRuntime) -> Result<(), Fail> {
             Ok(()) => events.len(),
             Err(memory) => memory.taken,
         };
-        assert!(rt; before <= taken && want.as_slice().starts_with(&few));
+        let refused = is_refused(&heap, run);
+        assert_eq!(rt; taken < events.len(), refused);
+        assert!(rt; before <= taken && taken <= few.len().saturating_add(1));
         before = taken;
-        runs.count(taken == events.len());
+        runs.count(refused);
         let mut all = few.to_vec(rt.alloc())?;
         let rest = events.get(taken..).ok_or("the rest")?;
         assert_eq!(rt; port.run(rest, &mut all), Ok(()));
-        assert_eq!(rt; all.as_slice(), want.as_slice());
+        assert_all_left(&rt, all.as_slice());
     }
-    assert_eq!(rt;
-        runs,
-        Runs {
-            refused: 14,
-            served: 65
-        }
-    );
+    assert_eq!(rt; runs, Runs { met: 12, free: 4 });
     Ok(())
 }
 
-#[test]
-fn a_script_with_a_full_queue(rt: HostRuntime) -> Result<(), Fail> {
+/// Runs a job until no growth is refused.
+fn growths_of(rt: &impl Abort, alloc: Global, job: Job, most: u64) -> Runs {
     let mut runs = Runs::none();
-    for size in 1..100usize {
-        let heap = LocalHeap::new(rt.alloc(), 2048 * size)?;
-        let mut got = Vec::new(rt.alloc());
-        let result = run_script(&heap, CLOSED_GATE, &mut got, settings(&rt, None));
-        assert!(rt; result == Ok(()) || result == Err(RunFault::Memory));
-        assert!(rt;
-            if result.is_ok() {
-                got.as_slice() == OPENED
-            } else {
-                OPENED.starts_with(&got)
-            }
-        );
-        runs.count(result.is_ok());
+    for run in 0..most {
+        let heap = heap_of(alloc, run);
+        let mut got = Vec::new(alloc);
+        let result = job.run(rt, &heap, job.input(), &mut got);
+        let refused = is_refused(&heap, run);
+        assert_eq!(rt; result.err(), refused.then_some(RunFault::Memory));
+        assert!(rt; job.output().starts_with(&got));
+        assert!(rt; refused || got.as_slice() == job.output());
+        runs.count(refused);
     }
-    assert_eq!(rt;
-        runs,
-        Runs {
-            refused: 64,
-            served: 35
-        }
-    );
-    Ok(())
+    runs
 }
 
 #[test]
-fn a_check_of_two_schedules(rt: HostRuntime) -> Result<(), Fail> {
+fn a_script_of_one_frame(rt: HostRuntime) {
+    let runs = growths_of(&rt, rt.alloc(), Job::OneFrame, 30);
+    assert_eq!(rt; runs, Runs { met: 20, free: 10 });
+}
+
+#[test]
+fn a_script_with_a_full_queue(rt: HostRuntime) {
+    let runs = growths_of(&rt, rt.alloc(), Job::FullQueue, 30);
+    assert_eq!(rt; runs, Runs { met: 20, free: 10 });
+}
+
+#[test]
+fn a_check_of_two_schedules(rt: HostRuntime) {
+    let runs = growths_of(&rt, rt.alloc(), Job::TwoSchedules, 30);
+    assert_eq!(rt; runs, Runs { met: 4, free: 26 });
+}
+
+/// Runs a replay until no growth is refused.
+fn growths_of_replay(rt: &impl Abort, alloc: Global, replaying: &Replaying, most: u64) -> Runs {
     let mut runs = Runs::none();
-    for size in 1..100usize {
-        let heap = LocalHeap::new(rt.alloc(), 2048 * size)?;
-        let mut got = Vec::new(rt.alloc());
-        let result = check(&heap, TWO_SCHEDULES, &mut got, as_told(&rt));
-        assert!(rt; result == Ok(()) || result == Err(RunFault::Memory));
-        assert!(rt;
-            if result.is_ok() {
-                got.as_slice() == TOLD
-            } else {
-                TOLD.starts_with(&got)
-            }
-        );
-        runs.count(result.is_ok());
+    for run in 0..most {
+        let heap = heap_of(alloc, run);
+        let mut report = Vec::new(alloc);
+        let mut departures = Vec::new(alloc);
+        let capture = replaying.capture.as_slice();
+        let result = Replaying::run(rt, &heap, capture, &mut departures, &mut report);
+        let refused = is_refused(&heap, run);
+        assert_eq!(rt; result.err(), refused.then_some(ReplayFault::Memory));
+        assert!(rt; replaying.is_front(&departures, &report, !refused));
+        runs.count(refused);
     }
-    assert_eq!(rt;
-        runs,
-        Runs {
-            refused: 63,
-            served: 36
-        }
-    );
+    runs
+}
+
+#[test]
+fn a_replay_of_two_frames(rt: HostRuntime) -> Result<(), Fail> {
+    let replaying = Replaying::two_frames(rt.alloc())?;
+    let runs = growths_of_replay(&rt, rt.alloc(), &replaying, 100);
+    assert_eq!(rt; runs, Runs { met: 60, free: 40 });
     Ok(())
 }
 
 #[test]
 fn a_replay_of_a_hundred_frames(rt: HostRuntime) -> Result<(), Fail> {
-    let capture = hundred_frames(rt.alloc())?;
-    let want = replay_in_memory(rt.alloc(), capture.as_slice(), to_the_end(&rt));
-    assert_eq!(rt; want.result, Ok(()));
-    assert!(rt; want.report.as_slice().ends_with(LAST_START));
-    assert_eq!(rt; want.capture.as_slice(), capture.as_slice());
-    let mut runs = Runs::none();
-    for size in 1..80usize {
-        let heap = LocalHeap::new(rt.alloc(), 12_000 * size)?;
-        let mut report = Vec::new(rt.alloc());
-        let mut written = Vec::new(rt.alloc());
-        let result = replay(
-            &heap,
-            b"".as_slice(),
-            capture.as_slice(),
-            &mut written,
-            &mut report,
-            to_the_end(&rt),
-            &mut Unwatched,
-        );
-        assert!(rt; result == Ok(()) || result == Err(ReplayFault::Memory));
-        assert!(rt;
-            want.report.as_slice().starts_with(&report)
-                && want.capture.as_slice().starts_with(&written)
-        );
-        assert!(rt;
-            result.is_err()
-                || (report.len() == want.report.len() && written.len() == want.capture.len())
-        );
-        runs.count(result.is_ok());
-    }
-    assert_eq!(rt;
-        runs,
-        Runs {
-            refused: 43,
-            served: 36
-        }
-    );
+    let replaying = Replaying::hundred_frames(rt.alloc())?;
+    let runs = growths_of_replay(&rt, rt.alloc(), &replaying, 100);
+    assert_eq!(rt; runs, Runs { met: 58, free: 42 });
     Ok(())
 }

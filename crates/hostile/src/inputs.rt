@@ -1,180 +1,94 @@
 //! Truncated and malicious input, and moments at the limits.
 
-use super::rows::{TWO_SCHEDULES, as_told, hundred_frames, replay_in_memory, settings, to_the_end};
+use super::rows::{
+    Job, as_told, hundred_frames, replay_in_memory, settings, text_of, text_of_replay, to_the_end,
+};
 use capture::CapFault;
 use replay::{ReplayFault, Unwatched, replay};
 use schedule_check::check;
-use script::{Ended, RunFault, ScriptFault, Values, answer_script, run_script};
-use std::io::{self, BufWriter, Read, Write};
+use script::{RunFault, ScriptFault, run_script};
 use std::test::Fail;
-use test_streams::Pieces;
+use test_streams::{
+    Counting, Pieces, Repeated, TWO_RECORDS, cut_capture, hostile_scripts, repeated_octets,
+};
 
-/// Gives one octet so many times, and then another one once.
-#[derive(Drop)]
-struct Repeated {
-    octet: u8,
-    times: usize,
-    last: Option<u8>,
-}
-
-impl Read for Repeated {
-    fn read(&mut self, buf: &mut [u8]) -> io::Result<usize> {
-        if self.times == 0 {
-            if buf.is_empty() {
-                return Ok(0);
-            }
-            match self.last {
-                Some(octet) => {
-                    buf[0] = octet;
-                    self.last = None;
-                    return Ok(1);
-                }
-                None => return Ok(0),
-            }
-        }
-        let count = buf.len().min(self.times);
-        buf[..count].fill(self.octet);
-        self.times -= count;
-        Ok(count)
-    }
-}
-
-/// Takes all, and keeps how much it was, and the last octets.
-#[derive(Drop)]
-struct Counting {
-    octets: u64,
-}
-
-impl Write for Counting {
-    fn write(&mut self, buf: &[u8]) -> io::Result<usize> {
-        self.octets = self.octets.saturating_add(buf.len() as u64);
-        Ok(buf.len())
-    }
-
-    fn flush(&mut self) -> io::Result<()> {
-        Ok(())
-    }
-}
-
-/// Scripts with what is answered and how they end, as a call and as the program makes it, with its status and its text.
+/// Scripts with what is answered and the text of how they end.
 #[test]
 fn scripts(rt: HostRuntime) -> Result<(), Fail> {
-    let unknown = Err(RunFault::Script(1, ScriptFault::UnknownLine));
-    let none: &[u8] = b"";
-    let first: &[u8] = b"taprio_port: script line 1: UnknownLine\n";
-    let rows: [(&[u8], Result<(), RunFault>, &[u8], &[u8]); 11] = [
-        (b"cl\xffock 5\n", unknown, none, first),
-        (b"clock\0 5\n", unknown, none, first),
-        (b"\0", unknown, none, first),
-        (b"query\\", unknown, none, first),
-        (
-            b"query \\",
-            Err(RunFault::Script(1, ScriptFault::WordCount)),
-            none,
-            b"taprio_port: script line 1: WordCount\n",
-        ),
-        (
-            b"query \\\n",
-            Ok(()),
-            b"report now 0 mask ff no-class 0\nclasses none\nin-force none\npending none\nannounced none\n",
-            none,
-        ),
-        (
-            b"tc qdisc replace dev \xff root taprio num_tc 1 map 0 sched-entry S 01 300000\n",
-            Ok(()),
-            b"installed change 300000000\n",
-            none,
-        ),
-        (
-            b"clock 9223372036854775807000\ntc qdisc replace dev eth0 root taprio num_tc 8 map 0 1 2 3 4 5 6 7 base-time 0 \
-sched-entry S 01 300000\n",
-            Ok(()),
-            b"installed change 9223372036854900000000\n",
-            none,
-        ),
-        (
-            b"tc qdisc replace dev eth0 root taprio num_tc 8 map 0 1 2 3 4 5 6 7 base-time 9223372036854775808 sched-entry S 01 300000\n",
-            Ok(()),
-            b"refused BaseTooLate\n",
-            none,
-        ),
-        (
-            b"tc qdisc replace dev eth0 root taprio base-time 18446744073709551616\n",
-            Ok(()),
-            b"tc-fault BadNumber 8\n",
-            none,
-        ),
-        (
-            b"clock 9223372036854775807001",
-            Err(RunFault::Script(1, ScriptFault::ClockTooLate)),
-            none,
-            b"taprio_port: script line 1: ClockTooLate\n",
-        ),
-    ];
-    let values = Values {
-        rate: None,
-        mtu: None,
-        room: None,
-        until: None,
-    };
-    for (script, result, answers, text) in rows {
+    for (script, answers, text) in hostile_scripts() {
         let mut got = Vec::new(rt.alloc());
-        assert_eq!(rt;
-            run_script(rt.alloc(), script, &mut got, settings(&rt, None)),
-            result
-        );
+        let result = run_script(rt.alloc(), script, &mut got, settings(&rt, None));
         assert_eq!(rt; got.as_slice(), answers);
-        let mut reader = script;
-        let writer = BufWriter::new(rt.alloc(), Vec::new(rt.alloc()))?;
-        let mut errors = Vec::new(rt.alloc());
-        let (ended, got) = answer_script(rt.alloc(), values, &mut reader, writer, &mut errors);
-        let status = if result.is_ok() { 0 } else { 3 };
-        assert_eq!(rt; ended, Ended { status, told: true });
-        assert_eq!(rt; got.as_slice(), answers);
-        assert_eq!(rt; errors.as_slice(), text);
+        assert_eq!(rt; text_of(rt.alloc(), result).as_slice(), text);
     }
     Ok(())
 }
 
-/// Inputs of one octet, over and over: how often, the one behind it, and how they end as a script and as a check.
+/// Inputs of one octet, over and over, as a script and as schedule commands.
 #[test]
 fn one_octet_over_and_over(rt: HostRuntime) -> Result<(), Fail> {
-    let long = Err(RunFault::Script(1, ScriptFault::LongLine));
-    let many = Err(RunFault::Script(4_000_001, ScriptFault::TooManyLines));
-    let unknown = Err(RunFault::Script(1, ScriptFault::UnknownLine));
-    let rows = [
-        (b'a', 65_536, None, unknown),
-        (b'a', 65_537, None, long),
-        (b'a', usize::MAX, None, long),
-        (b'#', 65_536, Some(b'\n'), Ok(())),
-        (b'#', 65_537, Some(b'\n'), long),
-        (b'\n', 4_000_000, None, Ok(())),
-        (b'\n', usize::MAX, None, many),
-        (b'\0', 65_536, Some(b'\n'), unknown),
-    ];
-    for (octet, times, last, result) in rows {
+    for (octet, times, last, text) in repeated_octets() {
         let mut got = Vec::new(rt.alloc());
         let script = Repeated { octet, times, last };
-        assert_eq!(rt;
-            run_script(rt.alloc(), script, &mut got, settings(&rt, None)),
-            result
-        );
+        let result = run_script(rt.alloc(), script, &mut got, settings(&rt, None));
+        assert_eq!(rt; text_of(rt.alloc(), result).as_slice(), text);
         let script = Repeated { octet, times, last };
-        assert_eq!(rt; check(rt.alloc(), script, &mut got, as_told(&rt)), result);
+        let result = check(rt.alloc(), script, &mut got, as_told(&rt));
+        assert_eq!(rt; text_of(rt.alloc(), result).as_slice(), text);
         assert!(rt; got.is_empty());
     }
     Ok(())
 }
 
-/// Two schedules are checked however they are cut, and a cut within a line says so at most as the faults of a line do.
+/// The same as the script of a replay.
+#[test]
+fn one_octet_over_and_over_in_a_replay(rt: HostRuntime) -> Result<(), Fail> {
+    for (octet, times, last, text) in repeated_octets() {
+        let mut report = Vec::new(rt.alloc());
+        let mut departures = Vec::new(rt.alloc());
+        let result = replay(
+            rt.alloc(),
+            Repeated { octet, times, last },
+            &TWO_RECORDS[..24],
+            &mut departures,
+            &mut report,
+            to_the_end(&rt),
+            &mut Unwatched,
+        );
+        assert_eq!(rt; text_of_replay(rt.alloc(), result).as_slice(), text);
+        assert!(rt; report.is_empty() && departures.is_empty() != text.is_empty());
+    }
+    Ok(())
+}
+
+/// Two schedules are checked however they are cut, and a cut says so at most as the faults of a line do.
 #[test]
 fn schedules_that_are_cut(rt: HostRuntime) -> Result<(), Fail> {
-    for cut in 0..=TWO_SCHEDULES.len() {
-        let front = &TWO_SCHEDULES[..cut];
+    let lines = Job::TwoSchedules.input();
+    for cut in 0..=lines.len() {
+        let front = &lines[..cut];
         let mut got = Vec::new(rt.alloc());
         let result = check(rt.alloc(), front, &mut got, as_told(&rt));
         let is_word = front.ends_with(b"\nt") || front == b"t".as_slice();
-        assert_eq!(rt; result.is_err(), is_word);
+        let line = if cut == 1 { 1 } else { 2 };
+        let fault = RunFault::Script(line, ScriptFault::UnknownLine);
+        assert_eq!(rt; result.err(), is_word.then_some(fault));
+    }
+    Ok(())
+}
+
+/// The capture of two frames, cut behind each of its octets.
+#[test]
+fn two_frames_that_are_cut(rt: HostRuntime) -> Result<(), Fail> {
+    for cut in 0..=TWO_RECORDS.len() {
+        let got = replay_in_memory(rt.alloc(), &TWO_RECORDS[..cut], to_the_end(&rt));
+        let want = cut_capture(cut);
+        assert_eq!(rt; got.report.as_slice(), want.report);
+        assert_eq!(rt; got.capture.as_slice(), want.departures);
+        assert_eq!(rt;
+            text_of_replay(rt.alloc(), got.result).as_slice(),
+            want.text
+        );
     }
     Ok(())
 }
@@ -184,25 +98,13 @@ fn schedules_that_are_cut(rt: HostRuntime) -> Result<(), Fail> {
 fn captures_that_are_cut(rt: HostRuntime) -> Result<(), Fail> {
     let capture = hundred_frames(rt.alloc())?;
     let octets = capture.as_slice();
-    for cut in 0..octets.len().min(400) {
+    for cut in 24..octets.len().min(400) {
         let got = replay_in_memory(rt.alloc(), &octets[..cut], to_the_end(&rt));
-        if cut < 24 {
-            assert_eq!(rt;
-                got.result,
-                Err(ReplayFault::Capture(0, CapFault::ShortHeader))
-            );
-            assert!(rt; got.report.is_empty() && got.capture.is_empty());
-        } else {
-            let records = (cut - 24) / 76;
-            let whole = 24 + 76 * records;
-            let want = if cut == whole {
-                Ok(())
-            } else {
-                Err(ReplayFault::Capture(records as u32, CapFault::ShortRecord))
-            };
-            assert_eq!(rt; got.result, want);
-            assert_eq!(rt; got.capture.as_slice(), &octets[..whole.min(octets.len())]);
-        }
+        let records = (cut - 24) / 76;
+        let whole = 24 + 76 * records;
+        let fault = ReplayFault::Capture(records as u32, CapFault::ShortRecord);
+        assert_eq!(rt; got.result.err(), (cut != whole).then_some(fault));
+        assert_eq!(rt; got.capture.as_slice(), &octets[..whole.min(octets.len())]);
     }
     Ok(())
 }

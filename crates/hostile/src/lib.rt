@@ -6,6 +6,8 @@ mod growths;
 #[cfg(test)]
 mod inputs;
 #[cfg(test)]
+mod random;
+#[cfg(test)]
 mod rows;
 #[cfg(test)]
 mod streams;

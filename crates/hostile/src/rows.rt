@@ -1,36 +1,89 @@
-//! What the tests feed: a script, a capture of a hundred frames, and settings.
+//! What the tests feed: jobs over lines, replays, and settings.
 
 use capture::{CAPTURE_END, CaptureWriter};
-use replay::{ReplayFault, Unwatched, replay};
-use schedule_check::CheckSettings;
-use script::Settings;
-use std::alloc::Global;
-use std::io;
+use replay::{ReplayFault, Unwatched, replay, say_replay_fault};
+use schedule_check::{CheckSettings, check};
+use script::{RunFault, Settings, run_script, say_fault};
+use std::alloc::{Allocator, Global};
+use std::io::{self, Read, Write};
 use std::process::Abort;
+use test_streams::{BOTH_LEFT, BOTH_TOLD, TWO_RECORDS};
 use wire_time::Rate;
 
-/// With room for two frames a class: three frames come behind a closed gate, which opens 100 microseconds later.
-pub const CLOSED_GATE: &[u8] =
-    b"tc qdisc replace dev eth0 root taprio num_tc 8 map 0 1 2 3 4 5 6 7 base-time 20000 \
-sched-entry S 00 100000 sched-entry S 01 100000\nclock 20000000\nframe 1 0 60\nframe 2 0 60\nframe 3 0 60\nclock 121000000\n";
+/// A frame that leaves at once.
+const ONE_FRAME: &[u8] = b"frame 1 0 60\nclock 1000000\n";
 
 /// What is answered to it.
-pub const OPENED: &[u8] =
-    b"installed change 20000000\nqueued 1 class 0\nqueued 2 class 0\ndropped 3 Full\n\
-start 1 class 0 at 120000000 end 120672000\nstart 2 class 0 at 120672000 end 121344000\n";
+const LEFT_AT_ONCE: &[u8] = b"queued 1 class 0\nstart 1 class 0 at 0 end 672000\n";
 
-/// Two schedules.
-pub const TWO_SCHEDULES: &[u8] = b"tc qdisc replace dev eth0 root taprio sched-entry S 01 480\n\
-tc qdisc replace dev eth0 root taprio num_tc 2 map 0 1 sched-entry S 01 480 sched-entry S 03 480\n";
+/// With room for two frames a class: three frames come behind a closed gate, which opens 100 microseconds later.
+const CLOSED_GATE: &[u8] =
+    b"tc qdisc replace dev eth0 root taprio num_tc 8 map 0 1 2 3 4 5 6 7 base-time 20000 \
+sched-entry S 00 100000 sched-entry S 01 100000\nclock 20000000\nframe 1 0 60\nframe 2 0 60\nframe 3 0 60\nclock 121000000\ncount 0\n";
+
+/// What is answered to it.
+const OPENED: &[u8] =
+    b"installed change 20000000\nqueued 1 class 0\nqueued 2 class 0\ndropped 3 Full\n\
+start 1 class 0 at 120000000 end 120672000\nstart 2 class 0 at 120672000 end 121344000\n\
+count class 0 accepted 2 sent 2 octets 120 runt 0 too-long 0 over-sdu 0 full 1 waiting 0\n";
+
+/// The example of tc-taprio(8), and a schedule that opens classes 0 and 1 together.
+const TWO_SCHEDULES: &[u8] =
+    b"tc qdisc replace dev eth0 parent root handle 100 taprio num_tc 3 map 2 2 1 0 2 2 2 2 2 2 2 2 2 2 2 2 \
+queues 1@0 1@1 2@2 base-time 1528743495910289987 sched-entry S 01 300000 sched-entry S 02 300000 sched-entry S 04 400000 \
+clockid CLOCK_TAI\n\
+tc qdisc replace dev eth0 root taprio num_tc 8 map 0 1 2 3 4 5 6 7 sched-entry S 01 300000 sched-entry S 03 300000\n";
 
 /// What is told of them at 1 Gb/s.
-pub const TOLD: &[u8] = b"apart 0 1 2 3 4 5 6 7\napart none\n";
+const TOLD: &[u8] = b"apart 0 1 2\napart 2 3 4 5 6 7\n";
 
-/// The end of the report of a hundred frames.
-pub const LAST_START: &[u8] = b"start 99 class 0 at 2000990000000 end 2000990672000\n";
-
-/// The moment that a hundred frames are run to, in picoseconds.
+/// The moment that replays are run to, in picoseconds.
 const END: u128 = 3_000_000_000_000;
+
+/// A job over lines.
+#[derive(Clone, Copy, PartialEq, Eq, Debug)]
+pub enum Job {
+    /// A script of one frame.
+    OneFrame,
+    /// A script with a full queue behind a closed gate.
+    FullQueue,
+    /// The check of two schedules.
+    TwoSchedules,
+}
+
+impl Job {
+    /// The lines that are read.
+    pub fn input(self) -> &'static [u8] {
+        match self {
+            Job::OneFrame => ONE_FRAME,
+            Job::FullQueue => CLOSED_GATE,
+            Job::TwoSchedules => TWO_SCHEDULES,
+        }
+    }
+
+    /// What is answered to them.
+    pub fn output(self) -> &'static [u8] {
+        match self {
+            Job::OneFrame => LEFT_AT_ONCE,
+            Job::FullQueue => OPENED,
+            Job::TwoSchedules => TOLD,
+        }
+    }
+
+    /// Does it, from any reader to any writer.
+    pub fn run<A: Allocator, R: Read + Drop, W: Write>(
+        self,
+        rt: &impl Abort,
+        alloc: A,
+        reader: R,
+        writer: &mut W,
+    ) -> Result<(), RunFault> {
+        match self {
+            Job::TwoSchedules => check(alloc, reader, writer, as_told(rt)),
+            _ => run_script(alloc, reader, writer, settings(rt, None)),
+        }
+    }
+}
 
 /// Settings with a rate of 1 Gb/s, an mtu of 1500 octets and room for two frames a class.
 pub fn settings(rt: &impl Abort, until: Option<u128>) -> Settings {
@@ -42,7 +95,7 @@ pub fn rate(rt: &impl Abort) -> Rate {
     Rate::from_mbps(1000).expect(rt, "a rate")
 }
 
-/// How the two schedules are checked: at 1 Gb/s, without windows.
+/// How schedules are checked: at 1 Gb/s, without windows.
 pub fn as_told(rt: &impl Abort) -> CheckSettings {
     CheckSettings {
         rate: rate(rt),
@@ -50,7 +103,7 @@ pub fn as_told(rt: &impl Abort) -> CheckSettings {
     }
 }
 
-/// Settings that run to behind the hundred frames.
+/// Settings that run to behind all frames.
 pub fn to_the_end(rt: &impl Abort) -> Settings {
     settings(rt, Some(END))
 }
@@ -95,5 +148,113 @@ pub fn replay_in_memory(alloc: Global, capture: &[u8], settings: Settings) -> Re
         result,
         report,
         capture: written,
+    }
+}
+
+/// What the program says of how a script or a check ended: nothing where it met no fault.
+pub fn text_of(alloc: Global, outcome: Result<(), RunFault>) -> Vec<u8> {
+    let mut text = Vec::new(alloc);
+    if let Err(fault) = outcome {
+        say_fault(&fault, &mut text);
+    }
+    text
+}
+
+/// What the program says of how a replay ended: nothing where it met no fault.
+pub fn text_of_replay(alloc: Global, outcome: Result<(), ReplayFault>) -> Vec<u8> {
+    let mut text = Vec::new(alloc);
+    if let Err(fault) = outcome {
+        say_replay_fault(&fault, &mut text);
+    }
+    text
+}
+
+/// A replay that meets no fault: the capture that is read, the report, and the capture that is written.
+#[derive(Drop)]
+pub struct Replaying {
+    pub capture: Vec<u8>,
+    pub report: Vec<u8>,
+    pub departures: Vec<u8>,
+}
+
+impl Replaying {
+    /// Two frames, of which the second goes first.
+    pub fn two_frames(alloc: Global) -> io::Result<Replaying> {
+        Ok(Replaying {
+            capture: Vec::from_slice(alloc, &TWO_RECORDS)?,
+            report: Vec::from_slice(alloc, BOTH_TOLD)?,
+            departures: Vec::from_slice(alloc, &BOTH_LEFT)?,
+        })
+    }
+
+    /// A hundred frames, each of which leaves when it comes.
+    pub fn hundred_frames(alloc: Global) -> io::Result<Replaying> {
+        let mut report = Vec::new(alloc);
+        for number in 0..100u64 {
+            let at = 2_000_000_000_000 + 10_000_000 * number;
+            let end = at + 672_000;
+            let lines = format!(in alloc;
+                "queued {number} class 0\nstart {number} class 0 at {at} end {end}\n"
+            )?;
+            report.extend_from_slice(lines.as_bytes())?;
+        }
+        Ok(Replaying {
+            capture: hundred_frames(alloc)?,
+            report,
+            departures: hundred_frames(alloc)?,
+        })
+    }
+
+    /// Does it without script lines, from any reader to any writers.
+    pub fn run<A: Allocator, R: Read + Drop, W: Write, V: Write>(
+        rt: &impl Abort,
+        alloc: A,
+        capture: R,
+        departures: &mut W,
+        report: &mut V,
+    ) -> Result<(), ReplayFault> {
+        replay(
+            alloc,
+            b"".as_slice(),
+            capture,
+            departures,
+            report,
+            to_the_end(rt),
+            &mut Unwatched,
+        )
+    }
+
+    /// Whether what was written is a front of what is to be written, and all of it where the replay met no fault.
+    pub fn is_front(&self, departures: &[u8], report: &[u8], whole: bool) -> bool {
+        self.departures.as_slice().starts_with(departures)
+            && self.report.as_slice().starts_with(report)
+            && (!whole || self.is_whole(departures, report))
+    }
+
+    /// Whether both are written whole.
+    pub fn is_whole(&self, departures: &[u8], report: &[u8]) -> bool {
+        departures.len() == self.departures.len() && report.len() == self.report.len()
+    }
+}
+
+/// How many runs met what a test puts in the way, and how many after them met nothing.
+#[derive(Clone, Copy, Drop, PartialEq, Eq, Debug)]
+pub struct Runs {
+    pub met: u32,
+    pub free: u32,
+}
+
+impl Runs {
+    pub fn none() -> Runs {
+        Runs { met: 0, free: 0 }
+    }
+
+    /// Counts a run. One that meets something behind one that met nothing counts as neither.
+    pub fn count(&mut self, met: bool) {
+        if !met {
+            self.free = self.free.saturating_add(1);
+        } else if self.free == 0 {
+            self.met = self.met.saturating_add(1);
+        }
     }
 }

@@ -1,256 +1,255 @@
-//! Reads and writes that fail, in turn, once or for ever, are cut short, or give or take nothing. A body that always answers `Read` or
-//! `Write` fails each of these tests, since the last runs meet no fault.
+//! Reads and writes that fail, in turn, once or for ever, are cut short to one octet, or give or take nothing, until a run meets none of
+//! it. A body that always answers `Read` or `Write` fails each of these tests, since the last runs meet nothing.
 
-use super::rows::{
-    CLOSED_GATE, OPENED, TOLD, TWO_SCHEDULES, as_told, hundred_frames, replay_in_memory, settings,
-    to_the_end,
-};
-use capture::CaptureReader;
-use replay::{ReplayFault, Unwatched, replay};
-use schedule_check::check;
-use script::{RunFault, run_script};
+use super::rows::{Job, Replaying, Runs, hundred_frames, replay_in_memory, to_the_end};
+use capture::{CapFault, CaptureReader};
+use replay::ReplayFault;
+use script::RunFault;
 use std::alloc::Global;
-use std::io::{self, Read};
+use std::process::Abort;
 use std::test::Fail;
-use test_streams::{Narrow, Pieces};
+use test_streams::{Pieces, Tally, Turn, TurningReader, TurningWriter, nth_turn};
 
-/// Gives its octets in pieces, and nothing at the call with this number, from 0; after that call it goes on.
-#[derive(Drop)]
-struct Pausing<'a> {
-    octets: &'a [u8],
-    piece: usize,
-    calls: u32,
-    pauses_at: u32,
-}
+/// One piece is all that is asked for.
+const WHOLE: usize = usize::MAX;
 
-impl<'a> Pausing<'a> {
-    fn new(octets: &'a [u8], piece: usize, pauses_at: u32) -> Pausing<'a> {
-        Pausing {
-            octets,
-            piece,
-            calls: 0,
-            pauses_at,
-        }
-    }
-}
-
-impl Read for Pausing<'_> {
-    fn read(&mut self, buf: &mut [u8]) -> io::Result<usize> {
-        let call = self.calls;
-        self.calls = call.saturating_add(1);
-        if call == self.pauses_at {
-            return Ok(0);
-        }
-        let count = self.piece.min(buf.len()).min(self.octets.len());
-        let octets = self.octets;
-        buf[..count].copy_from_slice(&octets[..count]);
-        self.octets = &octets[count..];
-        Ok(count)
-    }
-}
-
-/// A reader of pieces that fails at this call, once or for ever.
-fn failing(octets: &[u8], piece: usize, fails_at: u32, recovers: bool) -> Pieces<'_> {
-    let mut reader = Pieces::new(octets, piece);
-    reader.fails_at = fails_at;
-    reader.recovers = recovers;
-    reader
-}
-
-/// A writer that takes so many octets, in pieces, and then fails, once or for ever, or takes nothing.
-fn narrow(alloc: Global, piece: usize, room: usize, fails: bool, recovers: bool) -> Narrow {
-    Narrow {
-        got: Vec::new(alloc),
-        piece,
-        room,
-        fails,
-        recovers,
-    }
-}
-
-/// A script of one octet a read: every read fails in turn, also the last, which finds the end, and then none. 202 reads, 406 runs.
-#[test]
-fn each_read_of_a_script(rt: HostRuntime) -> Result<(), Fail> {
-    let reads = CLOSED_GATE.len() as u32;
-    let mut done = 0u32;
-    for fails_at in 0..reads.saturating_add(2) {
-        for recovers in [false, true] {
-            let reader = failing(CLOSED_GATE, 1, fails_at, recovers);
-            let mut got = Vec::new(rt.alloc());
-            let result = run_script(rt.alloc(), reader, &mut got, settings(&rt, None));
-            if fails_at <= reads {
-                assert_eq!(rt; result, Err(RunFault::Read));
-                assert!(rt; OPENED.starts_with(&got));
-            } else {
-                done = done.saturating_add(1);
-                assert_eq!(rt; result, Ok(()));
-                assert_eq!(rt; got.as_slice(), OPENED);
-            }
-        }
-    }
-    assert_eq!(rt; done, 2);
-    Ok(())
-}
-
-/// A read that gives nothing is the end: what comes is what comes of the octets before it, also where the reader would go on.
-#[test]
-fn each_pause_of_a_script(rt: HostRuntime) -> Result<(), Fail> {
-    for pauses_at in 0..=CLOSED_GATE.len() {
-        let mut want = Vec::new(rt.alloc());
-        let front = &CLOSED_GATE[..pauses_at.min(CLOSED_GATE.len())];
-        let wanted = run_script(rt.alloc(), front, &mut want, settings(&rt, None));
-        let mut got = Vec::new(rt.alloc());
-        let reader = Pausing::new(CLOSED_GATE, 1, pauses_at as u32);
-        let result = run_script(rt.alloc(), reader, &mut got, settings(&rt, None));
-        assert_eq!(rt; result, wanted);
-        assert_eq!(rt; got.as_slice(), want.as_slice());
-    }
-    Ok(())
-}
-
-/// Each octet of the answers is the last that is taken, in turn, in pieces of one octet and of twenty.
-#[test]
-fn each_write_of_a_script(rt: HostRuntime) -> Result<(), Fail> {
-    for room in 0..=OPENED.len() {
-        for piece in [1, 20] {
-            for (fails, recovers) in [(false, false), (true, false), (true, true)] {
-                let mut writer = narrow(rt.alloc(), piece, room, fails, recovers);
-                let result = run_script(rt.alloc(), CLOSED_GATE, &mut writer, settings(&rt, None));
-                if room < OPENED.len() {
-                    assert_eq!(rt; result, Err(RunFault::Write));
-                } else {
-                    assert_eq!(rt; result, Ok(()));
-                }
-                assert_eq!(rt; writer.got.as_slice(), &OPENED[..room.min(OPENED.len())]);
-            }
-        }
-    }
-    Ok(())
-}
-
-/// Every read fails, or gives nothing, in turn, of two schedules that come an octet at a time.
-#[test]
-fn each_read_of_a_check(rt: HostRuntime) -> Result<(), Fail> {
-    let reads = TWO_SCHEDULES.len();
-    for at in 0..=reads {
-        for recovers in [false, true] {
-            let reader = failing(TWO_SCHEDULES, 1, at as u32, recovers);
-            let mut got = Vec::new(rt.alloc());
-            let result = check(rt.alloc(), reader, &mut got, as_told(&rt));
+/// A run of a job whose reader does something else at one call, and whether it came to that call.
+fn read_in_turn(rt: &impl Abort, alloc: Global, job: Job, piece: usize, run: u32) -> bool {
+    let (at, turn) = nth_turn(run);
+    let tally = Tally::new();
+    let mut got = Vec::new(alloc);
+    let reader = TurningReader::new(job.input(), piece, at, turn, &tally);
+    let result = job.run(rt, alloc, reader, &mut got);
+    let met = tally.calls.get() > at;
+    match turn {
+        Turn::Fails | Turn::FailsOnce if met => {
             assert_eq!(rt; result, Err(RunFault::Read));
-            assert!(rt; TOLD.starts_with(&got));
+            assert_eq!(rt; tally.calls.get().saturating_sub(at), 1);
+            assert!(rt; job.output().starts_with(&got));
         }
-        let mut want = Vec::new(rt.alloc());
-        let front = &TWO_SCHEDULES[..at.min(TWO_SCHEDULES.len())];
-        let wanted = check(rt.alloc(), front, &mut want, as_told(&rt));
-        let mut got = Vec::new(rt.alloc());
-        let reader = Pausing::new(TWO_SCHEDULES, 1, at as u32);
-        assert_eq!(rt; check(rt.alloc(), reader, &mut got, as_told(&rt)), wanted);
-        assert_eq!(rt; got.as_slice(), want.as_slice());
+        Turn::Nothing if met => {
+            let input = job.input();
+            let front = &input[..tally.octets.get().min(input.len())];
+            let mut want = Vec::new(alloc);
+            assert_eq!(rt; result, job.run(rt, alloc, front, &mut want));
+            assert_eq!(rt; tally.calls.get().saturating_sub(at), 1);
+            assert_eq!(rt; got.as_slice(), want.as_slice());
+        }
+        _ => {
+            assert_eq!(rt; result, Ok(()));
+            assert_eq!(rt; got.as_slice(), job.output());
+        }
     }
-    let mut got = Vec::new(rt.alloc());
-    let reader = Pieces::new(TWO_SCHEDULES, 1);
-    assert_eq!(rt; check(rt.alloc(), reader, &mut got, as_told(&rt)), Ok(()));
-    assert_eq!(rt; got.as_slice(), TOLD);
+    met
+}
+
+/// All runs of a job whose reads come in pieces of so many octets.
+fn reads_of(rt: &impl Abort, alloc: Global, job: Job, piece: usize, most: u32) -> Runs {
+    let mut runs = Runs::none();
+    for run in 0..most {
+        runs.count(read_in_turn(rt, alloc, job, piece, run));
+    }
+    runs
+}
+
+/// What a job reads at once, and octet by octet: the last read finds the end.
+#[test]
+fn each_read_of_a_job(rt: HostRuntime) {
+    for job in [Job::OneFrame, Job::FullQueue, Job::TwoSchedules] {
+        let octets = job.input().len().min(1000) as u32;
+        for (piece, reads) in [(WHOLE, 2), (1, octets + 1)] {
+            let runs = reads_of(&rt, rt.alloc(), job, piece, 4 * reads + 4);
+            assert_eq!(rt; (runs.met, runs.free), (4 * reads, 4));
+        }
+    }
+}
+
+/// A run of a job whose writer does something else at one call, and whether it came to that call.
+fn write_in_turn(rt: &impl Abort, alloc: Global, job: Job, piece: usize, run: u32) -> bool {
+    let (at, turn) = nth_turn(run);
+    let mut writer = TurningWriter::new(alloc, piece, at, turn);
+    let result = job.run(rt, alloc, job.input(), &mut writer);
+    let met = writer.calls > at;
+    assert!(rt; job.output().starts_with(&writer.got));
+    if met && turn != Turn::OneOctet {
+        assert_eq!(rt; result, Err(RunFault::Write));
+        assert_eq!(rt; writer.calls.saturating_sub(at), 1);
+        assert!(rt; writer.got.len() < job.output().len());
+    } else {
+        assert_eq!(rt; result, Ok(()));
+        assert_eq!(rt; writer.got.as_slice(), job.output());
+    }
+    met
+}
+
+/// All runs of a job whose writes take at most so many octets.
+fn writes_of(rt: &impl Abort, alloc: Global, job: Job, piece: usize, most: u32) -> Runs {
+    let mut runs = Runs::none();
+    for run in 0..most {
+        runs.count(write_in_turn(rt, alloc, job, piece, run));
+    }
+    runs
+}
+
+/// What a job writes at once, an answer of a script or a word of a check, and octet by octet.
+#[test]
+fn each_write_of_a_job(rt: HostRuntime) {
+    for (job, parts) in [
+        (Job::OneFrame, 2),
+        (Job::FullQueue, 7),
+        (Job::TwoSchedules, 13),
+    ] {
+        let octets = job.output().len().min(1000) as u32;
+        for (piece, writes) in [(WHOLE, parts), (1, octets)] {
+            let runs = writes_of(&rt, rt.alloc(), job, piece, 4 * writes + 4);
+            assert_eq!(rt; (runs.met, runs.free), (4 * writes, 4));
+        }
+    }
+}
+
+/// A run of a replay whose capture's reader does something else at one call, and whether it came to that call.
+fn read_of_capture(
+    rt: &impl Abort,
+    alloc: Global,
+    replaying: &Replaying,
+    piece: usize,
+    run: u32,
+) -> bool {
+    let (at, turn) = nth_turn(run);
+    let tally = Tally::new();
+    let mut report = Vec::new(alloc);
+    let mut departures = Vec::new(alloc);
+    let capture = replaying.capture.as_slice();
+    let reader = TurningReader::new(capture, piece, at, turn, &tally);
+    let result = Replaying::run(rt, alloc, reader, &mut departures, &mut report);
+    let met = tally.calls.get() > at;
+    match turn {
+        Turn::Fails | Turn::FailsOnce if met => {
+            assert_eq!(rt; result, Err(ReplayFault::Read));
+            assert_eq!(rt; tally.calls.get().saturating_sub(at), 1);
+            assert!(rt; replaying.is_front(&departures, &report, false));
+        }
+        Turn::Nothing if met => {
+            let front = &capture[..tally.octets.get().min(capture.len())];
+            let want = replay_in_memory(alloc, front, to_the_end(rt));
+            assert_eq!(rt; result, want.result);
+            assert_eq!(rt; tally.calls.get().saturating_sub(at), 1);
+            assert_eq!(rt; report.as_slice(), want.report.as_slice());
+            assert_eq!(rt; departures.as_slice(), want.capture.as_slice());
+        }
+        _ => {
+            assert_eq!(rt; result, Ok(()));
+            assert!(rt; replaying.is_front(&departures, &report, true));
+        }
+    }
+    met
+}
+
+/// All runs of a replay whose capture comes in pieces of so many octets.
+fn reads_of_capture(
+    rt: &impl Abort,
+    alloc: Global,
+    replaying: &Replaying,
+    piece: usize,
+    most: u32,
+) -> Runs {
+    let mut runs = Runs::none();
+    for run in 0..most {
+        runs.count(read_of_capture(rt, alloc, replaying, piece, run));
+    }
+    runs
+}
+
+/// The header, what is behind it, and the end; and octet by octet.
+#[test]
+fn each_read_of_two_frames(rt: HostRuntime) -> Result<(), Fail> {
+    let replaying = Replaying::two_frames(rt.alloc())?;
+    for (piece, reads) in [(WHOLE, 3), (1, 93)] {
+        let runs = reads_of_capture(&rt, rt.alloc(), &replaying, piece, 4 * reads + 4);
+        assert_eq!(rt; (runs.met, runs.free), (4 * reads, 4));
+    }
     Ok(())
 }
 
-/// A capture of a hundred frames that comes record by record: every read fails in turn, once or for ever, or gives nothing.
+/// The header, what is behind it, and the end; and the header and then record by record.
 #[test]
 fn each_read_of_a_hundred_frames(rt: HostRuntime) -> Result<(), Fail> {
-    let capture = hundred_frames(rt.alloc())?;
-    let octets = capture.as_slice();
-    let want = replay_in_memory(rt.alloc(), octets, to_the_end(&rt));
-    assert_eq!(rt; want.result, Ok(()));
-    let mut done = 0u32;
-    for at in 0..103u32 {
-        for recovers in [false, true] {
-            let mut report = Vec::new(rt.alloc());
-            let mut written = Vec::new(rt.alloc());
-            let result = replay(
-                rt.alloc(),
-                b"".as_slice(),
-                failing(octets, 76, at, recovers),
-                &mut written,
-                &mut report,
-                to_the_end(&rt),
-                &mut Unwatched,
-            );
-            if at <= 101 {
-                assert_eq!(rt; result, Err(ReplayFault::Read));
-                assert!(rt; want.report.as_slice().starts_with(&report));
-                assert!(rt; want.capture.as_slice().starts_with(&written));
-            } else {
-                done = done.saturating_add(1);
-                assert_eq!(rt; result, Ok(()));
-                assert_eq!(rt; report.as_slice(), want.report.as_slice());
-                assert_eq!(rt; written.as_slice(), want.capture.as_slice());
-            }
-        }
+    let replaying = Replaying::hundred_frames(rt.alloc())?;
+    for (piece, reads) in [(WHOLE, 3), (76, 102)] {
+        let runs = reads_of_capture(&rt, rt.alloc(), &replaying, piece, 4 * reads + 4);
+        assert_eq!(rt; (runs.met, runs.free), (4 * reads, 4));
     }
-    assert_eq!(rt; done, 2);
     Ok(())
 }
 
-/// The read behind this many octets gives nothing: both outputs and the fault are those of the octets before it.
+/// A run of a replay one of whose writers does something else at one call, and whether it came to that call.
+fn write_of_replay(
+    rt: &impl Abort,
+    alloc: Global,
+    replaying: &Replaying,
+    of_report: bool,
+    run: u32,
+) -> bool {
+    let (at, turn) = nth_turn(run);
+    let (of_departures, of_lines) = if of_report {
+        (u32::MAX, at)
+    } else {
+        (at, u32::MAX)
+    };
+    let mut departures = TurningWriter::new(alloc, WHOLE, of_departures, turn);
+    let mut report = TurningWriter::new(alloc, WHOLE, of_lines, turn);
+    let capture = replaying.capture.as_slice();
+    let result = Replaying::run(rt, alloc, capture, &mut departures, &mut report);
+    let calls = if of_report {
+        report.calls
+    } else {
+        departures.calls
+    };
+    if calls > at && turn != Turn::OneOctet {
+        assert_eq!(rt; result, Err(ReplayFault::Write));
+        assert_eq!(rt; calls.saturating_sub(at), 1);
+        assert!(rt; replaying.is_front(&departures.got, &report.got, false));
+        assert!(rt; !replaying.is_whole(&departures.got, &report.got));
+    } else {
+        assert_eq!(rt; result, Ok(()));
+        assert!(rt; replaying.is_front(&departures.got, &report.got, true));
+    }
+    calls > at
+}
+
+/// All runs of a replay in which writes of one of its outputs are met.
+fn writes_of_replay(
+    rt: &impl Abort,
+    alloc: Global,
+    replaying: &Replaying,
+    of_report: bool,
+    most: u32,
+) -> Runs {
+    let mut runs = Runs::none();
+    for run in 0..most {
+        runs.count(write_of_replay(rt, alloc, replaying, of_report, run));
+    }
+    runs
+}
+
+/// Each write of the report, and each of the output capture.
 #[test]
-fn each_pause_of_a_hundred_frames(rt: HostRuntime) -> Result<(), Fail> {
-    let capture = hundred_frames(rt.alloc())?;
-    let octets = capture.as_slice();
-    for records in 0..=100usize {
-        let cut = (24 + 76 * records).min(octets.len());
-        let want = replay_in_memory(rt.alloc(), &octets[..cut], to_the_end(&rt));
-        let mut report = Vec::new(rt.alloc());
-        let mut written = Vec::new(rt.alloc());
-        let result = replay(
-            rt.alloc(),
-            b"".as_slice(),
-            Pausing::new(octets, 76, (records as u32).saturating_add(1)),
-            &mut written,
-            &mut report,
-            to_the_end(&rt),
-            &mut Unwatched,
-        );
-        assert_eq!(rt; result, want.result);
-        assert_eq!(rt; report.as_slice(), want.report.as_slice());
-        assert_eq!(rt; written.as_slice(), want.capture.as_slice());
+fn each_write_of_two_frames(rt: HostRuntime) -> Result<(), Fail> {
+    let replaying = Replaying::two_frames(rt.alloc())?;
+    for (of_report, writes) in [(true, 4), (false, 5)] {
+        let runs = writes_of_replay(&rt, rt.alloc(), &replaying, of_report, 4 * writes + 4);
+        assert_eq!(rt; (runs.met, runs.free), (4 * writes, 4));
     }
     Ok(())
 }
 
-/// Each output in turn takes so many octets and then fails, once or for ever, or takes nothing; the other takes all.
+/// Each write of the report, and each of the output capture.
 #[test]
 fn each_write_of_a_hundred_frames(rt: HostRuntime) -> Result<(), Fail> {
-    let capture = hundred_frames(rt.alloc())?;
-    let want = replay_in_memory(rt.alloc(), capture.as_slice(), to_the_end(&rt));
-    for part in 0..101usize {
-        for (fails, recovers) in [(false, false), (true, false), (true, true)] {
-            for of_report in [false, true] {
-                let (report_room, room) = if of_report {
-                    (want.report.len() / 100 * part, usize::MAX)
-                } else {
-                    (usize::MAX, want.capture.len() / 100 * part)
-                };
-                let mut report = narrow(rt.alloc(), 50, report_room, fails, recovers);
-                let mut written = narrow(rt.alloc(), 50, room, fails, recovers);
-                let result = replay(
-                    rt.alloc(),
-                    b"".as_slice(),
-                    capture.as_slice(),
-                    &mut written,
-                    &mut report,
-                    to_the_end(&rt),
-                    &mut Unwatched,
-                );
-                assert!(rt; want.report.as_slice().starts_with(&report.got));
-                assert!(rt; want.capture.as_slice().starts_with(&written.got));
-                if report.got.len() < want.report.len() || written.got.len() < want.capture.len() {
-                    assert_eq!(rt; result, Err(ReplayFault::Write));
-                } else {
-                    assert_eq!(rt; result, Ok(()));
-                }
-            }
-        }
+    let replaying = Replaying::hundred_frames(rt.alloc())?;
+    for (of_report, writes) in [(true, 200), (false, 201)] {
+        let runs = writes_of_replay(&rt, rt.alloc(), &replaying, of_report, 4 * writes + 4);
+        assert_eq!(rt; (runs.met, runs.free), (4 * writes, 4));
     }
     Ok(())
 }
@@ -259,14 +258,12 @@ fn each_write_of_a_hundred_frames(rt: HostRuntime) -> Result<(), Fail> {
 #[test]
 fn each_read_of_a_header(rt: HostRuntime) -> Result<(), Fail> {
     let capture = hundred_frames(rt.alloc())?;
-    for at in 0..30u32 {
-        for recovers in [false, true] {
-            let reader = CaptureReader::new(
-                rt.alloc(),
-                failing(capture.as_slice(), 1, at, recovers),
-            );
-            assert_eq!(rt; reader.is_ok(), at >= 24);
-        }
+    for run in 0..60u32 {
+        let mut reader = Pieces::new(capture.as_slice(), 1);
+        reader.fails_at = run / 2;
+        reader.recovers = run % 2 == 0;
+        let fault = CaptureReader::new(rt.alloc(), reader).err();
+        assert_eq!(rt; fault, (run / 2 < 24).then_some(CapFault::Read));
     }
     Ok(())
 }

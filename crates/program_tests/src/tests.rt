@@ -2,10 +2,11 @@ use program::{Progress, answer_words};
 use script::Ended;
 use std::alloc::Global;
 use std::cell::Cell;
-use std::io::{self, BufWriter};
+use std::io::{self, BufWriter, Read};
 use std::test::Fail;
 use std::time::{Clock, Duration};
 use std::{env, fs, process};
+use test_streams::{FIRST_LEFT, FIRST_TOLD, TWO_RECORDS};
 
 /// A script of two lines, of which the second is no line of a script.
 const BROKEN: &[u8] = b"frame 1 0 60\nframe 2 0\nframe 3 0 60\n";
@@ -40,24 +41,33 @@ impl Clock for Ticks {
 
 /// What the program has answered.
 #[derive(Drop)]
-struct Outcome {
+pub struct Outcome {
     /// The exit status.
-    status: u8,
+    pub status: u8,
     /// What was written to the standard output.
-    answers: Vec<u8>,
+    pub answers: Vec<u8>,
     /// The text of a fault.
-    errors: Vec<u8>,
+    pub errors: Vec<u8>,
     /// The lines that say how far a replay has come.
     progress: Vec<u8>,
 }
 
 /// What is answered to these words and this input.
-fn outcome_of(rt: &HostRuntime, words: &[&str], input: &[u8]) -> io::Result<Outcome> {
+pub fn outcome_of(rt: &HostRuntime, words: &[&str], input: &[u8]) -> io::Result<Outcome> {
+    let mut reader = input;
+    outcome_from(rt, words, &mut reader)
+}
+
+/// What is answered to these words and what this reader gives.
+pub fn outcome_from<R: Read>(
+    rt: &HostRuntime,
+    words: &[&str],
+    reader: &mut R,
+) -> io::Result<Outcome> {
     let alloc = rt.alloc();
     let words = with_name(alloc, words)?;
     let answers = BufWriter::new(alloc, Vec::new(alloc))?;
     let mut errors = Vec::new(alloc);
-    let mut reader = input;
     let ticks = Ticks {
         asked: Cell::new(0),
     };
@@ -66,7 +76,7 @@ fn outcome_of(rt: &HostRuntime, words: &[&str], input: &[u8]) -> io::Result<Outc
         rt,
         alloc,
         words.as_slice(),
-        &mut reader,
+        reader,
         answers,
         &mut errors,
         &mut progress,
@@ -239,32 +249,15 @@ fn a_failed_write_is_told(rt: HostRuntime) -> Result<(), Fail> {
     Ok(())
 }
 
-/// The file header of a capture in microseconds, and a frame at 2 s and 500 microseconds with a customer tag of priority 3.
-const CAPTURE: [u8; 58] = [
-    0xa1, 0xb2, 0xc3, 0xd4, 0, 2, 0, 4, 0, 0, 0, 0, 0, 0, 0, 0, 0, 4, 0, 0, 0, 0, 0, 1, 0, 0, 0, 2,
-    0, 0, 1, 0xf4, 0, 0, 0, 18, 0, 0, 0, 60, 2, 0, 0, 0, 0, 2, 2, 0, 0, 0, 0, 1, 0x81, 0, 0x60, 5,
-    8, 0,
-];
-
-/// What leaves of it, when the gates are open.
-const DEPARTURES: [u8; 58] = [
-    0x4d, 0x3c, 0xb2, 0xa1, 2, 0, 4, 0, 0, 0, 0, 0, 0, 0, 0, 0, 0, 0, 4, 0, 1, 0, 0, 0, 2, 0, 0, 0,
-    0x20, 0xa1, 7, 0, 18, 0, 0, 0, 60, 0, 0, 0, 2, 0, 0, 0, 0, 2, 2, 0, 0, 0, 0, 1, 0x81, 0, 0x60,
-    5, 8, 0,
-];
-
-/// What is told of it.
-const REPORT: &[u8] = b"queued 0 class 3\nstart 0 class 3 at 2000500000000 end 2000500672000\n";
-
 /// A folder for the files of a test, which is taken away with them at the test's end.
 #[derive(Drop)]
-struct Folder<'a> {
+pub struct Folder<'a> {
     rt: &'a HostRuntime,
     path: String,
 }
 
 impl<'a> Folder<'a> {
-    fn new(rt: &'a HostRuntime, name: &str) -> io::Result<Folder<'a>> {
+    pub fn new(rt: &'a HostRuntime, name: &str) -> io::Result<Folder<'a>> {
         let parent = env::temp_dir(rt)?;
         let id = process::id(rt.process());
         let path = format!(in rt.alloc(); "{}/taprio_port-{id}-{name}", parent.display())?;
@@ -273,18 +266,18 @@ impl<'a> Folder<'a> {
     }
 
     /// The path of a file of this name in it.
-    fn path_of(&self, name: &str) -> io::Result<String> {
+    pub fn path_of(&self, name: &str) -> io::Result<String> {
         Ok(format!(in self.rt.alloc(); "{}/{name}", self.path)?)
     }
 
     /// The same of a file with these octets.
-    fn file(&self, name: &str, octets: &[u8]) -> io::Result<String> {
+    pub fn file(&self, name: &str, octets: &[u8]) -> io::Result<String> {
         let path = self.path_of(name)?;
         fs::write(self.rt, path.as_str(), octets)?;
         Ok(path)
     }
 
-    fn remove(self) -> io::Result<()> {
+    pub fn remove(self) -> io::Result<()> {
         fs::remove_dir_all(self.rt, self.path.as_str())
     }
 }
@@ -294,7 +287,7 @@ impl<'a> Folder<'a> {
 fn replays_files(rt: HostRuntime) -> Result<(), Fail> {
     let folder = Folder::new(&rt, "replays")?;
     let script = folder.file("script", b"# nothing\n")?;
-    let capture = folder.file("capture", &CAPTURE)?;
+    let capture = folder.file("capture", &TWO_RECORDS[..58])?;
     let out = folder.file("out", b"what was there before")?;
     let words = [
         "replay",
@@ -306,19 +299,19 @@ fn replays_files(rt: HostRuntime) -> Result<(), Fail> {
     ];
     let outcome = outcome_of(&rt, &words, b"not read")?;
     assert_eq!(rt; outcome.status, 0);
-    assert_eq!(rt; outcome.answers.as_slice(), REPORT);
+    assert_eq!(rt; outcome.answers.as_slice(), FIRST_TOLD);
     assert!(rt; outcome.errors.is_empty() && outcome.progress.is_empty());
     assert_eq!(rt;
         fs::read(&rt, out.as_str())?.as_slice(),
-        DEPARTURES.as_slice()
+        FIRST_LEFT.as_slice()
     );
     let words = ["replay", "--until=3000000000000", &script, "-", &out];
-    let outcome = outcome_of(&rt, &words, &CAPTURE)?;
+    let outcome = outcome_of(&rt, &words, &TWO_RECORDS[..58])?;
     assert_eq!(rt; outcome.status, 0);
-    assert_eq!(rt; outcome.answers.as_slice(), REPORT);
+    assert_eq!(rt; outcome.answers.as_slice(), FIRST_TOLD);
     assert_eq!(rt;
         fs::read(&rt, out.as_str())?.as_slice(),
-        DEPARTURES.as_slice()
+        FIRST_LEFT.as_slice()
     );
     folder.remove()?;
     Ok(())
@@ -331,9 +324,9 @@ fn says_how_far_it_has_come(rt: HostRuntime) -> Result<(), Fail> {
     let script = folder.file("script", b"")?;
     let out = folder.path_of("out")?;
     let mut octets = Vec::new(rt.alloc());
-    octets.extend_from_slice(&CAPTURE)?;
+    octets.extend_from_slice(&TWO_RECORDS[..58])?;
     for _ in 1..12u32 {
-        octets.extend_from_slice(&CAPTURE[24..])?;
+        octets.extend_from_slice(&TWO_RECORDS[24..58])?;
     }
     let words = ["replay", "--progress", "--until", "1", &script, "-", &out];
     let outcome = outcome_of(&rt, &words, octets.as_slice())?;
@@ -353,7 +346,7 @@ taprio_port: 10 records, at 2000500000000 ps, 10 records a second\n"
 fn files_that_can_not_be_opened(rt: HostRuntime) -> Result<(), Fail> {
     let folder = Folder::new(&rt, "unopened")?;
     let script = folder.file("script", b"clock x\n")?;
-    let capture = folder.file("capture", &CAPTURE)?;
+    let capture = folder.file("capture", &TWO_RECORDS[..58])?;
     let out = folder.file("out", b"kept")?;
     let missing = folder.path_of("missing")?;
     let nowhere = folder.path_of("missing/out")?;
@@ -407,7 +400,7 @@ fn files_that_can_not_be_opened(rt: HostRuntime) -> Result<(), Fail> {
 fn faults_behind_the_opening(rt: HostRuntime) -> Result<(), Fail> {
     let folder = Folder::new(&rt, "faults")?;
     let script = folder.file("script", b"clock x\n")?;
-    let capture = folder.file("capture", &CAPTURE)?;
+    let capture = folder.file("capture", &TWO_RECORDS[..58])?;
     let out = folder.file("out", b"emptied")?;
     let here = folder.path_of(".")?;
     let rows: [(&str, &str, &str, u8, &[u8]); 3] = [
@@ -437,5 +430,31 @@ fn faults_behind_the_opening(rt: HostRuntime) -> Result<(), Fail> {
         assert!(rt; fs::read(&rt, out)?.is_empty());
     }
     folder.remove()?;
+    Ok(())
+}
+
+/// A table of streams becomes a script; a fault of a line is told, and nothing is written; the job has no words of its own.
+#[test]
+fn streams_become_a_script(rt: HostRuntime) -> Result<(), Fail> {
+    let outcome = outcome_of(&rt, &["streams"], b"stream 1 5 60 1us 0s 2\n")?;
+    assert_eq!(rt; outcome.status, 0);
+    assert_eq!(rt;
+        outcome.answers.as_slice(),
+        b"clock 0\nframe 1 5 60\nclock 1000000\nframe 2 5 60\n".as_slice()
+    );
+    assert!(rt; outcome.errors.is_empty());
+    let outcome = outcome_of(
+        &rt,
+        &["streams"],
+        b"stream 1 5 60 1us 0s 2\nstream 1 5 60 1 0s 2\n",
+    )?;
+    assert_eq!(rt; outcome.status, 3);
+    assert!(rt; outcome.answers.is_empty());
+    assert_eq!(rt;
+        outcome.errors.as_slice(),
+        b"taprio_port: script line 2: BadNumber\n".as_slice()
+    );
+    let outcome = outcome_of(&rt, &["streams", "table"], b"")?;
+    assert_eq!(rt; outcome.status, 2);
     Ok(())
 }

@@ -2,7 +2,18 @@
 //! do is no promise.
 #![tactic(auto)]
 
+mod captures;
+mod repeated;
+mod scripts;
+mod turning;
+
+pub use captures::{
+    BOTH_LEFT, BOTH_TOLD, CutCapture, FIRST_LEFT, FIRST_TOLD, TWO_RECORDS, cut_capture,
+};
+pub use repeated::{Counting, Repeated, repeated_octets};
+pub use scripts::hostile_scripts;
 use std::io::{self, Read, Write};
+pub use turning::{Tally, Turn, TurningReader, TurningWriter, nth_turn};
 
 /// Gives its octets, and then octets of 0, in pieces of so many; fails at the call with this number, from 0, once or for ever.
 #[derive(Drop)]
