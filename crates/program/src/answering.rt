@@ -21,6 +21,7 @@ use std::alloc::{Allocator, Global};
 use std::io::{BufWriter, Read, Write};
 use std::rt::Files;
 use std::time::Clock;
+use traffic::answer_streams;
 
 /// Answers the script that `reader` gives, by the values that the words give to the options, through `answers`, with the text of
 /// a fault on `errors`; and gives the writer of the answers back.
@@ -86,8 +87,8 @@ fn answer_refusal<B: Allocator, W: Write + Drop, E: Write>(
     (ended, writer)
 }
 
-/// Answers the words of the program, the first of which is its name: a script, a replay of files, the check of schedules, help, or why
-/// they are refused. What is answered goes through `answers`, whose writer is given back, and the text of a fault to `errors`; how far
+/// Answers the words of the program, the first of which is its name: a script, a replay of files, the check of schedules, the script of a
+/// table of streams, help, or why they are refused. What is answered goes through `answers`, whose writer is given back, and the text of a fault to `errors`; how far
 /// a replay has come is said through `progress`, where the words ask for it.
 pub fn answer_words<
     F: Files,
@@ -125,6 +126,9 @@ pub fn answer_words<
     }
     if let Some(check) = matches.subcommand_matches("check") {
         return check_given(alloc, check, reader, answers, errors);
+    }
+    if matches.subcommand_matches("streams").is_some() {
+        return answer_streams(alloc, reader, answers, errors);
     }
     let ended = Ended {
         status: 2,

@@ -125,10 +125,14 @@ pub fn command<'a>(alloc: Global) -> Result<Command<'a>, AllocError> {
     let check = Command::new(alloc, "check").about(
         "Tells of the schedule commands on standard input which classes they keep apart",
     );
+    let streams = Command::new(alloc, "streams").about(
+        "Writes a script with the frames of the streams in a table on standard input",
+    );
     Command::new(alloc, "taprio_port")
         .about("An IEEE 802.1Qbv time-aware transmit port")
         .subcommand_required(true)
         .subcommand(with_options(alloc, script, false)?)?
         .subcommand(with_files(alloc, with_options(alloc, replay, true)?)?)?
-        .subcommand(with_windows(alloc, with_rate(alloc, check)?)?)
+        .subcommand(with_windows(alloc, with_rate(alloc, check)?)?)?
+        .subcommand(streams)
 }

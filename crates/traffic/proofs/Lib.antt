@@ -1,0 +1,7 @@
+mod Digits
+mod FirstLaws
+mod FrameLaws
+mod LineLaws
+mod OrderLaws
+mod TableLaws
+mod WrittenLaws

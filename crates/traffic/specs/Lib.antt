@@ -1,0 +1,5 @@
+pub mod Reading
+pub mod Table
+pub mod Frames
+pub mod Turns
+pub mod Written

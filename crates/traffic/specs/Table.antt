@@ -1,0 +1,132 @@
+-- What the lines of a table of streams say.
+use Rattle.std.specs.Prelude.{◌≤◌, ◌^◌, ◌-◌, ◌+◌, ◌*◌, nat_le, List, ℕ, suc, take, drop, Bool, true, false, [], ◌∷◌, Option, Some, None, option_and_then, Result, Ok, Err, codes, if◌then◌else◌}
+use Rattle.std.specs.Str.{bytes_eq}
+use Rattle.wire_time.specs.Moment.{greatest_moment}
+use Rattle.words.specs.Words.{words_of}
+use Rattle.words.specs.Numbers.{at_most, is_digit, number_in}
+use Rattle.line_reader.specs.Script.{Script, End, Broken, Line}
+use Rattle.script.specs.Outcome.{limit_fault}
+use Rattle.script.specs.Requests.{is_comment}
+use Rattle.script.specs.declared.faults.ScriptFault.{ScriptFault}
+use Rattle.script.specs.declared.faults.ScriptFault.TheVariants.{UnknownLine, WordCount, BadNumber, ClockTooLate}
+use Rattle.traffic.specs.declared.table.Stream.{Stream}
+
+-- 1. Times
+
+-- how many picoseconds a unit has
+abbrev pub unit_of : List ℕ → Option ℕ
+unit_of word =
+    if bytes_eq word (codes "ps") then Some 1
+    else if bytes_eq word (codes "ns") then Some 1000
+    else if bytes_eq word (codes "us") then Some 1000000
+    else if bytes_eq word (codes "ms") then Some 1000000000
+    else if bytes_eq word (codes "s") then Some 1000000000000
+    else None
+
+-- whether octets begin with a decimal digit
+abbrev pub starts_with_digit : List ℕ → Bool
+starts_with_digit [] = false
+starts_with_digit (b ∷ bs) = is_digit b
+
+-- how many decimal digits a word begins with
+abbrev pub leading_digits : List ℕ → ℕ
+leading_digits [] = 0
+leading_digits (b ∷ bs) = if starts_with_digit (b ∷ bs) then suc (leading_digits bs) else 0
+
+-- so many of a unit, in picoseconds
+abbrev pub time_with : Option ℕ → Option ℕ → Option ℕ
+time_with number unit = option_and_then (λ n. option_and_then (λ u. at_most greatest_moment (Some (n * u))) unit) number
+
+-- a whole number with its unit directly behind it, in picoseconds, at most the greatest moment
+abbrev pub time_in : List ℕ → Option ℕ
+time_in word = time_with (number_in 10 greatest_moment (take (leading_digits word) word)) (unit_of (drop (leading_digits word) word))
+
+-- 2. Streams
+
+-- the ids of a stream's frames are all less than 2^64
+abbrev pub has_ids : Stream → Bool
+has_ids s = nat_le (s.first_id + s.count) (2 ^ 64)
+
+-- its last frame comes by the greatest moment
+abbrev pub ends_in_time : Stream → Bool
+ends_in_time s = nat_le (s.offset + s.period * (s.count - 1)) greatest_moment
+
+-- a stream whose frames can be frames of a script
+pub record IsStream (s : Stream) : Type 0 where
+  pub ids : s.first_id + s.count ≤ 2 ^ 64
+  pub ends : s.offset + s.period * (s.count - 1) ≤ greatest_moment
+
+-- such a stream, or its fault
+abbrev pub judged : Stream → Result Stream ScriptFault
+judged s = if has_ids s then (if ends_in_time s then Ok s else Err ClockTooLate) else Err BadNumber
+
+-- by a number, where a word is one
+abbrev pub by_number : Option ℕ → (ℕ → Result Stream ScriptFault) → Result Stream ScriptFault
+by_number None f = Err BadNumber
+by_number (Some n) f = f n
+
+-- a stream of words: ID, PRIORITY, LEN, PERIOD, OFFSET and COUNT, each a number of its width or a time
+abbrev pub stream_in_words : List ℕ → List ℕ → List ℕ → List ℕ → List ℕ → List ℕ → Bool → Result Stream ScriptFault
+stream_in_words id priority len period offset count tagged =
+    by_number (number_in 10 (2 ^ 64 - 1) id) (λ id.
+    by_number (number_in 10 (2 ^ 8 - 1) priority) (λ priority.
+    by_number (number_in 10 (2 ^ 32 - 1) len) (λ len.
+    by_number (time_in period) (λ period.
+    by_number (time_in offset) (λ offset.
+    by_number (number_in 10 (2 ^ 32 - 1) count) (λ count.
+    judged (record { first_id = id; priority = priority; len = len; period = period; offset = offset; count = count; tagged = tagged })))))))
+
+-- by the next word and those behind it, where there is one
+abbrev pub by_word : List (List ℕ) → (List ℕ → List (List ℕ) → Result Stream ScriptFault) → Result Stream ScriptFault
+by_word [] f = Err WordCount
+by_word (w ∷ ws) f = f w ws
+
+-- whether the last words say that the frames are tagged: there are none, or that one
+abbrev pub tag_in : List (List ℕ) → Result Bool ScriptFault
+tag_in [] = Ok false
+tag_in (tag ∷ []) = if bytes_eq tag (codes "tagged") then Ok true else Err WordCount
+tag_in (tag ∷ more ∷ ws) = Err WordCount
+
+-- by the last words
+abbrev pub by_tag : Result Bool ScriptFault → (Bool → Result Stream ScriptFault) → Result Stream ScriptFault
+by_tag (Ok tagged) f = f tagged
+by_tag (Err fault) f = Err fault
+
+-- what the words behind the first say
+abbrev pub stream_said : List (List ℕ) → Result Stream ScriptFault
+stream_said ws =
+    by_word ws (λ id ws. by_word ws (λ priority ws. by_word ws (λ len ws.
+    by_word ws (λ period ws. by_word ws (λ offset ws. by_word ws (λ count ws.
+    by_tag (tag_in ws) (λ tagged. stream_in_words id priority len period offset count tagged)))))))
+
+-- a stream of a line, or its fault
+abbrev pub in_line : Result Stream ScriptFault → Result (Option Stream) ScriptFault
+in_line (Ok s) = Ok (Some s)
+in_line (Err fault) = Err fault
+
+-- what a line says, if anything: a line without words and a comment say nothing
+abbrev pub line_said : List (List ℕ) → Result (Option Stream) ScriptFault
+line_said [] = Ok None
+line_said (w ∷ ws) =
+    if is_comment w then Ok None
+    else if bytes_eq w (codes "stream") then in_line (stream_said ws)
+    else Err UnknownLine
+
+-- 3. The table
+
+-- the streams of a table up to its first fault, and that fault with the number of its line
+pub record Table : Type 0 where
+  pub streams : List Stream
+  pub fault : Option (ℕ × ScriptFault)
+
+-- a line before the rest of a table
+abbrev pub with_line : ℕ → Result (Option Stream) ScriptFault → Table → Table
+with_line number (Err fault) rest = record { streams = []; fault = Some (number, fault) }
+with_line number (Ok None) rest = rest
+with_line number (Ok (Some s)) rest = record { streams = s ∷ rest.streams; fault = rest.fault }
+
+-- the table that lines are
+unfoldable pub table_of : Script → Table
+table_of End = record { streams = []; fault = None }
+table_of (Broken number limit) = record { streams = []; fault = Some (number, limit_fault limit) }
+table_of (Line number octets rest) = with_line number (line_said (words_of octets)) (table_of rest)

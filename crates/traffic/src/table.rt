@@ -1,0 +1,213 @@
+//! What the lines of a table of streams say.
+
+ghost use Rattle.std.specs.Prelude.{◌≡◌, ◌≤◌, ◌^◌, IfSome, IfOk, OnOk, true, take, drop};
+ghost use Rattle.wire_time.specs.Moment.{greatest_moment};
+ghost use Rattle.words.specs.Words.{words_of};
+ghost use Rattle.words.specs.WordsLeft.{words_left};
+ghost use Rattle.traffic.specs.Table.{has_ids, ends_in_time, judged, leading_digits, line_said, stream_in_words, starts_with_digit, stream_said, tag_in, time_in, unit_of, IsStream};
+
+use script::ScriptFault;
+use wire_time::MAX_MOMENT;
+use words::{Words, number};
+
+/// Frames of one kind that come by a period.
+#[derive(Clone, Copy, Debug, PartialEq, Eq)]
+pub struct Stream {
+    /// The id of the first frame; each further one has the next.
+    pub first_id: u64,
+    /// The priority of the frames: 0 to 15 have a class.
+    pub priority: u8,
+    /// Octets of a frame from the destination address to the end of the payload, without the frame check sequence.
+    pub len: u32,
+    /// From one frame to the next, in picoseconds.
+    pub period: u128,
+    /// The moment of the first frame, in picoseconds.
+    pub offset: u128,
+    /// How many frames come.
+    pub count: u32,
+    /// Whether the frames have a customer VLAN tag.
+    pub tagged: bool,
+}
+
+// How many picoseconds a unit has.
+fn unit_of(word: &[u8]) -> Option<u128>
+    ensures unit { result ≡ unit_of word.now }
+    ensures bound { IfSome result (λ n. n ≤ 1000000000000) }
+{
+    if word == b"ps".as_slice() {
+        Some(1)
+    } else if word == b"ns".as_slice() {
+        Some(1_000)
+    } else if word == b"us".as_slice() {
+        Some(1_000_000)
+    } else if word == b"ms".as_slice() {
+        Some(1_000_000_000)
+    } else if word == b"s".as_slice() {
+        Some(1_000_000_000_000)
+    } else {
+        None
+    }
+}
+
+fn starts_with_digit(octets: &[u8]) -> bool
+    ensures { result ≡ starts_with_digit octets.now }
+{
+    match octets {
+        [octet, ..] => b'0' <= *octet && *octet <= b'9',
+        [] => false,
+    }
+}
+
+// The digits that a word begins with, and what comes behind them.
+fn split_digits(word: &[u8]) -> (&[u8], &[u8])
+    ensures digits { result.0.now ≡ take (leading_digits word.now) word.now }
+    ensures behind { result.1.now ≡ drop (leading_digits word.now) word.now }
+{
+    let mut end = 0;
+    while starts_with_digit(&word[end..]) {
+        end += 1;
+    }
+    word.split_at(end)
+}
+
+// A whole number with its unit directly behind it, in picoseconds, at most the greatest moment.
+fn time_in(word: &[u8]) -> Option<u128>
+    ensures time { result ≡ time_in word.now }
+    ensures bound { IfSome result (λ n. n ≤ greatest_moment) }
+{
+    let (digits, unit) = split_digits(word);
+    let number = number(digits, MAX_MOMENT)?;
+    let time = number * unit_of(unit)?;
+    if time <= MAX_MOMENT { Some(time) } else { None }
+}
+
+// A stream whose frames can be frames of a script, or its fault.
+fn judged(stream: Stream) -> Result<Stream, ScriptFault>
+    requires period { stream.period ≤ greatest_moment }
+    requires offset { stream.offset ≤ greatest_moment }
+    ensures judged { result ≡ judged stream }
+    ensures fits { IfOk result IsStream }
+{
+    if u128::from(stream.first_id) + u128::from(stream.count) > 1 << 64 {
+        return Err(ScriptFault::BadNumber);
+    }
+    let others = u128::from(stream.count.saturating_sub(1));
+    if stream.offset + stream.period * others > MAX_MOMENT {
+        return Err(ScriptFault::ClockTooLate);
+    }
+    Ok(stream)
+}
+
+/// The words of a stream's line behind the first, without `tagged`.
+#[derive(Clone, Copy)]
+struct StreamWords<'a> {
+    id: &'a [u8],
+    priority: &'a [u8],
+    len: &'a [u8],
+    period: &'a [u8],
+    offset: &'a [u8],
+    count: &'a [u8],
+}
+
+// The stream that words say.
+fn stream_in_words(words: &StreamWords<'_>, tagged: bool) -> Result<Stream, ScriptFault>
+    ensures fits { IfOk result IsStream }
+    ensures said { result ≡ stream_in_words words.now.id.now words.now.priority.now words.now.len.now words.now.period.now words.now.offset.now words.now.count.now tagged }
+{
+    let Some(id) = number(words.id, u128::from(u64::MAX)) else {
+        return Err(ScriptFault::BadNumber);
+    };
+    let Some(priority) = number(words.priority, u128::from(u8::MAX)) else {
+        return Err(ScriptFault::BadNumber);
+    };
+    let Some(len) = number(words.len, u128::from(u32::MAX)) else {
+        return Err(ScriptFault::BadNumber);
+    };
+    let Some(period) = time_in(words.period) else {
+        return Err(ScriptFault::BadNumber);
+    };
+    let Some(offset) = time_in(words.offset) else {
+        return Err(ScriptFault::BadNumber);
+    };
+    let Some(count) = number(words.count, u128::from(u32::MAX)) else {
+        return Err(ScriptFault::BadNumber);
+    };
+    judged(Stream {
+        first_id: id as u64,
+        priority: priority as u8,
+        len: len as u32,
+        period,
+        offset,
+        count: count as u32,
+        tagged,
+    })
+}
+
+// Whether the last words say that the frames are tagged, or that there are none.
+fn tag_in(mut words: Words<'_>) -> Result<bool, ScriptFault>
+    ensures { result ≡ tag_in (words_left words.entry) }
+{
+    let Some(tag) = words.next_word() else {
+        return Ok(false);
+    };
+    if words.next_word().is_some() || tag != b"tagged".as_slice() {
+        return Err(ScriptFault::WordCount);
+    }
+    Ok(true)
+}
+
+// The stream that the words behind the first say.
+fn read_stream(mut words: Words<'_>) -> Result<Stream, ScriptFault>
+    ensures said { result ≡ stream_said (words_left words.entry) }
+    ensures fits { IfOk result IsStream }
+{
+    let Some(id) = words.next_word() else {
+        return Err(ScriptFault::WordCount);
+    };
+    let Some(priority) = words.next_word() else {
+        return Err(ScriptFault::WordCount);
+    };
+    let Some(len) = words.next_word() else {
+        return Err(ScriptFault::WordCount);
+    };
+    let Some(period) = words.next_word() else {
+        return Err(ScriptFault::WordCount);
+    };
+    let Some(offset) = words.next_word() else {
+        return Err(ScriptFault::WordCount);
+    };
+    let Some(count) = words.next_word() else {
+        return Err(ScriptFault::WordCount);
+    };
+    let tagged = tag_in(words)?;
+    stream_in_words(
+        &StreamWords {
+            id,
+            priority,
+            len,
+            period,
+            offset,
+            count,
+        },
+        tagged,
+    )
+}
+
+/// What a line of a table says, or None where it is skipped: it has no words, or is a comment.
+pub fn read_line(line: &[u8]) -> Result<Option<Stream>, ScriptFault>
+    ensures said { result ≡ line_said (words_of line.now) }
+    ensures fits { IfOk result (λ said. IfSome said IsStream) }
+{
+    let mut words = Words::new(line);
+    let Some(first) = words.next_word() else {
+        return Ok(None);
+    };
+    if let [b'#', ..] = first {
+        return Ok(None);
+    }
+    if first == b"stream".as_slice() {
+        Ok(Some(read_stream(words)?))
+    } else {
+        Err(ScriptFault::UnknownLine)
+    }
+}

@@ -1,0 +1,83 @@
+//! The lines of a script that has the frames of streams.
+
+ghost use Rattle.std.specs.Prelude.{◌≡◌, ◌++◌, None};
+ghost use Rattle.octet_writer.specs.Writes.{Writes};
+ghost use Rattle.traffic.specs.Written.{clock_line, clock_to, frame_end, frame_line, lines_of};
+ghost use Rattle.traffic.specs.Turns.{left_of_all};
+
+use crate::turn::{Coming, Turn};
+use crate::turns::next_frame;
+use answer_text::{Part, WriteFault, put_parts};
+use std::io::Write;
+use wire_time::Frame;
+
+// Writes a clock line, unless the one of the same moment is written.
+fn put_clock_to<W: Write>(
+    writer: &mut W,
+    written: Option<u128>,
+    moment: u128,
+) -> Result<(), WriteFault>
+    ensures { Writes result (W.contents writer.old) (W.contents writer.new) (clock_to written moment) }
+{
+    if written == Some(moment) {
+        return Ok(());
+    }
+    put_parts(
+        writer,
+        &[
+            Part::Text(b"clock "),
+            Part::Number(moment),
+            Part::Text(b"\n"),
+        ],
+    )
+}
+
+// What ends the line of a frame.
+fn frame_end(tagged: bool) -> &'static [u8]
+    ensures { result.now ≡ frame_end tagged }
+{
+    if tagged { b" tagged\n" } else { b"\n" }
+}
+
+// Writes the line of a frame.
+fn put_frame<W: Write>(writer: &mut W, frame: &Frame) -> Result<(), WriteFault>
+    ensures { Writes result (W.contents writer.old) (W.contents writer.new) (frame_line frame.now) }
+{
+    put_parts(
+        writer,
+        &[
+            Part::Text(b"frame "),
+            Part::Number(u128::from(frame.id)),
+            Part::Text(b" "),
+            Part::Number(u128::from(frame.priority)),
+            Part::Text(b" "),
+            Part::Number(u128::from(frame.len)),
+            Part::Text(frame_end(frame.tagged)),
+        ],
+    )
+}
+
+// Writes the line of a frame, behind a clock line where its moment has none yet.
+fn put_coming<W: Write>(
+    writer: &mut W,
+    written: Option<u128>,
+    coming: &Coming,
+) -> Result<(), WriteFault>
+    ensures { Writes result (W.contents writer.old) (W.contents writer.new) (clock_to written coming.now.moment ++ frame_line coming.now.frame) }
+{
+    put_clock_to(writer, written, coming.moment)?;
+    put_frame(writer, &coming.frame)
+}
+
+/// Writes the frames of streams that are to come, by moment, each as a line of a script, with a clock line before the first of each
+/// moment. At a fault a front of it is written.
+pub fn write_frames<W: Write>(writer: &mut W, turns: &mut [Turn]) -> Result<(), WriteFault>
+    ensures { Writes result (W.contents writer.old) (W.contents writer.new) (lines_of None (left_of_all turns.old)) }
+{
+    let mut written = None;
+    while let Some(coming) = next_frame(turns) {
+        put_coming(writer, written, &coming)?;
+        written = Some(coming.moment);
+    }
+    Ok(())
+}
