@@ -13,7 +13,9 @@ use refusing_heap::RefusingHeap;
 use replay::ReplayFault;
 use script::RunFault;
 use std::alloc::Global;
+use std::io;
 use std::process::Abort;
+#[cfg(test)]
 use std::test::Fail;
 use wire_time::Frame;
 
@@ -27,62 +29,81 @@ fn is_refused(heap: &RefusingHeap<Global>, run: u64) -> bool {
     heap.asked() > run / 2
 }
 
-#[test]
-fn a_queue_wants_its_room(rt: HostRuntime) {
+/// A new queue for 128 frames.
+pub fn queue(rt: &impl Abort, alloc: Global) -> Runs {
     let mut runs = Runs::none();
     for run in 0..6 {
-        let heap = heap_of(rt.alloc(), run);
+        let heap = heap_of(alloc, run);
         let fault = ClassQueue::new(&heap, 128).err();
         let refused = is_refused(&heap, run);
         assert_eq!(rt; fault, refused.then_some(QueueNew::Memory));
         runs.count(refused);
     }
-    assert_eq!(rt; runs, Runs { met: 2, free: 4 });
+    runs
 }
 
 #[test]
-fn a_port_wants_the_room_of_eight_queues(rt: HostRuntime) {
+fn a_queue_wants_its_room(rt: HostRuntime) {
+    assert_eq!(rt; queue(&rt, rt.alloc()), Runs { met: 2, free: 4 });
+}
+
+/// A new port.
+pub fn port(rt: &impl Abort, alloc: Global) -> Runs {
     let mut runs = Runs::none();
     for run in 0..20 {
-        let heap = heap_of(rt.alloc(), run);
-        let fault = Port::<Jumping, &RefusingHeap<Global>>::new(&heap, rate(&rt), 1500, 128).err();
+        let heap = heap_of(alloc, run);
+        let fault = Port::<Jumping, &RefusingHeap<Global>>::new(&heap, rate(rt), 1500, 128).err();
         let refused = is_refused(&heap, run);
         assert_eq!(rt; fault, refused.then_some(PortFault::Memory));
         runs.count(refused);
     }
-    assert_eq!(rt; runs, Runs { met: 16, free: 4 });
+    runs
 }
 
 #[test]
-fn a_line_reader_wants_its_room(rt: HostRuntime) {
+fn a_port_wants_the_room_of_eight_queues(rt: HostRuntime) {
+    assert_eq!(rt; port(&rt, rt.alloc()), Runs { met: 16, free: 4 });
+}
+
+/// A new reader of lines.
+pub fn line_reader(rt: &impl Abort, alloc: Global) -> Runs {
     let mut runs = Runs::none();
     for run in 0..8 {
-        let heap = heap_of(rt.alloc(), run);
+        let heap = heap_of(alloc, run);
         let fails = LineReader::new(&heap, Job::FullQueue.input()).is_err();
         let refused = is_refused(&heap, run);
         assert_eq!(rt; fails, refused);
         runs.count(refused);
     }
-    assert_eq!(rt; runs, Runs { met: 4, free: 4 });
+    runs
 }
 
 #[test]
-fn a_capture_reader_wants_the_room_of_a_record(rt: HostRuntime) -> Result<(), Fail> {
-    let capture = hundred_frames(rt.alloc())?;
+fn a_line_reader_wants_its_room(rt: HostRuntime) {
+    assert_eq!(rt; line_reader(&rt, rt.alloc()), Runs { met: 4, free: 4 });
+}
+
+/// A new reader of a capture of a hundred frames.
+pub fn capture_reader(rt: &impl Abort, alloc: Global) -> Runs {
+    let capture = hundred_frames(alloc).expect(rt, "a capture");
     let mut runs = Runs::none();
     for run in 0..6 {
-        let heap = heap_of(rt.alloc(), run);
+        let heap = heap_of(alloc, run);
         let fault = CaptureReader::new(&heap, capture.as_slice()).err();
         let refused = is_refused(&heap, run);
         assert_eq!(rt; fault, refused.then_some(CapFault::Memory));
         runs.count(refused);
     }
-    assert_eq!(rt; runs, Runs { met: 2, free: 4 });
-    Ok(())
+    runs
+}
+
+#[test]
+fn a_capture_reader_wants_the_room_of_a_record(rt: HostRuntime) {
+    assert_eq!(rt; capture_reader(&rt, rt.alloc()), Runs { met: 2, free: 4 });
 }
 
 /// Forty frames of class 0 that arrive at once, and a clock event by which all have left.
-fn forty_frames(alloc: Global) -> Result<Vec<Event<'static>>, Fail> {
+fn forty_frames(alloc: Global) -> io::Result<Vec<Event<'static>>> {
     let mut events = Vec::new(alloc);
     for id in 0..40 {
         events.push(Event::Arrive(Frame {
@@ -120,18 +141,15 @@ fn assert_all_left(rt: &impl Abort, answers: &[Answer]) {
     }
 }
 
-/// Where memory is wanting, the events that are left go on as if nothing had happened, also where it is wanting between two starts of one
-/// clock event. A body that always says that it took no event fails, since the last runs want none.
-#[test]
-fn a_run_goes_on_where_it_stopped(rt: HostRuntime) -> Result<(), Fail> {
-    let events = forty_frames(rt.alloc())?;
+/// Forty frames through a port. Where memory is wanting, the events that are left go on as if nothing had happened, also where it is
+/// wanting between two starts of one clock event. A body that always says that it took no event fails, since the last runs want none.
+pub fn run_of_events(rt: &impl Abort, alloc: Global) -> Runs {
+    let events = forty_frames(alloc).expect(rt, "events");
     let mut runs = Runs::none();
     let mut before = 0;
     for run in 0..16 {
-        let heap = heap_of(rt.alloc(), run);
-        let mut port = Port::<Jumping>::new(rt.alloc(), rate(&rt), 1500, 40)
-            .ok()
-            .ok_or("a port")?;
+        let heap = heap_of(alloc, run);
+        let mut port = Port::<Jumping>::new(alloc, rate(rt), 1500, 40).expect(rt, "a port");
         let mut few = Vec::new(&heap);
         let taken = match port.run(&events, &mut few) {
             Ok(()) => events.len(),
@@ -142,19 +160,23 @@ fn a_run_goes_on_where_it_stopped(rt: HostRuntime) -> Result<(), Fail> {
         assert!(rt; before <= taken && taken <= few.len().saturating_add(1));
         before = taken;
         runs.count(refused);
-        let mut all = few.to_vec(rt.alloc())?;
-        let rest = events.get(taken..).ok_or("the rest")?;
+        let mut all = few.to_vec(alloc).expect(rt, "room");
+        let rest = events.get(taken..).expect(rt, "the rest");
         assert_eq!(rt; port.run(rest, &mut all), Ok(()));
-        assert_all_left(&rt, all.as_slice());
+        assert_all_left(rt, all.as_slice());
     }
-    assert_eq!(rt; runs, Runs { met: 12, free: 4 });
-    Ok(())
+    runs
+}
+
+#[test]
+fn a_run_goes_on_where_it_stopped(rt: HostRuntime) {
+    assert_eq!(rt; run_of_events(&rt, rt.alloc()), Runs { met: 12, free: 4 });
 }
 
 /// Runs a job until no growth is refused.
-fn growths_of(rt: &impl Abort, alloc: Global, job: Job, most: u64) -> Runs {
+pub fn of_job(rt: &impl Abort, alloc: Global, job: Job) -> Runs {
     let mut runs = Runs::none();
-    for run in 0..most {
+    for run in 0..30 {
         let heap = heap_of(alloc, run);
         let mut got = Vec::new(alloc);
         let result = job.run(rt, &heap, job.input(), &mut got);
@@ -169,26 +191,26 @@ fn growths_of(rt: &impl Abort, alloc: Global, job: Job, most: u64) -> Runs {
 
 #[test]
 fn a_script_of_one_frame(rt: HostRuntime) {
-    let runs = growths_of(&rt, rt.alloc(), Job::OneFrame, 30);
+    let runs = of_job(&rt, rt.alloc(), Job::OneFrame);
     assert_eq!(rt; runs, Runs { met: 20, free: 10 });
 }
 
 #[test]
 fn a_script_with_a_full_queue(rt: HostRuntime) {
-    let runs = growths_of(&rt, rt.alloc(), Job::FullQueue, 30);
+    let runs = of_job(&rt, rt.alloc(), Job::FullQueue);
     assert_eq!(rt; runs, Runs { met: 20, free: 10 });
 }
 
 #[test]
 fn a_check_of_two_schedules(rt: HostRuntime) {
-    let runs = growths_of(&rt, rt.alloc(), Job::TwoSchedules, 30);
+    let runs = of_job(&rt, rt.alloc(), Job::TwoSchedules);
     assert_eq!(rt; runs, Runs { met: 4, free: 26 });
 }
 
 /// Runs a replay until no growth is refused.
-fn growths_of_replay(rt: &impl Abort, alloc: Global, replaying: &Replaying, most: u64) -> Runs {
+pub fn of_replay(rt: &impl Abort, alloc: Global, replaying: &Replaying) -> Runs {
     let mut runs = Runs::none();
-    for run in 0..most {
+    for run in 0..100 {
         let heap = heap_of(alloc, run);
         let mut report = Vec::new(alloc);
         let mut departures = Vec::new(alloc);
@@ -205,7 +227,7 @@ fn growths_of_replay(rt: &impl Abort, alloc: Global, replaying: &Replaying, most
 #[test]
 fn a_replay_of_two_frames(rt: HostRuntime) -> Result<(), Fail> {
     let replaying = Replaying::two_frames(rt.alloc())?;
-    let runs = growths_of_replay(&rt, rt.alloc(), &replaying, 100);
+    let runs = of_replay(&rt, rt.alloc(), &replaying);
     assert_eq!(rt; runs, Runs { met: 60, free: 40 });
     Ok(())
 }
@@ -213,7 +235,7 @@ fn a_replay_of_two_frames(rt: HostRuntime) -> Result<(), Fail> {
 #[test]
 fn a_replay_of_a_hundred_frames(rt: HostRuntime) -> Result<(), Fail> {
     let replaying = Replaying::hundred_frames(rt.alloc())?;
-    let runs = growths_of_replay(&rt, rt.alloc(), &replaying, 100);
+    let runs = of_replay(&rt, rt.alloc(), &replaying);
     assert_eq!(rt; runs, Runs { met: 58, free: 42 });
     Ok(())
 }

@@ -257,4 +257,10 @@ impl Runs {
             self.met = self.met.saturating_add(1);
         }
     }
+
+    /// Takes in other runs.
+    pub fn add(&mut self, other: Runs) {
+        self.met = self.met.saturating_add(other.met);
+        self.free = self.free.saturating_add(other.free);
+    }
 }

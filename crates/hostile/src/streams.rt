@@ -7,11 +7,26 @@ use replay::ReplayFault;
 use script::RunFault;
 use std::alloc::Global;
 use std::process::Abort;
+#[cfg(test)]
 use std::test::Fail;
 use test_streams::{Pieces, Tally, Turn, TurningReader, TurningWriter, nth_turn};
 
 /// One piece is all that is asked for.
 const WHOLE: usize = usize::MAX;
+
+/// How many runs there are where so many calls are met in four ways each, and four more.
+pub fn runs_for(calls: u32) -> u32 {
+    calls.saturating_mul(4).saturating_add(4)
+}
+
+/// What those runs meet.
+#[cfg(test)]
+fn four_each(calls: u32) -> Runs {
+    Runs {
+        met: calls.saturating_mul(4),
+        free: 4,
+    }
+}
 
 /// A run of a job whose reader does something else at one call, and whether it came to that call.
 fn read_in_turn(rt: &impl Abort, alloc: Global, job: Job, piece: usize, run: u32) -> bool {
@@ -44,7 +59,7 @@ fn read_in_turn(rt: &impl Abort, alloc: Global, job: Job, piece: usize, run: u32
 }
 
 /// All runs of a job whose reads come in pieces of so many octets.
-fn reads_of(rt: &impl Abort, alloc: Global, job: Job, piece: usize, most: u32) -> Runs {
+pub fn reads_of(rt: &impl Abort, alloc: Global, job: Job, piece: usize, most: u32) -> Runs {
     let mut runs = Runs::none();
     for run in 0..most {
         runs.count(read_in_turn(rt, alloc, job, piece, run));
@@ -52,14 +67,17 @@ fn reads_of(rt: &impl Abort, alloc: Global, job: Job, piece: usize, most: u32) -
     runs
 }
 
-/// What a job reads at once, and octet by octet: the last read finds the end.
+/// Pieces in which a job is read, and how many reads those are: at once, and octet by octet; the last read finds the end.
+pub fn pieces_of_input(job: Job) -> [(usize, u32); 2] {
+    [(WHOLE, 2), (1, job.input().len().min(1000) as u32 + 1)]
+}
+
 #[test]
 fn each_read_of_a_job(rt: HostRuntime) {
     for job in [Job::OneFrame, Job::FullQueue, Job::TwoSchedules] {
-        let octets = job.input().len().min(1000) as u32;
-        for (piece, reads) in [(WHOLE, 2), (1, octets + 1)] {
-            let runs = reads_of(&rt, rt.alloc(), job, piece, 4 * reads + 4);
-            assert_eq!(rt; (runs.met, runs.free), (4 * reads, 4));
+        for (piece, reads) in pieces_of_input(job) {
+            let runs = reads_of(&rt, rt.alloc(), job, piece, runs_for(reads));
+            assert_eq!(rt; runs, four_each(reads));
         }
     }
 }
@@ -83,7 +101,7 @@ fn write_in_turn(rt: &impl Abort, alloc: Global, job: Job, piece: usize, run: u3
 }
 
 /// All runs of a job whose writes take at most so many octets.
-fn writes_of(rt: &impl Abort, alloc: Global, job: Job, piece: usize, most: u32) -> Runs {
+pub fn writes_of(rt: &impl Abort, alloc: Global, job: Job, piece: usize, most: u32) -> Runs {
     let mut runs = Runs::none();
     for run in 0..most {
         runs.count(write_in_turn(rt, alloc, job, piece, run));
@@ -91,18 +109,23 @@ fn writes_of(rt: &impl Abort, alloc: Global, job: Job, piece: usize, most: u32) 
     runs
 }
 
-/// What a job writes at once, an answer of a script or a word of a check, and octet by octet.
+/// Pieces in which a job is written, and how many writes those are: at once, an answer of a script or a word of a check, and octet by
+/// octet.
+pub fn pieces_of_output(job: Job) -> [(usize, u32); 2] {
+    let parts = match job {
+        Job::OneFrame => 2,
+        Job::FullQueue => 7,
+        Job::TwoSchedules => 13,
+    };
+    [(WHOLE, parts), (1, job.output().len().min(1000) as u32)]
+}
+
 #[test]
 fn each_write_of_a_job(rt: HostRuntime) {
-    for (job, parts) in [
-        (Job::OneFrame, 2),
-        (Job::FullQueue, 7),
-        (Job::TwoSchedules, 13),
-    ] {
-        let octets = job.output().len().min(1000) as u32;
-        for (piece, writes) in [(WHOLE, parts), (1, octets)] {
-            let runs = writes_of(&rt, rt.alloc(), job, piece, 4 * writes + 4);
-            assert_eq!(rt; (runs.met, runs.free), (4 * writes, 4));
+    for job in [Job::OneFrame, Job::FullQueue, Job::TwoSchedules] {
+        for (piece, writes) in pieces_of_output(job) {
+            let runs = writes_of(&rt, rt.alloc(), job, piece, runs_for(writes));
+            assert_eq!(rt; runs, four_each(writes));
         }
     }
 }
@@ -146,7 +169,7 @@ fn read_of_capture(
 }
 
 /// All runs of a replay whose capture comes in pieces of so many octets.
-fn reads_of_capture(
+pub fn reads_of_capture(
     rt: &impl Abort,
     alloc: Global,
     replaying: &Replaying,
@@ -160,24 +183,29 @@ fn reads_of_capture(
     runs
 }
 
-/// The header, what is behind it, and the end; and octet by octet.
+/// Pieces in which the capture of two frames is read, and how many reads those are: the header, what is behind it, and the end; and octet by
+/// octet.
+pub const PIECES_OF_TWO_FRAMES: [(usize, u32); 2] = [(WHOLE, 3), (1, 93)];
+
+/// The same of a hundred frames: the header, what is behind it, and the end; and the header and then record by record.
+pub const PIECES_OF_A_HUNDRED_FRAMES: [(usize, u32); 2] = [(WHOLE, 3), (76, 102)];
+
 #[test]
 fn each_read_of_two_frames(rt: HostRuntime) -> Result<(), Fail> {
     let replaying = Replaying::two_frames(rt.alloc())?;
-    for (piece, reads) in [(WHOLE, 3), (1, 93)] {
-        let runs = reads_of_capture(&rt, rt.alloc(), &replaying, piece, 4 * reads + 4);
-        assert_eq!(rt; (runs.met, runs.free), (4 * reads, 4));
+    for (piece, reads) in PIECES_OF_TWO_FRAMES {
+        let runs = reads_of_capture(&rt, rt.alloc(), &replaying, piece, runs_for(reads));
+        assert_eq!(rt; runs, four_each(reads));
     }
     Ok(())
 }
 
-/// The header, what is behind it, and the end; and the header and then record by record.
 #[test]
 fn each_read_of_a_hundred_frames(rt: HostRuntime) -> Result<(), Fail> {
     let replaying = Replaying::hundred_frames(rt.alloc())?;
-    for (piece, reads) in [(WHOLE, 3), (76, 102)] {
-        let runs = reads_of_capture(&rt, rt.alloc(), &replaying, piece, 4 * reads + 4);
-        assert_eq!(rt; (runs.met, runs.free), (4 * reads, 4));
+    for (piece, reads) in PIECES_OF_A_HUNDRED_FRAMES {
+        let runs = reads_of_capture(&rt, rt.alloc(), &replaying, piece, runs_for(reads));
+        assert_eq!(rt; runs, four_each(reads));
     }
     Ok(())
 }
@@ -218,7 +246,7 @@ fn write_of_replay(
 }
 
 /// All runs of a replay in which writes of one of its outputs are met.
-fn writes_of_replay(
+pub fn writes_of_replay(
     rt: &impl Abort,
     alloc: Global,
     replaying: &Replaying,
@@ -232,24 +260,28 @@ fn writes_of_replay(
     runs
 }
 
-/// Each write of the report, and each of the output capture.
+/// How many writes the report of two frames takes, and how many the output capture.
+pub const WRITES_OF_TWO_FRAMES: [(bool, u32); 2] = [(true, 4), (false, 5)];
+
+/// The same of a hundred frames.
+pub const WRITES_OF_A_HUNDRED_FRAMES: [(bool, u32); 2] = [(true, 200), (false, 201)];
+
 #[test]
 fn each_write_of_two_frames(rt: HostRuntime) -> Result<(), Fail> {
     let replaying = Replaying::two_frames(rt.alloc())?;
-    for (of_report, writes) in [(true, 4), (false, 5)] {
-        let runs = writes_of_replay(&rt, rt.alloc(), &replaying, of_report, 4 * writes + 4);
-        assert_eq!(rt; (runs.met, runs.free), (4 * writes, 4));
+    for (of_report, writes) in WRITES_OF_TWO_FRAMES {
+        let runs = writes_of_replay(&rt, rt.alloc(), &replaying, of_report, runs_for(writes));
+        assert_eq!(rt; runs, four_each(writes));
     }
     Ok(())
 }
 
-/// Each write of the report, and each of the output capture.
 #[test]
 fn each_write_of_a_hundred_frames(rt: HostRuntime) -> Result<(), Fail> {
     let replaying = Replaying::hundred_frames(rt.alloc())?;
-    for (of_report, writes) in [(true, 200), (false, 201)] {
-        let runs = writes_of_replay(&rt, rt.alloc(), &replaying, of_report, 4 * writes + 4);
-        assert_eq!(rt; (runs.met, runs.free), (4 * writes, 4));
+    for (of_report, writes) in WRITES_OF_A_HUNDRED_FRAMES {
+        let runs = writes_of_replay(&rt, rt.alloc(), &replaying, of_report, runs_for(writes));
+        assert_eq!(rt; runs, four_each(writes));
     }
     Ok(())
 }

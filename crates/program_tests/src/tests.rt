@@ -6,7 +6,7 @@ use std::io::{self, BufWriter, Read};
 use std::test::Fail;
 use std::time::{Clock, Duration};
 use std::{env, fs, process};
-use test_streams::{FIRST_LEFT, FIRST_TOLD, TWO_RECORDS};
+use test_streams::{BOTH_TOLD, FIRST_LEFT, FIRST_TOLD, TWO_RECORDS};
 
 /// A script of two lines, of which the second is no line of a script.
 const BROKEN: &[u8] = b"frame 1 0 60\nframe 2 0\nframe 3 0 60\n";
@@ -215,19 +215,22 @@ fn refused_words_answer_nothing(rt: HostRuntime) -> Result<(), Fail> {
     Ok(())
 }
 
-/// A writer with room for five octets: the write fails, and that is told.
-#[test]
-fn a_failed_write_is_told(rt: HostRuntime) -> Result<(), Fail> {
-    let words = with_name(rt.alloc(), &["script"])?;
+/// How the program ends where the standard output takes five octets alone, with what it tells.
+fn ended_without_room(
+    rt: &HostRuntime,
+    words: &[&str],
+    input: &[u8],
+) -> io::Result<(Ended, Vec<u8>)> {
+    let words = with_name(rt.alloc(), words)?;
     let mut room = [0; 5];
     let answers = BufWriter::new(rt.alloc(), room.as_mut_slice())?;
     let mut errors = Vec::new(rt.alloc());
-    let mut reader = BROKEN;
+    let mut reader = input;
     let ticks = Ticks {
         asked: Cell::new(0),
     };
     let (ended, _full) = answer_words(
-        &rt,
+        rt,
         rt.alloc(),
         words.as_slice(),
         &mut reader,
@@ -235,17 +238,52 @@ fn a_failed_write_is_told(rt: HostRuntime) -> Result<(), Fail> {
         &mut errors,
         &mut Progress::new(&ticks, Vec::new(rt.alloc())),
     );
-    assert_eq!(rt;
-        ended,
-        Ended {
-            status: 4,
-            told: true
-        }
-    );
-    assert_eq!(rt;
-        errors.as_slice(),
-        b"taprio_port: write failed\n".as_slice()
-    );
+    Ok((ended, errors))
+}
+
+/// What the program tells at a failed write.
+const WRITE_FAILED: &[u8] = b"taprio_port: write failed\n";
+
+/// A writer with room for five octets: the write fails, and that is told, also before a fault of the input.
+#[test]
+fn a_failed_write_is_told(rt: HostRuntime) -> Result<(), Fail> {
+    let folder = Folder::new(&rt, "full")?;
+    let script = folder.file("script", b"")?;
+    let out = folder.path_of("out")?;
+    let replay = ["replay", "--until", "3000000000000", &script, "-", &out];
+    let rows: [(&[&str], &[u8]); 4] = [
+        (&["script"], BROKEN),
+        (&["check"], b"tc qdisc del dev eth0 root\n"),
+        (&["streams"], b"stream 1 5 60 250us 0ns 2\n"),
+        (&replay, &TWO_RECORDS),
+    ];
+    for (words, input) in rows {
+        let (ended, errors) = ended_without_room(&rt, words, input)?;
+        assert_eq!(rt; (ended.status, ended.told), (4, true));
+        assert_eq!(rt; errors.as_slice(), WRITE_FAILED);
+    }
+    folder.remove()?;
+    Ok(())
+}
+
+/// The capture of what leaves goes to a device that takes nothing: the report is whole, and the failed write is told.
+#[test]
+fn a_failed_write_of_a_capture_is_told(rt: HostRuntime) -> Result<(), Fail> {
+    let folder = Folder::new(&rt, "device")?;
+    let script = folder.file("script", b"")?;
+    let words = [
+        "replay",
+        "--until",
+        "3000000000000",
+        &script,
+        "-",
+        "/dev/full",
+    ];
+    let outcome = outcome_of(&rt, &words, &TWO_RECORDS)?;
+    assert_eq!(rt; outcome.status, 4);
+    assert_eq!(rt; outcome.answers.as_slice(), BOTH_TOLD);
+    assert_eq!(rt; outcome.errors.as_slice(), WRITE_FAILED);
+    folder.remove()?;
     Ok(())
 }
 
