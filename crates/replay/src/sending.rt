@@ -1,6 +1,6 @@
 //! A port that runs, beside it the octets of the frames that wait, and the capture of what leaves.
 
-ghost use Rattle.std.specs.Prelude.{◌≡◌, ◌≤◌, ◌<◌, ◌∷◌, [], ℕ, List, None, Option, length, drop, OnOk, slice_set};
+ghost use Rattle.std.specs.Prelude.{◌≡◌, ◌≤◌, ◌<◌, ◌∷◌, ◌⊎◌, [], ℕ, List, None, Option, length, drop, IfErr, OnOk, slice_set};
 ghost use Rattle.abstract_port.specs.declared.Answer.TheVariants as Answered;
 ghost use Rattle.abstract_port.specs.declared.Event.TheVariants as Events;
 ghost use Rattle.answer_text.specs.Lines.{answer_lines};
@@ -12,6 +12,7 @@ ghost use Rattle.octet_writer.specs.Writes.{Writes};
 ghost use Rattle.script.specs.Requests.{Asks};
 ghost use Rattle.replay.specs.Outputs.{PutsBoth, kept_in, start_record};
 ghost use Rattle.replay.specs.Running.{Answers, AnswersStarts, IsTogether, Keeps, first_kept, state};
+ghost use Rattle.replay.specs.declared.faults.Stop.TheVariants as Stops;
 
 use crate::faults::Stop;
 use abstract_port::{Answer, Start};
@@ -46,6 +47,7 @@ fn put_record<A: Allocator, W: Write>(
     ensures port { sending.new.port ≡ sending.old.port }
     ensures store { sending.new.store ≡ record sending.old.store { kept = slice_set sending.old.store.kept start.class (drop 1 (kept_at sending.old.store.kept start.class)); taken = sending.new.store.taken } }
     ensures out { Writes result (W.contents capture.old) (W.contents capture.new) (start_record start.at (first_kept sending.old.store start.class)) }
+    ensures fault { IfErr result (λ fault. fault ≡ Stops.Write) }
 {
     let original = sending.store.take(start.class);
     match sending
@@ -71,6 +73,7 @@ fn put_start<A: Allocator, W: Write, V: Write>(
     ensures store { OnOk result (sending.new.store ≡ record sending.old.store { kept = slice_set sending.old.store.kept start.class (drop 1 (kept_at sending.old.store.kept start.class)); taken = sending.new.store.taken }) }
     ensures out { PutsBoth result (record { report = V.contents report.old; capture = W.contents capture.old }) (record { report = V.contents report.new; capture = W.contents capture.new })
         (record { report = answer_lines (Answered.Start start); capture = start_record start.at (first_kept sending.old.store start.class) }) }
+    ensures fault { IfErr result (λ fault. fault ≡ Stops.Write) }
 {
     put_answer(report, &Answer::Start(start))?;
     put_record(sending, start, capture)
@@ -89,6 +92,7 @@ fn put_starts<A: Allocator, W: Write, V: Write>(
     ensures together { OnOk result (IsTogether (state sending.new (V.contents report.new) (W.contents capture.new))) }
     ensures starts { (entries : List Entry) → Keeps entries (state sending.old (V.contents report.old) (W.contents capture.old)) →
         AnswersStarts entries result until (state sending.old (V.contents report.old) (W.contents capture.old)) (state sending.new (V.contents report.new) (W.contents capture.new)) }
+    ensures fault { IfErr result (λ fault. fault ≡ Stops.Write) }
 {
     loop {
         match sending.port.step(until) {
@@ -110,6 +114,7 @@ pub fn put_clock<A: Allocator, W: Write, V: Write>(
     ensures together { OnOk result (IsTogether (state sending.new (V.contents report.new) (W.contents capture.new))) }
     ensures answers { (entries : List Entry) → Keeps entries (state sending.old (V.contents report.old) (W.contents capture.old)) →
         Answers entries result (Asks (Events.Clock moment) ∷ []) (state sending.old (V.contents report.old) (W.contents capture.old)) (state sending.new (V.contents report.new) (W.contents capture.new)) }
+    ensures fault { IfErr result (λ fault. fault ≡ Stops.Write) }
 {
     if moment < sending.port.now() {
         put_answer(report, &Answer::Backward)?;
@@ -132,6 +137,7 @@ pub fn put_arrival<A: Allocator + Clone, V: Write>(
     ensures answers { (entries : List Entry) (captured : Option (List ℕ)) → kept_in entries frame.id ≡ kept original octets.now
         → Keeps entries (state sending.old (V.contents report.old) captured) →
         Answers entries result (Asks (Events.Arrive frame) ∷ []) (state sending.old (V.contents report.old) captured) (state sending.new (V.contents report.new) captured) }
+    ensures fault { IfErr result (λ fault. (fault ≡ Stops.Write) ⊎ (fault ≡ Stops.Memory)) }
 {
     match sending.port.arrive(frame) {
         Ok(class) => {
