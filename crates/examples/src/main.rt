@@ -1,5 +1,5 @@
-//! Runs each example script, the worked scripts and the examples of checks and of a replay, and says whether their answers are those
-//! that lie beside them.
+//! Runs each example script, the worked scripts and the examples of checks, of a table of streams and of a replay, and says whether their
+//! answers are those that lie beside them.
 #![tactic(auto)]
 
 use replay::{Unwatched, replay};
@@ -7,16 +7,18 @@ use schedule_check::{CheckSettings, check};
 use script::{Settings, run_script};
 use std::rt::Files;
 use std::{fs, io};
+use traffic::write_streams;
 use wire_time::Rate;
 
 /// The examples, each with its script and its answers.
-const EXAMPLES: [(&str, &str); 6] = [
+const EXAMPLES: [(&str, &str); 7] = [
     ("first.script", "first.answers"),
     ("priorities.script", "priorities.answers"),
     ("schedule.script", "schedule.answers"),
     ("manual.script", "manual.answers"),
     ("guard_band.script", "guard_band.answers"),
     ("extension.script", "extension.answers"),
+    ("planned.script", "schedule.answers"),
 ];
 
 /// The examples of a check, each with its schedules, its answers, and whether windows are asked for.
@@ -63,6 +65,16 @@ fn check_agrees<R: Files + AllocGlobal>(
     let mut got = Vec::new(rt.alloc());
     let checked = check(rt.alloc(), schedules.as_bytes(), &mut got, settings);
     Ok(checked.is_ok() && got.as_slice() == answers.as_bytes())
+}
+
+/// Whether the example of a table of streams and a schedule gives the script that lies beside them.
+fn streams_agree<R: Files + AllocGlobal>(rt: &R) -> io::Result<bool> {
+    let table = fs::read(rt, "planned.streams")?;
+    let schedule = fs::read(rt, "planned.schedule")?;
+    let script = fs::read(rt, "planned.script")?;
+    let mut got = Vec::new(rt.alloc());
+    let written = write_streams(rt.alloc(), table.as_slice(), schedule.as_slice(), &mut got);
+    Ok(written.is_ok() && got.as_slice() == script.as_slice())
 }
 
 /// Whether the example of a replay gives the report and the capture that lie beside it, run to 2 ms.
@@ -127,6 +139,8 @@ fn main(rt: HostRuntime) -> io::Result<()> {
         let told = told(check_agrees(&rt, schedules, answers, windows)?);
         println!(rt; "{schedules} {told}")?;
     }
+    let written = told(streams_agree(&rt)?);
+    println!(rt; "planned.streams {written}")?;
     let replayed = told(replay_agrees(&rt)?);
     println!(rt; "machine.script {replayed}")?;
     let (scripts, answered) = worked(&rt)?;

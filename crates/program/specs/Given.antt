@@ -1,12 +1,15 @@
 -- What the words of the program say of its settings.
-use Rattle.std.specs.Prelude.{ℕ, Bool, false, Result, codes}
+use Rattle.std.specs.Prelude.{◌⊎◌, List, ℕ, [], Bool, false, Option, Some, None, Result, codes}
 use Rattle.std.specs.Option.{option_map_or}
 use Rattle.std.specs.Str.{bytes_eq}
 use Rattle.clap.specs.Matches.{first_value}
 use Rattle.clap.specs.declared.parser.matches.Found.{Found}
-use Rattle.script.specs.Ending.{rate_given, settings_given}
+use Rattle.replay.specs.Texts.{open_text}
+use Rattle.script.specs.Ending.{IsUnanswered, rate_given, settings_given}
 use Rattle.script.specs.Setup.{Setup}
+use Rattle.script.specs.declared.faults.Ended.{Ended}
 use Rattle.script.specs.declared.settings.BadValue.{BadValue}
+use Rattle.traffic.specs.Ending.{IsStreamsEnding}
 
 -- the settings of the values that are given to the options, with a moment of at most `greatest`
 abbrev pub settings_in : ℕ → Found → Result Setup BadValue
@@ -20,3 +23,10 @@ rate_in found = rate_given (first_value found (codes "rate"))
 -- whether the flag that asks for windows is given: it is then true
 abbrev pub windows_in : Found → Bool
 windows_in found = option_map_or (λ text. bytes_eq text (codes "true")) (first_value found (codes "windows")) false
+
+-- The end of a run on a table, where a script is named or none is. Without one, that of the table and a script of no octets; else that of
+-- the table and of some octets, since what a file gives is not known, or of the path that can't be opened.
+abbrev pub IsGivenStreams : Option (List ℕ) → Option (List ℕ) → Ended → (old got errors_old errors_new : Option (List ℕ)) → Type 0
+IsGivenStreams None table ended old got errors_old errors_new = IsStreamsEnding table (Some []) ended old got errors_old errors_new
+IsGivenStreams (Some path) table ended old got errors_old errors_new =
+    ((script : Option (List ℕ)) × IsStreamsEnding table script ended old got errors_old errors_new) ⊎ IsUnanswered 4 (open_text path) ended old got errors_old errors_new

@@ -13,6 +13,7 @@ use crate::end_without_memory;
 use crate::options::{command, rate_of, values_of, windows_of};
 use crate::progress::Progress;
 use crate::replaying::replay_given;
+use crate::streaming::streams_given;
 use clap::error::ErrorKind;
 use clap::{ArgMatches, Error};
 use schedule_check::answer_check;
@@ -21,7 +22,6 @@ use std::alloc::{Allocator, Global};
 use std::io::{BufWriter, Read, Write};
 use std::rt::Files;
 use std::time::Clock;
-use traffic::answer_streams;
 
 /// Answers the script that `reader` gives, by the values that the words give to the options, through `answers`, with the text of
 /// a fault on `errors`; and gives the writer of the answers back.
@@ -127,8 +127,8 @@ pub fn answer_words<
     if let Some(check) = matches.subcommand_matches("check") {
         return check_given(alloc, check, reader, answers, errors);
     }
-    if matches.subcommand_matches("streams").is_some() {
-        return answer_streams(alloc, reader, answers, errors);
+    if let Some(streams) = matches.subcommand_matches("streams") {
+        return streams_given(files, alloc, streams, reader, answers, errors);
     }
     let ended = Ended {
         status: 2,

@@ -8,6 +8,7 @@ mod answering;
 mod options;
 mod progress;
 mod replaying;
+mod streaming;
 
 pub use answering::{answer_given, answer_words, check_given};
 pub use options::values_of;
@@ -16,6 +17,7 @@ pub use replaying::replay_given;
 use script::{Ended, RunFault, say_fault};
 use std::io::{BufWriter, IsTerminal, Write};
 use std::process::ExitCode;
+pub use streaming::streams_given;
 
 /// How the program ends where memory is wanting before it has begun.
 fn end_without_memory<E: Write>(errors: &mut E) -> Ended {

@@ -114,6 +114,17 @@ fn with_files<'a>(alloc: Global, command: Command<'a>) -> Result<Command<'a>, Al
         )
 }
 
+fn with_lines<'a>(alloc: Global, command: Command<'a>) -> Result<Command<'a>, AllocError> {
+    command.arg(
+        Arg::new(alloc, "with")
+            .long("with")
+            .value_name("SCRIPT")
+            .help(
+                "A file with a script, whose lines are put in among the frames, each at its moment",
+            ),
+    )
+}
+
 /// What the program understands.
 pub fn command<'a>(alloc: Global) -> Result<Command<'a>, AllocError> {
     let script = Command::new(alloc, "script").about(
@@ -134,5 +145,5 @@ pub fn command<'a>(alloc: Global) -> Result<Command<'a>, AllocError> {
         .subcommand(with_options(alloc, script, false)?)?
         .subcommand(with_files(alloc, with_options(alloc, replay, true)?)?)?
         .subcommand(with_windows(alloc, with_rate(alloc, check)?)?)?
-        .subcommand(streams)
+        .subcommand(with_lines(alloc, streams)?)
 }

@@ -25,11 +25,16 @@ fn path_of<'a>(matches: &ArgMatches<'a>, name: &str) -> &'a str {
 }
 
 /// Opens the file of a path to be read, or gives the path back. `-` is no file: one of that name is reached as `./-`.
-fn open<'a, F: Files>(files: &F, path: &'a str) -> Result<F::File, &'a str> {
+pub fn open<'a, F: Files>(files: &F, path: &'a str) -> Result<F::File, &'a str>
+    ensures { IfErr result (λ unopened. unopened.now ≡ path.now) }
+{
     if path == "-" {
         return Err(path);
     }
-    fs::open(files, path).map_err(|_| path)
+    match fs::open(files, path) {
+        Ok(file) => Ok(file),
+        Err(_) => Err(path),
+    }
 }
 
 /// Makes the file of a path, or empties it, or gives the path back. `-` is no file: one of that name is reached as `./-`.
@@ -67,7 +72,7 @@ fn open_all<'a, F: Files>(files: &F, matches: &ArgMatches<'a>) -> Result<Opened<
 }
 
 /// Tells a path that can't be opened, and gives the writer of the answers back. Nothing is answered.
-fn end_unopened<B: Allocator, W: Write + Drop, E: Write>(
+pub fn end_unopened<B: Allocator, W: Write + Drop, E: Write>(
     path: &str,
     answers: BufWriter<W, B>,
     errors: &mut E,

@@ -471,7 +471,7 @@ fn faults_behind_the_opening(rt: HostRuntime) -> Result<(), Fail> {
     Ok(())
 }
 
-/// A table of streams becomes a script; a fault of a line is told, and nothing is written; the job has no words of its own.
+/// A table of streams becomes a script; a fault of a line is told, and nothing is written; the job takes no word but an option's.
 #[test]
 fn streams_become_a_script(rt: HostRuntime) -> Result<(), Fail> {
     let outcome = outcome_of(&rt, &["streams"], b"stream 1 5 60 1us 0s 2\n")?;
@@ -490,9 +490,50 @@ fn streams_become_a_script(rt: HostRuntime) -> Result<(), Fail> {
     assert!(rt; outcome.answers.is_empty());
     assert_eq!(rt;
         outcome.errors.as_slice(),
-        b"taprio_port: script line 2: BadNumber\n".as_slice()
+        b"taprio_port: table line 2: BadNumber\n".as_slice()
     );
     let outcome = outcome_of(&rt, &["streams", "table"], b"")?;
     assert_eq!(rt; outcome.status, 2);
+    Ok(())
+}
+
+/// The lines of a file come among the frames; a file that can't be opened is told before the table is read, and one that can't be read
+/// behind it.
+#[test]
+fn streams_with_a_script(rt: HostRuntime) -> Result<(), Fail> {
+    let folder = Folder::new(&rt, "with")?;
+    let script = folder.file("script", b"query\nclock 1000000\nquery")?;
+    let missing = folder.path_of("missing")?;
+    let here = folder.path_of(".")?;
+    let unopened = format!(in rt.alloc(); "taprio_port: cannot open {missing}\n")?;
+    let table: &[u8] = b"stream 1 5 60 1us 0s 2\n";
+    let both: &[u8] = b"query\nclock 0\nframe 1 5 60\nclock 1000000\nquery\nframe 2 5 60\n";
+    let rows: [(&str, &[u8], u8, &[u8], &[u8]); 6] = [
+        (&script, table, 0, both, b""),
+        (
+            &script,
+            b"stream\n",
+            3,
+            b"",
+            b"taprio_port: table line 1: WordCount\n",
+        ),
+        (&missing, b"stream\n", 4, b"", unopened.as_bytes()),
+        ("-", table, 4, b"", b"taprio_port: cannot open -\n"),
+        (
+            &here,
+            b"stream\n",
+            3,
+            b"",
+            b"taprio_port: table line 1: WordCount\n",
+        ),
+        (&here, table, 4, b"", b"taprio_port: read failed\n"),
+    ];
+    for (with, table, status, answers, text) in rows {
+        let outcome = outcome_of(&rt, &["streams", "--with", with], table)?;
+        assert_eq!(rt; outcome.status, status);
+        assert_eq!(rt; outcome.answers.as_slice(), answers);
+        assert_eq!(rt; outcome.errors.as_slice(), text);
+    }
+    folder.remove()?;
     Ok(())
 }

@@ -85,7 +85,24 @@ takes (t ∷ ts) (suc i) m d t' f h e =
     let rest = takes ts i m d t' f h.1 e in
     (rest.0, sorted_behind (left_of t) (flat_map left_of ts) (flat_map left_of (slice_set ts i t')) f (subst (λ n. FromOn (suc n) (left_of t)) (sym rest.0) h.0) rest.1)
 
-first_found : (ts : List Turn) (i m : ℕ) → first_place 0 ts ≡ Some (i, m) → IsFirst ts i m
+-- frames whose first is known
+by_first : (fs : List Coming) (f : Coming) → first_of fs ≡ Some f → (gs : List Coming) × (fs ≡ f ∷ gs)
+by_first [] f e = absurd cc
+by_first (g ∷ gs) f e = (gs, (let same : g ≡ f = cc in ap (λ x. x ∷ gs) same))
+
+-- what is to come begins with the first frame
+pub first_comes : (ts : List Turn) (i m : ℕ) → IsFirst ts i m → (f : Coming) × (zs : List Coming) × (by_moment (flat_map left_of ts) ≡ f ∷ by_moment zs) × (f.moment ≡ m)
+first_comes [] i m h = absurd h
+first_comes (t ∷ ts) zero m ((f, some, is), rest) =
+    let behind = by_first (left_of t) f some in
+    let rises : FromOn f.moment (f ∷ behind.0) = subst (FromOn f.moment) behind.1 (left_rises t f some) in
+    let all : FromOn f.moment (behind.0 ++ flat_map left_of ts) = from_append f.moment behind.0 (flat_map left_of ts) rises.1 (subst (λ n. FromOn n (flat_map left_of ts)) (sym is) rest) in
+    (f, behind.0 ++ flat_map left_of ts, ap (λ fs. by_moment (fs ++ flat_map left_of ts)) behind.1 ∙ sorted_first f (behind.0 ++ flat_map left_of ts) all, is)
+first_comes (t ∷ ts) (suc i) m h =
+    let rest = first_comes ts i m h.1 in
+    (rest.0, left_of t ++ rest.1, sorted_behind (left_of t) (flat_map left_of ts) rest.1 rest.0 (subst (λ n. FromOn (suc n) (left_of t)) (sym rest.3) h.0) rest.2, rest.3)
+
+pub first_found : (ts : List Turn) (i m : ℕ) → first_place 0 ts ≡ Some (i, m) → IsFirst ts i m
 first_found ts i m e =
     let found = subst (HasFound 0 ts) e (finds 0 ts) in
     subst (λ j. IsFirst ts j m) (let whole : i - 0 ≡ i = omega arith in whole) found.1

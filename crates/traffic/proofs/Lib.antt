@@ -1,7 +1,10 @@
+mod BeforeLaws
 mod Digits
+mod EndingLaws
 mod FirstLaws
 mod FrameLaws
 mod LineLaws
+mod MergeLaws
 mod OrderLaws
+mod OutcomeLaws
 mod TableLaws
-mod WrittenLaws

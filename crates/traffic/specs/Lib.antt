@@ -1,5 +1,9 @@
+pub mod Faults
 pub mod Reading
 pub mod Table
 pub mod Frames
 pub mod Turns
 pub mod Written
+pub mod Merge
+pub mod Outcome
+pub mod Ending

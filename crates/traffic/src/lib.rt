@@ -1,6 +1,8 @@
-//! Traffic by streams: a table of streams becomes a script with the frames of all of them.
+//! Traffic by streams: a table of streams becomes a script with the frames of all of them, and with the lines of another script among them.
 #![tactic(auto)]
 
+mod faults;
+mod merging;
 mod program;
 mod streaming;
 mod table;
@@ -8,5 +10,6 @@ mod turn;
 mod turns;
 mod writing;
 
+pub use faults::{StreamsFault, say_streams_fault};
 pub use program::answer_streams;
 pub use streaming::write_streams;

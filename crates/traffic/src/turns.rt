@@ -1,6 +1,7 @@
 //! The frames of all streams, one after another by moment.
 
 ghost use Rattle.std.specs.Prelude.{◌≡◌, ◌<◌, ◌∷◌, [], length, IfSome, MatchOption};
+ghost use Rattle.traffic.specs.Merge.{frames_before, frames_from};
 ghost use Rattle.traffic.specs.Turns.{earlier, first_place, left_of_all};
 
 use crate::turn::{Coming, Turn};
@@ -39,5 +40,17 @@ pub fn next_frame(turns: &mut [Turn]) -> Option<Coming>
     ensures { MatchOption result (left_of_all turns.old ≡ []) (λ f. left_of_all turns.old ≡ f ∷ left_of_all turns.new) }
 {
     let (place, _) = first_place(turns)?;
+    turns[place].take()
+}
+
+/// Takes the frame that `next_frame` would take, if it comes before a moment.
+pub fn next_before(turns: &mut [Turn], end: u128) -> Option<Coming>
+    ensures before { MatchOption result (frames_before end (left_of_all turns.old) ≡ []) (λ f. frames_before end (left_of_all turns.old) ≡ f ∷ frames_before end (left_of_all turns.new)) }
+    ensures others { MatchOption result (frames_from end (left_of_all turns.old) ≡ left_of_all turns.new) (λ f. frames_from end (left_of_all turns.old) ≡ frames_from end (left_of_all turns.new)) }
+{
+    let (place, moment) = first_place(turns)?;
+    if moment >= end {
+        return None;
+    }
     turns[place].take()
 }

@@ -1,12 +1,13 @@
 //! The lines of a script that has the frames of streams.
 
-ghost use Rattle.std.specs.Prelude.{◌≡◌, ◌++◌, None};
+ghost use Rattle.std.specs.Prelude.{◌≡◌, ◌++◌, OnOk};
 ghost use Rattle.octet_writer.specs.Writes.{Writes};
 ghost use Rattle.traffic.specs.Written.{clock_line, clock_to, frame_end, frame_line, lines_of};
+ghost use Rattle.traffic.specs.Merge.{frames_before, frames_from};
 ghost use Rattle.traffic.specs.Turns.{left_of_all};
 
 use crate::turn::{Coming, Turn};
-use crate::turns::next_frame;
+use crate::turns::{next_before, next_frame};
 use answer_text::{Part, WriteFault, put_parts};
 use std::io::Write;
 use wire_time::Frame;
@@ -69,12 +70,32 @@ fn put_coming<W: Write>(
     put_frame(writer, &coming.frame)
 }
 
-/// Writes the frames of streams that are to come, by moment, each as a line of a script, with a clock line before the first of each
-/// moment. At a fault a front of it is written.
-pub fn write_frames<W: Write>(writer: &mut W, turns: &mut [Turn]) -> Result<(), WriteFault>
-    ensures { Writes result (W.contents writer.old) (W.contents writer.new) (lines_of None (left_of_all turns.old)) }
+/// Writes the frames of streams that are to come before a moment, as `write_frames` does.
+pub fn write_frames_before<W: Write>(
+    writer: &mut W,
+    turns: &mut [Turn],
+    mut written: Option<u128>,
+    end: u128,
+) -> Result<(), WriteFault>
+    ensures lines { Writes result (W.contents writer.old) (W.contents writer.new) (lines_of written (frames_before end (left_of_all turns.old))) }
+    ensures left { OnOk result (left_of_all turns.new ≡ frames_from end (left_of_all turns.old)) }
 {
-    let mut written = None;
+    while let Some(coming) = next_before(turns, end) {
+        put_coming(writer, written, &coming)?;
+        written = Some(coming.moment);
+    }
+    Ok(())
+}
+
+/// Writes the frames of streams that are to come, by moment, each as a line of a script, with a clock line before the first of each
+/// moment, unless it is the moment whose clock line is written already. At a fault a front of it is written.
+pub fn write_frames<W: Write>(
+    writer: &mut W,
+    turns: &mut [Turn],
+    mut written: Option<u128>,
+) -> Result<(), WriteFault>
+    ensures { Writes result (W.contents writer.old) (W.contents writer.new) (lines_of written (left_of_all turns.old)) }
+{
     while let Some(coming) = next_frame(turns) {
         put_coming(writer, written, &coming)?;
         written = Some(coming.moment);

@@ -1,40 +1,38 @@
-use Rattle.std.proofs.Common.{◌≡◌, Ok, Err, Some, None, refl, sym, ap, ◌∙◌, subst}
+use Rattle.std.proofs.Common.{◌≡◌, Ok, Err, Some, None, refl, sym, ap, subst}
 use Rattle.std.specs.List.{flat_map}
-use Rattle.std.proofs.lemmas.Result.{err_from_is_err_and}
 use Rattle.words.specs.Words.{words_of}
 use Rattle.line_reader.specs.LineReader.{script_left}
-use Rattle.script.specs.declared.faults.RunFault.TheVariants as Faults
 use Rattle.traffic.specs.Table.{line_said}
+use Rattle.traffic.specs.declared.faults.StreamsFault.TheVariants as Faults
 use Rattle.traffic.specs.Turns.{left_of}
 use Rattle.traffic.proofs.TableLaws.{Goes, ends, goes_on, goes_past, goes_wrong, stops}
 use Rattle.traffic.proofs.streaming.read_streams.Goals as goal
 
 pub lines-preserved-in-Ok-None : goal.lines-preserved-in-Ok-None
 lines-preserved-in-Ok-None g c =
-    let a = rw c.if-branch.true at c.in_ok-advance.ensures.line in
+    let a = rw c.if-not-more.false at c.in-Ok.ensures.line in
     let e : line_said (words_of c.advance.new.self.line.items) ≡ Ok None = cc in
     goes_past _ _ _ _ _ _ _ c.lines.invariant a e
 
 pub lines-preserved : goal.lines-preserved
 lines-preserved g c =
-    let a = rw c.if-branch.true at c.in_ok-advance.ensures.line in
+    let a = rw c.if-not-more.false at c.in-Ok.ensures.line in
     let stream = c.in-Ok-Some.stream in
     let e : line_said (words_of c.advance.new.self.line.items) ≡ Ok (Some stream) = cc in
     let more = goes_on _ _ _ _ _ _ _ stream c.lines.invariant a e in
     subst (λ now. Goes (script_left g.R.Read.remaining c.args.lines.now) (flat_map left_of c.args.turns.now.items) now (script_left g.R.Read.remaining c.advance.new.self)) (sym c.in_ok-keep-in-Ok-Some.ensures.kept) more
 
-pub returns-in_err-advance : goal.returns-in_err-advance
-returns-in_err-advance g c =
-    let p = err_from_is_err_and c.from_residual.result c.from_residual.ensures.1 in
-    stops _ _ _ _ _ _ _ _ _ _ c.lines.invariant c.in_err-advance.ensures.line (p.1 ∙ ap Err p.2)
-
 pub returns-in-Err : goal.returns-in-Err
 returns-in-Err g c =
-    let a = rw c.if-branch.true at c.in_ok-advance.ensures.line in
-    let e : line_said (words_of c.advance.new.self.line.items) ≡ Err c.in-Err.fault = cc in
-    goes_wrong _ _ {T = Unit {0}} _ _ _ _ _ c.in-Err.fault c.args.turns.now.items c.lines.turns.items c.lines.invariant a e (ap (λ n. Err (Faults.Script n c.in-Err.fault)) c.line_number.ensures)
+    stops _ _ {T = Unit {0}} _ _ _ _ _ _ _ _ c.lines.invariant c.in-Err.ensures.line (ap Err c.table_fault.ensures)
+
+pub returns-in-Err-read_line : goal.returns-in-Err-read_line
+returns-in-Err-read_line g c =
+    let a = rw c.if-not-more.false at c.in-Ok.ensures.line in
+    let e : line_said (words_of c.advance.new.self.line.items) ≡ Err c.in-Err-read_line.fault = cc in
+    goes_wrong _ _ {T = Unit {0}} _ _ _ _ _ c.in-Err-read_line.fault c.args.turns.now.items c.lines.turns.items c.lines.invariant a e (ap (λ n. Err (Faults.Table n c.in-Err-read_line.fault)) c.line_number.ensures)
 
 pub returns : goal.returns
 returns g c =
-    let a = rw c.if-branch.false at c.in_ok-advance.ensures.line in
+    let a = rw c.if-not-more.true at c.in-Ok.ensures.line in
     ends _ _ {T = Unit {0}} tt _ _ _ _ _ c.lines.invariant a refl

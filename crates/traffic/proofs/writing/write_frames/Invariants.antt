@@ -1,4 +1,4 @@
-use Rattle.std.proofs.Common.{length, None}
+use Rattle.std.proofs.Common.{length}
 use Rattle.octet_writer.specs.Writes.{Sent}
 use Rattle.traffic.specs.Turns.{left_of_all}
 use Rattle.traffic.specs.Written.{lines_of}
@@ -6,7 +6,7 @@ use Rattle.traffic.proofs.writing.write_frames.Given as goal
 
 -- What is written and the lines of the frames to come are those of all.
 abbrev pub invariant-loop-coming : goal.invariant-loop-coming
-invariant-loop-coming g l = Sent (g.W.Write.contents l.fn.writer) (g.W.Write.contents l.writer) (lines_of None (left_of_all l.fn.turns)) (lines_of l.written (left_of_all l.turns))
+invariant-loop-coming g l = Sent (g.W.Write.contents l.fn.writer) (g.W.Write.contents l.writer) (lines_of l.fn.written (left_of_all l.fn.turns)) (lines_of l.written (left_of_all l.turns))
 
 abbrev pub decreases-loop-coming : goal.decreases-loop-coming
 decreases-loop-coming g l = length (left_of_all l.turns)

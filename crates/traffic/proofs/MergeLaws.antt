@@ -1,0 +1,119 @@
+-- The lines of a script among frames, one after another.
+use Rattle.std.proofs.Common.{◌≡◌, ℕ, List, [], ◌++◌, Option, Some, None, Result, Ok, Err, true, false, refl, sym, ap, ◌∙◌, subst, append-nil}
+use Rattle.std.specs.Prelude.{IfSome}
+use Rattle.std.specs.Io.KnownBytes.{Appends}
+use Rattle.octet_writer.specs.Writes.{FallsShort, Sent}
+use Rattle.octet_writer.proofs.Fronts.{sent_all, sent_more, sent_none, sent_short}
+use Rattle.line_reader.specs.Script.{Script, End, Broken, Line}
+use Rattle.line_reader.specs.LineReader.{Advances}
+use Rattle.line_reader.specs.declared.lines.Limit.{Limit}
+use Rattle.line_reader.specs.declared.lines.LineFault.{LineFault}
+use Rattle.line_reader.specs.declared.lines.LineFault.TheVariants as LineFaults
+use Rattle.script.specs.Outcome.{limit_fault}
+use Rattle.traffic.specs.Faults.{script_fault}
+use Rattle.traffic.specs.Merge.{clock_after, frames_before, frames_from, line_text, merged, moment_of}
+use Rattle.traffic.specs.Outcome.{Runs, fault_in, merging}
+use Rattle.traffic.specs.Written.{lines_of}
+use Rattle.traffic.specs.declared.faults.StreamsFault.{StreamsFault}
+use Rattle.traffic.specs.declared.faults.StreamsFault.TheVariants as Faults
+use Rattle.traffic.specs.declared.turn.Coming.{Coming}
+
+-- a line, and the frames before it
+abbrev pub text_at : Option ℕ → Option ℕ → List ℕ → List Coming → List ℕ
+text_at clock now line frames = lines_of clock (frames_before (moment_of now) frames) ++ line_text line
+
+merged_line : (clock : Option ℕ) (number : ℕ) (line : List ℕ) (rest : Script) (frames : List Coming)
+    → merged clock (Line number line rest) frames ≡ text_at clock (clock_after clock line) line frames ++ merged (clock_after clock line) rest (frames_from (moment_of (clock_after clock line)) frames)
+unfolding merged
+merged_line clock number line rest frames = refl
+
+merged_end : (clock : Option ℕ) (frames : List Coming) → merged clock End frames ≡ lines_of clock frames
+unfolding merged
+merged_end clock frames = refl
+
+merged_broken : (clock : Option ℕ) (number : ℕ) (limit : Limit) (frames : List Coming) → merged clock (Broken number limit) frames ≡ []
+unfolding merged
+merged_broken clock number limit frames = refl
+
+fault_behind : (number : ℕ) (line : List ℕ) (rest : Script) → fault_in (Line number line rest) ≡ fault_in rest
+unfolding fault_in
+fault_behind number line rest = refl
+
+no_fault : fault_in End ≡ None
+unfolding fault_in
+no_fault = refl
+
+fault_broken : (number : ℕ) (limit : Limit) → fault_in (Broken number limit) ≡ Some (Faults.Script number (limit_fault limit))
+unfolding fault_in
+fault_broken number limit = refl
+
+-- What is written of a known script and frames, and what is still to come.
+abbrev pub Reaches : Option Script → List Coming → Option (List ℕ) → Option (List ℕ) → Option ℕ → List Coming → Option Script → Type 0
+Reaches None frames old now clock left s = Unit {0}
+Reaches (Some all) frames old now clock left None = ⊥
+Reaches (Some all) frames old now clock left (Some script) = Sent old now (merged None all frames) (merged clock script left) × (fault_in all ≡ fault_in script)
+
+pub begun : (all : Option Script) (frames : List Coming) (old : Option (List ℕ)) → Reaches all frames old old None frames all
+begun None frames old = tt
+begun (Some script) frames old = (sent_none old _, refl)
+
+module _ (number : ℕ) (line : List ℕ) where
+  -- a line is written
+  pub goes_on : (all : Option Script) (frames : List Coming) (old now new : Option (List ℕ)) (clock later : Option ℕ) (left rest : List Coming) (s t : Option Script)
+      → Reaches all frames old now clock left s → Advances s (Ok true) number line t → later ≡ clock_after clock line
+      → Appends now new (text_at clock later line left) → rest ≡ frames_from (moment_of later) left → Reaches all frames old new later rest t
+  goes_on None frames old now new clock later left rest s t r a e w l = tt
+  goes_on (Some all) frames old now new clock later left rest None t r a e w l = absurd r
+  goes_on (Some all) frames old now new clock later left rest (Some script) t r (behind, t_is, is) e w l =
+      let parts : merged clock script left ≡ text_at clock later line left ++ merged later behind rest =
+      ap (λ x. merged clock x left) is ∙ merged_line clock number line behind left
+      ∙ ap (λ x. text_at clock x line left ++ merged x behind (frames_from (moment_of x) left)) (sym e)
+      ∙ ap (λ x. text_at clock later line left ++ merged later behind x) (sym l) in
+      let P : Option Script → Type 0 = λ u. Reaches (Some all) frames old new later rest u in
+      subst P (sym t_is) (sent_more new (text_at clock later line left) (merged later behind rest) r.0 parts w, r.1 ∙ ap fault_in is ∙ fault_behind number line behind)
+
+  -- a write fails at a line
+  pub line_short : {T : Type 0} {f : Result T StreamsFault} (all : Option Script) (frames : List Coming) (old now new : Option (List ℕ)) (clock later : Option ℕ) (left : List Coming) (s t : Option Script)
+      → Reaches all frames old now clock left s → Advances s (Ok true) number line t → later ≡ clock_after clock line
+      → FallsShort now new (text_at clock later line left) → f ≡ Err Faults.Write → IfSome all (λ script. Runs f old new (merging None script frames))
+  line_short None frames old now new clock later left s t r a e w h = tt
+  line_short (Some all) frames old now new clock later left None t r a e w h = absurd r
+  line_short {T} {f} (Some all) frames old now new clock later left (Some script) t r (behind, t_is, is) e w h =
+      let rest = merged later behind (frames_from (moment_of later) left) in
+      let parts : merged clock script left ≡ text_at clock later line left ++ rest =
+      ap (λ x. merged clock x left) is ∙ merged_line clock number line behind left
+      ∙ ap (λ x. text_at clock x line left ++ merged x behind (frames_from (moment_of x) left)) (sym e) in
+      let P : Result T StreamsFault → Type 0 = λ x. Runs x old new (merging None all frames) in
+      subst P (sym h) (sent_short new (text_at clock later line left) rest r.0 parts w)
+
+  -- no line can be read
+  pub stops : {T : Type 0} {f : Result T StreamsFault} (fault : LineFault) (all : Option Script) (frames : List Coming) (old now : Option (List ℕ)) (clock : Option ℕ) (left : List Coming) (s t : Option Script)
+      → Reaches all frames old now clock left s → Advances s (Err fault) number line t → f ≡ Err (script_fault fault) → IfSome all (λ script. Runs f old now (merging None script frames))
+  stops fault None frames old now clock left s t r a h = tt
+  stops fault (Some all) frames old now clock left None t r a h = absurd r
+  stops {T} {f} (LineFaults.Limit n limit) (Some all) frames old now clock left (Some script) t r a h =
+      let P : Result T StreamsFault → Type 0 = λ x. Runs x old now (merging None all frames) in
+      subst P (sym h) (r.1 ∙ ap fault_in a ∙ fault_broken n limit, sent_all r.0 (ap (λ x. merged clock x left) a ∙ merged_broken clock n limit left))
+  stops {T} {f} LineFaults.Read (Some all) frames old now clock left (Some script) t r a h =
+      let P : Result T StreamsFault → Type 0 = λ x. Runs x old now (merging None all frames) in
+      subst P (sym h) (merged clock script left, r.0)
+
+  -- the lines end, and the other frames are written
+  pub ends : {T : Type 0} {f : Result T StreamsFault} (x : T) (all : Option Script) (frames : List Coming) (old now new : Option (List ℕ)) (clock : Option ℕ) (left : List Coming) (s t : Option Script)
+      → Reaches all frames old now clock left s → Advances s (Ok false) number line t → Appends now new (lines_of clock left) → f ≡ Ok x → IfSome all (λ script. Runs f old new (merging None script frames))
+  ends x None frames old now new clock left s t r a w h = tt
+  ends x (Some all) frames old now new clock left None t r a w h = absurd r
+  ends {T} {f} x (Some all) frames old now new clock left (Some script) t r a w h =
+      let last : merged clock script left ≡ lines_of clock left = ap (λ y. merged clock y left) a ∙ merged_end clock left in
+      let P : Result T StreamsFault → Type 0 = λ y. Runs y old new (merging None all frames) in
+      subst P (sym h) (r.1 ∙ ap fault_in a ∙ no_fault, sent_all (sent_more new (lines_of clock left) [] r.0 (last ∙ sym (append-nil (lines_of clock left))) w) refl)
+
+  -- or not all of them
+  pub end_short : {T : Type 0} {f : Result T StreamsFault} (all : Option Script) (frames : List Coming) (old now new : Option (List ℕ)) (clock : Option ℕ) (left : List Coming) (s t : Option Script)
+      → Reaches all frames old now clock left s → Advances s (Ok false) number line t → FallsShort now new (lines_of clock left) → f ≡ Err Faults.Write → IfSome all (λ script. Runs f old new (merging None script frames))
+  end_short None frames old now new clock left s t r a w h = tt
+  end_short (Some all) frames old now new clock left None t r a w h = absurd r
+  end_short {T} {f} (Some all) frames old now new clock left (Some script) t r a w h =
+      let last : merged clock script left ≡ lines_of clock left = ap (λ y. merged clock y left) a ∙ merged_end clock left in
+      let P : Result T StreamsFault → Type 0 = λ y. Runs y old new (merging None all frames) in
+      subst P (sym h) (sent_short new (lines_of clock left) [] r.0 (last ∙ sym (append-nil (lines_of clock left))) w)
