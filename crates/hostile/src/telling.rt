@@ -28,6 +28,9 @@ const NO_VALUES: Values<'static> = Values {
     until: None,
 };
 
+/// No script beside a table.
+const NO_SCRIPT: &[u8] = b"";
+
 /// A heap that refuses each growth.
 fn no_heap(alloc: Global) -> RefusingHeap<Global> {
     RefusingHeap::new(alloc, 0, false)
@@ -65,7 +68,7 @@ fn of_a_table_of_streams(rt: HostRuntime) -> Result<(), Fail> {
     let answers = BufWriter::new(rt.alloc(), Vec::new(rt.alloc()))?;
     let mut errors = Vec::new(rt.alloc());
     let mut reader = b"stream 1 5 60 250us 0ns 2\n".as_slice();
-    let (ended, written) = answer_streams(&heap, &mut reader, answers, &mut errors);
+    let (ended, written) = answer_streams(&heap, &mut reader, NO_SCRIPT, answers, &mut errors);
     assert_eq!(rt; ended, OUT_OF_MEMORY);
     assert!(rt; written.is_empty());
     assert_eq!(rt; errors.as_slice(), TEXT);
