@@ -2,7 +2,9 @@
 //! of what was written before, nothing is left open but how much was written. A body that always answers `Memory` fails each of these
 //! tests, since the last runs meet no refusal.
 
-use super::rows::{Job, Replaying, Runs, hundred_frames, rate};
+#[cfg(test)]
+use super::rows::make_given;
+use super::rows::{Given, Job, Replaying, Runs, hundred_frames};
 use abstract_port::{Answer, Event, Start};
 use capture::{CapFault, CaptureReader};
 use class_queue::{ClassQueue, QueueNew};
@@ -14,7 +16,6 @@ use replay::ReplayFault;
 use script::RunFault;
 use std::alloc::Global;
 use std::io;
-use std::process::Abort;
 #[cfg(test)]
 use std::test::Fail;
 use wire_time::Frame;
@@ -30,76 +31,74 @@ fn is_refused(heap: &RefusingHeap<Global>, run: u64) -> bool {
 }
 
 /// A new queue for 128 frames.
-pub fn queue(rt: &impl Abort, alloc: Global) -> Runs {
+pub fn queue(alloc: Global) -> Runs {
     let mut runs = Runs::none();
     for run in 0..6 {
         let heap = heap_of(alloc, run);
         let fault = ClassQueue::new(&heap, 128).err();
         let refused = is_refused(&heap, run);
-        assert_eq!(rt; fault, refused.then_some(QueueNew::Memory));
-        runs.count(refused);
+        runs.count(refused, fault == refused.then_some(QueueNew::Memory));
     }
     runs
 }
 
 #[test]
 fn a_queue_wants_its_room(rt: HostRuntime) {
-    assert_eq!(rt; queue(&rt, rt.alloc()), Runs { met: 2, free: 4 });
+    assert_eq!(rt; queue(rt.alloc()), Runs::right(2, 4));
 }
 
 /// A new port.
-pub fn port(rt: &impl Abort, alloc: Global) -> Runs {
+pub fn port(given: &Given, alloc: Global) -> Runs {
     let mut runs = Runs::none();
     for run in 0..20 {
         let heap = heap_of(alloc, run);
-        let fault = Port::<Jumping, &RefusingHeap<Global>>::new(&heap, rate(rt), 1500, 128).err();
+        let fault = Port::<Jumping, &RefusingHeap<Global>>::new(&heap, given.rate, 1500, 128).err();
         let refused = is_refused(&heap, run);
-        assert_eq!(rt; fault, refused.then_some(PortFault::Memory));
-        runs.count(refused);
+        runs.count(refused, fault == refused.then_some(PortFault::Memory));
     }
     runs
 }
 
 #[test]
 fn a_port_wants_the_room_of_eight_queues(rt: HostRuntime) {
-    assert_eq!(rt; port(&rt, rt.alloc()), Runs { met: 16, free: 4 });
+    assert_eq!(rt; port(&make_given(&rt), rt.alloc()), Runs::right(16, 4));
 }
 
 /// A new reader of lines.
-pub fn line_reader(rt: &impl Abort, alloc: Global) -> Runs {
+pub fn line_reader(alloc: Global) -> Runs {
     let mut runs = Runs::none();
     for run in 0..8 {
         let heap = heap_of(alloc, run);
         let fails = LineReader::new(&heap, Job::FullQueue.input()).is_err();
         let refused = is_refused(&heap, run);
-        assert_eq!(rt; fails, refused);
-        runs.count(refused);
+        runs.count(refused, fails == refused);
     }
     runs
 }
 
 #[test]
 fn a_line_reader_wants_its_room(rt: HostRuntime) {
-    assert_eq!(rt; line_reader(&rt, rt.alloc()), Runs { met: 4, free: 4 });
+    assert_eq!(rt; line_reader(rt.alloc()), Runs::right(4, 4));
 }
 
 /// A new reader of a capture of a hundred frames.
-pub fn capture_reader(rt: &impl Abort, alloc: Global) -> Runs {
-    let capture = hundred_frames(alloc).expect(rt, "a capture");
+pub fn capture_reader(alloc: Global) -> Runs {
+    let Ok(capture) = hundred_frames(alloc) else {
+        return Runs::failed();
+    };
     let mut runs = Runs::none();
     for run in 0..6 {
         let heap = heap_of(alloc, run);
         let fault = CaptureReader::new(&heap, capture.as_slice()).err();
         let refused = is_refused(&heap, run);
-        assert_eq!(rt; fault, refused.then_some(CapFault::Memory));
-        runs.count(refused);
+        runs.count(refused, fault == refused.then_some(CapFault::Memory));
     }
     runs
 }
 
 #[test]
 fn a_capture_reader_wants_the_room_of_a_record(rt: HostRuntime) {
-    assert_eq!(rt; capture_reader(&rt, rt.alloc()), Runs { met: 2, free: 4 });
+    assert_eq!(rt; capture_reader(rt.alloc()), Runs::right(2, 4));
 }
 
 /// Forty frames of class 0 that arrive at once, and a clock event by which all have left.
@@ -128,98 +127,110 @@ fn start(id: u64) -> Answer {
     })
 }
 
-/// All is answered: the forty arrivals, and then the forty starts.
-fn assert_all_left(rt: &impl Abort, answers: &[Answer]) {
-    assert_eq!(rt; answers.len(), 80);
+/// Whether all is answered: the forty arrivals, and then the forty starts.
+fn have_all_left(answers: &[Answer]) -> bool {
+    if answers.len() != 80 {
+        return false;
+    }
     let (queued, started) = answers.split_at(40);
     for id in 0..40u64 {
-        assert_eq!(rt;
-            queued.get(id as usize),
-            Some(&Answer::Queued { id, class: 0 })
-        );
-        assert_eq!(rt; started.get(id as usize), Some(&start(id)));
+        let arrived = queued.get(id as usize) == Some(&Answer::Queued { id, class: 0 });
+        if !arrived || started.get(id as usize) != Some(&start(id)) {
+            return false;
+        }
     }
+    true
 }
 
 /// Forty frames through a port. Where memory is wanting, the events that are left go on as if nothing had happened, also where it is
 /// wanting between two starts of one clock event. A body that always says that it took no event fails, since the last runs want none.
-pub fn run_of_events(rt: &impl Abort, alloc: Global) -> Runs {
-    let events = forty_frames(alloc).expect(rt, "events");
+pub fn run_of_events(given: &Given, alloc: Global) -> Runs {
+    let Ok(events) = forty_frames(alloc) else {
+        return Runs::failed();
+    };
     let mut runs = Runs::none();
     let mut before = 0;
     for run in 0..16 {
         let heap = heap_of(alloc, run);
-        let mut port = Port::<Jumping>::new(alloc, rate(rt), 1500, 40).expect(rt, "a port");
+        let Ok(mut port) = Port::<Jumping>::new(alloc, given.rate, 1500, 40) else {
+            return Runs::failed();
+        };
         let mut few = Vec::new(&heap);
         let taken = match port.run(&events, &mut few) {
             Ok(()) => events.len(),
             Err(memory) => memory.taken,
         };
         let refused = is_refused(&heap, run);
-        assert_eq!(rt; taken < events.len(), refused);
-        assert!(rt; before <= taken && taken <= few.len().saturating_add(1));
+        let stopped = (taken < events.len()) == refused;
+        let rises = before <= taken && taken <= few.len().saturating_add(1);
         before = taken;
-        runs.count(refused);
-        let mut all = few.to_vec(alloc).expect(rt, "room");
-        let rest = events.get(taken..).expect(rt, "the rest");
-        assert_eq!(rt; port.run(rest, &mut all), Ok(()));
-        assert_all_left(rt, all.as_slice());
+        let Ok(mut all) = few.to_vec(alloc) else {
+            return Runs::failed();
+        };
+        let Some(rest) = events.get(taken..) else {
+            return Runs::failed();
+        };
+        let goes_on = port.run(rest, &mut all) == Ok(()) && have_all_left(all.as_slice());
+        runs.count(refused, stopped && rises && goes_on);
     }
     runs
 }
 
 #[test]
 fn a_run_goes_on_where_it_stopped(rt: HostRuntime) {
-    assert_eq!(rt; run_of_events(&rt, rt.alloc()), Runs { met: 12, free: 4 });
+    assert_eq!(rt;
+        run_of_events(&make_given(&rt), rt.alloc()),
+        Runs::right(12, 4)
+    );
 }
 
 /// Runs a job until no growth is refused.
-pub fn of_job(rt: &impl Abort, alloc: Global, job: Job) -> Runs {
+pub fn of_job(given: &Given, alloc: Global, job: Job) -> Runs {
     let mut runs = Runs::none();
     for run in 0..30 {
         let heap = heap_of(alloc, run);
         let mut got = Vec::new(alloc);
-        let result = job.run(rt, &heap, job.input(), &mut got);
+        let result = job.run(given, &heap, job.input(), &mut got);
         let refused = is_refused(&heap, run);
-        assert_eq!(rt; result.err(), refused.then_some(RunFault::Memory));
-        assert!(rt; job.output().starts_with(&got));
-        assert!(rt; refused || got.as_slice() == job.output());
-        runs.count(refused);
+        let told = result.err() == refused.then_some(RunFault::Memory);
+        let front = job.output().starts_with(&got);
+        let whole = refused || got.as_slice() == job.output();
+        runs.count(refused, told && front && whole);
     }
     runs
 }
 
 #[test]
 fn a_script_of_one_frame(rt: HostRuntime) {
-    let runs = of_job(&rt, rt.alloc(), Job::OneFrame);
-    assert_eq!(rt; runs, Runs { met: 20, free: 10 });
+    let runs = of_job(&make_given(&rt), rt.alloc(), Job::OneFrame);
+    assert_eq!(rt; runs, Runs::right(20, 10));
 }
 
 #[test]
 fn a_script_with_a_full_queue(rt: HostRuntime) {
-    let runs = of_job(&rt, rt.alloc(), Job::FullQueue);
-    assert_eq!(rt; runs, Runs { met: 20, free: 10 });
+    let runs = of_job(&make_given(&rt), rt.alloc(), Job::FullQueue);
+    assert_eq!(rt; runs, Runs::right(20, 10));
 }
 
 #[test]
 fn a_check_of_two_schedules(rt: HostRuntime) {
-    let runs = of_job(&rt, rt.alloc(), Job::TwoSchedules);
-    assert_eq!(rt; runs, Runs { met: 4, free: 26 });
+    let runs = of_job(&make_given(&rt), rt.alloc(), Job::TwoSchedules);
+    assert_eq!(rt; runs, Runs::right(4, 26));
 }
 
 /// Runs a replay until no growth is refused.
-pub fn of_replay(rt: &impl Abort, alloc: Global, replaying: &Replaying) -> Runs {
+pub fn of_replay(given: &Given, alloc: Global, replaying: &Replaying) -> Runs {
     let mut runs = Runs::none();
     for run in 0..100 {
         let heap = heap_of(alloc, run);
         let mut report = Vec::new(alloc);
         let mut departures = Vec::new(alloc);
         let capture = replaying.capture.as_slice();
-        let result = Replaying::run(rt, &heap, capture, &mut departures, &mut report);
+        let result = Replaying::run(given, &heap, capture, &mut departures, &mut report);
         let refused = is_refused(&heap, run);
-        assert_eq!(rt; result.err(), refused.then_some(ReplayFault::Memory));
-        assert!(rt; replaying.is_front(&departures, &report, !refused));
-        runs.count(refused);
+        let told = result.err() == refused.then_some(ReplayFault::Memory);
+        let front = replaying.is_front(&departures, &report, !refused);
+        runs.count(refused, told && front);
     }
     runs
 }
@@ -227,15 +238,15 @@ pub fn of_replay(rt: &impl Abort, alloc: Global, replaying: &Replaying) -> Runs 
 #[test]
 fn a_replay_of_two_frames(rt: HostRuntime) -> Result<(), Fail> {
     let replaying = Replaying::two_frames(rt.alloc())?;
-    let runs = of_replay(&rt, rt.alloc(), &replaying);
-    assert_eq!(rt; runs, Runs { met: 60, free: 40 });
+    let runs = of_replay(&make_given(&rt), rt.alloc(), &replaying);
+    assert_eq!(rt; runs, Runs::right(60, 40));
     Ok(())
 }
 
 #[test]
 fn a_replay_of_a_hundred_frames(rt: HostRuntime) -> Result<(), Fail> {
     let replaying = Replaying::hundred_frames(rt.alloc())?;
-    let runs = of_replay(&rt, rt.alloc(), &replaying);
-    assert_eq!(rt; runs, Runs { met: 58, free: 42 });
+    let runs = of_replay(&make_given(&rt), rt.alloc(), &replaying);
+    assert_eq!(rt; runs, Runs::right(58, 42));
     Ok(())
 }

@@ -6,6 +6,7 @@ use schedule_check::{CheckSettings, check};
 use script::{RunFault, Settings, run_script, say_fault};
 use std::alloc::{Allocator, Global};
 use std::io::{self, Read, Write};
+#[cfg(test)]
 use std::process::Abort;
 use test_streams::{BOTH_LEFT, BOTH_TOLD, TWO_RECORDS};
 use wire_time::Rate;
@@ -73,39 +74,69 @@ impl Job {
     /// Does it, from any reader to any writer.
     pub fn run<A: Allocator, R: Read + Drop, W: Write>(
         self,
-        rt: &impl Abort,
+        given: &Given,
         alloc: A,
         reader: R,
         writer: &mut W,
     ) -> Result<(), RunFault> {
         match self {
-            Job::TwoSchedules => check(alloc, reader, writer, as_told(rt)),
-            _ => run_script(alloc, reader, writer, settings(rt, None)),
+            Job::TwoSchedules => check(alloc, reader, writer, given.checked),
+            _ => run_script(alloc, reader, writer, given.settings),
         }
     }
 }
 
-/// Settings with a rate of 1 Gb/s, an mtu of 1500 octets and room for two frames a class.
-pub fn settings(rt: &impl Abort, until: Option<u128>) -> Settings {
-    Settings::new(rate(rt), 1500, 2, until).expect(rt, "settings")
+/// What all runs are given: 1 Gb/s, an mtu of 1500 octets and room for two frames a class.
+#[derive(Clone, Copy)]
+pub struct Given {
+    /// The rate.
+    pub rate: Rate,
+    /// How scripts are run, to no moment behind them.
+    pub settings: Settings,
+    /// How captures are replayed, to behind all frames.
+    pub to_the_end: Settings,
+    /// How schedules are checked: without windows.
+    pub checked: CheckSettings,
 }
 
-/// 1 Gb/s.
-pub fn rate(rt: &impl Abort) -> Rate {
-    Rate::from_mbps(1000).expect(rt, "a rate")
-}
-
-/// How schedules are checked: at 1 Gb/s, without windows.
-pub fn as_told(rt: &impl Abort) -> CheckSettings {
-    CheckSettings {
-        rate: rate(rt),
-        windows: false,
+impl Given {
+    /// They are good: there is a value.
+    pub fn new() -> Option<Given> {
+        let rate = Rate::from_mbps(1000).ok()?;
+        Some(Given {
+            rate,
+            settings: Settings::new(rate, 1500, 2, None).ok()?,
+            to_the_end: Settings::new(rate, 1500, 2, Some(END)).ok()?,
+            checked: CheckSettings {
+                rate,
+                windows: false,
+            },
+        })
     }
 }
 
+/// What all runs are given.
+#[cfg(test)]
+pub fn make_given(rt: &impl Abort) -> Given {
+    Given::new().expect(rt, "settings")
+}
+
+/// The same settings with another moment to run to.
+#[cfg(test)]
+pub fn settings(rt: &impl Abort, until: Option<u128>) -> Settings {
+    Settings::new(make_given(rt).rate, 1500, 2, until).expect(rt, "settings")
+}
+
+/// How schedules are checked.
+#[cfg(test)]
+pub fn as_told(rt: &impl Abort) -> CheckSettings {
+    make_given(rt).checked
+}
+
 /// Settings that run to behind all frames.
+#[cfg(test)]
 pub fn to_the_end(rt: &impl Abort) -> Settings {
-    settings(rt, Some(END))
+    make_given(rt).to_the_end
 }
 
 /// A capture of a hundred untagged frames of 60 octets, from 2 s on one every 10 microseconds.
@@ -152,6 +183,7 @@ pub fn replay_in_memory(alloc: Global, capture: &[u8], settings: Settings) -> Re
 }
 
 /// What the program says of how a script or a check ended: nothing where it met no fault.
+#[cfg(test)]
 pub fn text_of(alloc: Global, outcome: Result<(), RunFault>) -> Vec<u8> {
     let mut text = Vec::new(alloc);
     if let Err(fault) = outcome {
@@ -161,6 +193,7 @@ pub fn text_of(alloc: Global, outcome: Result<(), RunFault>) -> Vec<u8> {
 }
 
 /// What the program says of how a replay ended: nothing where it met no fault.
+#[cfg(test)]
 pub fn text_of_replay(alloc: Global, outcome: Result<(), ReplayFault>) -> Vec<u8> {
     let mut text = Vec::new(alloc);
     if let Err(fault) = outcome {
@@ -207,7 +240,7 @@ impl Replaying {
 
     /// Does it without script lines, from any reader to any writers.
     pub fn run<A: Allocator, R: Read + Drop, W: Write, V: Write>(
-        rt: &impl Abort,
+        given: &Given,
         alloc: A,
         capture: R,
         departures: &mut W,
@@ -219,7 +252,7 @@ impl Replaying {
             capture,
             departures,
             report,
-            to_the_end(rt),
+            given.to_the_end,
             &mut Unwatched,
         )
     }
@@ -237,24 +270,51 @@ impl Replaying {
     }
 }
 
-/// How many runs met what a test puts in the way, and how many after them met nothing.
+/// How many runs met what is put in the way, how many after them met nothing, and how many came out otherwise than they should.
 #[derive(Clone, Copy, Drop, PartialEq, Eq, Debug)]
 pub struct Runs {
     pub met: u32,
     pub free: u32,
+    pub wrong: u32,
 }
 
 impl Runs {
     pub fn none() -> Runs {
-        Runs { met: 0, free: 0 }
+        Runs {
+            met: 0,
+            free: 0,
+            wrong: 0,
+        }
     }
 
-    /// Counts a run. One that meets something behind one that met nothing counts as neither.
-    pub fn count(&mut self, met: bool) {
+    /// A run that could not be made.
+    pub fn failed() -> Runs {
+        Runs {
+            met: 0,
+            free: 0,
+            wrong: 1,
+        }
+    }
+
+    /// All came out as they should.
+    #[cfg(test)]
+    pub fn right(met: u32, free: u32) -> Runs {
+        Runs {
+            met,
+            free,
+            wrong: 0,
+        }
+    }
+
+    /// Counts a run. One that meets something behind one that met nothing is wrong.
+    pub fn count(&mut self, met: bool, is_right: bool) {
         if !met {
             self.free = self.free.saturating_add(1);
         } else if self.free == 0 {
             self.met = self.met.saturating_add(1);
+        }
+        if !is_right || (met && self.free > 0) {
+            self.wrong = self.wrong.saturating_add(1);
         }
     }
 
@@ -262,5 +322,6 @@ impl Runs {
     pub fn add(&mut self, other: Runs) {
         self.met = self.met.saturating_add(other.met);
         self.free = self.free.saturating_add(other.free);
+        self.wrong = self.wrong.saturating_add(other.wrong);
     }
 }

@@ -1,15 +1,19 @@
 //! Reads and writes that fail, in turn, once or for ever, are cut short to one octet, or give or take nothing, until a run meets none of
 //! it. A body that always answers `Read` or `Write` fails each of these tests, since the last runs meet nothing.
 
-use super::rows::{Job, Replaying, Runs, hundred_frames, replay_in_memory, to_the_end};
+use super::rows::{Given, Job, Replaying, Runs, replay_in_memory};
+#[cfg(test)]
+use super::rows::{hundred_frames, make_given};
+#[cfg(test)]
 use capture::{CapFault, CaptureReader};
 use replay::ReplayFault;
 use script::RunFault;
 use std::alloc::Global;
-use std::process::Abort;
 #[cfg(test)]
 use std::test::Fail;
-use test_streams::{Pieces, Tally, Turn, TurningReader, TurningWriter, nth_turn};
+#[cfg(test)]
+use test_streams::Pieces;
+use test_streams::{Tally, Turn, TurningReader, TurningWriter, nth_turn};
 
 /// One piece is all that is asked for.
 const WHOLE: usize = usize::MAX;
@@ -22,47 +26,40 @@ pub fn runs_for(calls: u32) -> u32 {
 /// What those runs meet.
 #[cfg(test)]
 fn four_each(calls: u32) -> Runs {
-    Runs {
-        met: calls.saturating_mul(4),
-        free: 4,
-    }
+    Runs::right(calls.saturating_mul(4), 4)
 }
 
-/// A run of a job whose reader does something else at one call, and whether it came to that call.
-fn read_in_turn(rt: &impl Abort, alloc: Global, job: Job, piece: usize, run: u32) -> bool {
+/// A run of a job whose reader does something else at one call: whether it came to that call, and came out as it should.
+fn read_in_turn(given: &Given, alloc: Global, job: Job, piece: usize, run: u32) -> (bool, bool) {
     let (at, turn) = nth_turn(run);
     let tally = Tally::new();
     let mut got = Vec::new(alloc);
     let reader = TurningReader::new(job.input(), piece, at, turn, &tally);
-    let result = job.run(rt, alloc, reader, &mut got);
+    let result = job.run(given, alloc, reader, &mut got);
     let met = tally.calls.get() > at;
-    match turn {
+    let last = tally.calls.get().saturating_sub(at) == 1;
+    let is_right = match turn {
         Turn::Fails | Turn::FailsOnce if met => {
-            assert_eq!(rt; result, Err(RunFault::Read));
-            assert_eq!(rt; tally.calls.get().saturating_sub(at), 1);
-            assert!(rt; job.output().starts_with(&got));
+            result == Err(RunFault::Read) && last && job.output().starts_with(&got)
         }
         Turn::Nothing if met => {
             let input = job.input();
             let front = &input[..tally.octets.get().min(input.len())];
             let mut want = Vec::new(alloc);
-            assert_eq!(rt; result, job.run(rt, alloc, front, &mut want));
-            assert_eq!(rt; tally.calls.get().saturating_sub(at), 1);
-            assert_eq!(rt; got.as_slice(), want.as_slice());
+            let wanted = job.run(given, alloc, front, &mut want);
+            result == wanted && last && got.as_slice() == want.as_slice()
         }
-        _ => {
-            assert_eq!(rt; result, Ok(()));
-            assert_eq!(rt; got.as_slice(), job.output());
-        }
-    }
-    met
+        _ => result == Ok(()) && got.as_slice() == job.output(),
+    };
+    (met, is_right)
 }
 
 /// All runs of a job whose reads come in pieces of so many octets.
-pub fn reads_of(rt: &impl Abort, alloc: Global, job: Job, piece: usize, most: u32) -> Runs {
+pub fn reads_of(given: &Given, alloc: Global, job: Job, piece: usize, most: u32) -> Runs {
     let mut runs = Runs::none();
     for run in 0..most {
-        runs.count(read_in_turn(rt, alloc, job, piece, run));
+        let (met, is_right) = read_in_turn(given, alloc, job, piece, run);
+        runs.count(met, is_right);
     }
     runs
 }
@@ -76,35 +73,34 @@ pub fn pieces_of_input(job: Job) -> [(usize, u32); 2] {
 fn each_read_of_a_job(rt: HostRuntime) {
     for job in [Job::OneFrame, Job::FullQueue, Job::TwoSchedules] {
         for (piece, reads) in pieces_of_input(job) {
-            let runs = reads_of(&rt, rt.alloc(), job, piece, runs_for(reads));
+            let runs = reads_of(&make_given(&rt), rt.alloc(), job, piece, runs_for(reads));
             assert_eq!(rt; runs, four_each(reads));
         }
     }
 }
 
-/// A run of a job whose writer does something else at one call, and whether it came to that call.
-fn write_in_turn(rt: &impl Abort, alloc: Global, job: Job, piece: usize, run: u32) -> bool {
+/// A run of a job whose writer does something else at one call: whether it came to that call, and came out as it should.
+fn write_in_turn(given: &Given, alloc: Global, job: Job, piece: usize, run: u32) -> (bool, bool) {
     let (at, turn) = nth_turn(run);
     let mut writer = TurningWriter::new(alloc, piece, at, turn);
-    let result = job.run(rt, alloc, job.input(), &mut writer);
+    let result = job.run(given, alloc, job.input(), &mut writer);
     let met = writer.calls > at;
-    assert!(rt; job.output().starts_with(&writer.got));
-    if met && turn != Turn::OneOctet {
-        assert_eq!(rt; result, Err(RunFault::Write));
-        assert_eq!(rt; writer.calls.saturating_sub(at), 1);
-        assert!(rt; writer.got.len() < job.output().len());
+    let front = job.output().starts_with(&writer.got);
+    let is_right = if met && turn != Turn::OneOctet {
+        let last = writer.calls.saturating_sub(at) == 1;
+        result == Err(RunFault::Write) && last && writer.got.len() < job.output().len()
     } else {
-        assert_eq!(rt; result, Ok(()));
-        assert_eq!(rt; writer.got.as_slice(), job.output());
-    }
-    met
+        result == Ok(()) && writer.got.as_slice() == job.output()
+    };
+    (met, front && is_right)
 }
 
 /// All runs of a job whose writes take at most so many octets.
-pub fn writes_of(rt: &impl Abort, alloc: Global, job: Job, piece: usize, most: u32) -> Runs {
+pub fn writes_of(given: &Given, alloc: Global, job: Job, piece: usize, most: u32) -> Runs {
     let mut runs = Runs::none();
     for run in 0..most {
-        runs.count(write_in_turn(rt, alloc, job, piece, run));
+        let (met, is_right) = write_in_turn(given, alloc, job, piece, run);
+        runs.count(met, is_right);
     }
     runs
 }
@@ -124,53 +120,49 @@ pub fn pieces_of_output(job: Job) -> [(usize, u32); 2] {
 fn each_write_of_a_job(rt: HostRuntime) {
     for job in [Job::OneFrame, Job::FullQueue, Job::TwoSchedules] {
         for (piece, writes) in pieces_of_output(job) {
-            let runs = writes_of(&rt, rt.alloc(), job, piece, runs_for(writes));
+            let runs = writes_of(&make_given(&rt), rt.alloc(), job, piece, runs_for(writes));
             assert_eq!(rt; runs, four_each(writes));
         }
     }
 }
 
-/// A run of a replay whose capture's reader does something else at one call, and whether it came to that call.
+/// A run of a replay whose capture's reader does something else at one call: whether it came to that call, and came out as it should.
 fn read_of_capture(
-    rt: &impl Abort,
+    given: &Given,
     alloc: Global,
     replaying: &Replaying,
     piece: usize,
     run: u32,
-) -> bool {
+) -> (bool, bool) {
     let (at, turn) = nth_turn(run);
     let tally = Tally::new();
     let mut report = Vec::new(alloc);
     let mut departures = Vec::new(alloc);
     let capture = replaying.capture.as_slice();
     let reader = TurningReader::new(capture, piece, at, turn, &tally);
-    let result = Replaying::run(rt, alloc, reader, &mut departures, &mut report);
+    let result = Replaying::run(given, alloc, reader, &mut departures, &mut report);
     let met = tally.calls.get() > at;
-    match turn {
+    let last = tally.calls.get().saturating_sub(at) == 1;
+    let is_right = match turn {
         Turn::Fails | Turn::FailsOnce if met => {
-            assert_eq!(rt; result, Err(ReplayFault::Read));
-            assert_eq!(rt; tally.calls.get().saturating_sub(at), 1);
-            assert!(rt; replaying.is_front(&departures, &report, false));
+            let front = replaying.is_front(&departures, &report, false);
+            result == Err(ReplayFault::Read) && last && front
         }
         Turn::Nothing if met => {
             let front = &capture[..tally.octets.get().min(capture.len())];
-            let want = replay_in_memory(alloc, front, to_the_end(rt));
-            assert_eq!(rt; result, want.result);
-            assert_eq!(rt; tally.calls.get().saturating_sub(at), 1);
-            assert_eq!(rt; report.as_slice(), want.report.as_slice());
-            assert_eq!(rt; departures.as_slice(), want.capture.as_slice());
+            let want = replay_in_memory(alloc, front, given.to_the_end);
+            let same = report.as_slice() == want.report.as_slice()
+                && departures.as_slice() == want.capture.as_slice();
+            result == want.result && last && same
         }
-        _ => {
-            assert_eq!(rt; result, Ok(()));
-            assert!(rt; replaying.is_front(&departures, &report, true));
-        }
-    }
-    met
+        _ => result == Ok(()) && replaying.is_front(&departures, &report, true),
+    };
+    (met, is_right)
 }
 
 /// All runs of a replay whose capture comes in pieces of so many octets.
 pub fn reads_of_capture(
-    rt: &impl Abort,
+    given: &Given,
     alloc: Global,
     replaying: &Replaying,
     piece: usize,
@@ -178,7 +170,8 @@ pub fn reads_of_capture(
 ) -> Runs {
     let mut runs = Runs::none();
     for run in 0..most {
-        runs.count(read_of_capture(rt, alloc, replaying, piece, run));
+        let (met, is_right) = read_of_capture(given, alloc, replaying, piece, run);
+        runs.count(met, is_right);
     }
     runs
 }
@@ -194,7 +187,13 @@ pub const PIECES_OF_A_HUNDRED_FRAMES: [(usize, u32); 2] = [(WHOLE, 3), (76, 102)
 fn each_read_of_two_frames(rt: HostRuntime) -> Result<(), Fail> {
     let replaying = Replaying::two_frames(rt.alloc())?;
     for (piece, reads) in PIECES_OF_TWO_FRAMES {
-        let runs = reads_of_capture(&rt, rt.alloc(), &replaying, piece, runs_for(reads));
+        let runs = reads_of_capture(
+            &make_given(&rt),
+            rt.alloc(),
+            &replaying,
+            piece,
+            runs_for(reads),
+        );
         assert_eq!(rt; runs, four_each(reads));
     }
     Ok(())
@@ -204,20 +203,26 @@ fn each_read_of_two_frames(rt: HostRuntime) -> Result<(), Fail> {
 fn each_read_of_a_hundred_frames(rt: HostRuntime) -> Result<(), Fail> {
     let replaying = Replaying::hundred_frames(rt.alloc())?;
     for (piece, reads) in PIECES_OF_A_HUNDRED_FRAMES {
-        let runs = reads_of_capture(&rt, rt.alloc(), &replaying, piece, runs_for(reads));
+        let runs = reads_of_capture(
+            &make_given(&rt),
+            rt.alloc(),
+            &replaying,
+            piece,
+            runs_for(reads),
+        );
         assert_eq!(rt; runs, four_each(reads));
     }
     Ok(())
 }
 
-/// A run of a replay one of whose writers does something else at one call, and whether it came to that call.
+/// A run of a replay one of whose writers does something else at one call: whether it came to that call, and came out as it should.
 fn write_of_replay(
-    rt: &impl Abort,
+    given: &Given,
     alloc: Global,
     replaying: &Replaying,
     of_report: bool,
     run: u32,
-) -> bool {
+) -> (bool, bool) {
     let (at, turn) = nth_turn(run);
     let (of_departures, of_lines) = if of_report {
         (u32::MAX, at)
@@ -227,27 +232,27 @@ fn write_of_replay(
     let mut departures = TurningWriter::new(alloc, WHOLE, of_departures, turn);
     let mut report = TurningWriter::new(alloc, WHOLE, of_lines, turn);
     let capture = replaying.capture.as_slice();
-    let result = Replaying::run(rt, alloc, capture, &mut departures, &mut report);
+    let result = Replaying::run(given, alloc, capture, &mut departures, &mut report);
     let calls = if of_report {
         report.calls
     } else {
         departures.calls
     };
-    if calls > at && turn != Turn::OneOctet {
-        assert_eq!(rt; result, Err(ReplayFault::Write));
-        assert_eq!(rt; calls.saturating_sub(at), 1);
-        assert!(rt; replaying.is_front(&departures.got, &report.got, false));
-        assert!(rt; !replaying.is_whole(&departures.got, &report.got));
+    let met = calls > at;
+    let is_right = if met && turn != Turn::OneOctet {
+        result == Err(ReplayFault::Write)
+            && calls.saturating_sub(at) == 1
+            && replaying.is_front(&departures.got, &report.got, false)
+            && !replaying.is_whole(&departures.got, &report.got)
     } else {
-        assert_eq!(rt; result, Ok(()));
-        assert!(rt; replaying.is_front(&departures.got, &report.got, true));
-    }
-    calls > at
+        result == Ok(()) && replaying.is_front(&departures.got, &report.got, true)
+    };
+    (met, is_right)
 }
 
 /// All runs of a replay in which writes of one of its outputs are met.
 pub fn writes_of_replay(
-    rt: &impl Abort,
+    given: &Given,
     alloc: Global,
     replaying: &Replaying,
     of_report: bool,
@@ -255,7 +260,8 @@ pub fn writes_of_replay(
 ) -> Runs {
     let mut runs = Runs::none();
     for run in 0..most {
-        runs.count(write_of_replay(rt, alloc, replaying, of_report, run));
+        let (met, is_right) = write_of_replay(given, alloc, replaying, of_report, run);
+        runs.count(met, is_right);
     }
     runs
 }
@@ -270,7 +276,13 @@ pub const WRITES_OF_A_HUNDRED_FRAMES: [(bool, u32); 2] = [(true, 200), (false, 2
 fn each_write_of_two_frames(rt: HostRuntime) -> Result<(), Fail> {
     let replaying = Replaying::two_frames(rt.alloc())?;
     for (of_report, writes) in WRITES_OF_TWO_FRAMES {
-        let runs = writes_of_replay(&rt, rt.alloc(), &replaying, of_report, runs_for(writes));
+        let runs = writes_of_replay(
+            &make_given(&rt),
+            rt.alloc(),
+            &replaying,
+            of_report,
+            runs_for(writes),
+        );
         assert_eq!(rt; runs, four_each(writes));
     }
     Ok(())
@@ -280,7 +292,13 @@ fn each_write_of_two_frames(rt: HostRuntime) -> Result<(), Fail> {
 fn each_write_of_a_hundred_frames(rt: HostRuntime) -> Result<(), Fail> {
     let replaying = Replaying::hundred_frames(rt.alloc())?;
     for (of_report, writes) in WRITES_OF_A_HUNDRED_FRAMES {
-        let runs = writes_of_replay(&rt, rt.alloc(), &replaying, of_report, runs_for(writes));
+        let runs = writes_of_replay(
+            &make_given(&rt),
+            rt.alloc(),
+            &replaying,
+            of_report,
+            runs_for(writes),
+        );
         assert_eq!(rt; runs, four_each(writes));
     }
     Ok(())
