@@ -10,6 +10,8 @@ use replay::ReplayFault;
 use script::RunFault;
 use std::alloc::Global;
 #[cfg(test)]
+use std::process::Abort;
+#[cfg(test)]
 use std::test::Fail;
 #[cfg(test)]
 use test_streams::Pieces;
@@ -183,35 +185,28 @@ pub const PIECES_OF_TWO_FRAMES: [(usize, u32); 2] = [(WHOLE, 3), (1, 93)];
 /// The same of a hundred frames: the header, what is behind it, and the end; and the header and then record by record.
 pub const PIECES_OF_A_HUNDRED_FRAMES: [(usize, u32); 2] = [(WHOLE, 3), (76, 102)];
 
+/// Each read of a replay's capture meets what it should.
+#[cfg(test)]
+fn assert_reads<R: Abort + AllocGlobal>(rt: &R, replaying: &Replaying, pieces: [(usize, u32); 2]) {
+    let given = make_given(rt);
+    for (piece, reads) in pieces {
+        let most = runs_for(reads);
+        let runs = reads_of_capture(&given, rt.alloc(), replaying, piece, most);
+        assert_eq!(rt; runs, four_each(reads));
+    }
+}
+
 #[test]
 fn each_read_of_two_frames(rt: HostRuntime) -> Result<(), Fail> {
     let replaying = Replaying::two_frames(rt.alloc())?;
-    for (piece, reads) in PIECES_OF_TWO_FRAMES {
-        let runs = reads_of_capture(
-            &make_given(&rt),
-            rt.alloc(),
-            &replaying,
-            piece,
-            runs_for(reads),
-        );
-        assert_eq!(rt; runs, four_each(reads));
-    }
+    assert_reads(&rt, &replaying, PIECES_OF_TWO_FRAMES);
     Ok(())
 }
 
 #[test]
 fn each_read_of_a_hundred_frames(rt: HostRuntime) -> Result<(), Fail> {
     let replaying = Replaying::hundred_frames(rt.alloc())?;
-    for (piece, reads) in PIECES_OF_A_HUNDRED_FRAMES {
-        let runs = reads_of_capture(
-            &make_given(&rt),
-            rt.alloc(),
-            &replaying,
-            piece,
-            runs_for(reads),
-        );
-        assert_eq!(rt; runs, four_each(reads));
-    }
+    assert_reads(&rt, &replaying, PIECES_OF_A_HUNDRED_FRAMES);
     Ok(())
 }
 
@@ -272,35 +267,28 @@ pub const WRITES_OF_TWO_FRAMES: [(bool, u32); 2] = [(true, 4), (false, 5)];
 /// The same of a hundred frames.
 pub const WRITES_OF_A_HUNDRED_FRAMES: [(bool, u32); 2] = [(true, 200), (false, 201)];
 
+/// Each write of both outputs of a replay meets what it should.
+#[cfg(test)]
+fn assert_writes<R: Abort + AllocGlobal>(rt: &R, replaying: &Replaying, outputs: [(bool, u32); 2]) {
+    let given = make_given(rt);
+    for (of_report, writes) in outputs {
+        let most = runs_for(writes);
+        let runs = writes_of_replay(&given, rt.alloc(), replaying, of_report, most);
+        assert_eq!(rt; runs, four_each(writes));
+    }
+}
+
 #[test]
 fn each_write_of_two_frames(rt: HostRuntime) -> Result<(), Fail> {
     let replaying = Replaying::two_frames(rt.alloc())?;
-    for (of_report, writes) in WRITES_OF_TWO_FRAMES {
-        let runs = writes_of_replay(
-            &make_given(&rt),
-            rt.alloc(),
-            &replaying,
-            of_report,
-            runs_for(writes),
-        );
-        assert_eq!(rt; runs, four_each(writes));
-    }
+    assert_writes(&rt, &replaying, WRITES_OF_TWO_FRAMES);
     Ok(())
 }
 
 #[test]
 fn each_write_of_a_hundred_frames(rt: HostRuntime) -> Result<(), Fail> {
     let replaying = Replaying::hundred_frames(rt.alloc())?;
-    for (of_report, writes) in WRITES_OF_A_HUNDRED_FRAMES {
-        let runs = writes_of_replay(
-            &make_given(&rt),
-            rt.alloc(),
-            &replaying,
-            of_report,
-            runs_for(writes),
-        );
-        assert_eq!(rt; runs, four_each(writes));
-    }
+    assert_writes(&rt, &replaying, WRITES_OF_A_HUNDRED_FRAMES);
     Ok(())
 }
 
