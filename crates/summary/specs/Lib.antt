@@ -1,0 +1,4 @@
+pub mod Observed
+pub mod Lines
+pub mod Wanted
+pub mod Pace

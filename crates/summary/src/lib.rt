@@ -1,0 +1,13 @@
+//! What a run comes to: how long the frames of each class waited, and how long the wire was busy.
+#![tactic(auto)]
+
+mod class_summary;
+pub mod laws;
+mod lines;
+mod seeing;
+mod waiting;
+mod wanted;
+
+pub use seeing::Summary;
+pub use waiting::Waits;
+pub use wanted::{note, summary_wanted};

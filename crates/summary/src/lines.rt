@@ -1,0 +1,111 @@
+//! The lines of a summary.
+
+ghost use Rattle.std.specs.Prelude.{◌≡◌, ◌≤◌, ◌&&◌, ◌==◌, [], if◌then◌else◌};
+ghost use Rattle.octet_writer.specs.Writes.{Writes};
+ghost use Rattle.wire_time.specs.Moment.{greatest_moment};
+ghost use Rattle.answer_text.specs.Part.{text_of};
+ghost use Rattle.summary.specs.Lines.{class_line, dropped_of, share_of, wait_text, wire_line};
+
+use crate::waiting::Waits;
+use abstract_port::Counters;
+use answer_text::{Part, WriteFault, put_parts};
+use std::io::Write;
+
+// A number of picoseconds, or - where no frame has started.
+fn wait_part<'a>(waits: &Waits, number: u128) -> Part<'a>
+    ensures { text_of result ≡ wait_text waits.now number }
+{
+    if waits.count == 0 {
+        Part::Text(b"-")
+    } else {
+        Part::Number(number)
+    }
+}
+
+// The frames of a class that were dropped.
+fn dropped_of(counters: &Counters) -> u128
+    ensures { result ≡ dropped_of counters.now }
+{
+    let [runt, too_long, over_sdu, full] = counters.dropped;
+    u128::from(runt) + u128::from(too_long) + u128::from(over_sdu) + u128::from(full)
+}
+
+// Writes the line of a class.
+fn put_class_line<W: Write>(
+    class: u8,
+    counters: &Counters,
+    waits: &Waits,
+    most: u64,
+    writer: &mut W,
+) -> Result<(), WriteFault>
+    ensures { Writes result (W.contents writer.old) (W.contents writer.new) (class_line class counters.now waits.now most) }
+{
+    put_parts(
+        writer,
+        &[
+            Part::Text(b"summary class "),
+            Part::Number(u128::from(class)),
+            Part::Text(b" queued "),
+            Part::Number(u128::from(counters.accepted)),
+            Part::Text(b" sent "),
+            Part::Number(u128::from(counters.sent)),
+            Part::Text(b" dropped "),
+            Part::Number(dropped_of(counters)),
+            Part::Text(b" octets "),
+            Part::Number(u128::from(counters.sent_octets)),
+            Part::Text(b" least "),
+            wait_part(waits, waits.least),
+            Part::Text(b" mean "),
+            wait_part(waits, waits.mean()),
+            Part::Text(b" greatest "),
+            wait_part(waits, waits.greatest),
+            Part::Text(b" most "),
+            Part::Number(u128::from(most)),
+            Part::Text(b"\n"),
+        ],
+    )
+}
+
+/// Writes the line of a class that had frames: what it has counted, how long its frames waited, and the greatest number that waited
+/// at once.
+pub fn put_class_text<W: Write>(
+    class: u8,
+    counters: &Counters,
+    waits: &Waits,
+    most: u64,
+    writer: &mut W,
+) -> Result<(), WriteFault>
+    ensures { Writes result (W.contents writer.old) (W.contents writer.new) (if counters.now.accepted == 0 && dropped_of counters.now == 0 then [] else class_line class counters.now waits.now most) }
+{
+    if counters.accepted == 0 && dropped_of(counters) == 0 {
+        return Ok(());
+    }
+    put_class_line(class, counters, waits, most, writer)
+}
+
+// The share of a time in parts per million, rounded down.
+fn share_of(busy: u128, now: u128) -> u128
+    requires busy { busy ≤ now }
+    requires within { now ≤ greatest_moment }
+    ensures { result ≡ share_of busy now }
+{
+    if now == 0 { 0 } else { busy * 1_000_000 / now }
+}
+
+/// Writes how long the wire was busy, in picoseconds, and the share of the time up to a moment.
+pub fn put_wire_line<W: Write>(busy: u128, now: u128, writer: &mut W) -> Result<(), WriteFault>
+    requires busy { busy ≤ now }
+    requires within { now ≤ greatest_moment }
+    ensures { Writes result (W.contents writer.old) (W.contents writer.new) (wire_line busy now) }
+{
+    put_parts(
+        writer,
+        &[
+            Part::Text(b"summary wire busy "),
+            Part::Number(busy),
+            Part::Text(b" ppm "),
+            Part::Number(share_of(busy, now)),
+            Part::Text(b"\n"),
+        ],
+    )
+}

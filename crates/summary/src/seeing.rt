@@ -1,0 +1,168 @@
+//! What is seen of a run, answer by answer.
+
+ghost use Rattle.std.specs.Prelude.{◌≡◌, ◌≤◌, ◌<◌, ◌-◌, ◌+◌, max, IfOk, slice_set};
+ghost use Rattle.octet_writer.specs.Writes.{Writes};
+ghost use Rattle.wire_time.specs.Moment.{greatest_moment};
+ghost use Rattle.summary.specs.Observed.{class_at, nothing_seen, with_arrival, with_start};
+ghost use Rattle.summary.specs.Lines.{busy_by, class_text, wire_text};
+
+use crate::class_summary::ClassSummary;
+use crate::lines::{put_class_text, put_wire_line};
+use abstract_port::{Answer, Counters, Start};
+use answer_text::WriteFault;
+use std::alloc::{AllocError, Allocator, Global};
+use std::io::Write;
+use std::marker::Model;
+
+// Eight classes without frames.
+fn classes_of<A: Allocator + Clone>(
+    alloc: &A,
+    room: usize,
+) -> Result<[ClassSummary<A>; 8], AllocError>
+    ensures { IfOk result (λ classes. classes ≡ (nothing_seen room).classes) }
+{
+    Ok([
+        ClassSummary::new(alloc, room)?,
+        ClassSummary::new(alloc, room)?,
+        ClassSummary::new(alloc, room)?,
+        ClassSummary::new(alloc, room)?,
+        ClassSummary::new(alloc, room)?,
+        ClassSummary::new(alloc, room)?,
+        ClassSummary::new(alloc, room)?,
+        ClassSummary::new(alloc, room)?,
+    ])
+}
+
+// A frame of a class is queued at a moment.
+fn arrives_in<A: Allocator>(classes: &mut [ClassSummary<A>; 8], class: u8, now: u128)
+    requires { class < 8 }
+    ensures { classes.new ≡ slice_set classes.old class (with_arrival now (class_at classes.old class)) }
+{
+    classes[class as usize].arrives(now);
+}
+
+// The first frame of a class starts at a moment.
+fn starts_in<A: Allocator>(classes: &mut [ClassSummary<A>; 8], class: u8, at: u128)
+    requires { class < 8 }
+    ensures { classes.new ≡ slice_set classes.old class (with_start at (class_at classes.old class)) }
+{
+    classes[class as usize].starts(at);
+}
+
+// What is seen of a class.
+fn class_in<A: Allocator>(classes: &[ClassSummary<A>; 8], class: u8) -> &ClassSummary<A>
+    requires { class < 8 }
+    ensures { result.now ≡ class_at classes.now class }
+{
+    &classes[class as usize]
+}
+
+/// What is seen of a run, from the answers of a port: how long the frames of each class waited, and how long the wire was busy.
+#[derive(Drop)]
+pub struct Summary<A: Allocator = Global> {
+    classes: [ClassSummary<A>; 8],
+    busy: u128,
+    free: u128,
+}
+
+/// A contract sees what is seen of each class, and of the wire.
+impl<A: Allocator> Model for Summary<A> {
+    ghost use Rattle.summary.specs.Observed.{Observed};
+
+    ghost Value = { Observed };
+
+    ghost use Rattle.std.specs.Prelude.{◌≤◌};
+
+    ghost view = { λ s. record { classes = s.classes; busy = s.busy; free = s.free } };
+
+    ghost invariant = { λ s. s.busy ≤ s.free };
+}
+
+impl<A: Allocator> Summary<A> {
+    ghost use Rattle.summary.specs.Observed.{in_class, on_wire, seen};
+
+    /// Nothing is seen yet. All memory that is ever wanted is taken here: the arrival moments of so many frames a class.
+    pub fn new(alloc: &A, room: u32) -> Result<Summary<A>, AllocError>
+    where
+        A: Clone,
+        ensures { IfOk result (λ s. s ≡ nothing_seen room) }
+    {
+        let classes = classes_of(alloc, room as usize)?;
+        Ok(Summary {
+            classes,
+            busy: 0,
+            free: 0,
+        })
+    }
+
+    // A frame of a class, if it is one, is queued at a moment.
+    fn see_queued(&mut self, class: u8, now: u128)
+        ensures { self.new ≡ in_class class (with_arrival now) self.old }
+    {
+        if class < 8 {
+            arrives_in(&mut self.classes, class, now);
+        }
+    }
+
+    // The first frame of a class, if it is one, starts at a moment.
+    fn see_started(&mut self, class: u8, at: u128)
+        ensures { self.new ≡ in_class class (with_start at) self.old }
+    {
+        if class < 8 {
+            starts_in(&mut self.classes, class, at);
+        }
+    }
+
+    // A frame takes the wire.
+    fn see_on_wire(&mut self, start: &Start)
+        ensures { self.new ≡ on_wire start.now self.old }
+    {
+        let from = start.at.max(self.free);
+        self.busy += start.end.saturating_sub(from);
+        self.free = self.free.max(start.end);
+    }
+
+    /// Takes note of an answer that a port gives at this moment, in picoseconds: a frame that is queued then, or one that starts.
+    pub fn see(&mut self, now: u128, answer: &Answer)
+        ensures { self.new ≡ seen now answer.now self.old }
+    {
+        match answer {
+            Answer::Queued { id: _, class } => self.see_queued(*class, now),
+            Answer::Start(start) => {
+                self.see_started(start.class, start.at);
+                self.see_on_wire(start);
+            }
+            _ => {}
+        }
+    }
+
+    // For how long some frame has had the wire by a moment, in picoseconds.
+    fn busy_by(&self, now: u128) -> u128
+        ensures busy { result ≡ busy_by now self.now }
+        ensures within { result ≤ now }
+    {
+        self.busy.saturating_sub(self.free.saturating_sub(now))
+    }
+
+    /// Writes the line of a class, 0 to 7, with what it has counted, where it had frames. At a fault a front of it is written.
+    pub fn put_class<W: Write>(
+        &self,
+        class: u8,
+        counters: &Counters,
+        writer: &mut W,
+    ) -> Result<(), WriteFault>
+        requires { class < 8 }
+        ensures { Writes result (W.contents writer.old) (W.contents writer.new) (class_text class counters.now (class_at self.now.classes class)) }
+    {
+        let seen = class_in(&self.classes, class);
+        put_class_text(class, counters, &seen.waits(), seen.most(), writer)
+    }
+
+    /// Writes the line of the wire, up to this moment, in picoseconds. At a fault a front of it is written.
+    pub fn put_wire<W: Write>(&self, now: u128, writer: &mut W) -> Result<(), WriteFault>
+        requires { now ≤ greatest_moment }
+        ensures { Writes result (W.contents writer.old) (W.contents writer.new) (wire_text now self.now) }
+    {
+        put_wire_line(self.busy_by(now), now, writer)
+    }
+}
