@@ -10,15 +10,16 @@ use std::{fs, io};
 use traffic::write_streams;
 use wire_time::Rate;
 
-/// The examples, each with its script and its answers.
-const EXAMPLES: [(&str, &str); 7] = [
-    ("first.script", "first.answers"),
-    ("priorities.script", "priorities.answers"),
-    ("schedule.script", "schedule.answers"),
-    ("manual.script", "manual.answers"),
-    ("guard_band.script", "guard_band.answers"),
-    ("extension.script", "extension.answers"),
-    ("planned.script", "schedule.answers"),
+/// The examples, each with its script, its answers, and whether a summary is asked for.
+const EXAMPLES: [(&str, &str, bool); 8] = [
+    ("first.script", "first.answers", false),
+    ("priorities.script", "priorities.answers", false),
+    ("schedule.script", "schedule.answers", false),
+    ("manual.script", "manual.answers", false),
+    ("guard_band.script", "guard_band.answers", false),
+    ("extension.script", "extension.answers", false),
+    ("planned.script", "schedule.answers", false),
+    ("summary.script", "summary.answers", true),
 ];
 
 /// The examples of a check, each with its schedules, its answers, and whether windows are asked for.
@@ -33,20 +34,26 @@ fn settings(until: Option<u128>) -> Option<Settings> {
     Settings::new(rate, 1500, 128, until).ok()
 }
 
-/// Whether a script is answered with these octets, by the settings that the program has where no words are given.
-fn answers_with<R: AllocGlobal>(rt: &R, script: &[u8], answers: &[u8]) -> bool {
+/// Whether a script is answered with these octets, by the settings that the program has where no words are given, with a summary or without.
+fn answers_with<R: AllocGlobal>(rt: &R, script: &[u8], answers: &[u8], summary: bool) -> bool {
     let Some(settings) = settings(None) else {
         return false;
     };
+    let settings = settings.with_summary(summary);
     let mut got = Vec::new(rt.alloc());
     run_script(rt.alloc(), script, &mut got, settings).is_ok() && got.as_slice() == answers
 }
 
 /// Runs an example.
-fn agrees<R: Files + AllocGlobal>(rt: &R, script: &str, answers: &str) -> io::Result<bool> {
+fn agrees<R: Files + AllocGlobal>(
+    rt: &R,
+    script: &str,
+    answers: &str,
+    summary: bool,
+) -> io::Result<bool> {
     let script = fs::read_to_string(rt, script)?;
     let answers = fs::read_to_string(rt, answers)?;
-    Ok(answers_with(rt, script.as_bytes(), answers.as_bytes()))
+    Ok(answers_with(rt, script.as_bytes(), answers.as_bytes(), summary))
 }
 
 /// Whether an example of a check is told with the octets that lie beside it, at 1000 Mb/s, with windows or without.
@@ -122,7 +129,7 @@ fn worked<R: Files + AllocGlobal>(rt: &R) -> io::Result<(u32, u32)> {
     for case in text.split("====\n") {
         scripts = scripts.saturating_add(1);
         if let Some((script, answers)) = case.split_once("----\n")
-            && answers_with(rt, script.as_bytes(), answers.as_bytes())
+            && answers_with(rt, script.as_bytes(), answers.as_bytes(), false)
         {
             answered = answered.saturating_add(1);
         }
@@ -131,8 +138,8 @@ fn worked<R: Files + AllocGlobal>(rt: &R) -> io::Result<(u32, u32)> {
 }
 
 fn main(rt: HostRuntime) -> io::Result<()> {
-    for (script, answers) in EXAMPLES {
-        let told = told(agrees(&rt, script, answers)?);
+    for (script, answers, summary) in EXAMPLES {
+        let told = told(agrees(&rt, script, answers, summary)?);
         println!(rt; "{script} {told}")?;
     }
     for (schedules, answers, windows) in CHECKS {

@@ -26,6 +26,7 @@ const NO_VALUES: Values<'static> = Values {
     mtu: None,
     room: None,
     until: None,
+    summary: false,
 };
 
 /// No script beside a table.

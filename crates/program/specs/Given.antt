@@ -11,18 +11,22 @@ use Rattle.script.specs.declared.faults.Ended.{Ended}
 use Rattle.script.specs.declared.settings.BadValue.{BadValue}
 use Rattle.traffic.specs.Ending.{IsStreamsEnding}
 
+-- whether a flag is given: it is then true
+abbrev pub flag_in : List ℕ → Found → Bool
+flag_in name found = option_map_or (λ text. bytes_eq text (codes "true")) (first_value found name) false
+
 -- the settings of the values that are given to the options, with a moment of at most `greatest`
 abbrev pub settings_in : ℕ → Found → Result Setup BadValue
 settings_in greatest found =
-    settings_given greatest (first_value found (codes "rate")) (first_value found (codes "mtu")) (first_value found (codes "room")) (first_value found (codes "until"))
+    settings_given greatest (first_value found (codes "rate")) (first_value found (codes "mtu")) (first_value found (codes "room")) (first_value found (codes "until")) (flag_in (codes "summary") found)
 
 -- the rate of the value that is given to its option
 abbrev pub rate_in : Found → Result ℕ BadValue
 rate_in found = rate_given (first_value found (codes "rate"))
 
--- whether the flag that asks for windows is given: it is then true
+-- whether windows are asked for
 abbrev pub windows_in : Found → Bool
-windows_in found = option_map_or (λ text. bytes_eq text (codes "true")) (first_value found (codes "windows")) false
+windows_in found = flag_in (codes "windows") found
 
 -- The end of a run on a table, where a script is named or none is. Without one, that of the table and a script of no octets; else that of
 -- the table and of some octets, since what a file gives is not known, or of the path that can't be opened.

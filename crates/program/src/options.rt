@@ -2,11 +2,21 @@
 
 ghost use Rattle.std.specs.Prelude.{◌≡◌, codes, option_map};
 ghost use Rattle.clap.specs.Matches.{first_value, found_of};
-ghost use Rattle.program.specs.Given.{windows_in};
+ghost use Rattle.program.specs.Given.{flag_in, windows_in};
 
 use clap::{Arg, ArgAction, ArgMatches, Command};
 use script::Values;
 use std::alloc::{AllocError, Global};
+
+/// Whether a subcommand is given a flag.
+fn is_given(matches: &ArgMatches<'_>, name: &str) -> bool
+    ensures { result ≡ flag_in name.now (found_of matches.now) }
+{
+    match matches.get_str(name) {
+        Some(text) => text == "true",
+        None => false,
+    }
+}
 
 /// The values that a subcommand is given.
 pub fn values_of<'a>(matches: &ArgMatches<'a>) -> Values<'a>
@@ -14,12 +24,14 @@ pub fn values_of<'a>(matches: &ArgMatches<'a>) -> Values<'a>
     ensures mtu { option_map (λ text. text.now) result.mtu ≡ first_value (found_of matches.now) (codes "mtu") }
     ensures room { option_map (λ text. text.now) result.room ≡ first_value (found_of matches.now) (codes "room") }
     ensures until { option_map (λ text. text.now) result.until ≡ first_value (found_of matches.now) (codes "until") }
+    ensures summary { result.summary ≡ flag_in (codes "summary") (found_of matches.now) }
 {
     Values {
         rate: matches.get_str("rate"),
         mtu: matches.get_str("mtu"),
         room: matches.get_str("room"),
         until: matches.get_str("until"),
+        summary: is_given(matches, "summary"),
     }
 }
 
@@ -34,10 +46,7 @@ pub fn rate_of<'a>(matches: &ArgMatches<'a>) -> Option<&'a str>
 pub fn windows_of(matches: &ArgMatches<'_>) -> bool
     ensures { result ≡ windows_in (found_of matches.now) }
 {
-    match matches.get_str("windows") {
-        Some(text) => text == "true",
-        None => false,
-    }
+    is_given(matches, "windows")
 }
 
 fn with_rate<'a>(alloc: Global, command: Command<'a>) -> Result<Command<'a>, AllocError> {
@@ -55,6 +64,15 @@ fn with_windows<'a>(alloc: Global, command: Command<'a>) -> Result<Command<'a>, 
             .long("windows")
             .action(ArgAction::SetTrue)
             .help("Tell for how long each class is open and closed, and its longest frame"),
+    )
+}
+
+fn with_summary<'a>(alloc: Global, command: Command<'a>) -> Result<Command<'a>, AllocError> {
+    command.arg(
+        Arg::new(alloc, "summary")
+            .long("summary")
+            .action(ArgAction::SetTrue)
+            .help("Tell at the end what each class and the wire came to"),
     )
 }
 
@@ -142,7 +160,7 @@ pub fn command<'a>(alloc: Global) -> Result<Command<'a>, AllocError> {
     Command::new(alloc, "taprio_port")
         .about("An IEEE 802.1Qbv time-aware transmit port")
         .subcommand_required(true)
-        .subcommand(with_options(alloc, script, false)?)?
+        .subcommand(with_summary(alloc, with_options(alloc, script, false)?)?)?
         .subcommand(with_files(alloc, with_options(alloc, replay, true)?)?)?
         .subcommand(with_windows(alloc, with_rate(alloc, check)?)?)?
         .subcommand(with_lines(alloc, streams)?)

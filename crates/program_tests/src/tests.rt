@@ -92,7 +92,7 @@ pub fn outcome_from<R: Read>(
 /// Words and a script, with the status, what is answered, and what is told of a fault.
 #[test]
 fn answers_and_faults_are_told_apart(rt: HostRuntime) -> Result<(), Fail> {
-    let rows: [(&[&str], &[u8], u8, &[u8], &[u8]); 11] = [
+    let rows: [(&[&str], &[u8], u8, &[u8], &[u8]); 13] = [
         (
             &["script"],
             b"frame 1 0 60\nclock 1",
@@ -106,6 +106,20 @@ fn answers_and_faults_are_told_apart(rt: HostRuntime) -> Result<(), Fail> {
             0,
             b"queued 1 class 0\nstart 1 class 0 at 0 end 67200\n",
             b"",
+        ),
+        (
+            &["script", "--summary", "--until", "1344000"],
+            b"frame 1 0 60",
+            0,
+            b"queued 1 class 0\nstart 1 class 0 at 0 end 672000\nsummary class 0 queued 1 sent 1 dropped 0 octets 60 least 0 mean 0 greatest 0 most 1\nsummary wire busy 672000 ppm 500000\n",
+            b"",
+        ),
+        (
+            &["script", "--summary"],
+            BROKEN,
+            3,
+            b"queued 1 class 0\n",
+            b"taprio_port: script line 2: WordCount\n",
         ),
         (
             &["script", "--mtu=1000", "--room=1"],

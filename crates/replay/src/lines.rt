@@ -39,10 +39,25 @@ fn put_line<A: Allocator, B: Allocator, W: Write, V: Write>(
     one_reader();
     match line {
         KeptLine::Clock(moment) => return put_clock(sending, moment, capture, report),
-        KeptLine::Query => put_answers(&mut sending.port, &Event::Query, report)?,
-        KeptLine::Count(class) => put_answers(&mut sending.port, &Event::Count(class), report)?,
+        KeptLine::Query => put_answers(
+            &mut sending.port,
+            &mut sending.summary,
+            &Event::Query,
+            report,
+        )?,
+        KeptLine::Count(class) => put_answers(
+            &mut sending.port,
+            &mut sending.summary,
+            &Event::Count(class),
+            report,
+        )?,
         KeptLine::Tc { start, end } => {
-            put_tc(&mut sending.port, &script.octets[start..end], report)?;
+            put_tc(
+                &mut sending.port,
+                &mut sending.summary,
+                &script.octets[start..end],
+                report,
+            )?;
         }
     }
     Ok(())

@@ -170,6 +170,7 @@ fn begin<A: Allocator + Clone, W: Write>(
     match CaptureWriter::begin(capture) {
         Ok(writer) => Ok(Sending {
             port,
+            summary: None,
             store,
             writer,
         }),

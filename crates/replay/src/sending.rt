@@ -22,6 +22,7 @@ use octet_store::OctetStore;
 use script::RunningPort;
 use std::alloc::{Allocator, Global};
 use std::io::Write;
+use summary::Summary;
 use wire_time::Frame;
 
 /// A port that runs, with the octets of the frames that wait in it, and the capture that they leave for.
@@ -29,6 +30,8 @@ use wire_time::Frame;
 pub struct Sending<A: Allocator = Global> {
     /// The port.
     pub port: RunningPort<A>,
+    /// What is seen of it, where a summary is wanted.
+    pub summary: Option<Summary<A>>,
     /// The octets of the frames that wait in it.
     pub store: OctetStore<A>,
     /// The output capture.

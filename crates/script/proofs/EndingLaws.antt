@@ -1,10 +1,10 @@
 -- The end of a run, from what its parts leave.
-use Rattle.std.proofs.Common.{◌≡◌, List, ℕ, [], ◌++◌, Option, Some, None, Result, Ok, Err, ◌⊎◌, inl, inr, refl, sym, ap, ◌∙◌, subst, append-nil}
+use Rattle.std.proofs.Common.{◌≡◌, List, ℕ, [], Option, Some, None, Result, Ok, Err, ◌⊎◌, inl, inr, sym, ◌∙◌, subst, append-nil}
 use Rattle.std.specs.Prelude.{IfSome}
 use Rattle.std.specs.Io.KnownBytes.{Appends, Keeps, append_known}
 use Rattle.abstract_port.specs.declared.Command.{Command}
 use Rattle.tc_reader.specs.declared.fault.TcFault.{TcFault}
-use Rattle.octet_writer.specs.Writes.{AppendsFront, FallsShort, Sent}
+use Rattle.octet_writer.specs.Writes.{AppendsFront, Sent}
 use Rattle.tc_reader.specs.Reader.{IsReader}
 use Rattle.script.specs.Outcome.{Outcome, Runs}
 use Rattle.script.specs.Ending.{IsRunEnding, IsTold, RunsOut, Whole, run_status, run_text}

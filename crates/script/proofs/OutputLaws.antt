@@ -8,10 +8,13 @@ use Rattle.tc_reader.specs.declared.fault.TcFault.{TcFault}
 use Rattle.separation.specs.Promises.{IsKeepingPromises}
 use Rattle.line_reader.specs.Script.{script_of}
 use Rattle.script.specs.Requests.{Request, Asks, NoCommand}
-use Rattle.script.specs.Responses.{Response, Gave, Faulted, answers_in, events_of, left_lines, lines_of, response_lines, responses_of, responses_to}
-use Rattle.script.specs.Outcome.{IsFaithful, IsFaithfulTo, Outcome, Reading, asked_in, asked_with, left_unless, outcome_after, reading_of}
+use Rattle.script.specs.Responses.{Response, Gave, answers_in, events_of, lines_of, noted_by, response_lines, responses_of, responses_to}
+use Rattle.script.specs.Outcome.{IsFaithfulTo, Outcome, Reading, asked_in, asked_with, end_unless, outcome_after, reading_of}
 use Rattle.script.specs.Setup.{Setup}
 use Rattle.script.specs.declared.faults.ScriptFault.{ScriptFault}
+use Rattle.summary.specs.Observed.{Observed}
+use Rattle.summary.specs.Wanted.{noted_after}
+use Rattle.summary.proofs.WantedLaws.{noted_after-cons}
 
 -- a text, and then the outcome
 abbrev pub after_text : List ℕ → Outcome → Outcome
@@ -34,18 +37,26 @@ asked-more : (until : Option ℕ) (r : Request) (requests : List Request) (fault
 asked-more until r requests None = refl
 asked-more until r requests (Some fault) = refl
 
+-- what is seen after one request more
+noted-more : (r : Request) (rest : List Request) (p : AbstractPort) (o : Option Observed) → noted_after (events_of (r ∷ rest)) p o ≡ noted_after (events_of rest) (responses_to r p).1 (noted_by r p o)
+noted-more (Asks event) rest p o = noted_after-cons event (events_of rest) p o
+noted-more (NoCommand fault) rest p o = refl
+
 -- what is written for one request more
-pub outcome-more : (until : Option ℕ) (r : Request) (rest : Reading) (p : AbstractPort)
-    → outcome_after until (record { requests = r ∷ rest.requests; fault = rest.fault }) p ≡ after_text (lines_of (responses_to r p).0) (outcome_after until rest (responses_to r p).1)
-outcome-more until r rest p =
+pub outcome-more : (until : Option ℕ) (r : Request) (rest : Reading) (p : AbstractPort) (o : Option Observed)
+    → outcome_after until (record { requests = r ∷ rest.requests; fault = rest.fault }) p o ≡ after_text (lines_of (responses_to r p).0) (outcome_after until rest (responses_to r p).1 (noted_by r p o))
+outcome-more until r rest p o =
     let q = (responses_to r p).1 in
     let asked = asked_in until rest in
     let told = (responses_to r p).0 in
-    ap (λ requests. record { text = lines_of (responses_of requests p) ++ left_unless rest.fault (port_after (events_of requests) p); fault = rest.fault }) (asked-more until r rest.requests rest.fault)
+    let events = events_of (r ∷ asked) in
+    let later = noted_after (events_of asked) q (noted_by r p o) in
+    ap (λ requests. record { text = lines_of (responses_of requests p) ++ end_unless rest.fault (port_after (events_of requests) p) (noted_after (events_of requests) p o); fault = rest.fault }) (asked-more until r rest.requests rest.fault)
     ∙ ap (λ text. record { text = text; fault = rest.fault })
-    (ap (λ x. x ++ left_unless rest.fault (port_after (events_of (r ∷ asked)) p)) (lines_of-append told (responses_of asked q))
-    ∙ ap (λ x. (lines_of told ++ lines_of (responses_of asked q)) ++ left_unless rest.fault x) (events-more r asked p)
-    ∙ append_assoc (lines_of told) (lines_of (responses_of asked q)) (left_unless rest.fault (port_after (events_of asked) q)))
+    (ap (λ x. x ++ end_unless rest.fault (port_after events p) (noted_after events p o)) (lines_of-append told (responses_of asked q))
+    ∙ ap (λ x. (lines_of told ++ lines_of (responses_of asked q)) ++ end_unless rest.fault x (noted_after events p o)) (events-more r asked p)
+    ∙ ap (λ x. (lines_of told ++ lines_of (responses_of asked q)) ++ end_unless rest.fault (port_after (events_of asked) q) x) (noted-more r asked p o)
+    ∙ append_assoc (lines_of told) (lines_of (responses_of asked q)) (end_unless rest.fault (port_after (events_of asked) q) later))
 
 -- ---- the answers that are told
 

@@ -1,17 +1,14 @@
 -- What concerns a class that is kept apart, as it is written.
-use Rattle.std.proofs.Common.{◌≡◌, ◌≤◌, ℕ, List, [], ◌∷◌, Bool, true, false, cond, Result, refl, sym, ap, ◌∙◌}
+use Rattle.std.proofs.Common.{◌≡◌, ◌≤◌, ℕ, List, [], ◌∷◌, Bool, true, false, cond, refl, sym, ap, ◌∙◌}
 use Rattle.std.specs.List.{flat_map}
 use Rattle.abstract_port.specs.AbstractPort.{AbstractPort, new_port}
 use Rattle.abstract_port.specs.Answers.{answers_to}
-use Rattle.abstract_port.specs.declared.Command.{Command}
 use Rattle.abstract_port.specs.declared.Event.{Event}
 use Rattle.answer_text.specs.Lines.{answer_lines}
-use Rattle.separation.specs.Separation.{IsSeparation, Noted, concerning, is_other, noted, only}
-use Rattle.tc_reader.specs.declared.fault.TcFault.{TcFault}
+use Rattle.separation.specs.Separation.{IsSeparation, Noted, is_other, only}
 use Rattle.script.specs.Requests.{Request, Asks, NoCommand}
 use Rattle.script.specs.Responses.{events_of}
-use Rattle.script.specs.Separated.{IsSeparatedBy, IsSeparatedIn, lines_concerning, only_asked}
-use Rattle.script.specs.Setup.{Setup}
+use Rattle.script.specs.Separated.{IsSeparatedBy, lines_concerning, only_asked}
 
 one_more : (event : Event) (other : Bool) (requests : List Request) (events : List Event) → events_of requests ≡ events
     → events_of (cond other requests (Asks event ∷ requests)) ≡ cond other events (event ∷ events)

@@ -1,12 +1,12 @@
 -- What a run of the program on a script leaves: its exit status, what the writer got, and the text of a fault.
-use Rattle.std.specs.Prelude.{◌≡◌, ◌⊎◌, ⊤, List, ℕ, [], Bool, true, false, Option, Some, None, Result, Ok, Err, IfSome, MatchResult, unwrap_or, codes}
+use Rattle.std.specs.Prelude.{◌≡◌, ◌⊎◌, ⊤, List, ℕ, [], Bool, true, false, Option, Some, None, Result, Ok, Err, IfSome, unwrap_or, codes}
 use Rattle.std.specs.Io.KnownBytes.{Appends, append_known}
 use Rattle.abstract_port.specs.declared.Command.{Command}
 use Rattle.tc_reader.specs.declared.fault.TcFault.{TcFault}
 use Rattle.octet_writer.specs.Writes.{AppendsFront, FallsShort}
 use Rattle.tc_reader.specs.Reader.{IsReader}
 use Rattle.script.specs.Setup.{Setup}
-use Rattle.script.specs.Settings.{rate_in, settings_of}
+use Rattle.script.specs.Settings.{rate_in, settings_of, summarized}
 use Rattle.script.specs.Outcome.{Outcome, Runs, outcome_of}
 use Rattle.script.specs.Texts.{fault_text, status_of, value_text}
 use Rattle.script.specs.declared.settings.BadValue.{BadValue}
@@ -17,8 +17,12 @@ use Rattle.script.specs.declared.faults.RunFault.TheVariants as Faults
 
 -- The settings of the values that are given, with a moment of at most `greatest`: 1000 Mb/s, an mtu of 1500 octets and room for 128
 -- frames a class where none is.
-abbrev pub settings_given : ℕ → Option (List ℕ) → Option (List ℕ) → Option (List ℕ) → Option (List ℕ) → Result Setup BadValue
-settings_given greatest rate mtu room until = settings_of (unwrap_or rate (codes "1000")) (unwrap_or mtu (codes "1500")) (unwrap_or room (codes "128")) until greatest
+abbrev pub settings_or_usual : ℕ → Option (List ℕ) → Option (List ℕ) → Option (List ℕ) → Option (List ℕ) → Result Setup BadValue
+settings_or_usual greatest rate mtu room until = settings_of (unwrap_or rate (codes "1000")) (unwrap_or mtu (codes "1500")) (unwrap_or room (codes "128")) until greatest
+
+-- the same, with a summary where one is wanted
+abbrev pub settings_given : ℕ → Option (List ℕ) → Option (List ℕ) → Option (List ℕ) → Option (List ℕ) → Bool → Result Setup BadValue
+settings_given greatest rate mtu room until summary = summarized summary (settings_or_usual greatest rate mtu room until)
 
 -- a rate in picoseconds an octet, if there is one
 abbrev pub rate_where_good : Option ℕ → Result ℕ BadValue

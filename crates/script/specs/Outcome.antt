@@ -14,7 +14,9 @@ use Rattle.line_reader.specs.declared.lines.Limit.TheVariants as Limits
 use Rattle.line_reader.specs.declared.lines.LineFault.{LineFault}
 use Rattle.line_reader.specs.declared.lines.LineFault.TheVariants as LineFaults
 use Rattle.script.specs.Requests.{Request, Asks, request_of}
-use Rattle.script.specs.Responses.{answers_in, events_of, left_lines, lines_of, responses_of}
+use Rattle.script.specs.Responses.{answers_in, end_lines, events_of, lines_of, responses_of}
+use Rattle.summary.specs.Observed.{Observed}
+use Rattle.summary.specs.Wanted.{noted_after, watched}
 use Rattle.script.specs.Setup.{Setup}
 use Rattle.script.specs.declared.faults.ScriptFault.{ScriptFault}
 use Rattle.script.specs.declared.faults.ScriptFault.TheVariants as ScriptFaults
@@ -66,34 +68,36 @@ asked_in until reading = asked_with until reading.requests reading.fault
 
 -- 2. What is written
 
--- how many frames each class still has, where there is no fault
-abbrev pub left_unless : Option (ℕ × ScriptFault) → AbstractPort → List ℕ
-left_unless None p = left_lines p
-left_unless (Some fault) p = []
+-- how many frames each class still has, and the summary where one is wanted; neither where there is a fault
+abbrev pub end_unless : Option (ℕ × ScriptFault) → AbstractPort → Option Observed → List ℕ
+end_unless None p o = end_lines p o
+end_unless (Some fault) p o = []
 
 -- the whole output, and the fault of the script with its line
 pub record Outcome : Type 0 where
   pub text : List ℕ
   pub fault : Option (ℕ × ScriptFault)
 
--- the lines of what the port answers, with the tc faults at their places, and then of the frames that are left
-abbrev pub outcome_after : Option ℕ → Reading → AbstractPort → Outcome
-outcome_after until reading p = record {
-  text = lines_of (responses_of (asked_in until reading) p) ++ left_unless reading.fault (port_after (events_of (asked_in until reading)) p);
-  fault = reading.fault;
-}
+-- the lines of what the port answers, with the tc faults at their places, then of the frames that are left, and of the summary
+abbrev pub outcome_after : Option ℕ → Reading → AbstractPort → Option Observed → Outcome
+outcome_after until reading p o =
+    let events = events_of (asked_in until reading) in
+    record {
+      text = lines_of (responses_of (asked_in until reading) p) ++ end_unless reading.fault (port_after events p) (noted_after events p o);
+      fault = reading.fault;
+    }
 
 -- what is written after the lines of a script without a fault
-abbrev pub ending_text : Option ℕ → AbstractPort → List ℕ
-ending_text until p = (outcome_after until (record { requests = []; fault = None }) p).text
+abbrev pub ending_text : Option ℕ → AbstractPort → Option Observed → List ℕ
+ending_text until p o = (outcome_after until (record { requests = []; fault = None }) p o).text
 
--- the outcome of the lines to come, from a port
-abbrev pub outcome_from : (List (List ℕ) → Result Command TcFault) → Option ℕ → Script → AbstractPort → Outcome
-outcome_from read until script p = outcome_after until (reading_of read script) p
+-- the outcome of the lines to come, from a port and what is seen of it
+abbrev pub outcome_from : (List (List ℕ) → Result Command TcFault) → Option ℕ → Script → AbstractPort → Option Observed → Outcome
+outcome_from read until script p o = outcome_after until (reading_of read script) p o
 
 -- the octets of an input, on a new port
 abbrev pub outcome_of : (List (List ℕ) → Result Command TcFault) → Setup → List ℕ → Outcome
-outcome_of read s input = outcome_from read s.until (script_of input) (new_port s.rate s.mtu s.room)
+outcome_of read s input = outcome_from read s.until (script_of input) (new_port s.rate s.mtu s.room) (watched s.summary s.room)
 
 -- At Ok and at a script's fault the whole output is written, and the fault is the script's; at the other faults a front of
 -- the output, and after a failed write not all of it.

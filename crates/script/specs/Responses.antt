@@ -1,6 +1,6 @@
 -- What is told of the requests of a script: the abstract port's answers to its events, with the faults of tc lines at their
 -- places.
-use Rattle.std.specs.Prelude.{◌+◌, ◌==◌, List, ℕ, zero, suc, [], ◌∷◌, ◌++◌, length, map, if◌then◌else◌}
+use Rattle.std.specs.Prelude.{◌+◌, ◌==◌, List, ℕ, zero, suc, [], ◌∷◌, ◌++◌, Option, Some, None, length, map, if◌then◌else◌}
 use Rattle.std.specs.List.{flat_map}
 use Rattle.abstract_port.specs.AbstractPort.{AbstractPort, queue_of}
 use Rattle.abstract_port.specs.Answers.{answers_to}
@@ -9,6 +9,9 @@ use Rattle.abstract_port.specs.declared.Event.{Event}
 use Rattle.answer_text.specs.Lines.{answer_lines, left_line, tc_fault_line}
 use Rattle.tc_reader.specs.declared.fault.TcFault.{TcFault}
 use Rattle.script.specs.Requests.{Request, Asks, NoCommand}
+use Rattle.summary.specs.Lines.{summary_lines}
+use Rattle.summary.specs.Observed.{Observed}
+use Rattle.summary.specs.Wanted.{noted_at}
 
 -- an answer of the port, or the fault of a tc line
 pub data Response : Type 0 where
@@ -19,6 +22,11 @@ pub data Response : Type 0 where
 abbrev pub responses_to : Request → AbstractPort → List Response × AbstractPort
 responses_to (Asks event) p = let answers = answers_to event p in (map Gave answers.0, answers.1)
 responses_to (NoCommand fault) p = (Faulted fault ∷ [], p)
+
+-- what is seen after a request, where a summary is wanted
+abbrev pub noted_by : Request → AbstractPort → Option Observed → Option Observed
+noted_by (Asks event) p o = noted_at event p o
+noted_by (NoCommand fault) p o = o
 
 -- the same of a list of requests, one after another
 abbrev pub responses_of : List Request → AbstractPort → List Response
@@ -58,3 +66,8 @@ left_from (suc n) class p = left_text class (length (queue_of p class)) ++ left_
 -- how many frames each class still has, in rising order
 abbrev pub left_lines : AbstractPort → List ℕ
 left_lines p = left_from 8 0 p
+
+-- the same, and then the summary where one is wanted
+abbrev pub end_lines : AbstractPort → Option Observed → List ℕ
+end_lines p None = left_lines p
+end_lines p (Some o) = left_lines p ++ summary_lines p o

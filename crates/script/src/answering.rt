@@ -11,7 +11,8 @@ ghost use Rattle.tc_reader.specs.declared.fault.TcFault.{TcFault};
 ghost use Rattle.words.specs.Words.{words_of};
 ghost use Rattle.script.specs.Requests.{Asks, tc_request};
 ghost use Rattle.tc_reader.specs.Reader.{IsReader};
-ghost use Rattle.script.specs.Responses.{left_lines, left_text, lines_of, responses_to};
+ghost use Rattle.script.specs.Responses.{left_lines, left_text, lines_of, noted_by, responses_to};
+ghost use Rattle.summary.specs.Wanted.{noted_at};
 
 use crate::reading::read_tc;
 use abstract_port::{Command, Event};
@@ -20,24 +21,29 @@ use jumping::Jumping;
 use port::Port;
 use std::alloc::Allocator;
 use std::io::Write;
+use summary::{Summary, note};
 use tc_reader::TcFault;
 
 /// The port that runs. Another implementation of the gates takes the place of this one here.
 pub type RunningPort<A> = Port<Jumping, A>;
 
-/// Takes an event, and writes the answers to it as they come. At a fault a front of them is written.
+/// Takes an event, and writes the answers to it as they come, each noted where a summary is wanted. At a fault a front of them is
+/// written.
 pub fn put_answers<A: Allocator, W: Write>(
     port: &mut RunningPort<A>,
+    summary: &mut Option<Summary<A>>,
     event: &Event<'_>,
     writer: &mut W,
 ) -> Result<(), WriteFault>
     ensures text { Writes result (W.contents writer.old) (W.contents writer.new) (lines_of (responses_to (Asks event.now) port.old.port).0) }
     ensures port { OnOk result (port.new.port ≡ settled (answers_to event.now port.old.port).1) }
+    ensures seen { OnOk result (summary.new ≡ noted_at event.now port.old.port summary.old) }
     ensures sound { OnOk result (IsSoundPort port.new.port) }
 {
-    let _now = port.now();
+    let now = port.now();
     let mut asked = Some(*event);
     while let Some(answer) = port.next_answer(&mut asked) {
+        note(summary, now, &answer);
         put_answer(writer, &answer)?;
     }
     Ok(())
@@ -46,16 +52,18 @@ pub fn put_answers<A: Allocator, W: Write>(
 // Gives a command to the port and writes its answer, or writes why there is none.
 fn put_command<A: Allocator, W: Write>(
     port: &mut RunningPort<A>,
+    summary: &mut Option<Summary<A>>,
     read: Result<Command, TcFault>,
     writer: &mut W,
 ) -> Result<(), WriteFault>
     ensures text { Writes result (W.contents writer.old) (W.contents writer.new) (lines_of (responses_to (tc_request read) port.old.port).0) }
     ensures port { OnOk result (port.new.port ≡ settled (responses_to (tc_request read) port.old.port).1) }
+    ensures seen { OnOk result (summary.new ≡ noted_by (tc_request read) port.old.port summary.old) }
     ensures sound { OnOk result (IsSoundPort port.new.port) }
 {
     let _now = port.now();
     match read {
-        Ok(command) => put_answers(port, &Event::Install(&command), writer),
+        Ok(command) => put_answers(port, summary, &Event::Install(&command), writer),
         Err(fault) => put_tc_fault(writer, fault),
     }
 }
@@ -63,6 +71,7 @@ fn put_command<A: Allocator, W: Write>(
 /// Takes a line that begins with `tc`, and writes what is told of it. At a fault a front of that is written.
 pub fn put_tc<A: Allocator, W: Write>(
     port: &mut RunningPort<A>,
+    summary: &mut Option<Summary<A>>,
     line: &[u8],
     writer: &mut W,
 ) -> Result<(), WriteFault>
@@ -70,9 +79,11 @@ pub fn put_tc<A: Allocator, W: Write>(
         Writes result (W.contents writer.old) (W.contents writer.new) (lines_of (responses_to (tc_request (read (words_of line.now))) port.old.port).0) }
     ensures port { (read : List (List ℕ) → Result Command TcFault) → IsReader read →
         OnOk result (port.new.port ≡ settled (responses_to (tc_request (read (words_of line.now))) port.old.port).1) }
+    ensures seen { (read : List (List ℕ) → Result Command TcFault) → IsReader read →
+        OnOk result (summary.new ≡ noted_by (tc_request (read (words_of line.now))) port.old.port summary.old) }
     ensures sound { OnOk result (IsSoundPort port.new.port) }
 {
-    put_command(port, read_tc(line), writer)
+    put_command(port, summary, read_tc(line), writer)
 }
 
 // Writes how many frames a class still has, where it has some.

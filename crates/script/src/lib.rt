@@ -2,6 +2,7 @@
 #![tactic(auto)]
 
 mod answering;
+mod ending;
 mod faults;
 pub mod laws;
 mod program;
@@ -10,6 +11,7 @@ mod running;
 mod settings;
 
 pub use answering::{RunningPort, put_all_left, put_answers, put_tc};
+pub use ending::put_end;
 pub use faults::{Ended, RunFault, ScriptFault, say_fault, say_value};
 pub use program::{Values, answer_script, end_run, end_with_value, rate_given, settings_given};
 pub use reading::{Said, read_line, read_tc};

@@ -8,7 +8,7 @@ ghost use Rattle.tc_reader.specs.Reader.{IsReader};
 ghost use Rattle.tc_reader.specs.declared.fault.TcFault.{TcFault};
 ghost use Rattle.script.specs.Outcome.{Runs};
 ghost use Rattle.wire_time.specs.Moment.{greatest_moment};
-ghost use Rattle.script.specs.Ending.{IsEnding, IsRefusal, IsRunEnding, IsTold, Whole, rate_given, run_status, run_text, settings_given, whole_script};
+ghost use Rattle.script.specs.Ending.{IsEnding, IsRefusal, IsRunEnding, IsTold, Whole, rate_given, run_status, run_text, settings_given, settings_or_usual, whole_script};
 
 use crate::faults::{Ended, RunFault, say_fault, say_value};
 use crate::running::run_script;
@@ -37,6 +37,8 @@ pub struct Values<'a> {
     pub room: Option<&'a str>,
     /// The moment to run to after the input, in picoseconds.
     pub until: Option<&'a str>,
+    /// Whether a summary is wanted at the end.
+    pub summary: bool,
 }
 
 /// The line rate of a value in Mb/s, or, where none is given, 1000 Mb/s.
@@ -49,11 +51,10 @@ pub fn rate_given(rate: Option<&str>) -> Result<Rate, BadValue>
     }
 }
 
-/// The settings of the values that are given, and of those that stand for the others, with a moment of at most `greatest`, in
-/// picoseconds. The first bad value is the fault.
-pub fn settings_given(values: Values<'_>, greatest: u128) -> Result<Settings, BadValue>
+// The settings of the values that are given, without a summary.
+fn read_given(values: Values<'_>, greatest: u128) -> Result<Settings, BadValue>
     requires { greatest ≤ MAX_MOMENT }
-    ensures { result ≡ settings_given greatest (option_map (λ text. text.now) values.entry.rate) (option_map (λ text. text.now) values.entry.mtu) (option_map (λ text. text.now) values.entry.room) (option_map (λ text. text.now) values.entry.until) }
+    ensures { result ≡ settings_or_usual greatest (option_map (λ text. text.now) values.entry.rate) (option_map (λ text. text.now) values.entry.mtu) (option_map (λ text. text.now) values.entry.room) (option_map (λ text. text.now) values.entry.until) }
 {
     Settings::read(
         values.rate.unwrap_or(RATE),
@@ -62,6 +63,18 @@ pub fn settings_given(values: Values<'_>, greatest: u128) -> Result<Settings, Ba
         values.until,
         greatest,
     )
+}
+
+/// The settings of the values that are given, and of those that stand for the others, with a moment of at most `greatest`, in
+/// picoseconds, and with a summary where one is wanted. The first bad value is the fault.
+pub fn settings_given(values: Values<'_>, greatest: u128) -> Result<Settings, BadValue>
+    requires { greatest ≤ MAX_MOMENT }
+    ensures { result ≡ settings_given greatest (option_map (λ text. text.now) values.entry.rate) (option_map (λ text. text.now) values.entry.mtu) (option_map (λ text. text.now) values.entry.room) (option_map (λ text. text.now) values.entry.until) values.entry.summary }
+{
+    match read_given(values, greatest) {
+        Ok(settings) => Ok(settings.with_summary(values.summary)),
+        Err(value) => Err(value),
+    }
 }
 
 // Lets out what was answered, also before a fault, unless a write failed already: no write is tried again.
@@ -137,9 +150,9 @@ pub fn answer_script<A: Allocator, B: Allocator, R: Read, W: Write + Drop, E: Wr
     mut answers: BufWriter<W, B>,
     errors: &mut E,
 ) -> (Ended, W)
-    ensures ending { IsEnding whole_script (settings_given greatest_moment (option_map (λ text. text.now) values.entry.rate) (option_map (λ text. text.now) values.entry.mtu) (option_map (λ text. text.now) values.entry.room) (option_map (λ text. text.now) values.entry.until))
+    ensures ending { IsEnding whole_script (settings_given greatest_moment (option_map (λ text. text.now) values.entry.rate) (option_map (λ text. text.now) values.entry.mtu) (option_map (λ text. text.now) values.entry.room) (option_map (λ text. text.now) values.entry.until) values.entry.summary)
         (R.remaining reader.old) result.0 (writer_contents W.contents answers) (W.contents result.1) (E.contents errors.old) (E.contents errors.new) }
-    ensures unread { IfErr (settings_given greatest_moment (option_map (λ text. text.now) values.entry.rate) (option_map (λ text. text.now) values.entry.mtu) (option_map (λ text. text.now) values.entry.room) (option_map (λ text. text.now) values.entry.until)) (λ _. reader.new ≡ reader.old) }
+    ensures unread { IfErr (settings_given greatest_moment (option_map (λ text. text.now) values.entry.rate) (option_map (λ text. text.now) values.entry.mtu) (option_map (λ text. text.now) values.entry.room) (option_map (λ text. text.now) values.entry.until) values.entry.summary) (λ _. reader.new ≡ reader.old) }
 {
     match settings_given(values, MAX_MOMENT) {
         Ok(settings) => {

@@ -9,7 +9,8 @@ ghost use Rattle.tc_reader.specs.declared.fault.TcFault.{TcFault};
 ghost use Rattle.script.specs.Outcome.{IsFaithfulTo, Runs, ending_text, outcome_from, outcome_of};
 ghost use Rattle.tc_reader.specs.Reader.{IsReader};
 
-use crate::answering::{RunningPort, put_all_left, put_answers, put_tc};
+use crate::answering::{RunningPort, put_answers, put_tc};
+use crate::ending::put_end;
 use crate::faults::RunFault;
 use crate::laws::faithful;
 use crate::reading::{Said, read_line};
@@ -20,20 +21,23 @@ use line_reader::LineReader;
 use separation::settling;
 use std::alloc::Allocator;
 use std::io::{Read, Write};
+use summary::{Summary, summary_wanted};
 
-// Runs to the moment after the input, if there is one, and writes the answers and then how many frames are left.
+// Runs to the moment after the input, if there is one, and writes the answers, then how many frames are left, and the summary where
+// one is wanted.
 fn end<A: Allocator, W: Write>(
     port: &mut RunningPort<A>,
+    summary: &mut Option<Summary<A>>,
     until: Option<u128>,
     writer: &mut W,
 ) -> Result<(), WriteFault>
-    ensures { Writes result (W.contents writer.old) (W.contents writer.new) (ending_text until port.old.port) }
+    ensures { Writes result (W.contents writer.old) (W.contents writer.new) (ending_text until port.old.port summary.old) }
 {
     match until {
-        None => put_all_left(port, writer),
+        None => put_end(port, summary, writer),
         Some(moment) => {
-            put_answers(port, &Event::Clock(moment), writer)?;
-            put_all_left(port, writer)
+            put_answers(port, summary, &Event::Clock(moment), writer)?;
+            put_end(port, summary, writer)
         }
     }
 }
@@ -41,12 +45,13 @@ fn end<A: Allocator, W: Write>(
 // Runs the lines that are to come, and the end.
 fn run_lines<A: Allocator, B: Allocator, R: Read + Drop, W: Write>(
     port: &mut RunningPort<A>,
+    summary: &mut Option<Summary<A>>,
     lines: &mut LineReader<R, B>,
     until: Option<u128>,
     writer: &mut W,
 ) -> Result<(), RunFault>
     ensures { (read : List (List ℕ) → Result Command TcFault) → IsReader read → IfSome (script_left R.remaining lines.old) (λ script.
-        Runs result (W.contents writer.old) (W.contents writer.new) (outcome_from read until script port.old.port)) }
+        Runs result (W.contents writer.old) (W.contents writer.new) (outcome_from read until script port.old.port summary.old)) }
 {
     settling();
     let _now = port.now();
@@ -54,17 +59,17 @@ fn run_lines<A: Allocator, B: Allocator, R: Read + Drop, W: Write>(
         let line = lines.line();
         match read_line(line) {
             Ok(None) => {}
-            Ok(Some(Said::Asked(event))) => put_answers(port, &event, writer)?,
-            Ok(Some(Said::Tc)) => put_tc(port, line, writer)?,
+            Ok(Some(Said::Asked(event))) => put_answers(port, summary, &event, writer)?,
+            Ok(Some(Said::Tc)) => put_tc(port, summary, line, writer)?,
             Err(fault) => return Err(RunFault::Script(lines.line_number(), fault)),
         }
     }
-    end(port, until, writer)?;
+    end(port, summary, until, writer)?;
     Ok(())
 }
 
 /// Reads a script to its end, and writes the answers to each line in turn; then those to a clock event at the moment to run to,
-/// where the settings have one, and how many frames each class still has.
+/// where the settings have one, how many frames each class still has, and a summary where the settings want one.
 ///
 /// A malformed line ends the run after the answers of the lines before it. A read or a write that fails, or takes nothing,
 /// isn't tried again.
@@ -88,6 +93,15 @@ pub fn run_script<A: Allocator, R: Read + Drop, W: Write>(
     let Ok(mut port) = RunningPort::new(&alloc, rate, mtu, settings.room()) else {
         return Err(RunFault::Memory);
     };
+    let Ok(mut summary) = summary_wanted(&&alloc, settings.summary(), settings.room()) else {
+        return Err(RunFault::Memory);
+    };
     let mut lines = LineReader::new(&alloc, reader)?;
-    run_lines(&mut port, &mut lines, settings.until(), writer)
+    run_lines(
+        &mut port,
+        &mut summary,
+        &mut lines,
+        settings.until(),
+        writer,
+    )
 }

@@ -4,7 +4,7 @@ ghost use Rattle.std.specs.Prelude.{◌≡◌, ◌≤◌, option_map};
 ghost use Rattle.std.specs.Option.{ForSome};
 ghost use Rattle.abstract_port.specs.Sound.{IsMtu};
 ghost use Rattle.class_queue.specs.Queue.{IsRoom};
-ghost use Rattle.script.specs.Settings.{is_until, mtu_in, rate_in, room_in, settings_of, settings_with};
+ghost use Rattle.script.specs.Settings.{is_until, mtu_in, rate_in, room_in, settings_of, settings_with, with_summary};
 
 use port::{is_mtu, is_room};
 use std::marker::Model;
@@ -12,26 +12,28 @@ use wire_time::{MAX_MOMENT, Rate};
 use words::number;
 
 /// What a port runs with, each value within its limits: a line rate, an mtu of 68 to 9216 octets, room for 1 to 4096 frames a
-/// class, and, where it is given, the moment in picoseconds, at most `MAX_MOMENT`, up to which the port runs after the input.
+/// class, and, where it is given, the moment in picoseconds, at most `MAX_MOMENT`, up to which the port runs after the input; and
+/// whether a summary is wanted at the end.
 #[derive(Clone, Copy, Debug, PartialEq, Eq)]
 pub struct Settings {
     rate: Rate,
     mtu: u32,
     room: u32,
     until: Option<u128>,
+    summary: bool,
 }
 
-/// A contract sees the four values, which are within their limits.
+/// A contract sees the values, which are within their limits.
 impl Model for Settings {
     ghost use Rattle.script.specs.Setup.{Setup, AreGood};
 
     ghost Value = { Setup };
 
-    ghost view = { λ s. record { rate = s.rate; mtu = s.mtu; room = s.room; until = s.until } };
+    ghost view = { λ s. record { rate = s.rate; mtu = s.mtu; room = s.room; until = s.until; summary = s.summary } };
 
     ghost invariant = { λ s. AreGood s.mtu s.room s.until };
 
-    ghost inverse = { λ v. record { rate = v.rate; mtu = v.mtu; room = v.room; until = v.until } };
+    ghost inverse = { λ v. record { rate = v.rate; mtu = v.mtu; room = v.room; until = v.until; summary = v.summary } };
 }
 
 /// The first value that is no decimal number or out of its limits, by the option that gives it.
@@ -81,7 +83,7 @@ fn is_until(until: Option<u128>) -> bool
 
 impl Settings {
     /// The settings of a rate, an mtu in octets, a room in frames a class, and a moment in picoseconds to run to. The first that
-    /// is out of its limits is the fault.
+    /// is out of its limits is the fault. No summary is wanted.
     pub fn new(rate: Rate, mtu: u32, room: u32, until: Option<u128>) -> Result<Settings, BadValue>
         ensures { result ≡ settings_with rate mtu room until }
     {
@@ -99,11 +101,12 @@ impl Settings {
             mtu,
             room,
             until,
+            summary: false,
         })
     }
 
     /// Reads a rate in Mb/s, an mtu in octets, a room in frames a class, and the moment in picoseconds up to which a port runs, at
-    /// most `greatest`, in this order. The first bad value is the fault.
+    /// most `greatest`, in this order. The first bad value is the fault. No summary is wanted.
     pub fn read(
         rate: &str,
         mtu: &str,
@@ -135,7 +138,25 @@ impl Settings {
             mtu,
             room,
             until,
+            summary: false,
         })
+    }
+
+    /// The same settings, with a summary at the end or without one.
+    pub fn with_summary(self, wanted: bool) -> Settings
+        ensures { result ≡ with_summary wanted self }
+    {
+        Settings {
+            summary: wanted,
+            ..self
+        }
+    }
+
+    /// Whether a summary is wanted at the end.
+    pub fn summary(&self) -> bool
+        ensures { result ≡ self.now.summary }
+    {
+        self.summary
     }
 
     /// The line rate.

@@ -366,9 +366,20 @@ fn answers_by_values(rt: HostRuntime) -> Result<(), Fail> {
         mtu: None,
         room: None,
         until: None,
+        summary: false,
     };
-    let rows: [(Values<'_>, &[u8], u8, &[u8], &[u8]); 7] = [
+    let rows: [(Values<'_>, &[u8], u8, &[u8], &[u8]); 8] = [
         (none, SCRIPT, 0, ANSWERS, b""),
+        (
+            Values {
+                summary: true,
+                ..none
+            },
+            b"clock 5",
+            0,
+            b"summary wire busy 0 ppm 0\n",
+            b"",
+        ),
         (
             Values {
                 until: Some("1"),
@@ -438,6 +449,89 @@ fn answers_by_values(rt: HostRuntime) -> Result<(), Fail> {
     Ok(())
 }
 
+/// The frames of a worked example: two of class 0 at moment 0, then one of class 0 and one of class 5 a picosecond after 1000000.
+const FRAMES: &[u8] =
+    b"frame 1 0 60\nframe 2 0 60\nclock 1000001\nframe 3 0 60\nframe 4 5 1514\nclock 20000000\n";
+
+/// What is told of them, without a summary.
+const FRAMES_TOLD: &[u8] =
+    b"queued 1 class 0\nqueued 2 class 0\nstart 1 class 0 at 0 end 672000\nstart 2 class 0 at 672000 end 1344000\nqueued 3 class 0\nqueued 4 class 5\nstart 4 class 5 at 1344000 end 13648000\nstart 3 class 0 at 13648000 end 14320000\n";
+
+/// Their summary: class 0 waited for 0, 672000 and 12647999, a third of a picosecond more than a whole mean.
+const FRAMES_SUMMED: &[u8] =
+    b"summary class 0 queued 3 sent 3 dropped 0 octets 180 least 0 mean 4439999 greatest 12647999 most 2\nsummary class 5 queued 1 sent 1 dropped 0 octets 1514 least 343999 mean 343999 greatest 343999 most 1\nsummary wire busy 14320000 ppm 716000\n";
+
+/// Scripts, what is answered, and the summary behind it where one is wanted; without one, the rest is the same.
+#[test]
+fn sums_up(rt: HostRuntime) -> Result<(), Fail> {
+    let rows: [(&[u8], Option<u128>, &[u8], &[u8]); 6] = [
+        (FRAMES, None, FRAMES_TOLD, FRAMES_SUMMED),
+        (b"", None, b"", b"summary wire busy 0 ppm 0\n"),
+        (
+            b"frame 1 0 60",
+            Some(336000),
+            b"queued 1 class 0\nstart 1 class 0 at 0 end 672000\n",
+            b"summary class 0 queued 1 sent 1 dropped 0 octets 60 least 0 mean 0 greatest 0 most 1\nsummary wire busy 336000 ppm 1000000\n",
+        ),
+        (
+            b"frame 1 7 13\nframe 2 16 60\nclock 5",
+            None,
+            b"dropped 1 Runt\ndropped 2 NoClass\n",
+            b"summary class 7 queued 0 sent 0 dropped 1 octets 0 least - mean - greatest - most 0\nsummary wire busy 0 ppm 0\n",
+        ),
+        (
+            b"frame 1 1 60\nframe 2 6 60\nclock 672000",
+            None,
+            b"queued 1 class 1\nqueued 2 class 6\nstart 2 class 6 at 0 end 672000\nleft class 1 frames 1\n",
+            b"summary class 1 queued 1 sent 0 dropped 0 octets 0 least - mean - greatest - most 1\nsummary class 6 queued 1 sent 1 dropped 0 octets 60 least 0 mean 0 greatest 0 most 1\nsummary wire busy 672000 ppm 1000000\n",
+        ),
+        (
+            b"tc qdisc replace dev eth0 root taprio num_tc 8 map 0 1 2 3 4 5 6 7 base-time 20000 sched-entry S 81 12303 sched-entry S 00 100000\nclock 20000000\nframe 1 7 1514\nframe 2 0 60\nclock 21000000",
+            None,
+            b"installed change 20000000\nqueued 1 class 7\nqueued 2 class 0\nstart 2 class 0 at 20000000 end 20672000\nleft class 7 frames 1\n",
+            b"summary class 0 queued 1 sent 1 dropped 0 octets 60 least 0 mean 0 greatest 0 most 1\nsummary class 7 queued 1 sent 0 dropped 0 octets 0 least - mean - greatest - most 1\nsummary wire busy 672000 ppm 32000\n",
+        ),
+    ];
+    for (script, until, answers, summary) in rows {
+        let settings = settings(&rt, 1000, 128, until);
+        assert!(rt; !settings.summary());
+        let mut got = Vec::new(rt.alloc());
+        run_script(rt.alloc(), script, &mut got, settings)?;
+        assert_eq!(rt; got.as_slice(), answers);
+        let mut whole = Vec::new(rt.alloc());
+        run_script(rt.alloc(), script, &mut whole, settings.with_summary(true))?;
+        got.extend_from_slice(summary)?;
+        assert_eq!(rt; whole.as_slice(), got.as_slice());
+    }
+    Ok(())
+}
+
+/// After a fault of the script no summary is written. Where there is no room for the arrivals of a summary, nothing is read or written.
+#[test]
+fn sums_nothing_up(rt: HostRuntime) -> Result<(), Fail> {
+    let wanted = usual(&rt).with_summary(true);
+    let mut got = Vec::new(rt.alloc());
+    let result = run_script(rt.alloc(), b"frame 1 0 60\nx".as_slice(), &mut got, wanted);
+    assert_eq!(rt; result, Err(RunFault::Script(2, ScriptFault::UnknownLine)));
+    assert_eq!(rt; got.as_slice(), b"queued 1 class 0\n".as_slice());
+
+    let mut done = false;
+    for size in 1..60usize {
+        let heap = LocalHeap::new(rt.alloc(), 6000 * size)?;
+        let mut got = Vec::new(rt.alloc());
+        let result = run_script(&heap, FRAMES, &mut got, wanted);
+        if result.is_ok() {
+            done = true;
+            assert_eq!(rt; got.len(), FRAMES_TOLD.len() + FRAMES_SUMMED.len());
+        } else {
+            assert_eq!(rt; result, Err(RunFault::Memory));
+            assert!(rt; !done && got.is_empty());
+        }
+    }
+    assert!(rt; done);
+    Ok(())
+}
+
 /// What was answered before a failed read is let out before the fault is told; a write that fails is the last.
 #[test]
 fn lets_out_before_a_fault(rt: HostRuntime) -> Result<(), Fail> {
@@ -446,6 +540,7 @@ fn lets_out_before_a_fault(rt: HostRuntime) -> Result<(), Fail> {
         mtu: None,
         room: None,
         until: None,
+        summary: false,
     };
     let mut reader = Pieces::new(b"frame 1 0 60\nframe 2 0 60\n", 1);
     reader.fails_at = 14;

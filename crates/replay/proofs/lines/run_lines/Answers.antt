@@ -86,3 +86,6 @@ returns-clause-answers g c = λ read is es k.
     let cursor = c.loop-cursor.cursor in
     let none = no-lines read script.octets.items script.lines.items cursor.at cursor.clock (rw c.as_slice-lines.ensures.value at c.loop-cursor-test.false) in
     done_whole c.requires.together.sound (c.loop-cursor.invariant.run read is es k) (ap (λ (ls : List Timed). requests_of (lines_by c.args.upto ls)) none)
+
+pub returns-in_err-put_line-clause-left : goal.returns-in_err-put_line-clause-left
+returns-in_err-put_line-clause-left g c = λ read is. let p = err_from_is_err_and c.from_residual.result c.from_residual.ensures.1 in rw p.1 tt

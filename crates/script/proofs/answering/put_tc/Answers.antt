@@ -1,4 +1,3 @@
-use Rattle.std.proofs.Common.{◌≡◌}
 use Rattle.script.proofs.answering.put_tc.Goals as goal
 
 pub returns-clause-text : goal.returns-clause-text

@@ -7,7 +7,7 @@ use Rattle.script.proofs.Going.{IsRunning}
 use Rattle.script.proofs.running.run_lines.Given as goal
 
 abbrev pub invariant-lines : goal.invariant-lines
-invariant-lines g l = (read : List (List ℕ) → Result Command TcFault) → IsReader read → IsRunning read l.until l.fn.port.port (script_left g.R.Read.remaining l.fn.lines) (g.W.Write.contents l.fn.writer) (g.W.Write.contents l.writer) (script_left g.R.Read.remaining l.lines) l.port.port
+invariant-lines g l = (read : List (List ℕ) → Result Command TcFault) → IsReader read → IsRunning read l.until l.fn.port.port l.fn.summary (script_left g.R.Read.remaining l.fn.lines) (g.W.Write.contents l.fn.writer) (g.W.Write.contents l.writer) (script_left g.R.Read.remaining l.lines) l.port.port l.summary
 
 abbrev pub decreases-lines : goal.decreases-lines
 decreases-lines g l = most_lines l.lines

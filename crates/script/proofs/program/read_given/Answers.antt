@@ -1,8 +1,8 @@
-use Rattle.std.proofs.Common.{◌≡◌, ℕ, List, Option, Some, None, refl, sym, ap, ◌∙◌}
+use Rattle.std.proofs.Common.{◌≡◌, ℕ, List, Option, Some, None, refl, ap, ◌∙◌}
 use Rattle.std.specs.Prelude.{unwrap_or, option_map}
 use denote.Bor.{Bor}
 use Rattle.script.specs.Settings.{settings_of}
-use Rattle.script.proofs.program.settings_given.Goals as goal
+use Rattle.script.proofs.program.read_given.Goals as goal
 
 -- what a text that is given or another shows
 unwrapped : (o : Option (Bor (List ℕ))) (d : Bor (List ℕ)) → (unwrap_or o d).now ≡ unwrap_or (option_map (λ t. t.now) o) d.now

@@ -1,0 +1,60 @@
+//! What is written at the end of a run.
+
+ghost use Rattle.std.specs.Prelude.{◌<◌};
+ghost use Rattle.abstract_port.specs.AbstractPort.{counters_of};
+ghost use Rattle.octet_writer.specs.Writes.{Writes};
+ghost use Rattle.script.specs.Responses.{end_lines};
+ghost use Rattle.summary.specs.Lines.{class_text, summary_lines};
+ghost use Rattle.summary.specs.Observed.{class_at};
+
+use crate::answering::{RunningPort, put_all_left};
+use answer_text::WriteFault;
+use std::alloc::Allocator;
+use std::io::Write;
+use summary::Summary;
+
+// Writes the line of a class, where it had frames.
+fn put_class<A: Allocator, W: Write>(
+    port: &RunningPort<A>,
+    summary: &Summary<A>,
+    class: u8,
+    writer: &mut W,
+) -> Result<(), WriteFault>
+    requires { class < 8 }
+    ensures { Writes result (W.contents writer.old) (W.contents writer.new) (class_text class (counters_of port.now.port class) (class_at summary.now.classes class)) }
+{
+    let counters = port.counters(class);
+    summary.put_class(class, &counters, writer)
+}
+
+// Writes the lines of the classes that had frames, and that of the wire.
+fn put_summary<A: Allocator, W: Write>(
+    port: &RunningPort<A>,
+    summary: &Summary<A>,
+    writer: &mut W,
+) -> Result<(), WriteFault>
+    ensures { Writes result (W.contents writer.old) (W.contents writer.new) (summary_lines port.now.port summary.now) }
+{
+    let now = port.now();
+    for class in 0..8u8 {
+        put_class(port, summary, class, writer)?;
+    }
+    summary.put_wire(now, writer)
+}
+
+/// Writes how many frames each class still has, where it has some, and then the summary, where one is wanted.
+pub fn put_end<A: Allocator, W: Write>(
+    port: &RunningPort<A>,
+    summary: &Option<Summary<A>>,
+    writer: &mut W,
+) -> Result<(), WriteFault>
+    ensures { Writes result (W.contents writer.old) (W.contents writer.new) (end_lines port.now.port summary.now) }
+{
+    match summary {
+        None => put_all_left(port, writer),
+        Some(summary) => {
+            put_all_left(port, writer)?;
+            put_summary(port, summary, writer)
+        }
+    }
+}
