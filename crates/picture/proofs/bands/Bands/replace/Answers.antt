@@ -1,0 +1,11 @@
+use Rattle.std.proofs.Common.{◌∙◌}
+use Rattle.gate_list.specs.Gate.{plan_fault}
+use Rattle.abstract_port.specs.AbstractPort.{plan_asked}
+use Rattle.picture.proofs.CommandLaws.{planned, same_drawing}
+use Rattle.picture.proofs.bands.Bands.replace.Goals as goal
+
+pub returns-in-Ok-clause-drawing : goal.returns-in-Ok-clause-drawing
+returns-in-Ok-clause-drawing g c =
+    let made = planned (plan_fault c.args.rate (plan_asked c.args.change.now)) (plan_asked c.args.change.now) c.in-Ok.schedule c.self.inside.gates.history c.self.inside.gates.moment c.args.lead c.in-Ok.ensures in
+    rw (← c.self.view_is)
+    (same_drawing _ _ _ _ c.self.inside.from c.self.inside.to c.self.inside.classes (c.install.ensures.history ∙ made) c.install.ensures.moment)

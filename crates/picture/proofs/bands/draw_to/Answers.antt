@@ -1,0 +1,54 @@
+use Rattle.std.proofs.Common.{◌≡◌, ◌<◌, ◌≤◌, ◌-◌, max, ap, sym, ◌∙◌, subst, arith}
+use Rattle.list_config.specs.History.{gates, kept}
+use Rattle.list_config.specs.Current.{IsSteady}
+use Rattle.picture.specs.Drawn.{class_at, drawn}
+use Rattle.picture.proofs.BandLaws.{drawn_none}
+use Rattle.picture.proofs.DrawLaws.{drawn_to, kept_on, later_to, steady_to, within_to}
+use Rattle.picture.proofs.bands.draw_to.Goals as goal
+
+pub loop-now-init : goal.loop-now-init
+loop-now-init g c =
+    let none : c.now-now.result - c.args.own.now.moment ≡ 0 = omega (arith, c.now-now.ensures) in
+    record {
+      sound = c.requires.sound;
+      here = sym c.now-now.ensures;
+      onward = omega (arith, c.now-now.ensures);
+      within = omega (arith, c.now-now.ensures);
+      history = sym (ap (kept c.args.own.now.history) c.now-now.ensures ∙ c.requires.sound.kept_whole);
+      classes = λ class below. sym (ap (λ n. drawn (gates c.args.own.now.history) class c.args.own.now.moment n (class_at c.args.classes.now class)) none ∙ drawn_none (gates c.args.own.now.history) class c.args.own.now.moment (class_at c.args.classes.now class));
+    }
+
+pub loop-now-preserved : goal.loop-now-preserved
+loop-now-preserved g c =
+    let i = c.loop-now.invariant in
+    let steady : IsSteady c.loop-now.own.history c.loop-now.now c.unwrap_or-next.result =
+    subst (λ n. IsSteady c.loop-now.own.history c.loop-now.now n) (sym c.unwrap_or-next.ensures)
+    (steady_to c.loop-now.own.history c.loop-now.now c.args.upto c.next_boundary.result (rw i.here at c.next_boundary.ensures.none)) in
+    let later : c.loop-now.now < c.unwrap_or-next.result =
+    subst (λ n. c.loop-now.now < n) (sym c.unwrap_or-next.ensures)
+    (later_to c.loop-now.now c.args.upto c.next_boundary.result c.loop-now-test.true (rw i.here at c.next_boundary.ensures.between)) in
+    let within : c.unwrap_or-next.result ≤ c.args.upto =
+    subst (λ n. n ≤ c.args.upto) (sym c.unwrap_or-next.ensures) (within_to c.loop-now.now c.args.upto c.next_boundary.result (rw i.here at c.next_boundary.ensures.between)) in
+    record {
+      sound = c.move_to.ensures.sound;
+      here = c.move_to.ensures.moment;
+      onward = omega (arith, i.onward, later);
+      within = omega (arith, within);
+      history = c.move_to.ensures.history ∙ kept_on c.args.own.now.history c.args.own.now.moment c.requires.sound c.loop-now.now c.unwrap_or-next.result c.loop-now.own.history i.onward (omega (arith, later)) i.history;
+      classes = λ class below.
+          c.step_all.ensures class below
+          ∙ (rw (c.mask.ensures, i.here, i.classes class below)
+          (drawn_to c.args.own.now.history c.args.own.now.moment c.requires.sound c.loop-now.now c.unwrap_or-next.result c.loop-now.own.history class (class_at c.args.classes.now class) i.onward later i.history steady));
+    }
+
+pub returns : goal.returns
+returns g c =
+    let i = c.loop-now.invariant in
+    let there : c.loop-now.now ≡ max c.args.own.now.moment c.args.upto = omega (arith, i.onward, i.within, c.loop-now-test.false) in
+    let long : c.loop-now.now - c.args.own.now.moment ≡ c.args.upto - c.args.own.now.moment = omega (arith, there) in
+    record {
+      sound = i.sound;
+      moment = i.here ∙ there;
+      history = i.history ∙ ap (kept c.args.own.now.history) there;
+      classes = λ class below. i.classes class below ∙ ap (λ n. drawn (gates c.args.own.now.history) class c.args.own.now.moment n (class_at c.args.classes.now class)) long;
+    }

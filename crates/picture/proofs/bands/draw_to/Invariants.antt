@@ -1,0 +1,19 @@
+use Rattle.std.proofs.Common.{◌≡◌, ◌<◌, ◌≤◌, ◌-◌, max, ℕ}
+use Rattle.wire_time.specs.declared.TheConstants.{CLASSES}
+use Rattle.list_config.specs.History.{gates, kept}
+use Rattle.list_config.specs.Current.{IsCurrent}
+use Rattle.picture.specs.Drawn.{class_at, drawn}
+use Rattle.picture.proofs.bands.draw_to.Given as goal
+
+abbrev pub invariant-loop-now : goal.invariant-loop-now
+invariant-loop-now g l = record {
+  sound : IsCurrent l.own.history l.own.moment;
+  here : l.own.moment ≡ l.now;
+  onward : l.initial.own.moment ≤ l.now;
+  within : l.now ≤ max l.initial.own.moment l.upto;
+  history : l.own.history ≡ kept l.initial.own.history l.now;
+  classes : (class : ℕ) → class < CLASSES → class_at l.classes class ≡ drawn (gates l.initial.own.history) class l.initial.own.moment (l.now - l.initial.own.moment) (class_at l.initial.classes class);
+}
+
+abbrev pub decreases-loop-now : goal.decreases-loop-now
+decreases-loop-now g l = l.upto - l.now

@@ -1,0 +1,217 @@
+//! The bands of eight classes: when each is open, by gates of their own.
+
+ghost use Rattle.std.specs.Prelude.{◌≡◌, ◌≤◌, ◌<◌, ◌+◌, ◌-◌, ℕ, IfOk, Ok, false, length, max, min, slice_set};
+ghost use Rattle.wire_time.specs.Moment.{greatest_lead, greatest_moment};
+ghost use Rattle.wire_time.specs.Wire.{lead_of};
+ghost use Rattle.gate_list.specs.Gate.{opens, plan_fault};
+ghost use Rattle.list_config.specs.History.{gates, kept};
+ghost use Rattle.list_config.specs.Current.{IsCurrent, accepted_at, deletion_at, with_command};
+ghost use Rattle.abstract_port.specs.AbstractPort.{AbstractPort, installs, plan_asked};
+ghost use Rattle.picture.specs.Drawn.{class_at, drawn, gone_on, history_with, new_drawing, no_classes, stepped, up_to, with_plan};
+
+use crate::class_bands::ClassBands;
+use crate::span::Shape;
+use abstract_port::{Change, Command};
+use gate_list::{Schedule, Visits, is_open};
+use jumping::Jumping;
+use list_config::Gates;
+use std::alloc::{AllocError, Allocator, Global};
+use std::marker::Model;
+use wire_time::{CLASSES, Rate};
+
+/// Eight classes without bands.
+fn no_classes<A: Allocator + Clone>(alloc: &A) -> Result<[ClassBands<A>; 8], AllocError>
+    ensures { IfOk result (λ classes. classes ≡ no_classes) }
+{
+    Ok([
+        ClassBands::new(alloc.clone()?)?,
+        ClassBands::new(alloc.clone()?)?,
+        ClassBands::new(alloc.clone()?)?,
+        ClassBands::new(alloc.clone()?)?,
+        ClassBands::new(alloc.clone()?)?,
+        ClassBands::new(alloc.clone()?)?,
+        ClassBands::new(alloc.clone()?)?,
+        ClassBands::new(alloc.clone()?)?,
+    ])
+}
+
+/// The bands of a class that are complete.
+fn shapes_in<A: Allocator>(classes: &[ClassBands<A>; 8], class: u8) -> &[Shape]
+    requires { class < CLASSES }
+    ensures { result.now ≡ (class_at classes.now class).row.shapes }
+{
+    classes[class as usize].shapes()
+}
+
+/// At a moment, in picoseconds, one class is open or closed.
+fn step_in<A: Allocator>(classes: &mut [ClassBands<A>; 8], class: u8, is_open: bool, moment: u128)
+    requires class { class < CLASSES }
+    requires within { moment ≤ greatest_moment }
+    ensures { classes.new ≡ slice_set classes.old class (stepped is_open moment (class_at classes.old class)) }
+{
+    classes[class as usize].step(is_open, moment)
+}
+
+/// At a moment, in picoseconds, the classes of a mask are open, and the others closed.
+fn step_all<A: Allocator>(classes: &mut [ClassBands<A>; 8], mask: u8, moment: u128)
+    requires { moment ≤ greatest_moment }
+    ensures { (class : ℕ) → class < CLASSES → class_at classes.new class ≡ stepped (opens mask class) moment (class_at classes.old class) }
+{
+    for class in 0..CLASSES as u8 {
+        step_in(classes, class, is_open(mask, class), moment);
+    }
+}
+
+/// Goes on from gate event to gate event up to a moment, in picoseconds, unless it is past, and draws the bands of the time until then.
+fn draw_to<A: Allocator>(own: &mut Jumping, classes: &mut [ClassBands<A>; 8], upto: u128)
+    requires sound { IsCurrent own.old.history own.old.moment }
+    requires within { upto ≤ greatest_moment }
+    ensures sound { IsCurrent own.new.history own.new.moment }
+    ensures moment { own.new.moment ≡ max own.old.moment upto }
+    ensures history { own.new.history ≡ kept own.old.history (max own.old.moment upto) }
+    ensures classes { (class : ℕ) → class < CLASSES → class_at classes.new class ≡ drawn (gates own.old.history) class own.old.moment (upto - own.old.moment) (class_at classes.old class) }
+{
+    let mut now = own.now();
+    while now < upto {
+        let next = own.next_boundary(upto).unwrap_or(upto);
+        step_all(classes, own.mask(), now);
+        own.move_to(next, &mut Visits::zero());
+        now = next;
+    }
+}
+
+/// The bands of the eight classes of a port: gates of its commands, since when each class is open, and the bands that are complete, in
+/// rows. A band is a longest time for which its class stays open, of the moments from one on and, where there is an end, before another.
+#[derive(Drop)]
+pub struct Bands<A: Allocator = Global> {
+    gates: Jumping,
+    classes: [ClassBands<A>; 8],
+    from: u128,
+    to: Option<u128>,
+}
+
+/// A contract sees the history of the gates and their moment, the two moments, and the classes.
+impl<A: Allocator> Model for Bands<A> {
+    ghost use Rattle.list_config.specs.Current.{IsCurrent};
+    ghost use Rattle.picture.specs.Drawn.{Drawing};
+
+    ghost Value = { Drawing };
+
+    ghost view = { λ b. record { history = b.gates.history; moment = b.gates.moment; from = b.from; to = b.to; classes = b.classes } };
+
+    ghost invariant = { λ b. IsCurrent b.gates.history b.gates.moment };
+}
+
+impl<A: Allocator> Bands<A> {
+    /// No bands at the moment 0, of gates that all are open. Nothing before `from` is drawn, in picoseconds, and nothing from `to` on,
+    /// where it is given. The room for all that the rows ever have is got here.
+    pub fn new(alloc: &A, from: u128, to: Option<u128>) -> Result<Bands<A>, AllocError>
+    where
+        A: Clone,
+        ensures { IfOk result (λ bands. bands ≡ new_drawing from to) }
+    {
+        let classes = no_classes(alloc)?;
+        Ok(Bands {
+            gates: Jumping::begin(),
+            classes,
+            from,
+            to,
+        })
+    }
+
+    /// A command that a port accepted, given now, at the port's line rate and with its lead moment, in picoseconds. One that no port of
+    /// this history would accept changes nothing.
+    pub fn install(&mut self, command: &Command, rate: Rate, lead: u128)
+        requires ahead { self.old.moment < lead }
+        requires within { lead ≤ greatest_moment + greatest_lead }
+        ensures drawing { self.new ≡ record self.old { history = history_with rate lead command.now self.old.history self.old.moment } }
+        ensures accepted { (p : AbstractPort) (change : ℕ) → p.history ≡ self.old.history → p.now ≡ self.old.moment → p.ps ≡ rate → p.now + lead_of p.ps p.mtu ≡ lead → (installs p command.now).0 ≡ Ok change → self.new.history ≡ (installs p command.now).1.history }
+        ensures hindsight { (n : ℕ) → n < lead → gates self.new.history n ≡ gates self.old.history n }
+    {
+        match command {
+            Command::Delete => self.delete(lead),
+            Command::Replace(change) => self.replace(change, rate, lead),
+        }
+    }
+
+    /// A deletion, with its lead moment, in picoseconds.
+    fn delete(&mut self, lead: u128)
+        requires ahead { self.old.moment < lead }
+        requires within { lead ≤ greatest_moment + greatest_lead }
+        ensures drawing { self.new ≡ record self.old { history = with_command self.old.history self.old.moment (deletion_at lead) } }
+        ensures hindsight { (n : ℕ) → n < lead → gates self.new.history n ≡ gates self.old.history n }
+    {
+        let _ = self.gates.delete(lead);
+    }
+
+    /// A change, at a line rate and with its lead moment, in picoseconds.
+    fn replace(&mut self, change: &Change, rate: Rate, lead: u128)
+        requires ahead { self.old.moment < lead }
+        requires within { lead ≤ greatest_moment + greatest_lead }
+        ensures drawing { self.new ≡ record self.old { history = with_plan (plan_fault rate (plan_asked change.now)) self.old.history self.old.moment (accepted_at lead (plan_asked change.now)) } }
+        ensures hindsight { (n : ℕ) → n < lead → gates self.new.history n ≡ gates self.old.history n }
+    {
+        match Schedule::new(
+            &change.list,
+            change.base_ns,
+            change.cycle_ns,
+            change.extension_ns,
+            rate,
+        ) {
+            Err(_) => {}
+            Ok(schedule) => {
+                let _ = self.gates.install(schedule, lead);
+            }
+        }
+    }
+
+    /// The gates go on to a moment, in picoseconds. Each band that ends on the way is put into its row.
+    pub fn go_to(&mut self, moment: u128)
+        requires later { self.old.moment ≤ moment }
+        requires within { moment ≤ greatest_moment }
+        ensures moment { self.new.moment ≡ moment }
+        ensures history { self.new.history ≡ kept self.old.history moment }
+        ensures window { (self.new.from ≡ self.old.from) × (self.new.to ≡ self.old.to) }
+        ensures classes { (class : ℕ) → class < CLASSES → class_at self.new.classes class ≡ gone_on self.old moment class }
+    {
+        let first = self.from.max(self.gates.now()).min(moment);
+        self.gates.move_to(first, &mut Visits::zero());
+        let upto = up_to(self.to, moment);
+        draw_to(&mut self.gates, &mut self.classes, upto);
+        self.gates.move_to(moment, &mut Visits::zero());
+    }
+
+    /// The bands of the classes that are open end now, or where the drawing ends if that is earlier.
+    pub fn end(&mut self)
+        ensures same { (self.new.history ≡ self.old.history) × (self.new.moment ≡ self.old.moment) × (self.new.from ≡ self.old.from) × (self.new.to ≡ self.old.to) }
+        ensures classes { (class : ℕ) → class < CLASSES → class_at self.new.classes class ≡ stepped false (up_to self.old.to self.old.moment) (class_at self.old.classes class) }
+    {
+        let upto = up_to(self.to, self.gates.now());
+        step_all(&mut self.classes, 0, upto);
+    }
+
+    /// The moment that the gates are at, in picoseconds.
+    pub fn now(&self) -> u128
+        ensures { result ≡ self.now.moment }
+    {
+        self.gates.now()
+    }
+
+    /// The bands of a class, 0 to 7, that are complete, by rising start.
+    pub fn row(&self, class: u8) -> &[Shape]
+        requires { class < CLASSES }
+        ensures { result.now ≡ (class_at self.now.classes class).row.shapes }
+    {
+        shapes_in(&self.classes, class)
+    }
+}
+
+/// A moment, or the end where that is given and earlier; both are in picoseconds.
+fn up_to(end: Option<u128>, moment: u128) -> u128
+    ensures { result ≡ up_to end moment }
+{
+    match end {
+        None => moment,
+        Some(end) => end.min(moment),
+    }
+}

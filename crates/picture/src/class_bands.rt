@@ -1,0 +1,73 @@
+//! The bands of one class.
+
+ghost use Rattle.std.specs.Prelude.{◌≡◌, ◌≤◌, ◌<◌, IfOk, slice_set};
+ghost use Rattle.wire_time.specs.Moment.{greatest_moment};
+ghost use Rattle.gate_list.specs.Gate.{opens};
+
+use crate::row::Row;
+use crate::span::{Shape, Span};
+use gate_list::is_open;
+use std::alloc::{AllocError, Allocator, Global};
+use std::marker::Model;
+use wire_time::CLASSES;
+
+/// Since when a class has been open, in picoseconds, where it is, and the bands that are complete.
+#[derive(Drop)]
+pub(crate) struct ClassBands<A: Allocator = Global> {
+    since: Option<u128>,
+    row: Row<A>,
+}
+
+/// A contract sees both.
+impl<A: Allocator> Model for ClassBands<A> {
+    ghost use Rattle.std.specs.Prelude.{◌≤◌};
+    ghost use Rattle.std.specs.Option.{ForSome};
+    ghost use Rattle.wire_time.specs.Moment.{greatest_moment};
+    ghost use Rattle.picture.specs.Drawn.{ClassRow};
+
+    ghost Value = { ClassRow };
+
+    ghost view = { λ c. record { since = c.since; row = c.row } };
+
+    ghost invariant = { λ c. ForSome c.since (λ m. m ≤ greatest_moment) };
+}
+
+impl<A: Allocator> ClassBands<A> {
+    ghost use Rattle.picture.specs.Drawn.{no_bands, stepped};
+
+    /// No bands yet, and the room for all that the row ever has.
+    pub(crate) fn new(alloc: A) -> Result<ClassBands<A>, AllocError>
+        ensures { IfOk result (λ c. c ≡ no_bands) }
+    {
+        let row = Row::new(alloc)?;
+        Ok(ClassBands { since: None, row })
+    }
+
+    /// At a moment, in picoseconds, the class is open or closed.
+    pub(crate) fn step(&mut self, is_open: bool, moment: u128)
+        requires { moment ≤ greatest_moment }
+        ensures { self.new ≡ stepped is_open moment self.old }
+    {
+        if is_open {
+            self.since = Some(self.since.unwrap_or(moment));
+            return;
+        }
+        match self.since {
+            None => {}
+            Some(from) => {
+                self.since = None;
+                self.row.push(Shape {
+                    span: Span { from, to: moment },
+                    id: None,
+                });
+            }
+        }
+    }
+
+    /// The bands that are complete.
+    pub(crate) fn shapes(&self) -> &[Shape]
+        ensures { result.now ≡ self.now.row.shapes }
+    {
+        self.row.shapes()
+    }
+}

@@ -1,0 +1,19 @@
+//! What is drawn in a row.
+
+/// A time from a moment on and before another, in picoseconds.
+#[derive(Clone, Copy, Debug, PartialEq, Eq)]
+pub struct Span {
+    /// The first moment.
+    pub from: u128,
+    /// The first moment after it, at or after `from`.
+    pub to: u128,
+}
+
+/// What is drawn in a row: a time, and the identifier of the frame where it is one frame alone.
+#[derive(Clone, Copy, Debug, PartialEq, Eq)]
+pub struct Shape {
+    /// When it is.
+    pub span: Span,
+    /// The frame's identifier; none: it is no frame, or more than one.
+    pub id: Option<u64>,
+}

@@ -1,0 +1,172 @@
+//! Windows, steps of an axis, and rows.
+
+ghost use Rattle.std.specs.Prelude.{◌≡◌};
+
+use picture::{MOST_SHAPES, Row, Shape, Span, Unit, Window, tick_step, unit_of};
+use std::process::Abort;
+use std::test::Fail;
+use wire_time::MAX_MOMENT;
+
+/// The shape of a frame, or of no one frame.
+fn shape(from: u128, to: u128, id: Option<u64>) -> Shape
+    ensures { result.span.from ≡ from }
+{
+    Shape {
+        span: Span { from, to },
+        id,
+    }
+}
+
+#[test]
+fn windows_are_refused_past_their_limits(rt: HostRuntime) {
+    assert_eq!(rt; Window::new(5, 5, 800), None);
+    assert_eq!(rt; Window::new(6, 5, 800), None);
+    assert_eq!(rt; Window::new(0, 5, 199), None);
+    assert_eq!(rt; Window::new(0, 5, 2401), None);
+    assert_eq!(rt; Window::new(0, MAX_MOMENT + 1, 800), None);
+    let widest = Window::new(MAX_MOMENT - 1, MAX_MOMENT, 2400).expect(&rt, "a window");
+    assert_eq!(rt; widest.from(), MAX_MOMENT - 1);
+    assert_eq!(rt; widest.to(), MAX_MOMENT);
+    assert_eq!(rt; widest.width(), 2400);
+    let window = Window::new(0, MAX_MOMENT, 200).expect(&rt, "a window");
+    assert_eq!(rt; window.x(MAX_MOMENT), 20_000);
+    assert_eq!(rt; window.x(u128::MAX), 20_000);
+}
+
+/// A moment's place is rounded down, and taken into the window.
+#[test]
+fn moments_have_places(rt: HostRuntime) {
+    let window = Window::new(1_000, 4_000, 300).expect(&rt, "a window");
+    let rows = [
+        (0, 0),
+        (1_000, 0),
+        (1_001, 10),
+        (1_999, 9_990),
+        (2_000, 10_000),
+        (3_999, 29_990),
+        (4_000, 30_000),
+        (9_000, 30_000),
+    ];
+    for (moment, place) in rows {
+        assert_eq!(rt; window.x(moment), place);
+    }
+    let coarse = Window::new(0, 7_000_000, 200).expect(&rt, "a window");
+    assert_eq!(rt; coarse.x(349), 0);
+    assert_eq!(rt; coarse.x(350), 1);
+}
+
+/// What is left of a time in a window, and marks at its edges.
+#[test]
+fn times_are_cut(rt: HostRuntime) {
+    let window = Window::new(1_000, 4_000, 300).expect(&rt, "a window");
+    let rows = [
+        (0, 1_000, None),
+        (0, 1_001, Some((1_000, 1_001))),
+        (0, 9_000, Some((1_000, 4_000))),
+        (2_000, 3_000, Some((2_000, 3_000))),
+        (3_999, 4_001, Some((3_999, 4_000))),
+        (4_000, 4_001, None),
+        (999, 999, None),
+        (1_000, 1_000, Some((1_000, 1_000))),
+        (3_999, 3_999, Some((3_999, 3_999))),
+        (4_000, 4_000, None),
+        (3_000, 2_000, None),
+    ];
+    for (from, to, left) in rows {
+        let left = left.map(|(from, to)| Span { from, to });
+        assert_eq!(rt; window.cut(Span { from, to }), left);
+    }
+}
+
+/// The least of 1, 2, 5, 10 and so on, and the unit that it is written in.
+#[test]
+fn steps_have_units(rt: HostRuntime) {
+    let rows = [
+        (0, 1, 1, Unit::Ps, "ps"),
+        (10, 10, 1, Unit::Ps, "ps"),
+        (11, 10, 2, Unit::Ps, "ps"),
+        (21, 10, 5, Unit::Ps, "ps"),
+        (51, 10, 10, Unit::Ps, "ps"),
+        (10_000, 10, 1_000, Unit::Ns, "ns"),
+        (10_001, 10, 2_000, Unit::Ns, "ns"),
+        (1_000_000, 1, 1_000_000, Unit::Us, "us"),
+        (999_999_999, 1, 1_000_000_000, Unit::Ms, "ms"),
+        (50_000_000_000_000, 10, 5_000_000_000_000, Unit::S, "s"),
+    ];
+    for (length, most, step, unit, name) in rows {
+        assert!(rt; length <= MAX_MOMENT);
+        assert!(rt; most > 0);
+        let found = tick_step(length, most);
+        assert_eq!(rt; found, step);
+        assert_eq!(rt; unit_of(found), unit);
+        assert_eq!(rt; unit.name(), name);
+        assert_eq!(rt; found % unit.ps(), 0);
+    }
+    assert_eq!(rt; unit_of(0), Unit::S);
+    assert_eq!(rt; tick_step(MAX_MOMENT, u32::MAX), 5_000_000_000_000);
+}
+
+/// So many shapes as a row has, a nanosecond from one to the next, but two of them, at a place, so far as `near`.
+fn fill(rt: &impl Abort, row: &mut Row, place: u64, near: u128) {
+    for k in 0..MOST_SHAPES as u64 {
+        let start = 2_000 * u128::from(k);
+        let end = if k == place {
+            (start + 2_000).saturating_sub(near)
+        } else {
+            start + 1_000
+        };
+        row.push(shape(start, end, Some(k)));
+    }
+    assert_eq!(rt; row.shapes().len(), MOST_SHAPES);
+    assert_eq!(rt; row.gap(), 0);
+}
+
+/// The last shape that there is room for changes none, and one more joins those that are close.
+#[test]
+fn neighbours_are_joined_where_there_are_too_many(rt: HostRuntime) -> Result<(), Fail> {
+    let mut row = Row::new(rt.alloc())?;
+    fill(&rt, &mut row, 7, 10);
+    row.push(shape(20_000_000, 20_000_001, Some(5_000)));
+    assert_eq!(rt; row.gap(), 20);
+    assert_eq!(rt; row.shapes().len(), MOST_SHAPES);
+    assert_eq!(rt; row.shapes().get(6), Some(&shape(12_000, 13_000, Some(6))));
+    assert_eq!(rt; row.shapes().get(7), Some(&shape(14_000, 17_000, None)));
+    assert_eq!(rt; row.shapes().get(8), Some(&shape(18_000, 19_000, Some(9))));
+    row.push(shape(20_000_020, 20_000_021, Some(5_001)));
+    assert_eq!(rt;
+        row.shapes().last(),
+        Some(&shape(20_000_000, 20_000_021, None))
+    );
+    row.push(shape(20_000_041, 20_000_042, Some(5_002)));
+    assert_eq!(rt; row.gap(), 40);
+    assert_eq!(rt; row.shapes().len(), MOST_SHAPES);
+    assert_eq!(rt;
+        row.shapes().last(),
+        Some(&shape(20_000_000, 20_000_042, None))
+    );
+    row.push(shape(20_002_000, 20_002_001, Some(5_003)));
+    assert_eq!(rt; row.gap(), 2_000);
+    assert_eq!(rt; row.shapes().len(), 2);
+    assert_eq!(rt; row.shapes().first(), Some(&shape(0, 9_999_000, None)));
+    assert_eq!(rt;
+        row.shapes().last(),
+        Some(&shape(20_000_000, 20_002_001, None))
+    );
+    Ok(())
+}
+
+/// Marks of one moment overlap, and are one mark where there are too many.
+#[test]
+fn marks_of_one_moment_are_joined(rt: HostRuntime) -> Result<(), Fail> {
+    let mut row = Row::new(rt.alloc())?;
+    for k in 0..MOST_SHAPES as u64 {
+        row.push(shape(5, 5, Some(k)));
+    }
+    assert_eq!(rt; row.shapes().len(), MOST_SHAPES);
+    row.push(shape(6, 6, None));
+    assert_eq!(rt; row.gap(), 1);
+    assert_eq!(rt; row.shapes().len(), 2);
+    assert_eq!(rt; row.shapes().first(), Some(&shape(5, 5, None)));
+    assert_eq!(rt; row.shapes().last(), Some(&shape(6, 6, None)));
+    Ok(())
+}
