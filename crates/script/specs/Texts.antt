@@ -24,6 +24,9 @@ option_name Values.Rate = codes "--rate"
 option_name Values.Mtu = codes "--mtu"
 option_name Values.Room = codes "--room"
 option_name Values.Until = codes "--until"
+option_name Values.From = codes "--from"
+option_name Values.To = codes "--to"
+option_name Values.Width = codes "--width"
 
 -- the text of a bad value
 abbrev pub value_text : BadValue → List ℕ

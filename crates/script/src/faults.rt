@@ -125,6 +125,9 @@ fn option_name(value: BadValue) -> &'static [u8]
         BadValue::Mtu => b"--mtu",
         BadValue::Room => b"--room",
         BadValue::Until => b"--until",
+        BadValue::From => b"--from",
+        BadValue::To => b"--to",
+        BadValue::Width => b"--width",
     }
 }
 

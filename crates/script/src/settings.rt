@@ -47,6 +47,12 @@ pub enum BadValue {
     Room,
     /// The moment to run to is over the greatest, in picoseconds.
     Until,
+    /// The moment that a picture begins at is over the greatest, in picoseconds.
+    From,
+    /// The moment that a picture ends at is over the greatest, in picoseconds, or not after the one that it begins at.
+    To,
+    /// The width of a picture is not 400 to 2400 pixels.
+    Width,
 }
 
 /// The rate of a decimal number of Mb/s, if there is one.

@@ -321,11 +321,14 @@ fn says_faults(rt: HostRuntime) {
         assert_eq!(rt; say_fault(&fault, &mut got), Ended { status, told: true });
         assert_eq!(rt; got.as_slice(), text);
     }
-    let rows: [(BadValue, &[u8]); 4] = [
+    let rows: [(BadValue, &[u8]); 7] = [
         (BadValue::Rate, b"taprio_port: bad value of --rate\n"),
         (BadValue::Mtu, b"taprio_port: bad value of --mtu\n"),
         (BadValue::Room, b"taprio_port: bad value of --room\n"),
         (BadValue::Until, b"taprio_port: bad value of --until\n"),
+        (BadValue::From, b"taprio_port: bad value of --from\n"),
+        (BadValue::To, b"taprio_port: bad value of --to\n"),
+        (BadValue::Width, b"taprio_port: bad value of --width\n"),
     ];
     for (value, text) in rows {
         let mut got = Vec::new(rt.alloc());
