@@ -7,7 +7,7 @@ ghost use Rattle.gate_list.specs.Gate.{opens, plan_fault};
 ghost use Rattle.list_config.specs.History.{gates, kept};
 ghost use Rattle.list_config.specs.Current.{IsCurrent, accepted_at, deletion_at, with_command};
 ghost use Rattle.abstract_port.specs.AbstractPort.{AbstractPort, installs, plan_asked};
-ghost use Rattle.picture.specs.Drawn.{class_at, drawn, gone_on, history_with, new_drawing, no_classes, stepped, up_to, with_plan};
+ghost use Rattle.picture.specs.Drawn.{class_at, drawn, gone_on, history_with, new_drawing, no_bands, no_classes, stepped, up_to, with_plan};
 
 use crate::class_bands::ClassBands;
 use crate::span::Shape;
@@ -19,19 +19,27 @@ use std::alloc::{AllocError, Allocator, Global};
 use std::marker::Model;
 use wire_time::{CLASSES, Rate};
 
-/// Eight classes without bands.
+/// Two classes without bands.
+fn two_classes<A: Allocator + Clone>(
+    alloc: &A,
+) -> Result<(ClassBands<A>, ClassBands<A>), AllocError>
+    ensures { IfOk result (λ two. (two.0 ≡ no_bands) × (two.1 ≡ no_bands)) }
+{
+    let first = ClassBands::new(alloc)?;
+    let second = ClassBands::new(alloc)?;
+    Ok((first, second))
+}
+
+/// Eight classes without bands: two by two, so that few are given back where memory is wanting.
 fn no_classes<A: Allocator + Clone>(alloc: &A) -> Result<[ClassBands<A>; 8], AllocError>
     ensures { IfOk result (λ classes. classes ≡ no_classes) }
 {
+    let (class_0, class_1) = two_classes(alloc)?;
+    let (class_2, class_3) = two_classes(alloc)?;
+    let (class_4, class_5) = two_classes(alloc)?;
+    let (class_6, class_7) = two_classes(alloc)?;
     Ok([
-        ClassBands::new(alloc.clone()?)?,
-        ClassBands::new(alloc.clone()?)?,
-        ClassBands::new(alloc.clone()?)?,
-        ClassBands::new(alloc.clone()?)?,
-        ClassBands::new(alloc.clone()?)?,
-        ClassBands::new(alloc.clone()?)?,
-        ClassBands::new(alloc.clone()?)?,
-        ClassBands::new(alloc.clone()?)?,
+        class_0, class_1, class_2, class_3, class_4, class_5, class_6, class_7,
     ])
 }
 

@@ -36,10 +36,12 @@ impl<A: Allocator> ClassBands<A> {
     ghost use Rattle.picture.specs.Drawn.{no_bands, stepped};
 
     /// No bands yet, and the room for all that the row ever has.
-    pub(crate) fn new(alloc: A) -> Result<ClassBands<A>, AllocError>
+    pub(crate) fn new(alloc: &A) -> Result<ClassBands<A>, AllocError>
+    where
+        A: Clone,
         ensures { IfOk result (λ c. c ≡ no_bands) }
     {
-        let row = Row::new(alloc)?;
+        let row = Row::new(alloc.clone()?)?;
         Ok(ClassBands { since: None, row })
     }
 
