@@ -1,0 +1,6 @@
+pub mod Layout
+pub mod Shapes
+pub mod Waiting
+pub mod Course
+pub mod Options
+pub mod Ending

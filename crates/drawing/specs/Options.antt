@@ -1,0 +1,58 @@
+-- What the values of a picture's options say.
+use Rattle.std.specs.Prelude.{ℕ, ◌+◌, ◌-◌, ◌^◌, min, nat_lt, nat_le, List, Option, Some, None, Result, Ok, Err, option_and_then, if◌then◌else◌}
+use Rattle.wire_time.specs.Moment.{greatest_moment}
+use Rattle.words.specs.Numbers.{number_in}
+use Rattle.script.specs.declared.settings.BadValue.{BadValue}
+use Rattle.script.specs.declared.settings.BadValue.TheVariants as Values
+use Rattle.drawing.specs.declared.options.DrawOptions.{DrawOptions}
+use Rattle.drawing.specs.declared.options.TheConstants.{WIDTH, SHORTEST}
+use Rattle.drawing.specs.declared.page.TheConstants.{LEFT, MAX_WIDTH, MIN_WIDTH, RIGHT}
+use Rattle.picture.specs.Pane.{Pane}
+use Rattle.picture.specs.Windows.{window_of}
+
+-- the number of a word, at most the greatest; where there is no word, this one
+abbrev pub number_or : ℕ → ℕ → Option (List ℕ) → Option ℕ
+number_or greatest default None = Some default
+number_or greatest default (Some text) = number_in 10 greatest text
+
+-- the end of a picture, after its beginning, if one is given: the outer None is a bad value
+abbrev pub end_in : ℕ → Option (List ℕ) → Option (Option ℕ)
+end_in from None = Some None
+end_in from (Some text) = option_and_then (λ to. if nat_lt from to then Some (Some to) else None) (number_in 10 greatest_moment text)
+
+-- a number that is a width, in pixels
+abbrev pub width_where : Option ℕ → Option ℕ
+width_where None = None
+width_where (Some n) = if nat_le MIN_WIDTH n then Some n else None
+
+-- with a width, or without a good one
+abbrev pub with_width : ℕ → Option ℕ → Option ℕ → Result DrawOptions BadValue
+with_width from to (Some width) = Ok (record { from = from; to = to; width = width })
+with_width from to None = Err Values.Width
+
+-- with an end, or without a good one
+abbrev pub with_end : ℕ → Option (Option ℕ) → Option (List ℕ) → Result DrawOptions BadValue
+with_end from (Some to) width = with_width from to (width_where (number_or MAX_WIDTH WIDTH width))
+with_end from None width = Err Values.To
+
+-- with a beginning, or without a good one
+abbrev pub with_beginning : Option ℕ → Option (List ℕ) → Option (List ℕ) → Result DrawOptions BadValue
+with_beginning (Some from) to width = with_end from (end_in from to) width
+with_beginning None to width = Err Values.From
+
+-- the options of three values, or the first that is bad
+abbrev pub options_of : Option (List ℕ) → Option (List ℕ) → Option (List ℕ) → Result DrawOptions BadValue
+options_of from to width = with_beginning (number_or (greatest_moment - SHORTEST) 0 from) to width
+
+-- where a picture ends that has no end of its own: at the run's last moment, or a microsecond after its beginning where the run ends before
+abbrev pub end_after : ℕ → ℕ → ℕ
+end_after from last = if nat_lt from last then last else min (from + SHORTEST) (2 ^ 128 - 1)
+
+-- where a picture ends
+abbrev pub end_shown : ℕ → Option ℕ → ℕ → ℕ
+end_shown from (Some to) last = to
+end_shown from None last = end_after from last
+
+-- the time that a picture shows of a run with this last moment, and how wide that part is
+abbrev pub window_shown : DrawOptions → ℕ → Option Pane
+window_shown o last = window_of o.from (end_shown o.from o.to last) (o.width - (LEFT + RIGHT))

@@ -1,0 +1,137 @@
+//! When the frames that wait have come.
+
+ghost use Rattle.std.specs.Prelude.{◌≡◌, ◌<◌, IfOk, slice_get, slice_set};
+ghost use Rattle.drawing.specs.Waiting.{none_wait, none_waits, waiting_in, with_arrival, without_first};
+
+use circular_buffer::HeapCircularBuffer;
+use std::alloc::{AllocError, Allocator};
+use std::marker::Model;
+
+/// The arrival moments of the frames of a class that wait, the first to go first. The memory for all that ever wait is taken once.
+#[derive(Drop)]
+pub struct ClassArrivals<A: Allocator> {
+    moments: HeapCircularBuffer<u128, A>,
+}
+
+/// A contract sees the moments and the room.
+impl<A: Allocator> Model for ClassArrivals<A> {
+    ghost use Rattle.drawing.specs.Waiting.{Waiting};
+
+    ghost Value = { Waiting };
+
+    ghost view = { λ c. record { moments = c.moments.items; room = c.moments.capacity } };
+}
+
+impl<A: Allocator> ClassArrivals<A> {
+    /// No frame waits; there is room for so many.
+    pub fn new(alloc: &A, room: usize) -> Result<ClassArrivals<A>, AllocError>
+    where
+        A: Clone,
+        ensures { IfOk result (λ c. c ≡ none_waits room) }
+    {
+        let moments = HeapCircularBuffer::with_capacity(alloc.clone()?, room)?;
+        Ok(ClassArrivals { moments })
+    }
+
+    /// A frame came at this moment, in picoseconds. One for which there is no room isn't noted.
+    pub fn put(&mut self, moment: u128)
+        ensures { self.new ≡ with_arrival moment self.old }
+    {
+        let _ = self.moments.try_push_back(moment);
+    }
+
+    /// When the first frame that waits came, in picoseconds; it waits no more.
+    pub fn take(&mut self) -> Option<u128>
+        ensures first { result ≡ slice_get self.old.moments 0 }
+        ensures rest { self.new ≡ without_first self.old }
+    {
+        self.moments.pop_front()
+    }
+}
+
+// Eight classes of which no frame waits.
+fn classes_of<A: Allocator + Clone>(
+    alloc: &A,
+    room: usize,
+) -> Result<[ClassArrivals<A>; 8], AllocError>
+    ensures { IfOk result (λ classes. classes ≡ none_wait room) }
+{
+    Ok([
+        ClassArrivals::new(alloc, room)?,
+        ClassArrivals::new(alloc, room)?,
+        ClassArrivals::new(alloc, room)?,
+        ClassArrivals::new(alloc, room)?,
+        ClassArrivals::new(alloc, room)?,
+        ClassArrivals::new(alloc, room)?,
+        ClassArrivals::new(alloc, room)?,
+        ClassArrivals::new(alloc, room)?,
+    ])
+}
+
+// A frame of a class came.
+fn put_in<A: Allocator>(classes: &mut [ClassArrivals<A>; 8], class: u8, moment: u128)
+    requires { class < 8 }
+    ensures { classes.new ≡ slice_set classes.old class (with_arrival moment (waiting_in classes.old class)) }
+{
+    classes[class as usize].put(moment);
+}
+
+// The first frame of a class waits no more.
+fn take_from<A: Allocator>(classes: &mut [ClassArrivals<A>; 8], class: u8) -> Option<u128>
+    requires { class < 8 }
+    ensures first { result ≡ slice_get (waiting_in classes.old class).moments 0 }
+    ensures rest { classes.new ≡ slice_set classes.old class (without_first (waiting_in classes.old class)) }
+{
+    classes[class as usize].take()
+}
+
+/// The arrival moments of the frames that wait, by class.
+#[derive(Drop)]
+pub struct Arrivals<A: Allocator> {
+    classes: [ClassArrivals<A>; 8],
+}
+
+/// A contract sees the eight classes.
+impl<A: Allocator> Model for Arrivals<A> {
+    ghost use Rattle.std.specs.Prelude.{List};
+    ghost use Rattle.drawing.specs.Waiting.{Waiting};
+
+    ghost Value = { List Waiting };
+
+    ghost view = { λ a. a.classes };
+}
+
+impl<A: Allocator> Arrivals<A> {
+    ghost use Rattle.drawing.specs.Waiting.{comes, first_came, goes};
+
+    /// No frame waits; there is room for so many frames a class.
+    pub fn new(alloc: &A, room: u32) -> Result<Arrivals<A>, AllocError>
+    where
+        A: Clone,
+        ensures { IfOk result (λ a. a ≡ none_wait room) }
+    {
+        let classes = classes_of(alloc, room as usize)?;
+        Ok(Arrivals { classes })
+    }
+
+    /// A frame of a class came at this moment, in picoseconds.
+    pub fn put(&mut self, class: u8, moment: u128)
+        ensures { self.new ≡ comes class moment self.old }
+    {
+        if class < 8 {
+            put_in(&mut self.classes, class, moment);
+        }
+    }
+
+    /// When the first frame of a class that waits came, in picoseconds; it waits no more.
+    pub fn take(&mut self, class: u8) -> Option<u128>
+        ensures first { result ≡ first_came class self.old }
+        ensures rest { self.new ≡ goes class self.old }
+    {
+        if class < 8 {
+            take_from(&mut self.classes, class)
+        } else {
+            None
+        }
+    }
+}

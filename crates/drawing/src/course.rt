@@ -1,0 +1,91 @@
+//! What is drawn of a run, answer by answer.
+
+ghost use Rattle.std.specs.Prelude.{◌≡◌, ◌≤◌, IfOk};
+ghost use Rattle.wire_time.specs.Moment.{greatest_moment};
+ghost use Rattle.drawing.specs.Course.{nothing_seen};
+
+use crate::arrivals::Arrivals;
+use crate::shapes::Shapes;
+use abstract_port::{Answer, Start};
+use std::alloc::{AllocError, Allocator};
+use std::marker::Model;
+
+/// When the frames that wait have come, what is drawn so far, and when the last frame so far ends, in picoseconds.
+#[derive(Drop)]
+pub struct Course<A: Allocator> {
+    arrivals: Arrivals<A>,
+    shapes: Shapes<A>,
+    last: u128,
+}
+
+/// A contract sees the three.
+impl<A: Allocator> Model for Course<A> {
+    ghost use Rattle.drawing.specs.Course.{Course};
+
+    ghost Value = { Course };
+
+    ghost view = { λ c. record { waiting = c.arrivals; shown = c.shapes; last = c.last } };
+}
+
+impl<A: Allocator> Course<A> {
+    ghost use Rattle.drawing.specs.Course.{seen, started};
+
+    /// Nothing is drawn; there is room for so many frames a class. All memory that is ever wanted is taken here.
+    pub fn new(alloc: &A, room: u32) -> Result<Course<A>, AllocError>
+    where
+        A: Clone,
+        ensures { IfOk result (λ c. c ≡ nothing_seen room) }
+    {
+        let arrivals = Arrivals::new(alloc, room)?;
+        let shapes = Shapes::new(alloc)?;
+        Ok(Course {
+            arrivals,
+            shapes,
+            last: 0,
+        })
+    }
+
+    // A frame starts.
+    fn see_start(&mut self, start: &Start)
+        ensures { self.new ≡ started start.now self.old }
+    {
+        let came = self.arrivals.take(start.class).unwrap_or(start.at);
+        self.shapes.put_start(came, start);
+        self.last = start.end;
+    }
+
+    /// Draws an answer to an event that a port gives at this moment, in picoseconds; a frame that comes then has this class, if it has one.
+    pub fn see(&mut self, now: u128, class: Option<u8>, answer: &Answer)
+        requires { now ≤ greatest_moment }
+        ensures { self.new ≡ seen now class answer.now self.old }
+    {
+        match answer {
+            Answer::Queued {
+                id: _,
+                class: taken,
+            } => self.arrivals.put(*taken, now),
+            Answer::Start(start) => self.see_start(start),
+            Answer::Dropped { id, why: _ } => self.shapes.put_drop(*id, class, now),
+            Answer::Installed(change) => self.shapes.put_change(*change),
+            Answer::Refused(_)
+            | Answer::Backward
+            | Answer::Report(_)
+            | Answer::Counters { .. }
+            | Answer::BadClass => {}
+        }
+    }
+
+    /// What is drawn.
+    pub fn shapes(&self) -> &Shapes<A>
+        ensures { result.now ≡ self.now.shown }
+    {
+        &self.shapes
+    }
+
+    /// When the last frame so far ends, in picoseconds; 0 where none started.
+    pub fn last(&self) -> u128
+        ensures { result ≡ self.now.last }
+    {
+        self.last
+    }
+}

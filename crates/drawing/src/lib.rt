@@ -1,0 +1,21 @@
+//! Draws the run of a script as an SVG picture: a row for each class with its open time, its frames and how long they wait, and a row for the wire.
+#![tactic(auto)]
+
+mod arrivals;
+mod course;
+mod marks;
+mod options;
+mod page;
+mod program;
+mod running;
+mod shapes;
+mod svg;
+
+pub use arrivals::Arrivals;
+pub use course::Course;
+pub use options::{DrawOptions, DrawValues, options_given};
+pub use page::{Page, row_top};
+pub use program::answer_draw;
+pub use running::{draw, take};
+pub use shapes::Shapes;
+pub use svg::put_picture;

@@ -1,0 +1,112 @@
+//! What a picture shows, by the values of options.
+
+ghost use Rattle.std.specs.Prelude.{◌≡◌, ◌≤◌, IfSome, option_map};
+ghost use Rattle.drawing.specs.Options.{end_in, number_or, options_of, width_where, window_shown};
+
+use crate::page::{LEFT, MAX_WIDTH, MIN_WIDTH, RIGHT};
+use picture::Window;
+use script::BadValue;
+use wire_time::MAX_MOMENT;
+use words::number;
+
+/// The width of a picture where none is given, in pixels.
+pub const WIDTH: u32 = 1200;
+
+/// What is shown where a run ends before the picture begins, in picoseconds: a microsecond.
+pub const SHORTEST: u128 = 1_000_000;
+
+/// The values of the options of a picture, where they are given, as words.
+#[derive(Clone, Copy, Debug)]
+pub struct DrawValues<'a> {
+    /// The moment that the picture begins at, in picoseconds.
+    pub from: Option<&'a str>,
+    /// The moment that it ends at, in picoseconds.
+    pub to: Option<&'a str>,
+    /// Its width, in pixels.
+    pub width: Option<&'a str>,
+}
+
+/// What a picture shows: from a moment on, up to another or to the run's end, in picoseconds; and its width, 400 to 2400 pixels.
+#[derive(Clone, Copy, Debug, PartialEq, Eq)]
+pub struct DrawOptions {
+    /// The moment that the picture begins at.
+    pub from: u128,
+    /// The moment that it ends at; none: the run's last.
+    pub to: Option<u128>,
+    /// Its width, in pixels.
+    pub width: u32,
+}
+
+impl DrawOptions {
+    /// The time that the picture shows, where the run ends at this moment, in picoseconds: up to the end that is given, or to the run's; a
+    /// microsecond where the run ends before the picture begins.
+    pub fn window(&self, last: u128) -> Option<Window>
+        ensures { result ≡ window_shown self.now last }
+    {
+        let to = match self.to {
+            Some(to) => to,
+            None => if self.from < last {
+                last
+            } else {
+                self.from.saturating_add(SHORTEST)
+            },
+        };
+        Window::new(self.from, to, self.width.saturating_sub(LEFT + RIGHT))
+    }
+}
+
+// The number of a word, at most `greatest`; where there is no word, this one.
+fn number_or(greatest: u128, default: u128, value: Option<&str>) -> Option<u128>
+    requires { default ≤ greatest }
+    ensures value { result ≡ number_or greatest default (option_map (λ text. text.now) value.entry) }
+    ensures within { IfSome result (λ n. n ≤ greatest) }
+{
+    match value {
+        Some(text) => number(text.as_bytes(), greatest),
+        None => Some(default),
+    }
+}
+
+// The end of a picture, after its beginning, if one is given; the outer None is a bad value.
+fn end_in(from: u128, value: Option<&str>) -> Option<Option<u128>>
+    ensures { result ≡ end_in from (option_map (λ text. text.now) value.entry) }
+{
+    match value {
+        None => Some(None),
+        Some(text) => {
+            let to = number(text.as_bytes(), MAX_MOMENT)?;
+            if from < to { Some(Some(to)) } else { None }
+        }
+    }
+}
+
+// A number that is a width, in pixels.
+fn width_where(number: Option<u128>) -> Option<u32>
+    requires { IfSome number (λ n. n ≤ MAX_WIDTH) }
+    ensures { result ≡ width_where number }
+{
+    let width = number? as u32;
+    if width >= MIN_WIDTH {
+        Some(width)
+    } else {
+        None
+    }
+}
+
+/// What the values of a picture say, or the first that is bad: a beginning over the greatest moment but a microsecond, an end over the greatest
+/// or not after the beginning, or a width out of its limits.
+pub fn options_given(values: DrawValues<'_>) -> Result<DrawOptions, BadValue>
+    ensures { result ≡ options_of (option_map (λ text. text.now) values.entry.from) (option_map (λ text. text.now) values.entry.to) (option_map (λ text. text.now) values.entry.width) }
+{
+    let Some(from) = number_or(MAX_MOMENT - SHORTEST, 0, values.from) else {
+        return Err(BadValue::From);
+    };
+    let Some(to) = end_in(from, values.to) else {
+        return Err(BadValue::To);
+    };
+    let width = number_or(u128::from(MAX_WIDTH), u128::from(WIDTH), values.width);
+    let Some(width) = width_where(width) else {
+        return Err(BadValue::Width);
+    };
+    Ok(DrawOptions { from, to, width })
+}

@@ -1,0 +1,89 @@
+//! The page of a picture: its window, its size and where its rows lie.
+
+ghost use Rattle.std.specs.Prelude.{◌≡◌, ◌<◌, ◌≤◌, ◌+◌, ◌*◌};
+ghost use Rattle.picture.specs.Windows.{x_in};
+ghost use Rattle.drawing.specs.Layout.{top_of};
+
+use picture::Window;
+use wire_time::Rate;
+
+/// Where time begins, in pixels from the left.
+pub const LEFT: u32 = 64;
+
+/// What is left free behind the end of time, in pixels.
+pub const RIGHT: u32 = 32;
+
+/// Where the row of class 7 begins, in pixels from above.
+pub const CLASS_TOP: u32 = 58;
+
+/// The least width of a picture, in pixels.
+pub const MIN_WIDTH: u32 = 400;
+
+/// The greatest width of a picture, in pixels.
+pub const MAX_WIDTH: u32 = 2400;
+
+/// The height of a row, in pixels.
+pub const ROW_HEIGHT: u32 = 28;
+
+/// How far a row begins below the one above it, in pixels.
+pub const ROW_STEP: u32 = 36;
+
+/// How many rows there are: one for each class, and the wire's.
+pub const ROWS: u8 = 9;
+
+/// The row of the wire.
+pub const WIRE: u8 = 8;
+
+/// Where the rows end, in pixels from above.
+pub const BOTTOM: u32 = CLASS_TOP + 9 * ROW_STEP;
+
+/// The line of the axis' labels, in pixels from above.
+pub const AXIS: u32 = BOTTOM + 16;
+
+/// The line of the legend, in pixels from above.
+pub const LEGEND: u32 = BOTTOM + 44;
+
+/// The height of the picture, in pixels.
+pub const HEIGHT: u32 = BOTTOM + 58;
+
+/// The window of a picture, its width, and the rate and the mtu that it tells.
+#[derive(Clone, Copy, Debug)]
+pub struct Page {
+    /// The time that is shown, and the width of that part of the picture.
+    pub window: Window,
+    /// The line rate.
+    pub rate: Rate,
+    /// The mtu, in octets.
+    pub mtu: u32,
+}
+
+impl Page {
+    /// Where a moment, in picoseconds, lies in the picture: hundredths of a pixel from the left.
+    pub fn x(&self, moment: u128) -> u64
+        ensures place { result ≡ 100 * LEFT + x_in self.now.window moment }
+        ensures within { (100 * LEFT ≤ result) × (result ≤ 100 * (LEFT + MAX_WIDTH)) }
+    {
+        let _width = self.window.width();
+        u64::from(LEFT) * 100 + self.window.x(moment)
+    }
+
+    /// The width of the picture, in pixels.
+    pub fn width(&self) -> u32
+        ensures { result ≡ LEFT + self.now.window.width + RIGHT }
+    {
+        LEFT + self.window.width() + RIGHT
+    }
+}
+
+/// Where a row begins, in pixels from above: class 7 is the first, class 0 the eighth, and the wire the ninth.
+pub fn row_top(row: u8) -> u32
+    requires { row < ROWS }
+    ensures row { result ≡ top_of row }
+    ensures within { result ≤ BOTTOM }
+{
+    if row < WIRE {
+        CLASS_TOP + u32::from(7 - row) * ROW_STEP
+    } else {
+        CLASS_TOP + u32::from(WIRE) * ROW_STEP
+    }
+}

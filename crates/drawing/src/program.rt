@@ -1,0 +1,42 @@
+//! The program's job: a script becomes a picture.
+
+ghost use Rattle.std.specs.Prelude.{◌≡◌, IfErr, option_map};
+ghost use Rattle.std.specs.Io.Buffered.{writer_contents};
+ghost use Rattle.script.specs.Ending.{settings_given};
+ghost use Rattle.wire_time.specs.Moment.{greatest_moment};
+ghost use Rattle.drawing.specs.Ending.{IsDrawEnding};
+ghost use Rattle.drawing.specs.Options.{options_of};
+
+use crate::options::{DrawValues, options_given};
+use crate::running::draw;
+use script::{Ended, Values, end_run, end_with_value, settings_given};
+use std::alloc::{Allocator, Global};
+use std::io::{BufWriter, Read, Write};
+use wire_time::MAX_MOMENT;
+
+/// Draws the run of the script that `reader` gives, by these values, through `answers`, with the text of a fault on `errors`; and gives the
+/// writer of the answers back.
+pub fn answer_draw<B: Allocator, R: Read, W: Write + Drop, E: Write>(
+    alloc: Global,
+    values: Values<'_>,
+    draws: DrawValues<'_>,
+    reader: &mut R,
+    mut answers: BufWriter<W, B>,
+    errors: &mut E,
+) -> (Ended, W)
+    ensures { IsDrawEnding (settings_given greatest_moment (option_map (λ text. text.now) values.entry.rate) (option_map (λ text. text.now) values.entry.mtu) (option_map (λ text. text.now) values.entry.room) (option_map (λ text. text.now) values.entry.until) values.entry.summary)
+        (options_of (option_map (λ text. text.now) draws.entry.from) (option_map (λ text. text.now) draws.entry.to) (option_map (λ text. text.now) draws.entry.width))
+        result.0 (writer_contents W.contents answers) (W.contents result.1) (E.contents errors.old) (E.contents errors.new) }
+{
+    let settings = match settings_given(values, MAX_MOMENT) {
+        Ok(settings) => settings,
+        Err(value) => return end_with_value(value, answers, errors),
+    };
+    match options_given(draws) {
+        Ok(options) => {
+            let run = draw(alloc, reader, &mut answers, settings, options);
+            end_run(run, answers, errors)
+        }
+        Err(value) => end_with_value(value, answers, errors),
+    }
+}

@@ -1,0 +1,258 @@
+//! Runs a script, and draws what happens.
+
+ghost use Rattle.std.specs.Prelude.{◌≡◌, ◌≤◌};
+ghost use Rattle.abstract_port.specs.AbstractPort.{class_for, settled};
+ghost use Rattle.abstract_port.specs.Answers.{answers_to};
+ghost use Rattle.abstract_port.specs.Sound.{IsSoundPort};
+ghost use Rattle.wire_time.specs.Moment.{greatest_moment};
+ghost use Rattle.drawing.specs.Course.{class_at, seen_at};
+
+use crate::course::Course;
+use crate::options::DrawOptions;
+use crate::page::Page;
+use crate::svg::put_picture;
+use abstract_port::{Answer, Command, Event};
+use answer_text::WriteFault;
+use line_reader::LineReader;
+use picture::Bands;
+use script::{RunFault, RunningPort, Said, ScriptFault, Settings, read_line, read_tc};
+use std::alloc::{Allocator, Global};
+use std::io::{Read, Write};
+use wire_time::{MAX_MOMENT, lead};
+
+// The class of a priority now, if it has one.
+fn class_of<A: Allocator>(port: &RunningPort<A>, priority: u8) -> Option<u8>
+    ensures { result ≡ class_for port.now.port priority }
+{
+    match port.report().classes {
+        Some((map, _queues)) => map.class_of(priority),
+        None => if priority < 8 {
+            Some(priority)
+        } else if priority < 16 {
+            Some(0)
+        } else {
+            None
+        },
+    }
+}
+
+// The class of a frame that comes.
+fn class_at<A: Allocator>(port: &RunningPort<A>, event: &Event<'_>) -> Option<u8>
+    ensures { result ≡ class_at event.now port.now.port }
+{
+    match event {
+        Event::Arrive(frame) => class_of(port, frame.priority),
+        _ => None,
+    }
+}
+
+/// Takes an event, and draws the answers to it.
+pub fn take<A: Allocator>(port: &mut RunningPort<A>, course: &mut Course<A>, event: &Event<'_>)
+    ensures course { course.new ≡ seen_at event.now port.old.port course.old }
+    ensures port { port.new.port ≡ settled (answers_to event.now port.old.port).1 }
+    ensures sound { IsSoundPort port.new.port }
+{
+    let now = port.now();
+    let class = class_at(port, event);
+    let mut asked = Some(*event);
+    while let Some(answer) = port.next_answer(&mut asked) {
+        course.see(now, class, &answer);
+    }
+}
+
+// The bands go on to where the port is.
+fn follow<A: Allocator>(port: &RunningPort<A>, bands: &mut Bands<A>) {
+    let now = port.now();
+    if bands.now() <= now {
+        bands.go_to(now);
+    }
+}
+
+// Gives the port a command, and draws when it comes into force.
+fn take_command<A: Allocator>(
+    port: &mut RunningPort<A>,
+    bands: &mut Bands<A>,
+    course: &mut Course<A>,
+    command: &Command,
+    settings: Settings,
+) {
+    let now = port.now();
+    let rate = settings.rate();
+    let _ps = rate.ps_per_octet();
+    let mtu = settings.mtu();
+    let lead = now + lead(rate, mtu);
+    if let Ok(change) = port.install(command) {
+        if bands.now() < lead {
+            bands.install(command, rate, lead);
+        }
+        course.see(now, None, &Answer::Installed(change));
+    }
+}
+
+// Takes what a line says, if it says something. What is wrong with a line that begins with `tc` is told by a run of the script, and isn't
+// drawn.
+fn take_line<A: Allocator>(
+    port: &mut RunningPort<A>,
+    bands: &mut Bands<A>,
+    course: &mut Course<A>,
+    line: &[u8],
+    settings: Settings,
+) -> Result<(), ScriptFault> {
+    match read_line(line)? {
+        None => {}
+        Some(Said::Asked(event)) => {
+            take(port, course, &event);
+            follow(port, bands);
+        }
+        Some(Said::Tc) => {
+            if let Ok(command) = read_tc(line) {
+                take_command(port, bands, course, &command, settings);
+            }
+        }
+    }
+    Ok(())
+}
+
+// Runs the lines that are to come.
+fn take_lines<A: Allocator, B: Allocator, R: Read + Drop>(
+    port: &mut RunningPort<A>,
+    bands: &mut Bands<A>,
+    course: &mut Course<A>,
+    lines: &mut LineReader<R, B>,
+    settings: Settings,
+) -> Result<(), RunFault> {
+    'lines: while lines.advance()? {
+        match take_line(port, bands, course, lines.line(), settings) {
+            Ok(()) => {}
+            Err(fault) => return Err(RunFault::Script(lines.line_number(), fault)),
+        }
+    }
+    Ok(())
+}
+
+// The last moment of the run: now, or the end of the last frame.
+fn last_moment<A: Allocator>(port: &RunningPort<A>, course: &Course<A>) -> u128
+    ensures { result ≤ greatest_moment }
+{
+    port.now().max(course.last()).min(MAX_MOMENT)
+}
+
+// Runs to the end of the picture, where it is given and lies ahead, and ends the bands: there, or at the run's last moment.
+fn end<A: Allocator>(
+    port: &mut RunningPort<A>,
+    bands: &mut Bands<A>,
+    course: &mut Course<A>,
+    to: Option<u128>,
+) {
+    if let Some(to) = to {
+        take(port, course, &Event::Clock(to));
+    }
+    let last = last_moment(port, course);
+    if bands.now() <= last {
+        bands.go_to(last);
+    }
+    bands.end();
+}
+
+// Writes what is drawn of a run.
+fn put_drawn<A: Allocator, W: Write>(
+    bands: &Bands<A>,
+    course: &Course<A>,
+    page: &Page,
+    writer: &mut W,
+) -> Result<(), WriteFault> {
+    put_picture(writer, page, bands, course.shapes())
+}
+
+// Writes the picture of a run that ends now.
+fn put_run<A: Allocator, W: Write>(
+    port: &RunningPort<A>,
+    bands: &Bands<A>,
+    course: &Course<A>,
+    writer: &mut W,
+    settings: Settings,
+    options: DrawOptions,
+) -> Result<(), WriteFault> {
+    let Some(window) = options.window(last_moment(port, course)) else {
+        return Ok(());
+    };
+    let page = Page {
+        window,
+        rate: settings.rate(),
+        mtu: settings.mtu(),
+    };
+    put_drawn(bands, course, &page, writer)
+}
+
+// Runs the lines of a script, and writes the picture of what happens.
+fn draw_lines<A: Allocator, B: Allocator, R: Read + Drop, W: Write>(
+    port: &mut RunningPort<A>,
+    bands: &mut Bands<A>,
+    course: &mut Course<A>,
+    lines: &mut LineReader<R, B>,
+    writer: &mut W,
+    settings: Settings,
+    options: DrawOptions,
+) -> Result<(), RunFault> {
+    take_lines(port, bands, course, lines, settings)?;
+    end(port, bands, course, options.to);
+    put_run(port, bands, course, writer, settings, options)?;
+    Ok(())
+}
+
+// The same, with nothing drawn yet.
+fn draw_course<B: Allocator, R: Read + Drop, W: Write>(
+    alloc: &Global,
+    port: &mut RunningPort<Global>,
+    bands: &mut Bands<Global>,
+    lines: &mut LineReader<R, B>,
+    writer: &mut W,
+    settings: Settings,
+    options: DrawOptions,
+) -> Result<(), RunFault> {
+    let mut course = Course::new(alloc, settings.room())?;
+    draw_lines(port, bands, &mut course, lines, writer, settings, options)
+}
+
+// The same, with no bands yet.
+fn draw_bands<B: Allocator, R: Read + Drop, W: Write>(
+    alloc: &Global,
+    port: &mut RunningPort<Global>,
+    lines: &mut LineReader<R, B>,
+    writer: &mut W,
+    settings: Settings,
+    options: DrawOptions,
+) -> Result<(), RunFault> {
+    let mut bands = Bands::new(alloc, options.from, options.to)?;
+    draw_course(alloc, port, &mut bands, lines, writer, settings, options)
+}
+
+// The same, on a new port.
+fn draw_port<B: Allocator, R: Read + Drop, W: Write>(
+    alloc: &Global,
+    lines: &mut LineReader<R, B>,
+    writer: &mut W,
+    settings: Settings,
+    options: DrawOptions,
+) -> Result<(), RunFault> {
+    let rate = settings.rate();
+    let _ps = rate.ps_per_octet();
+    let mtu = settings.mtu();
+    let own = alloc.clone()?;
+    let Ok(mut port) = RunningPort::new(own, rate, mtu, settings.room()) else {
+        return Err(RunFault::Memory);
+    };
+    draw_bands(alloc, &mut port, lines, writer, settings, options)
+}
+
+/// Runs a script, and writes the picture of its run. At a fault of the script nothing is drawn, and at a failed write a front.
+pub fn draw<R: Read + Drop, W: Write>(
+    alloc: Global,
+    reader: R,
+    writer: &mut W,
+    settings: Settings,
+    options: DrawOptions,
+) -> Result<(), RunFault> {
+    let mut lines = LineReader::new(&alloc, reader)?;
+    draw_port(&alloc, &mut lines, writer, settings, options)
+}
