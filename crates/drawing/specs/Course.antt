@@ -8,6 +8,7 @@ use Rattle.abstract_port.specs.declared.Event.{Event}
 use Rattle.abstract_port.specs.declared.Start.{Start}
 use Rattle.abstract_port.specs.declared.Event.TheVariants.{Arrive, Install, Clock, Query, Count}
 use Rattle.drawing.specs.Shapes.{Shown, nothing_shown, with_start, with_dropped, with_change}
+use Rattle.drawing.specs.declared.view.View.{View}
 use Rattle.drawing.specs.Waiting.{Waiting, comes, first_came, goes, none_wait}
 
 -- when the frames that wait have come, what is shown, and when the last frame so far ends
@@ -16,9 +17,9 @@ pub record Course : Type 0 where
   pub shown : Shown
   pub last : ℕ
 
--- nothing, with room for so many frames a class
-abbrev pub nothing_seen : ℕ → Course
-nothing_seen room = record { waiting = none_wait room; shown = nothing_shown; last = 0 }
+-- nothing, with room for so many frames a class, of which this is shown
+abbrev pub nothing_seen : ℕ → View → Course
+nothing_seen room view = record { waiting = none_wait room; shown = nothing_shown view; last = 0 }
 
 -- the first frame of a class that waits starts
 abbrev pub started : Start → Course → Course

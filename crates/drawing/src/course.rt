@@ -6,6 +6,7 @@ ghost use Rattle.drawing.specs.Course.{nothing_seen};
 
 use crate::arrivals::Arrivals;
 use crate::shapes::Shapes;
+use crate::view::View;
 use abstract_port::{Answer, Start};
 use std::alloc::{AllocError, Allocator};
 use std::marker::Model;
@@ -29,15 +30,17 @@ impl<A: Allocator> Model for Course<A> {
 
 impl<A: Allocator> Course<A> {
     ghost use Rattle.drawing.specs.Course.{seen, started};
+    ghost use Rattle.drawing.specs.Shapes.{IsJoined};
 
-    /// Nothing is drawn; there is room for so many frames a class. All memory that is ever wanted is taken here.
-    pub fn new(alloc: &A, room: u32) -> Result<Course<A>, AllocError>
+    /// Nothing is drawn, and of what comes what this view shows will be; there is room for so many frames a class. All memory that is ever
+    /// wanted is taken here.
+    pub fn new(alloc: &A, room: u32, view: View) -> Result<Course<A>, AllocError>
     where
         A: Clone,
-        ensures { IfOk result (λ c. c ≡ nothing_seen room) }
+        ensures { IfOk result (λ c. c ≡ nothing_seen room view) }
     {
         let arrivals = Arrivals::new(alloc, room)?;
-        let shapes = Shapes::new(alloc)?;
+        let shapes = Shapes::new(alloc, view)?;
         Ok(Course {
             arrivals,
             shapes,
@@ -80,6 +83,14 @@ impl<A: Allocator> Course<A> {
         ensures { result.now ≡ self.now.shown }
     {
         &self.shapes
+    }
+
+    /// Neighbours in a row that are closer to one another than a gap, in picoseconds, are joined.
+    pub fn join(&mut self, gap: u128)
+        ensures shown { IsJoined gap self.old.shown self.new.shown }
+        ensures same { (self.new.waiting ≡ self.old.waiting) × (self.new.last ≡ self.old.last) }
+    {
+        self.shapes.join(gap);
     }
 
     /// When the last frame so far ends, in picoseconds; 0 where none started.

@@ -3,6 +3,7 @@
 
 mod arrivals;
 mod course;
+mod fitting;
 mod marks;
 mod options;
 mod page;
@@ -10,12 +11,15 @@ mod program;
 mod running;
 mod shapes;
 mod svg;
+mod view;
 
 pub use arrivals::Arrivals;
 pub use course::Course;
+pub use fitting::fit;
 pub use options::{DrawOptions, DrawValues, options_given};
 pub use page::{Page, row_top};
 pub use program::answer_draw;
 pub use running::{draw, take};
 pub use shapes::Shapes;
 pub use svg::put_picture;
+pub use view::View;

@@ -3,6 +3,7 @@
 ghost use Rattle.std.specs.Prelude.{◌≡◌, ◌≤◌, IfSome, option_map};
 ghost use Rattle.drawing.specs.Options.{end_in, number_or, options_of, width_where, window_shown};
 
+use crate::view::View;
 use crate::page::{LEFT, MAX_WIDTH, MIN_WIDTH, RIGHT};
 use picture::Window;
 use script::BadValue;
@@ -38,6 +39,16 @@ pub struct DrawOptions {
 }
 
 impl DrawOptions {
+    /// What is shown, as far as it is known before a run.
+    pub fn view(&self) -> View
+        ensures { result ≡ record { from = self.now.from; to = self.now.to } }
+    {
+        View {
+            from: self.from,
+            to: self.to,
+        }
+    }
+
     /// The time that the picture shows, where the run ends at this moment, in picoseconds: up to the end that is given, or to the run's; a
     /// microsecond where the run ends before the picture begins.
     pub fn window(&self, last: u128) -> Option<Window>

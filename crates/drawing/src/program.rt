@@ -24,9 +24,11 @@ pub fn answer_draw<B: Allocator, R: Read, W: Write + Drop, E: Write>(
     mut answers: BufWriter<W, B>,
     errors: &mut E,
 ) -> (Ended, W)
-    ensures { IsDrawEnding (settings_given greatest_moment (option_map (λ text. text.now) values.entry.rate) (option_map (λ text. text.now) values.entry.mtu) (option_map (λ text. text.now) values.entry.room) (option_map (λ text. text.now) values.entry.until) values.entry.summary)
+    ensures ending { IsDrawEnding (settings_given greatest_moment (option_map (λ text. text.now) values.entry.rate) (option_map (λ text. text.now) values.entry.mtu) (option_map (λ text. text.now) values.entry.room) (option_map (λ text. text.now) values.entry.until) values.entry.summary)
         (options_of (option_map (λ text. text.now) draws.entry.from) (option_map (λ text. text.now) draws.entry.to) (option_map (λ text. text.now) draws.entry.width))
         result.0 (writer_contents W.contents answers) (W.contents result.1) (E.contents errors.old) (E.contents errors.new) }
+    ensures unread { IfErr (settings_given greatest_moment (option_map (λ text. text.now) values.entry.rate) (option_map (λ text. text.now) values.entry.mtu) (option_map (λ text. text.now) values.entry.room) (option_map (λ text. text.now) values.entry.until) values.entry.summary) (λ _. reader.new ≡ reader.old) }
+    ensures unused { IfErr (options_of (option_map (λ text. text.now) draws.entry.from) (option_map (λ text. text.now) draws.entry.to) (option_map (λ text. text.now) draws.entry.width)) (λ _. reader.new ≡ reader.old) }
 {
     let settings = match settings_given(values, MAX_MOMENT) {
         Ok(settings) => settings,

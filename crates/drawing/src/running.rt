@@ -1,13 +1,21 @@
 //! Runs a script, and draws what happens.
 
-ghost use Rattle.std.specs.Prelude.{◌≡◌, ◌≤◌};
-ghost use Rattle.abstract_port.specs.AbstractPort.{class_for, settled};
+ghost use Rattle.std.specs.Prelude.{◌≡◌, ◌≤◌, ℕ, IfSome, List, Ok, Result};
+ghost use Rattle.abstract_port.specs.AbstractPort.{class_for, installs, settled};
 ghost use Rattle.abstract_port.specs.Answers.{answers_to};
 ghost use Rattle.abstract_port.specs.Sound.{IsSoundPort};
 ghost use Rattle.wire_time.specs.Moment.{greatest_moment};
+ghost use Rattle.abstract_port.specs.declared.Command.{Command};
+ghost use Rattle.line_reader.specs.LineReader.{script_left};
+ghost use Rattle.tc_reader.specs.Reader.{IsReader};
+ghost use Rattle.tc_reader.specs.declared.fault.TcFault.{TcFault};
+ghost use Rattle.script.specs.Outcome.{reading_of};
+ghost use Rattle.script.specs.Requests.{request_of, tc_request};
 ghost use Rattle.drawing.specs.Course.{class_at, seen_at};
+ghost use Rattle.drawing.specs.Taken.{Takes, TakesLine, seen_by};
 
 use crate::course::Course;
+use crate::fitting::fit;
 use crate::options::DrawOptions;
 use crate::page::Page;
 use crate::svg::put_picture;
@@ -15,6 +23,7 @@ use abstract_port::{Answer, Command, Event};
 use answer_text::WriteFault;
 use line_reader::LineReader;
 use picture::Bands;
+use separation::settling;
 use script::{RunFault, RunningPort, Said, ScriptFault, Settings, read_line, read_tc};
 use std::alloc::{Allocator, Global};
 use std::io::{Read, Write};
@@ -75,7 +84,11 @@ fn take_command<A: Allocator>(
     course: &mut Course<A>,
     command: &Command,
     settings: Settings,
-) {
+)
+    ensures course { course.new ≡ seen_by (tc_request (Ok command.now)) port.old.port course.old }
+    ensures port { port.new.port ≡ (installs port.old.port command.now).1 }
+    ensures sound { IsSoundPort port.new.port }
+{
     let now = port.now();
     let rate = settings.rate();
     let _ps = rate.ps_per_octet();
@@ -97,18 +110,23 @@ fn take_line<A: Allocator>(
     course: &mut Course<A>,
     line: &[u8],
     settings: Settings,
-) -> Result<(), ScriptFault> {
-    match read_line(line)? {
-        None => {}
-        Some(Said::Asked(event)) => {
+) -> Result<(), ScriptFault>
+    ensures taken { (read : List (List ℕ) → Result Command TcFault) → IsReader read →
+        TakesLine result (request_of read line.now) port.old.port course.old port.new.port course.new }
+    ensures sound { IsSoundPort port.new.port }
+{
+    let _now = port.now();
+    match read_line(line) {
+        Err(fault) => return Err(fault),
+        Ok(None) => {}
+        Ok(Some(Said::Asked(event))) => {
             take(port, course, &event);
             follow(port, bands);
         }
-        Some(Said::Tc) => {
-            if let Ok(command) = read_tc(line) {
-                take_command(port, bands, course, &command, settings);
-            }
-        }
+        Ok(Some(Said::Tc)) => match read_tc(line) {
+            Err(_) => {}
+            Ok(command) => take_command(port, bands, course, &command, settings),
+        },
     }
     Ok(())
 }
@@ -120,7 +138,12 @@ fn take_lines<A: Allocator, B: Allocator, R: Read + Drop>(
     course: &mut Course<A>,
     lines: &mut LineReader<R, B>,
     settings: Settings,
-) -> Result<(), RunFault> {
+) -> Result<(), RunFault>
+    ensures { (read : List (List ℕ) → Result Command TcFault) → IsReader read → IfSome (script_left R.remaining lines.old) (λ script.
+        Takes result (reading_of read script) port.old.port course.old port.new.port course.new) }
+{
+    settling();
+    let _now = port.now();
     'lines: while lines.advance()? {
         match take_line(port, bands, course, lines.line(), settings) {
             Ok(()) => {}
@@ -137,43 +160,31 @@ fn last_moment<A: Allocator>(port: &RunningPort<A>, course: &Course<A>) -> u128
     port.now().max(course.last()).min(MAX_MOMENT)
 }
 
-// Runs to the end of the picture, where it is given and lies ahead, and ends the bands: there, or at the run's last moment.
+// Runs to the end of the picture of a run that ends at this moment, unless that is past, and ends the bands.
 fn end<A: Allocator>(
     port: &mut RunningPort<A>,
     bands: &mut Bands<A>,
     course: &mut Course<A>,
-    to: Option<u128>,
+    options: DrawOptions,
+    last: u128,
 ) {
-    if let Some(to) = to {
-        take(port, course, &Event::Clock(to));
+    if let Some(window) = options.window(last) {
+        take(port, course, &Event::Clock(window.to()));
     }
-    let last = last_moment(port, course);
-    if bands.now() <= last {
-        bands.go_to(last);
-    }
+    follow(port, bands);
     bands.end();
 }
 
-// Writes what is drawn of a run.
-fn put_drawn<A: Allocator, W: Write>(
-    bands: &Bands<A>,
-    course: &Course<A>,
-    page: &Page,
-    writer: &mut W,
-) -> Result<(), WriteFault> {
-    put_picture(writer, page, bands, course.shapes())
-}
-
-// Writes the picture of a run that ends now.
+// Writes the picture of a run that ends at this moment.
 fn put_run<A: Allocator, W: Write>(
-    port: &RunningPort<A>,
-    bands: &Bands<A>,
-    course: &Course<A>,
+    bands: &mut Bands<A>,
+    course: &mut Course<A>,
     writer: &mut W,
     settings: Settings,
     options: DrawOptions,
+    last: u128,
 ) -> Result<(), WriteFault> {
-    let Some(window) = options.window(last_moment(port, course)) else {
+    let Some(window) = options.window(last) else {
         return Ok(());
     };
     let page = Page {
@@ -181,7 +192,8 @@ fn put_run<A: Allocator, W: Write>(
         rate: settings.rate(),
         mtu: settings.mtu(),
     };
-    put_drawn(bands, course, &page, writer)
+    fit(bands, course, &page.window);
+    put_picture(writer, &page, bands, course.shapes())
 }
 
 // Runs the lines of a script, and writes the picture of what happens.
@@ -195,8 +207,9 @@ fn draw_lines<A: Allocator, B: Allocator, R: Read + Drop, W: Write>(
     options: DrawOptions,
 ) -> Result<(), RunFault> {
     take_lines(port, bands, course, lines, settings)?;
-    end(port, bands, course, options.to);
-    put_run(port, bands, course, writer, settings, options)?;
+    let last = last_moment(port, course);
+    end(port, bands, course, options, last);
+    put_run(bands, course, writer, settings, options, last)?;
     Ok(())
 }
 
@@ -210,7 +223,7 @@ fn draw_course<B: Allocator, R: Read + Drop, W: Write>(
     settings: Settings,
     options: DrawOptions,
 ) -> Result<(), RunFault> {
-    let mut course = Course::new(alloc, settings.room())?;
+    let mut course = Course::new(alloc, settings.room(), options.view())?;
     draw_lines(port, bands, &mut course, lines, writer, settings, options)
 }
 

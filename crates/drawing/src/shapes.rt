@@ -1,10 +1,13 @@
 //! What is drawn of a run.
 
-ghost use Rattle.std.specs.Prelude.{◌≡◌, ◌<◌, ◌≤◌, IfOk, true};
+ghost use Rattle.std.specs.Prelude.{◌≡◌, ◌<◌, ◌≤◌, ◌*◌, ℕ, IfOk, length, slice_set, true};
 ghost use Rattle.wire_time.specs.Moment.{greatest_moment};
-ghost use Rattle.drawing.specs.Shapes.{drawn_in, empty_rows, frame_drawn, is_drawn, nothing_shown, row_at, row_of, shape_of, wait_drawn};
+ghost use Rattle.drawing.specs.Shapes.{drawn_in, empty_rows, frame_drawn, is_drawn, nothing_shown, row_at, row_of, shape_of, shapes_to, wait_drawn};
+ghost use Rattle.picture.specs.Rows.{joined_at};
+ghost use Rattle.picture.specs.declared.TheConstants.{MOST_SHAPES};
 
 use crate::page::{ROWS, WIRE};
+use crate::view::View;
 use abstract_port::Start;
 use picture::{Row, Shape, Span};
 use std::alloc::{AllocError, Allocator};
@@ -38,21 +41,53 @@ fn empty_rows<A: Allocator + Clone>(alloc: &A) -> Result<[Row<A>; 9], AllocError
     ])
 }
 
-// One shape more in a row.
-fn draw_in<A: Allocator>(rows: &mut [Row<A>; 9], row: u8, shape: Shape)
+// One shape more in a row, where something of it is shown.
+fn draw_in<A: Allocator>(view: View, rows: &mut [Row<A>; 9], row: u8, shape: Shape)
     requires row { row < ROWS }
     requires within { shape.span.from ≤ greatest_moment }
-    ensures { rows.new ≡ drawn_in row shape rows.old }
+    ensures { rows.new ≡ drawn_in view row shape rows.old }
 {
-    rows[row as usize].push(shape);
+    if view.shows(shape.span) {
+        rows[row as usize].push(shape);
+    }
 }
 
 // What is drawn in a row.
 fn shapes_in<A: Allocator>(rows: &[Row<A>; 9], row: u8) -> &[Shape]
     requires { row < ROWS }
-    ensures { result.now ≡ (row_at rows.now row).shapes }
+    ensures value { result.now ≡ (row_at rows.now row).shapes }
+    ensures few { length result.now ≤ MOST_SHAPES }
 {
     rows[row as usize].shapes()
+}
+
+// How many shapes there are in all rows.
+fn count_in<A: Allocator>(rows: &[Row<A>; 9]) -> usize
+    ensures value { result ≡ shapes_to ROWS rows.now }
+    ensures within { result ≤ ROWS * MOST_SHAPES }
+{
+    let mut count = 0;
+    for row in 0..ROWS {
+        count += shapes_in(rows, row).len();
+    }
+    count
+}
+
+// Neighbours in one row that are closer to one another than a gap, in picoseconds, are joined.
+fn join_in<A: Allocator>(rows: &mut [Row<A>; 9], row: u8, gap: u128)
+    requires { row < ROWS }
+    ensures { rows.new ≡ slice_set rows.old row (joined_at gap (row_at rows.old row)) }
+{
+    rows[row as usize].join(gap);
+}
+
+// The same in each row.
+fn join_rows<A: Allocator>(rows: &mut [Row<A>; 9], gap: u128)
+    ensures { (row : ℕ) → row < ROWS → row_at rows.new row ≡ joined_at gap (row_at rows.old row) }
+{
+    for row in 0..ROWS {
+        join_in(rows, row, gap);
+    }
 }
 
 // Whether a start is drawn: its class has a row, and its moment is at most the greatest.
@@ -64,25 +99,25 @@ fn is_drawn(start: &Start) -> bool
 }
 
 // A frame that came at this moment, in picoseconds, waited up to its start, unless it started at once.
-fn draw_wait<A: Allocator>(rows: &mut [Row<A>; 9], came: u128, start: &Start)
+fn draw_wait<A: Allocator>(view: View, rows: &mut [Row<A>; 9], came: u128, start: &Start)
     requires class { start.now.class < WIRE }
     requires within { start.now.at ≤ greatest_moment }
-    ensures { rows.new ≡ wait_drawn came start.now rows.old }
+    ensures { rows.new ≡ wait_drawn view came start.now rows.old }
 {
     if came < start.at {
-        draw_in(rows, start.class, shape_of(came, start.at, start.id));
+        draw_in(view, rows, start.class, shape_of(came, start.at, start.id));
     }
 }
 
 // A frame has the wire, drawn in the row of its class and in the wire's.
-fn draw_frame<A: Allocator>(rows: &mut [Row<A>; 9], start: &Start)
+fn draw_frame<A: Allocator>(view: View, rows: &mut [Row<A>; 9], start: &Start)
     requires class { start.now.class < WIRE }
     requires within { start.now.at ≤ greatest_moment }
-    ensures { rows.new ≡ frame_drawn start.now rows.old }
+    ensures { rows.new ≡ frame_drawn view start.now rows.old }
 {
     let shape = shape_of(start.at, start.end, start.id);
-    draw_in(rows, start.class, shape);
-    draw_in(rows, WIRE, shape);
+    draw_in(view, rows, start.class, shape);
+    draw_in(view, rows, WIRE, shape);
 }
 
 // The row of a class, or the wire's where there is none.
@@ -99,6 +134,7 @@ fn row_of(class: Option<u8>) -> u8
 /// The shapes of a run: by row, the frames on the wire, how long they waited, and those that were dropped; and when the schedule changes.
 #[derive(Drop)]
 pub struct Shapes<A: Allocator> {
+    view: View,
     frames: [Row<A>; 9],
     waits: [Row<A>; 9],
     drops: [Row<A>; 9],
@@ -112,23 +148,24 @@ impl<A: Allocator> Model for Shapes<A> {
 
     ghost Value = { Shown };
 
-    ghost view = { λ s. record { frames = s.frames; waits = s.waits; drops = s.drops; changes = s.changes; accepted = s.accepted } };
+    ghost view = { λ s. record { view = s.view; frames = s.frames; waits = s.waits; drops = s.drops; changes = s.changes; accepted = s.accepted } };
 }
 
 impl<A: Allocator> Shapes<A> {
-    ghost use Rattle.drawing.specs.Shapes.{with_start, with_dropped, with_change};
+    ghost use Rattle.drawing.specs.Shapes.{IsJoined, row_at, shape_count, with_start, with_dropped, with_change};
 
-    /// Nothing is drawn. All memory that is ever wanted is taken here.
-    pub fn new(alloc: &A) -> Result<Shapes<A>, AllocError>
+    /// Nothing is drawn, and of what comes what this view shows will be. All memory that is ever wanted is taken here.
+    pub fn new(alloc: &A, view: View) -> Result<Shapes<A>, AllocError>
     where
         A: Clone,
-        ensures { IfOk result (λ s. s ≡ nothing_shown) }
+        ensures { IfOk result (λ s. s ≡ nothing_shown view) }
     {
         let frames = empty_rows(alloc)?;
         let waits = empty_rows(alloc)?;
         let drops = empty_rows(alloc)?;
         let changes = Row::new(alloc.clone()?)?;
         Ok(Shapes {
+            view,
             frames,
             waits,
             drops,
@@ -174,8 +211,8 @@ impl<A: Allocator> Shapes<A> {
         ensures { self.new ≡ with_start came start.now self.old }
     {
         if is_drawn(start) {
-            draw_frame(&mut self.frames, start);
-            draw_wait(&mut self.waits, came, start);
+            draw_frame(self.view, &mut self.frames, start);
+            draw_wait(self.view, &mut self.waits, came, start);
         }
     }
 
@@ -184,7 +221,12 @@ impl<A: Allocator> Shapes<A> {
         requires { now ≤ greatest_moment }
         ensures { self.new ≡ with_dropped id class now self.old }
     {
-        draw_in(&mut self.drops, row_of(class), shape_of(now, now, id));
+        draw_in(
+            self.view,
+            &mut self.drops,
+            row_of(class),
+            shape_of(now, now, id),
+        );
     }
 
     /// The schedule changes at this moment, in picoseconds, by one more command that was accepted. A change after the greatest moment isn't drawn.
@@ -192,8 +234,30 @@ impl<A: Allocator> Shapes<A> {
         ensures { self.new ≡ with_change change self.old }
     {
         self.accepted = self.accepted.saturating_add(1);
-        if change <= MAX_MOMENT {
-            self.changes.push(shape_of(change, change, self.accepted));
+        let shape = shape_of(change, change, self.accepted);
+        if change <= MAX_MOMENT && self.view.shows(shape.span) {
+            self.changes.push(shape);
         }
+    }
+
+    /// How many shapes are drawn in all rows.
+    pub fn count(&self) -> usize
+        ensures value { result ≡ shape_count self.now }
+        ensures within { result ≤ 28 * MOST_SHAPES }
+    {
+        let frames = count_in(&self.frames);
+        let waits = count_in(&self.waits);
+        let drops = count_in(&self.drops);
+        frames + waits + drops + self.changes.shapes().len()
+    }
+
+    /// Neighbours in a row that are closer to one another than a gap, in picoseconds, are joined.
+    pub fn join(&mut self, gap: u128)
+        ensures { IsJoined gap self.old self.new }
+    {
+        join_rows(&mut self.frames, gap);
+        join_rows(&mut self.waits, gap);
+        join_rows(&mut self.drops, gap);
+        self.changes.join(gap);
     }
 }

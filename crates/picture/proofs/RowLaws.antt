@@ -218,3 +218,11 @@ row_joined gap xs s row early many =
       few = (let l = fewer (put gap xs s) all (omega arith) in let n = length-put gap xs s in omega (arith, l, n, row.few));
       early = early_all (wider (put gap xs s)) (put gap xs s) all;
     }
+
+-- a row whose neighbours are joined at some gap
+pub row_at : (gap : ℕ) (xs : List Shape) → IsRow xs → IsRow (join gap xs)
+row_at gap xs row = record { few = few_left gap xs row.few; early = early_all gap xs row.early }
+  where
+    few_left : (gap : ℕ) (xs : List Shape) → length xs ≤ MOST_SHAPES → length (join gap xs) ≤ MOST_SHAPES
+    few_left gap [] few = few
+    few_left gap (a ∷ rest) few = let l = length-join_from gap a rest in omega (arith, few, l)

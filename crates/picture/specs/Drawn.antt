@@ -8,7 +8,7 @@ use Rattle.abstract_port.specs.declared.Command.{Command}
 use Rattle.abstract_port.specs.declared.Command.TheVariants.{Replace, Delete}
 use Rattle.gate_list.specs.declared.PlanFault.{PlanFault}
 use Rattle.picture.specs.declared.span.Span.{Span}
-use Rattle.picture.specs.Rows.{Filled, pushed, no_shapes}
+use Rattle.picture.specs.Rows.{Filled, pushed, joined_at, no_shapes}
 use Rattle.picture.specs.Bands.{Going, after, bands_from}
 
 -- 1. One class
@@ -42,6 +42,10 @@ stepped is_open m c = with_bands c (after is_open m (begun c))
 -- after so many moments, from m on
 abbrev pub drawn : (ℕ → ℕ) → ℕ → ℕ → ℕ → ClassRow → ClassRow
 drawn masks class m n c = with_bands c (bands_from masks class m n (begun c))
+
+-- where its bands are joined at a gap
+abbrev pub bands_joined : ℕ → ClassRow → ClassRow
+bands_joined gap c = record c { row = joined_at gap c.row }
 
 -- 2. All classes
 

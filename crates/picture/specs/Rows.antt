@@ -62,6 +62,10 @@ roomy gap shapes =
 abbrev pub pushed : Shape → Filled → Filled
 pushed s row = roomy row.gap (put row.gap row.shapes s)
 
+-- a row whose neighbours are joined at a gap
+abbrev pub joined_at : ℕ → Filled → Filled
+joined_at gap row = record { shapes = join gap row.shapes; gap = max row.gap gap }
+
 -- no shapes yet
 abbrev pub no_shapes : Filled
 no_shapes = record { shapes = []; gap = 0 }

@@ -1,5 +1,5 @@
 -- Where times lie in a window.
-use Rattle.std.specs.Prelude.{ℕ, ◌-◌, ◌*◌, ◌/◌, ◌==◌, ◌&&◌, min, max, nat_lt, nat_le, if◌then◌else◌, Option, Some, None}
+use Rattle.std.specs.Prelude.{ℕ, ◌-◌, ◌*◌, ◌/◌, ◌+◌, ◌%◌, ◌==◌, ◌&&◌, min, max, nat_lt, nat_le, if◌then◌else◌, Option, Some, None}
 use Rattle.wire_time.specs.Moment.{greatest_moment}
 use Rattle.picture.specs.declared.TheConstants.{MIN_WIDTH, MAX_WIDTH}
 use Rattle.picture.specs.declared.span.Span.{Span}
@@ -19,6 +19,10 @@ taken_in w moment = max w.from (min moment w.to)
 -- how far from the left edge it lies, in hundredths of a pixel
 abbrev pub x_in : Pane → ℕ → ℕ
 x_in w moment = ((taken_in w moment - w.from) * (100 * w.width)) / (w.to - w.from)
+
+-- how long the time is that a pixel shows, rounded up
+abbrev pub pixel_of : Pane → ℕ
+pixel_of w = (w.to - w.from) / w.width + min 1 ((w.to - w.from) % w.width)
 
 -- What of a time lies in a window: the moments of both. A time of no length is its moment.
 abbrev pub cut_to : Pane → Span → Option Span

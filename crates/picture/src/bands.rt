@@ -7,7 +7,8 @@ ghost use Rattle.gate_list.specs.Gate.{opens, plan_fault};
 ghost use Rattle.list_config.specs.History.{gates, kept};
 ghost use Rattle.list_config.specs.Current.{IsCurrent, accepted_at, deletion_at, with_command};
 ghost use Rattle.abstract_port.specs.AbstractPort.{AbstractPort, installs, plan_asked};
-ghost use Rattle.picture.specs.Drawn.{class_at, drawn, gone_on, history_with, new_drawing, no_bands, no_classes, stepped, up_to, with_plan};
+ghost use Rattle.picture.specs.declared.TheConstants.{MOST_SHAPES};
+ghost use Rattle.picture.specs.Drawn.{bands_joined, class_at, drawn, gone_on, history_with, new_drawing, no_bands, no_classes, stepped, up_to, with_plan};
 
 use crate::class_bands::ClassBands;
 use crate::span::Shape;
@@ -46,7 +47,8 @@ fn no_classes<A: Allocator + Clone>(alloc: &A) -> Result<[ClassBands<A>; 8], All
 /// The bands of a class that are complete.
 fn shapes_in<A: Allocator>(classes: &[ClassBands<A>; 8], class: u8) -> &[Shape]
     requires { class < CLASSES }
-    ensures { result.now ≡ (class_at classes.now class).row.shapes }
+    ensures value { result.now ≡ (class_at classes.now class).row.shapes }
+    ensures few { length result.now ≤ MOST_SHAPES }
 {
     classes[class as usize].shapes()
 }
@@ -67,6 +69,23 @@ fn step_all<A: Allocator>(classes: &mut [ClassBands<A>; 8], mask: u8, moment: u1
 {
     for class in 0..CLASSES as u8 {
         step_in(classes, class, is_open(mask, class), moment);
+    }
+}
+
+/// The bands of one class are joined at a gap, in picoseconds.
+fn join_in<A: Allocator>(classes: &mut [ClassBands<A>; 8], class: u8, gap: u128)
+    requires { class < CLASSES }
+    ensures { classes.new ≡ slice_set classes.old class (bands_joined gap (class_at classes.old class)) }
+{
+    classes[class as usize].join(gap)
+}
+
+/// The same of each class.
+fn join_all<A: Allocator>(classes: &mut [ClassBands<A>; 8], gap: u128)
+    ensures { (class : ℕ) → class < CLASSES → class_at classes.new class ≡ bands_joined gap (class_at classes.old class) }
+{
+    for class in 0..CLASSES as u8 {
+        join_in(classes, class, gap);
     }
 }
 
@@ -198,6 +217,14 @@ impl<A: Allocator> Bands<A> {
         step_all(&mut self.classes, 0, upto);
     }
 
+    /// Bands of a class that are closer to one another than a gap, in picoseconds, are joined.
+    pub fn join(&mut self, gap: u128)
+        ensures same { (self.new.history ≡ self.old.history) × (self.new.moment ≡ self.old.moment) × (self.new.from ≡ self.old.from) × (self.new.to ≡ self.old.to) }
+        ensures classes { (class : ℕ) → class < CLASSES → class_at self.new.classes class ≡ bands_joined gap (class_at self.old.classes class) }
+    {
+        join_all(&mut self.classes, gap);
+    }
+
     /// The moment that the gates are at, in picoseconds.
     pub fn now(&self) -> u128
         ensures { result ≡ self.now.moment }
@@ -208,7 +235,8 @@ impl<A: Allocator> Bands<A> {
     /// The bands of a class, 0 to 7, that are complete, by rising start.
     pub fn row(&self, class: u8) -> &[Shape]
         requires { class < CLASSES }
-        ensures { result.now ≡ (class_at self.now.classes class).row.shapes }
+        ensures value { result.now ≡ (class_at self.now.classes class).row.shapes }
+        ensures few { length result.now ≤ MOST_SHAPES }
     {
         shapes_in(&self.classes, class)
     }

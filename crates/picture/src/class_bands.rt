@@ -1,8 +1,9 @@
 //! The bands of one class.
 
-ghost use Rattle.std.specs.Prelude.{◌≡◌, ◌≤◌, ◌<◌, IfOk, slice_set};
+ghost use Rattle.std.specs.Prelude.{◌≡◌, ◌≤◌, ◌<◌, IfOk, length, slice_set};
 ghost use Rattle.wire_time.specs.Moment.{greatest_moment};
 ghost use Rattle.gate_list.specs.Gate.{opens};
+ghost use Rattle.picture.specs.declared.TheConstants.{MOST_SHAPES};
 
 use crate::row::Row;
 use crate::span::{Shape, Span};
@@ -33,7 +34,7 @@ impl<A: Allocator> Model for ClassBands<A> {
 }
 
 impl<A: Allocator> ClassBands<A> {
-    ghost use Rattle.picture.specs.Drawn.{no_bands, stepped};
+    ghost use Rattle.picture.specs.Drawn.{no_bands, bands_joined, stepped};
 
     /// No bands yet, and the room for all that the row ever has.
     pub(crate) fn new(alloc: &A) -> Result<ClassBands<A>, AllocError>
@@ -66,9 +67,17 @@ impl<A: Allocator> ClassBands<A> {
         }
     }
 
+    /// Bands that are closer to one another than a gap, in picoseconds, are joined.
+    pub(crate) fn join(&mut self, gap: u128)
+        ensures { self.new ≡ bands_joined gap self.old }
+    {
+        self.row.join(gap);
+    }
+
     /// The bands that are complete.
     pub(crate) fn shapes(&self) -> &[Shape]
-        ensures { result.now ≡ self.now.row.shapes }
+        ensures value { result.now ≡ self.now.row.shapes }
+        ensures few { length result.now ≤ MOST_SHAPES }
     {
         self.row.shapes()
     }

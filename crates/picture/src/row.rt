@@ -2,7 +2,7 @@
 
 ghost use Rattle.std.specs.Prelude.{◌≡◌, ◌≤◌, ◌<◌, ◌++◌, ◌∷◌, [], IfOk, false, length, take, true, vec_capacity};
 ghost use Rattle.wire_time.specs.Moment.{greatest_moment};
-ghost use Rattle.picture.specs.Rows.{distance, is_near, join, joined, least_distance, no_shapes, pushed, put, wider};
+ghost use Rattle.picture.specs.Rows.{distance, is_near, join, joined, least_distance, no_shapes, pushed, put, joined_at, wider};
 
 use crate::MOST_SHAPES;
 use crate::span::{Shape, Span};
@@ -140,6 +140,14 @@ impl<A: Allocator> Row<A> {
             self.gap = (2 * least_distance(self.shapes.as_slice())).max(1);
             join_all(&mut self.shapes, self.gap);
         }
+    }
+
+    /// Neighbours that are closer to one another than a gap, in picoseconds, are joined, and from now on each shape that comes closer to the last.
+    pub fn join(&mut self, gap: u128)
+        ensures { self.new ≡ joined_at gap self.old }
+    {
+        join_all(&mut self.shapes, gap);
+        self.gap = self.gap.max(gap);
     }
 
     /// The shapes, in the order in which they came.

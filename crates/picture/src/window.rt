@@ -2,7 +2,7 @@
 
 ghost use Rattle.std.specs.Prelude.{◌≡◌, ◌≤◌, ◌<◌, ◌*◌, IfSome};
 ghost use Rattle.wire_time.specs.Moment.{greatest_moment};
-ghost use Rattle.picture.specs.Windows.{cut_to, window_of, x_in};
+ghost use Rattle.picture.specs.Windows.{cut_to, pixel_of, window_of, x_in};
 
 use crate::span::Span;
 use crate::{MAX_WIDTH, MIN_WIDTH};
@@ -68,6 +68,13 @@ impl Window {
         ensures within { (MIN_WIDTH ≤ result) × (result ≤ MAX_WIDTH) }
     {
         self.width
+    }
+
+    /// How long the time is that a pixel shows, in picoseconds, rounded up.
+    pub fn pixel(&self) -> u128
+        ensures { result ≡ pixel_of self.now }
+    {
+        (self.to - self.from).div_ceil(u128::from(self.width))
     }
 
     /// How far from the left edge a moment lies, in hundredths of a pixel, rounded down. A moment before the window lies at its

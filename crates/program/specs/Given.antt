@@ -4,6 +4,8 @@ use Rattle.std.specs.Option.{option_map_or}
 use Rattle.std.specs.Str.{bytes_eq}
 use Rattle.clap.specs.Matches.{first_value}
 use Rattle.clap.specs.declared.parser.matches.Found.{Found}
+use Rattle.drawing.specs.Options.{options_of}
+use Rattle.drawing.specs.declared.options.DrawOptions.{DrawOptions}
 use Rattle.replay.specs.Texts.{open_text}
 use Rattle.script.specs.Ending.{IsUnanswered, rate_given, settings_given}
 use Rattle.script.specs.Setup.{Setup}
@@ -23,6 +25,10 @@ settings_in greatest found =
 -- the rate of the value that is given to its option
 abbrev pub rate_in : Found → Result ℕ BadValue
 rate_in found = rate_given (first_value found (codes "rate"))
+
+-- what the values that are given to the options say of a picture
+abbrev pub draws_in : Found → Result DrawOptions BadValue
+draws_in found = options_of (first_value found (codes "from")) (first_value found (codes "to")) (first_value found (codes "width"))
 
 -- whether windows are asked for
 abbrev pub windows_in : Found → Bool

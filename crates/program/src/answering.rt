@@ -5,17 +5,19 @@ ghost use Rattle.std.specs.Io.Buffered.{writer_contents};
 ghost use Rattle.clap.specs.Matches.{found_of};
 ghost use Rattle.schedule_check.specs.Checked.{whole_check};
 ghost use Rattle.schedule_check.specs.Windows.{IsTeller, Teller};
-ghost use Rattle.program.specs.Given.{rate_in, settings_in, windows_in};
+ghost use Rattle.drawing.specs.Ending.{IsDrawEnding};
+ghost use Rattle.program.specs.Given.{draws_in, rate_in, settings_in, windows_in};
 ghost use Rattle.script.specs.Ending.{IsEnding, whole_script};
 ghost use Rattle.wire_time.specs.Moment.{greatest_moment};
 
 use crate::end_without_memory;
-use crate::options::{command, rate_of, values_of, windows_of};
+use crate::options::{command, draws_of, rate_of, values_of, windows_of};
 use crate::progress::Progress;
 use crate::replaying::replay_given;
 use crate::streaming::streams_given;
 use clap::error::ErrorKind;
 use clap::{ArgMatches, Error};
+use drawing::answer_draw;
 use schedule_check::answer_check;
 use script::{Ended, answer_script};
 use std::alloc::{Allocator, Global};
@@ -56,6 +58,30 @@ pub fn check_given<B: Allocator, R: Read, W: Write + Drop, E: Write>(
     answer_check(alloc, rate_of(matches), windows, reader, answers, errors)
 }
 
+/// Draws the run of the script that `reader` gives, by the values that the words give to the options, through `answers`, with the text of
+/// a fault on `errors`; and gives the writer of the answers back.
+pub fn draw_given<B: Allocator, R: Read, W: Write + Drop, E: Write>(
+    alloc: Global,
+    matches: &ArgMatches<'_>,
+    reader: &mut R,
+    answers: BufWriter<W, B>,
+    errors: &mut E,
+) -> (Ended, W)
+    ensures ending { IsDrawEnding (settings_in greatest_moment (found_of matches.now)) (draws_in (found_of matches.now))
+        result.0 (writer_contents W.contents answers) (W.contents result.1) (E.contents errors.old) (E.contents errors.new) }
+    ensures unread { IfErr (settings_in greatest_moment (found_of matches.now)) (λ _. reader.new ≡ reader.old) }
+    ensures unused { IfErr (draws_in (found_of matches.now)) (λ _. reader.new ≡ reader.old) }
+{
+    answer_draw(
+        alloc,
+        values_of(matches),
+        draws_of(matches),
+        reader,
+        answers,
+        errors,
+    )
+}
+
 /// Whether a text is written whole and let out.
 fn is_told<W: Write>(text: &str, writer: &mut W) -> bool {
     writer.write_all(text.as_bytes()).is_ok() && writer.flush().is_ok()
@@ -88,7 +114,7 @@ fn answer_refusal<B: Allocator, W: Write + Drop, E: Write>(
 }
 
 /// Answers the words of the program, the first of which is its name: a script, a replay of files, the check of schedules, the script of a
-/// table of streams, help, or why they are refused. What is answered goes through `answers`, whose writer is given back, and the text of a fault to `errors`; how far
+/// table of streams, a picture, help, or why they are refused. What is answered goes through `answers`, whose writer is given back, and the text of a fault to `errors`; how far
 /// a replay has come is said through `progress`, where the words ask for it.
 pub fn answer_words<
     F: Files,
@@ -126,6 +152,9 @@ pub fn answer_words<
     }
     if let Some(check) = matches.subcommand_matches("check") {
         return check_given(alloc, check, reader, answers, errors);
+    }
+    if let Some(draw) = matches.subcommand_matches("draw") {
+        return draw_given(alloc, draw, reader, answers, errors);
     }
     if let Some(streams) = matches.subcommand_matches("streams") {
         return streams_given(files, alloc, streams, reader, answers, errors);

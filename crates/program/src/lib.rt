@@ -10,7 +10,7 @@ mod progress;
 mod replaying;
 mod streaming;
 
-pub use answering::{answer_given, answer_words, check_given};
+pub use answering::{answer_given, answer_words, check_given, draw_given};
 pub use options::values_of;
 pub use progress::Progress;
 pub use replaying::replay_given;

@@ -5,6 +5,7 @@ ghost use Rattle.clap.specs.Matches.{first_value, found_of};
 ghost use Rattle.program.specs.Given.{flag_in, windows_in};
 
 use clap::{Arg, ArgAction, ArgMatches, Command};
+use drawing::DrawValues;
 use script::Values;
 use std::alloc::{AllocError, Global};
 
@@ -32,6 +33,19 @@ pub fn values_of<'a>(matches: &ArgMatches<'a>) -> Values<'a>
         room: matches.get_str("room"),
         until: matches.get_str("until"),
         summary: is_given(matches, "summary"),
+    }
+}
+
+/// The values that a picture is given.
+pub fn draws_of<'a>(matches: &ArgMatches<'a>) -> DrawValues<'a>
+    ensures from { option_map (λ text. text.now) result.from ≡ first_value (found_of matches.now) (codes "from") }
+    ensures to { option_map (λ text. text.now) result.to ≡ first_value (found_of matches.now) (codes "to") }
+    ensures width { option_map (λ text. text.now) result.width ≡ first_value (found_of matches.now) (codes "width") }
+{
+    DrawValues {
+        from: matches.get_str("from"),
+        to: matches.get_str("to"),
+        width: matches.get_str("width"),
     }
 }
 
@@ -76,11 +90,7 @@ fn with_summary<'a>(alloc: Global, command: Command<'a>) -> Result<Command<'a>, 
     )
 }
 
-fn with_options<'a>(
-    alloc: Global,
-    command: Command<'a>,
-    needs_until: bool,
-) -> Result<Command<'a>, AllocError> {
+fn with_port<'a>(alloc: Global, command: Command<'a>) -> Result<Command<'a>, AllocError> {
     with_rate(alloc, command)?
         .arg(
             Arg::new(alloc, "mtu").long("mtu").value_name("OCTETS").help(
@@ -92,13 +102,41 @@ fn with_options<'a>(
                 .long("room")
                 .value_name("FRAMES")
                 .help("How many frames a class holds, 1 to 4096 [default: 128]"),
+        )
+}
+
+fn with_options<'a>(
+    alloc: Global,
+    command: Command<'a>,
+    needs_until: bool,
+) -> Result<Command<'a>, AllocError> {
+    with_port(alloc, command)?.arg(
+        Arg::new(alloc, "until")
+            .long("until")
+            .value_name("PS")
+            .required(needs_until)
+            .help("Run to this moment after the input, in picoseconds"),
+    )
+}
+
+fn with_picture<'a>(alloc: Global, command: Command<'a>) -> Result<Command<'a>, AllocError> {
+    command
+        .arg(
+            Arg::new(alloc, "from")
+                .long("from")
+                .value_name("PS")
+                .help("The moment that the picture begins at, in picoseconds [default: 0]"),
         )?
         .arg(
-            Arg::new(alloc, "until")
-                .long("until")
-                .value_name("PS")
-                .required(needs_until)
-                .help("Run to this moment after the input, in picoseconds"),
+            Arg::new(alloc, "to").long("to").value_name("PS").help(
+                "The moment that it ends at, in picoseconds [default: the end of the run]",
+            ),
+        )?
+        .arg(
+            Arg::new(alloc, "width")
+                .long("width")
+                .value_name("PX")
+                .help("Its width, 400 to 2400 pixels [default: 1200]"),
         )
 }
 
@@ -157,11 +195,15 @@ pub fn command<'a>(alloc: Global) -> Result<Command<'a>, AllocError> {
     let streams = Command::new(alloc, "streams").about(
         "Writes a script with the frames of the streams in a table on standard input",
     );
+    let draw = Command::new(alloc, "draw").about(
+        "Draws the run of a script on standard input, as an SVG picture",
+    );
     Command::new(alloc, "taprio_port")
         .about("An IEEE 802.1Qbv time-aware transmit port")
         .subcommand_required(true)
         .subcommand(with_summary(alloc, with_options(alloc, script, false)?)?)?
         .subcommand(with_files(alloc, with_options(alloc, replay, true)?)?)?
         .subcommand(with_windows(alloc, with_rate(alloc, check)?)?)?
-        .subcommand(with_lines(alloc, streams)?)
+        .subcommand(with_lines(alloc, streams)?)?
+        .subcommand(with_picture(alloc, with_port(alloc, draw)?)?)
 }

@@ -43,7 +43,7 @@ paced : (q p : AbstractPort) → StandsFor q p → 80 ≤ p.ps
 paced q p s = let P : ℕ → Type 0 = λ n. 80 ≤ n in subst P (ap (λ x. x.ps) s.same) s.sound.rate
 
 module _ (law : IsSettling) (q p : AbstractPort) (s : StandsFor q p) where
-  event-answers : (e : Event) → (answers_to e q).0 ≡ (answers_to e p).0
+  pub event-answers : (e : Event) → (answers_to e q).0 ≡ (answers_to e p).0
   event-answers e =
       ap (λ x. (answers_to e x).0) s.same
       ∙ (sym (append-nil (answers_to e (settled p)).0) ∙ (law p (paced q p s) s.possible (e ∷ [])).answers_same ∙ append-nil (answers_to e p).0)

@@ -1,7 +1,7 @@
 pub mod OutputLaws
-mod StartsLaws
+pub mod StartsLaws
 pub mod LeftLaws
 pub mod ReaderLaws
-mod Going
+pub mod Going
 pub mod EndingLaws
 pub mod SeparatedLaws
