@@ -104,7 +104,7 @@ kept-at es front rest e number split count =
 
 -- what is answered, whatever the call answers
 same_ok : {T U : Type 0} {x : T} (y : U) (es : List Entry) (rs : List Request) (s t : State) → Answers {T = T} es (Ok x) rs s t → Answers {T = U} es (Ok y) rs s t
-same_ok {T} {U} {x} y es rs s t a = record { port = a.port; keeps = a.keeps; out = record { left = a.out.left; sent = a.out.sent; all = a.out.all; short = λ w. cc } }
+same_ok {T} {U} {x} y es rs s t a = record { port = a.port; keeps = a.keeps; seen = a.seen; out = record { left = a.out.left; sent = a.out.sent; all = a.out.all; short = λ w. cc } }
 
 module _ {R : Type 0} (remaining : R → Option (List ℕ)) (l after : Left R) (e : Entry) (begun : l.ended ≡ None) (p : Next remaining l (Ok (Some e)) after) where
   pub step_ended : after.ended ≡ None
