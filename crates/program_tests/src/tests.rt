@@ -370,8 +370,7 @@ fn replays_files(rt: HostRuntime) -> Result<(), Fail> {
     assert!(rt; outcome.answers.as_slice().starts_with(FIRST_TOLD));
     assert_eq!(rt;
         &outcome.answers.as_slice()[FIRST_TOLD.len().min(outcome.answers.len())..],
-        b"summary class 3 queued 1 sent 1 dropped 0 octets 60 least 0 mean 0 greatest 0 most 1\nsummary wire busy 672000 ppm 0\n"
-            .as_slice()
+        b"summary class 3 queued 1 sent 1 dropped 0 octets 60 least 0 mean 0 greatest 0 most 1\nsummary wire busy 672000 ppm 0\n".as_slice()
     );
     assert_eq!(rt;
         fs::read(&rt, out.as_str())?.as_slice(),

@@ -1,11 +1,8 @@
 -- The end of a replay, from what its parts leave.
-use Rattle.std.specs.Prelude.{IfSome}
-use Rattle.std.proofs.Common.{◌≡◌, ◌<◌, ◌≤◌, ◌+◌, ℕ, List, [], ◌++◌, length, Bool, true, false, Option, Some, None, Result, Ok, Err, refl, sym, ap, ◌∙◌, append_assoc, append-nil, arith, subst}
-use Rattle.std.specs.Io.KnownBytes.{Appends}
+use Rattle.std.proofs.Common.{◌≡◌, ◌≤◌, ℕ, List, [], ◌++◌, length, false, Option, Some, None, Result, Ok, Err, refl, sym, ap, ◌∙◌, append_assoc, arith, subst}
 use Rattle.abstract_port.specs.AbstractPort.{AbstractPort, settled}
 use Rattle.abstract_port.specs.Sound.{IsSoundPort}
-use Rattle.abstract_port.specs.declared.Command.{Command}
-use Rattle.capture.specs.FileHeader.{IsHeaderFault, format_of}
+use Rattle.capture.specs.FileHeader.{IsHeaderFault}
 use Rattle.capture.specs.Records.{Entry}
 use Rattle.capture.specs.declared.fault.CapFault.{CapFault}
 use Rattle.capture.specs.declared.fault.CapFault.TheVariants as CapFaults
@@ -13,19 +10,17 @@ use Rattle.capture.specs.declared.reader.End.{End}
 use Rattle.capture.specs.declared.reader.End.TheVariants.{Whole, Broken}
 use Rattle.capture.specs.declared.writer.TheConstants.{CAPTURE_END}
 use Rattle.std.proofs.lemmas.Bool.{ltb-false}
-use Rattle.octet_writer.specs.Writes.{Sent}
 use Rattle.octet_writer.proofs.Fronts.{Appends-append, Appends-nil, sent_all}
-use Rattle.script.specs.Outcome.{Reading, clock_after}
+use Rattle.script.specs.Outcome.{clock_after}
 use Rattle.replay.specs.Merge.{Timed, all_requests, before_end, came_from, lines_after, requests_of, timed_from}
 use Rattle.replay.specs.RecordsLeft.{EndsSo}
 use Rattle.script.specs.Requests.{Request}
-use Rattle.script.specs.Responses.{end_lines, responses_of}
-use Rattle.script.specs.Setup.{Setup}
+use Rattle.script.specs.Responses.{responses_of}
 use Rattle.script.specs.declared.faults.ScriptFault.{ScriptFault}
 use Rattle.script.proofs.LeftLaws.{end-settled}
 use Rattle.summary.specs.Observed.{Observed}
 use Rattle.replay.specs.Faults.{fault_of_stop}
-use Rattle.replay.specs.Outcome.{AppendsBoth, Ends, IsOpenFault, Outcome, ReadsAs, end_fault, header, is_too_late, end_of, open_fault, outcome_read, outcome_said, outcome_whole, refused, told_to_end}
+use Rattle.replay.specs.Outcome.{AppendsBoth, Ends, IsOpenFault, Outcome, end_fault, header, is_too_late, end_of, open_fault, refused, told_to_end}
 use Rattle.replay.specs.Outputs.{Got, Output, PutsBoth, SentBoth, joined, nothing, output}
 use Rattle.replay.specs.Running.{Answers, State}
 use Rattle.replay.specs.declared.faults.ReplayFault.{ReplayFault}

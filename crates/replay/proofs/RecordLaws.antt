@@ -1,6 +1,6 @@
 -- The records that come from a reader, one after another.
 use Rattle.std.specs.Prelude.{IfOk, IfSome, MatchOption, OnOk, max}
-use Rattle.std.proofs.Common.{◌≡◌, ◌≢◌, ◌≤◌, ◌<◌, ◌+◌, ◌++◌, ℕ, List, [], ◌∷◌, length, Option, Some, None, Result, Ok, Err, refl, sym, ap, ◌∙◌, subst, append_assoc, append-nil, arith}
+use Rattle.std.proofs.Common.{◌≡◌, ◌≢◌, ◌<◌, ◌+◌, ◌++◌, ℕ, List, [], ◌∷◌, length, Option, Some, None, Result, Ok, Err, refl, sym, ap, ◌∙◌, subst, append_assoc, append-nil}
 use Rattle.std.proofs.Math.ListN.{get_or}
 use Rattle.std.proofs.Math.Seq.{get_or-append_seam}
 use Rattle.std.proofs.lemmas.List.{length-append}
@@ -15,7 +15,7 @@ use Rattle.capture.specs.declared.format.Format.{Format}
 use Rattle.capture.specs.declared.reader.End.{End}
 use Rattle.capture.specs.declared.reader.End.TheVariants.{Whole, Broken}
 use Rattle.abstract_port.specs.declared.Event.TheVariants.{Arrive, Clock}
-use Rattle.octet_store.specs.Stored.{Kept, kept}
+use Rattle.octet_store.specs.Stored.{kept}
 use Rattle.script.specs.Requests.{Request, Asks}
 use Rattle.replay.specs.Merge.{Came, Timed, before_end, came_from, lines_after, lines_by, lines_past, requests_of}
 use Rattle.replay.specs.Outputs.{kept_in, no_entry}

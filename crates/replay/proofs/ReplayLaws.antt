@@ -1,10 +1,10 @@
 -- A whole replay, from what its parts leave.
-use Rattle.std.specs.Prelude.{IfSome, if◌then◌else◌}
+use Rattle.std.specs.Prelude.{IfSome}
 use Rattle.std.specs.Io.KnownBytes.{prepend_known}
-use Rattle.std.proofs.Common.{◌≡◌, ℕ, List, [], ◌++◌, length, drop, map, Bool, true, false, Option, Some, None, Result, Ok, Err, refl, sym, ap, ◌∙◌, subst}
+use Rattle.std.proofs.Common.{◌≡◌, ℕ, List, [], length, drop, map, false, Option, Some, None, Result, Ok, Err, refl, sym, ap, ◌∙◌, subst}
 use Rattle.abstract_port.specs.AbstractPort.{AbstractPort, new_port}
 use Rattle.abstract_port.specs.declared.Command.{Command}
-use Rattle.capture.specs.CaptureReader.{IsNewReader, Left, octets_left}
+use Rattle.capture.specs.CaptureReader.{IsNewReader, Left}
 use Rattle.capture.specs.Captures.{AreRecords}
 use Rattle.capture.specs.FileHeader.{format_of}
 use Rattle.capture.specs.Records.{Entry}

@@ -1,5 +1,4 @@
 -- What is told of requests, and of more after them.
-use Rattle.std.specs.Prelude.{OnOk}
 use Rattle.std.specs.List.{flat_map}
 use Rattle.std.proofs.Common.{◌≡◌, ℕ, List, [], ◌∷◌, ◌++◌, map, Result, Ok, Err, refl, sym, ap, ◌∙◌, append_assoc, append-nil, subst}
 use Rattle.std.proofs.lemmas.Grind.{flat_map-append}
@@ -11,7 +10,7 @@ use Rattle.abstract_port.proofs.RunLaws.{IsTimely, same-event, settled-after, se
 use Rattle.capture.specs.Records.{Entry}
 use Rattle.script.specs.Requests.{Request, Asks, NoCommand}
 use Rattle.script.specs.Responses.{Gave, Faulted, Response, events_of, response_lines, responses_of, responses_to}
-use Rattle.replay.specs.Outputs.{Output, PutsBoth, joined, nothing, output, response_record}
+use Rattle.replay.specs.Outputs.{PutsBoth, joined, nothing, output, response_record}
 use Rattle.replay.specs.Running.{Answers, Keeps, State}
 use Rattle.replay.specs.declared.faults.Stop.{Stop}
 use Rattle.replay.specs.declared.faults.Stop.TheVariants as Stops

@@ -1,10 +1,10 @@
 -- One part of two outputs after another.
 use Rattle.std.specs.Prelude.{IfErr, OnOk}
-use Rattle.std.proofs.Common.{◌≡◌, ℕ, ◌+◌, ◌<◌, List, [], ◌++◌, length, Option, Result, Ok, Err, refl, sym, ap, ◌∙◌, append_assoc, append-nil, subst, arith}
+use Rattle.std.proofs.Common.{◌≡◌, ℕ, ◌+◌, List, [], ◌++◌, length, Option, Result, Ok, Err, refl, sym, ap, ◌∙◌, append_assoc, append-nil, subst, arith}
 use Rattle.std.proofs.lemmas.List.{length-append}
 use Rattle.std.specs.Io.KnownBytes.{Appends}
 use Rattle.octet_writer.specs.Writes.{FallsShort, Sent, Writes}
-use Rattle.octet_writer.proofs.Fronts.{Appends-append, sent_none, sent_more}
+use Rattle.octet_writer.proofs.Fronts.{Appends-append, sent_none}
 use Rattle.replay.specs.Outputs.{Got, Output, PutsBoth, SentBoth, joined, nothing}
 use Rattle.replay.specs.declared.faults.Stop.{Stop}
 use Rattle.replay.specs.declared.faults.Stop.TheVariants as Stops

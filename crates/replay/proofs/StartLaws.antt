@@ -1,8 +1,8 @@
 -- What a start is: the first of its class goes, and no other queue changes.
-use Rattle.std.proofs.Common.{◌≡◌, ◌<◌, ◌≤◌, ◌+◌, ◌-◌, ◌++◌, ℕ, zero, suc, List, [], ◌∷◌, length, map, drop, Option, Some, None, refl, sym, ap, ◌∙◌, subst, arith}
+use Rattle.std.proofs.Common.{◌≡◌, ◌<◌, ◌≤◌, ◌+◌, ◌-◌, ℕ, zero, suc, List, [], ◌∷◌, length, map, drop, Option, Some, None, refl, sym, ap, ◌∙◌, subst, arith}
 use Rattle.std.specs.Prelude.{slice_get}
 use Rattle.std.proofs.Math.ListN.{get_or, set, get_or-map}
-use Rattle.std.proofs.lemmas.List.{map-set, length-set, length-drop}
+use Rattle.std.proofs.lemmas.List.{map-set, length-drop}
 use Rattle.wire_time.specs.declared.Frame.{Frame}
 use Rattle.wire_time.specs.Wire.{occupancy_of}
 use Rattle.abstract_port.specs.AbstractPort.{AbstractPort, choice, next_start, queue_of, scan, settled, start_head, start_or, starts_until, waiting}
@@ -19,7 +19,7 @@ use Rattle.script.specs.Responses.{Gave}
 use Rattle.summary.specs.Observed.{Observed}
 use Rattle.summary.specs.Wanted.{noted, noted_all}
 use Rattle.summary.proofs.WantedLaws.{noted_all-cons, noted_all-nil}
-use Rattle.replay.specs.Outputs.{Output, joined, kept_in, nothing, output, start_record}
+use Rattle.replay.specs.Outputs.{joined, kept_in, nothing, output, start_record}
 use Rattle.replay.specs.Running.{IsTogether, Keeps, State, first_kept}
 
 -- ---- the frame that starts

@@ -2,7 +2,7 @@
 use Rattle.std.specs.Prelude.{OnOk, nat_lt, if◌then◌else◌}
 use Rattle.std.specs.List.{flat_map}
 use Rattle.std.specs.Io.KnownBytes.{Appends}
-use Rattle.std.proofs.Common.{◌≡◌, ◌<◌, ◌≤◌, ℕ, List, [], ◌∷◌, ◌++◌, map, Bool, true, false, ◌||◌, Option, Some, None, Result, Ok, Err, refl, sym, ap, ◌∙◌, subst, append-nil, arith}
+use Rattle.std.proofs.Common.{◌≡◌, ◌<◌, ◌≤◌, ℕ, List, [], ◌∷◌, ◌++◌, map, Bool, true, false, Option, Some, None, Result, Ok, Err, refl, sym, ap, ◌∙◌, subst, append-nil, arith}
 use Rattle.std.proofs.lemmas.Bool.{lt-ltb, le-ltb}
 use Rattle.wire_time.specs.declared.Frame.{Frame}
 use Rattle.wire_time.specs.Moment.{greatest_moment}
@@ -15,7 +15,7 @@ use Rattle.abstract_port.specs.declared.Command.{Command}
 use Rattle.abstract_port.specs.declared.Command.TheVariants.{Delete, Replace}
 use Rattle.abstract_port.specs.declared.Dropped.{Dropped}
 use Rattle.abstract_port.specs.declared.Event.{Event}
-use Rattle.abstract_port.specs.declared.Event.TheVariants.{Arrive, Clock, Count, Install, Query}
+use Rattle.abstract_port.specs.declared.Event.TheVariants.{Arrive, Clock, Count, Query}
 use Rattle.abstract_port.specs.declared.Refused.{Refused}
 use Rattle.abstract_port.proofs.RunLaws.{settled-current}
 use Rattle.answer_text.specs.Lines.{answer_lines}
@@ -24,11 +24,11 @@ use Rattle.capture.specs.declared.writer.TheConstants.{CAPTURE_END}
 use Rattle.octet_store.specs.Stored.{Stored}
 use Rattle.octet_writer.specs.Writes.{FallsShort}
 use Rattle.tc_reader.specs.declared.fault.TcFault.{TcFault}
-use Rattle.script.specs.Requests.{Request, Asks, NoCommand, lent, tc_request}
+use Rattle.script.specs.Requests.{Request, Asks, NoCommand, tc_request}
 use Rattle.script.specs.Responses.{Gave, Response, events_of, lines_of, noted_by, responses_of, responses_to}
 use Rattle.summary.specs.Observed.{Observed}
 use Rattle.summary.specs.Wanted.{noted, noted_all}
-use Rattle.replay.specs.Outputs.{Got, Output, PutsBoth, answer_record, got, output, response_record}
+use Rattle.replay.specs.Outputs.{Output, PutsBoth, answer_record, got, output, response_record}
 use Rattle.replay.specs.Running.{Answers, IsTogether, Keeps, State}
 use Rattle.replay.specs.declared.faults.Stop.{Stop}
 use Rattle.replay.proofs.ArrivalLaws.{one_answer}

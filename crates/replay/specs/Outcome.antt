@@ -1,8 +1,8 @@
 -- What is written for a script and a capture, and the fault that ends it.
-use Rattle.std.specs.Prelude.{◌≡◌, ◌<◌, ◌+◌, nat_lt, ℕ, List, [], ◌∷◌, Bool, false, Option, Some, None, Result, Ok, Err, length, IfSome, if◌then◌else◌}
+use Rattle.std.specs.Prelude.{◌≡◌, ◌<◌, ◌+◌, nat_lt, ℕ, List, [], Bool, false, Option, Some, None, Result, Ok, Err, length, IfSome, if◌then◌else◌}
 use Rattle.std.specs.Io.KnownBytes.{Appends}
 use Rattle.abstract_port.specs.AbstractPort.{AbstractPort, new_port}
-use Rattle.abstract_port.specs.Answers.{answers_of, port_after}
+use Rattle.abstract_port.specs.Answers.{port_after}
 use Rattle.abstract_port.specs.declared.Command.{Command}
 use Rattle.capture.specs.Captures.{IsCapture}
 use Rattle.capture.specs.CaptureWriter.{written_header}
@@ -17,7 +17,6 @@ use Rattle.capture.specs.declared.writer.TheConstants.{CAPTURE_END}
 use Rattle.line_reader.specs.Script.{script_of}
 use Rattle.script.specs.Requests.{Request}
 use Rattle.script.specs.Responses.{end_lines, events_of, responses_of}
-use Rattle.script.specs.Outcome.{Reading}
 use Rattle.script.specs.Setup.{Setup}
 use Rattle.script.specs.declared.faults.ScriptFault.{ScriptFault}
 use Rattle.summary.specs.Observed.{Observed}

@@ -1,5 +1,5 @@
 -- A port that runs, with the octets of the frames that wait in it, and what is seen of it where a summary is wanted.
-use Rattle.std.specs.Prelude.{◌≡◌, ℕ, List, [], length, map, drop, Option, Result, OnOk, slice_index_or}
+use Rattle.std.specs.Prelude.{◌≡◌, ℕ, List, [], length, map, Option, Result, OnOk, slice_index_or}
 use Rattle.wire_time.specs.declared.Frame.{Frame}
 use Rattle.abstract_port.specs.AbstractPort.{AbstractPort, settled, starts_until}
 use Rattle.abstract_port.specs.Answers.{port_after}

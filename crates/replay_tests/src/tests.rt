@@ -151,11 +151,13 @@ const WINDOWS: &[u8] = b"tc qdisc replace dev eth0 root taprio num_tc 8 map 0 1 
 base-time 20000 sched-entry S 20 10000 sched-entry S 08 10000\nclock 35000000\ncount 3\n";
 
 /// What is told of a frame of class 3 that comes at 21 microseconds.
-const WINDOWS_TOLD: &[u8] = b"installed change 20000000\nqueued 0 class 3\nstart 0 class 3 at 30000000 end 30672000\n\
+const WINDOWS_TOLD: &[u8] =
+    b"installed change 20000000\nqueued 0 class 3\nstart 0 class 3 at 30000000 end 30672000\n\
 count class 3 accepted 1 sent 1 octets 60 runt 0 too-long 0 over-sdu 0 full 0 waiting 0\n";
 
 /// It has waited for its gate for 9 microseconds.
-const WINDOWS_SUMMED: &[u8] = b"summary class 3 queued 1 sent 1 dropped 0 octets 60 least 9000000 mean 9000000 greatest 9000000 most 1\n\
+const WINDOWS_SUMMED: &[u8] =
+    b"summary class 3 queued 1 sent 1 dropped 0 octets 60 least 9000000 mean 9000000 greatest 9000000 most 1\n\
 summary wire busy 672000 ppm 16800\n";
 
 /// A script, a capture and the moment to run to, what is told, and the summary behind it where one is wanted; without one, all else is the same.

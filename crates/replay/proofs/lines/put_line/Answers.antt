@@ -1,15 +1,11 @@
-use Rattle.std.proofs.Common.{◌≡◌, Ok, Err, ℕ, List, Result, [], ◌∷◌, rules, refl, sym, ap, ◌∙◌, subst}
+use Rattle.std.proofs.Common.{Ok, [], ◌∷◌, sym, subst}
 use Rattle.std.specs.Prelude.{slice_range}
 use Rattle.std.proofs.lemmas.Result.{err_from_is_err_and}
-use Rattle.abstract_port.specs.AbstractPort.{AbstractPort}
-use Rattle.abstract_port.specs.declared.Command.{Command}
 use Rattle.abstract_port.specs.declared.Event.TheVariants as Events
-use Rattle.octet_store.specs.Stored.{Stored}
-use Rattle.script.specs.Requests.{Asks, Request, tc_request}
-use Rattle.tc_reader.specs.declared.fault.TcFault.{TcFault}
+use Rattle.script.specs.Requests.{Asks, tc_request}
 use Rattle.words.specs.Words.{words_of}
 use Rattle.replay.specs.KeptScript.{kept_request}
-use Rattle.replay.specs.Running.{Answers, State, state}
+use Rattle.replay.specs.Running.{Answers, state}
 use Rattle.replay.specs.declared.kept_script.KeptLine.{KeptLine}
 use Rattle.replay.proofs.TellLaws.{at, silent_count, silent_query, silent_tc, told_line, told_short, told_together}
 use Rattle.replay.proofs.lines.put_line.Goals as goal

@@ -1,10 +1,9 @@
-use Rattle.std.proofs.Common.{◌≡◌, ◌++◌, [], ℕ, List, Ok, Err, Result, refl, sym, ap, ◌∙◌, subst}
+use Rattle.std.proofs.Common.{◌++◌, [], List, Ok, Err, refl, ap, ◌∙◌, subst}
 use Rattle.std.proofs.lemmas.Result.{err_from_is_err_and}
 use Rattle.script.specs.Outcome.{clock_after}
 use Rattle.replay.specs.LinesLeft.{lines_left}
 use Rattle.replay.specs.Merge.{Timed, requests_of}
 use Rattle.replay.specs.Running.{Answers, state}
-use Rattle.replay.specs.declared.faults.Stop.{Stop}
 use Rattle.replay.proofs.EndLaws.{told_exit, told_whole}
 use Rattle.replay.proofs.LineLaws.{all_lines}
 use Rattle.replay.proofs.RunLaws.{answers_exit, answers_then}

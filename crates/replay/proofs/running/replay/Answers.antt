@@ -1,6 +1,5 @@
-use Rattle.std.proofs.Common.{◌≡◌, ℕ, List, false, Ok, Err, None, Option, Result, refl, sym, ap, ◌∙◌, subst}
+use Rattle.std.proofs.Common.{◌≡◌, List, false, Err, Result, refl, sym, ap, ◌∙◌, subst}
 use Rattle.std.proofs.lemmas.Result.{err_from_is_err_and}
-use Rattle.script.specs.Setup.{Setup}
 use Rattle.line_reader.specs.Script.{script_of}
 use Rattle.capture.specs.CaptureReader.{left}
 use Rattle.capture.specs.Records.{Entry}

@@ -1,4 +1,4 @@
-use Rattle.std.proofs.Common.{◌≡◌, ◌++◌, ◌∷◌, [], Ok, Err, None, ℕ, List, Result, ◌⊎◌, inl, rules, refl, sym, ap, ◌∙◌, subst}
+use Rattle.std.proofs.Common.{◌≡◌, [], Ok, Err, None, ◌⊎◌, inl, rules, refl, sym, ap, ◌∙◌}
 use Rattle.std.proofs.lemmas.Result.{err_from_is_err_and}
 use Rattle.abstract_port.specs.AbstractPort.{AbstractPort, after_arrival, class_for}
 use Rattle.abstract_port.specs.Answers.{arrival_answer}

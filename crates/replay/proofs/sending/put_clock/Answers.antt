@@ -1,11 +1,10 @@
-use Rattle.std.proofs.Common.{◌≡◌, ◌<◌, ◌≤◌, ◌∷◌, [], Ok, Err, ℕ, List, map, refl, sym, ap, ◌∙◌, subst}
+use Rattle.std.proofs.Common.{◌<◌, ◌≤◌, ◌∷◌, [], Ok, ℕ, map, refl, sym, ap, ◌∙◌, subst}
 use Rattle.std.proofs.lemmas.Result.{err_from_is_err_and}
-use Rattle.abstract_port.specs.AbstractPort.{AbstractPort, starts_until}
+use Rattle.abstract_port.specs.AbstractPort.{starts_until}
 use Rattle.abstract_port.specs.declared.Answer.TheVariants as Answered
 use Rattle.abstract_port.specs.declared.Event.TheVariants as Events
 use Rattle.abstract_port.proofs.RunLaws.{settled-current}
 use Rattle.summary.specs.Wanted.{noted}
-use Rattle.replay.specs.Outputs.{Output}
 use Rattle.replay.specs.Running.{State, state}
 use Rattle.replay.proofs.ArrivalLaws.{one_answer}
 use Rattle.replay.proofs.SeenLaws.{noted-one}

@@ -1,6 +1,6 @@
-use Rattle.std.proofs.Common.{◌≡◌, Ok, Err, List, Some, map, refl, rules, sym, ap, ◌∙◌, subst}
+use Rattle.std.proofs.Common.{Err, map, refl, rules, sym, ap, ◌∙◌, subst}
 use Rattle.std.proofs.lemmas.Result.{err_from_is_err_and}
-use Rattle.abstract_port.specs.AbstractPort.{AbstractPort, PortState, next_start, starts_until}
+use Rattle.abstract_port.specs.AbstractPort.{AbstractPort, PortState, starts_until}
 use Rattle.abstract_port.specs.declared.Answer.TheVariants as Answered
 use Rattle.summary.specs.Wanted.{noted_all}
 use Rattle.abstract_port.specs.Sound.{IsSoundPort}

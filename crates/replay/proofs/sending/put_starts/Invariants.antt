@@ -1,5 +1,5 @@
 -- What is written and the starts to come are those of all.
-use Rattle.std.proofs.Common.{◌≡◌, ◌≤◌, List, ℕ, map}
+use Rattle.std.proofs.Common.{◌≡◌, ◌≤◌, List, map}
 use Rattle.abstract_port.specs.AbstractPort.{settled, starts_until, waiting}
 use Rattle.abstract_port.specs.declared.Answer.TheVariants as Answered
 use Rattle.capture.specs.Records.{Entry}
