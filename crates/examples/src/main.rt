@@ -84,15 +84,20 @@ fn streams_agree<R: Files + AllocGlobal>(rt: &R) -> io::Result<bool> {
     Ok(written.is_ok() && got.as_slice() == script.as_slice())
 }
 
-/// Whether the example of a replay gives the report and the capture that lie beside it, run to 2 ms.
-fn replay_agrees<R: Files + AllocGlobal>(rt: &R) -> io::Result<bool> {
+/// Whether the example of a replay gives the report and the capture that lie beside it, run to 2 ms, and behind the report a summary where
+/// one is asked for.
+fn replay_agrees<R: Files + AllocGlobal>(rt: &R, summary: bool) -> io::Result<bool> {
     let script = fs::read(rt, "machine.script")?;
     let capture = fs::read(rt, "machine.pcap")?;
-    let report = fs::read(rt, "machine.report")?;
+    let mut report = fs::read(rt, "machine.report")?;
+    if summary {
+        report.extend_from_slice(fs::read(rt, "machine.summary")?.as_slice())?;
+    }
     let departures = fs::read(rt, "machine.departures.pcap")?;
     let Some(settings) = settings(Some(2_000_000_000)) else {
         return Ok(false);
     };
+    let settings = settings.with_summary(summary);
     let mut told = Vec::new(rt.alloc());
     let mut left = Vec::new(rt.alloc());
     let replayed = replay(
@@ -148,8 +153,10 @@ fn main(rt: HostRuntime) -> io::Result<()> {
     }
     let written = told(streams_agree(&rt)?);
     println!(rt; "planned.streams {written}")?;
-    let replayed = told(replay_agrees(&rt)?);
-    println!(rt; "machine.script {replayed}")?;
+    for (name, summary) in [("machine.script", false), ("machine.summary", true)] {
+        let told = told(replay_agrees(&rt, summary)?);
+        println!(rt; "{name} {told}")?;
+    }
     let (scripts, answered) = worked(&rt)?;
     println!(rt; "{answered} of {scripts} worked scripts answer as they should")?;
     Ok(())

@@ -202,7 +202,10 @@ pub fn command<'a>(alloc: Global) -> Result<Command<'a>, AllocError> {
         .about("An IEEE 802.1Qbv time-aware transmit port")
         .subcommand_required(true)
         .subcommand(with_summary(alloc, with_options(alloc, script, false)?)?)?
-        .subcommand(with_files(alloc, with_options(alloc, replay, true)?)?)?
+        .subcommand(with_files(
+            alloc,
+            with_summary(alloc, with_options(alloc, replay, true)?)?,
+        )?)?
         .subcommand(with_windows(alloc, with_rate(alloc, check)?)?)?
         .subcommand(with_lines(alloc, streams)?)?
         .subcommand(with_picture(alloc, with_port(alloc, draw)?)?)

@@ -1,11 +1,8 @@
 -- The end of a replay, from what its parts leave.
-use Rattle.std.specs.Prelude.{IfSome}
-use Rattle.std.proofs.Common.{◌≡◌, ◌<◌, ◌≤◌, ◌+◌, ℕ, List, [], ◌++◌, length, Bool, true, false, Option, Some, None, Result, Ok, Err, refl, sym, ap, ◌∙◌, append_assoc, append-nil, arith, subst}
-use Rattle.std.specs.Io.KnownBytes.{Appends}
+use Rattle.std.proofs.Common.{◌≡◌, ◌≤◌, ℕ, List, [], ◌++◌, length, false, Option, Some, None, Result, Ok, Err, refl, sym, ap, ◌∙◌, append_assoc, arith, subst}
 use Rattle.abstract_port.specs.AbstractPort.{AbstractPort, settled}
 use Rattle.abstract_port.specs.Sound.{IsSoundPort}
-use Rattle.abstract_port.specs.declared.Command.{Command}
-use Rattle.capture.specs.FileHeader.{IsHeaderFault, format_of}
+use Rattle.capture.specs.FileHeader.{IsHeaderFault}
 use Rattle.capture.specs.Records.{Entry}
 use Rattle.capture.specs.declared.fault.CapFault.{CapFault}
 use Rattle.capture.specs.declared.fault.CapFault.TheVariants as CapFaults
@@ -13,25 +10,25 @@ use Rattle.capture.specs.declared.reader.End.{End}
 use Rattle.capture.specs.declared.reader.End.TheVariants.{Whole, Broken}
 use Rattle.capture.specs.declared.writer.TheConstants.{CAPTURE_END}
 use Rattle.std.proofs.lemmas.Bool.{ltb-false}
-use Rattle.octet_writer.specs.Writes.{Sent}
 use Rattle.octet_writer.proofs.Fronts.{Appends-append, Appends-nil, sent_all}
-use Rattle.script.specs.Outcome.{Reading, clock_after}
+use Rattle.script.specs.Outcome.{clock_after}
 use Rattle.replay.specs.Merge.{Timed, all_requests, before_end, came_from, lines_after, requests_of, timed_from}
 use Rattle.replay.specs.RecordsLeft.{EndsSo}
 use Rattle.script.specs.Requests.{Request}
-use Rattle.script.specs.Responses.{left_lines, responses_of}
-use Rattle.script.specs.Setup.{Setup}
+use Rattle.script.specs.Responses.{responses_of}
 use Rattle.script.specs.declared.faults.ScriptFault.{ScriptFault}
-use Rattle.script.proofs.LeftLaws.{left-settled}
+use Rattle.script.proofs.LeftLaws.{end-settled}
+use Rattle.summary.specs.Observed.{Observed}
 use Rattle.replay.specs.Faults.{fault_of_stop}
-use Rattle.replay.specs.Outcome.{AppendsBoth, Ends, IsOpenFault, Outcome, ReadsAs, end_fault, header, is_too_late, left_of, open_fault, outcome_read, outcome_said, outcome_whole, refused, told_and_left}
+use Rattle.replay.specs.Outcome.{AppendsBoth, Ends, IsOpenFault, Outcome, end_fault, header, is_too_late, end_of, open_fault, refused, told_to_end}
 use Rattle.replay.specs.Outputs.{Got, Output, PutsBoth, SentBoth, joined, nothing, output}
 use Rattle.replay.specs.Running.{Answers, State}
 use Rattle.replay.specs.declared.faults.ReplayFault.{ReplayFault}
 use Rattle.replay.specs.declared.faults.ReplayFault.TheVariants as Faults
 use Rattle.replay.specs.declared.faults.Stop.{Stop}
 use Rattle.replay.specs.declared.faults.Stop.TheVariants as Stops
-use Rattle.replay.proofs.RunLaws.{after, later_port, parts}
+use Rattle.replay.proofs.RunLaws.{after, later_port, later_seen, parts}
+use Rattle.replay.proofs.SeenLaws.{seen_of}
 use Rattle.replay.proofs.Sends.{both_exit, both_last, both_more, both_none, both_then}
 
 -- ---- what is told, and then what is left
@@ -41,32 +38,36 @@ joined-assoc x y z =
     ap (λ (t : List ℕ). record { report = t; capture = (x.capture ++ y.capture) ++ z.capture }) (append_assoc x.report y.report z.report)
     ∙ ap (λ (t : List ℕ). record { report = x.report ++ (y.report ++ z.report); capture = t }) (append_assoc x.capture y.capture z.capture)
 
-left-same : (q p : AbstractPort) → q ≡ settled p → left_of q ≡ left_of p
-left-same q p is = ap (λ (x : AbstractPort). left_of x) is ∙ ap (λ (t : List ℕ). record { report = t; capture = [] }) (left-settled p)
+end-same : (q p : AbstractPort) (o : Option Observed) → q ≡ settled p → end_of q o ≡ end_of p o
+end-same q p o is = ap (λ (x : AbstractPort). end_of x o) is ∙ ap (λ (t : List ℕ). record { report = t; capture = [] }) (end-settled p o)
 
 module _ {T : Type 0} (r : Result T Stop) (es : List Entry) where
   -- all is told, and then what is left
-  pub told_whole : {U : Type 0} {x : U} (rs : List Request) (s u : State) (v : Got) → Answers {T = U} es (Ok x) rs s u → PutsBoth r u.got v (left_of u.port) → PutsBoth r s.got v (told_and_left es rs s.port)
+  pub told_whole : {U : Type 0} {x : U} (rs : List Request) (s u : State) (v : Got) → Answers {T = U} es (Ok x) rs s u → PutsBoth r u.got v (end_of u.port u.seen) → PutsBoth r s.got v (told_to_end es rs s.port s.seen)
   told_whole rs s u v a n =
-      both_then r v (told_and_left es rs s.port) (left_of u.port) (ap (λ (l : Output). joined (output es (responses_of rs s.port)) l) (sym (left-same u.port (after rs s.port) a.port))) a.out n
+      both_then r v (told_to_end es rs s.port s.seen) (end_of u.port u.seen)
+      (ap (λ (l : Output). joined (output es (responses_of rs s.port)) l) (sym (ap (λ o. end_of u.port o) a.seen ∙ end-same u.port (after rs s.port) (seen_of rs s.port s.seen) a.port)))
+      a.out n
 
   -- the exit of a call that failed in what is told
-  pub told_exit : {U : Type 0} {y : Stop} (rs : List Request) (s u : State) → r ≡ Err y → Answers {T = U} es (Err y) rs s u → PutsBoth r s.got u.got (told_and_left es rs s.port)
-  told_exit rs s u is a = both_exit r u.got (output es (responses_of rs s.port)) (left_of (after rs s.port)) is (both_none s.got _) refl a.out
+  pub told_exit : {U : Type 0} {y : Stop} (rs : List Request) (s u : State) → r ≡ Err y → Answers {T = U} es (Err y) rs s u → PutsBoth r s.got u.got (told_to_end es rs s.port s.seen)
+  told_exit rs s u is a = both_exit r u.got (output es (responses_of rs s.port)) (end_of (after rs s.port) (seen_of rs s.port s.seen)) is (both_none s.got _) refl a.out
 
   -- some is told, and then more
-  pub told_then : {U : Type 0} {x : U} (xs ys : List Request) (s t : State) (v : Got) → IsSoundPort s.port → Answers {T = U} es (Ok x) xs s t → PutsBoth r t.got v (told_and_left es ys t.port) → PutsBoth r s.got v (told_and_left es (xs ++ ys) s.port)
+  pub told_then : {U : Type 0} {x : U} (xs ys : List Request) (s t : State) (v : Got) → IsSoundPort s.port → Answers {T = U} es (Ok x) xs s t → PutsBoth r t.got v (told_to_end es ys t.port t.seen) → PutsBoth r s.got v (told_to_end es (xs ++ ys) s.port s.seen)
   told_then xs ys s t v sound a n =
-      both_then r v (told_and_left es (xs ++ ys) s.port) (told_and_left es ys t.port)
-      (ap (λ (o : Output). joined o (left_of (after (xs ++ ys) s.port))) (parts es s t sound xs ys a.port)
-      ∙ joined-assoc (output es (responses_of xs s.port)) (output es (responses_of ys t.port)) (left_of (after (xs ++ ys) s.port))
-      ∙ ap (λ (l : Output). joined (output es (responses_of xs s.port)) (joined (output es (responses_of ys t.port)) l)) (same_left))
+      both_then r v (told_to_end es (xs ++ ys) s.port s.seen) (told_to_end es ys t.port t.seen)
+      (ap (λ (o : Output). joined o (end_of (after (xs ++ ys) s.port) (seen_of (xs ++ ys) s.port s.seen))) (parts es s t sound xs ys a.port)
+      ∙ joined-assoc (output es (responses_of xs s.port)) (output es (responses_of ys t.port)) (end_of (after (xs ++ ys) s.port) (seen_of (xs ++ ys) s.port s.seen))
+      ∙ ap (λ (l : Output). joined (output es (responses_of xs s.port)) (joined (output es (responses_of ys t.port)) l)) (same_end))
       a.out n
     where
-      same_left : left_of (after (xs ++ ys) s.port) ≡ left_of (after ys t.port)
-      same_left =
-          sym (left-same (settled (after (xs ++ ys) s.port)) (after (xs ++ ys) s.port) refl)
-          ∙ (ap (λ (p : AbstractPort). left_of p) (sym (later_port es s t sound xs ys a.port)) ∙ left-same (settled (after ys t.port)) (after ys t.port) refl)
+      same_end : end_of (after (xs ++ ys) s.port) (seen_of (xs ++ ys) s.port s.seen) ≡ end_of (after ys t.port) (seen_of ys t.port t.seen)
+      same_end =
+          let o = seen_of (xs ++ ys) s.port s.seen in
+          sym (end-same (settled (after (xs ++ ys) s.port)) (after (xs ++ ys) s.port) o refl)
+          ∙ (ap (λ (p : AbstractPort). end_of p o) (sym (later_port es s t sound xs ys a.port)) ∙ end-same (settled (after ys t.port)) (after ys t.port) o refl)
+          ∙ sym (ap (λ n. end_of (after ys t.port) n) (later_seen es s t sound xs ys a.port a.seen))
 
 -- ---- the end
 

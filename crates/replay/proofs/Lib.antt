@@ -1,6 +1,7 @@
 pub mod Sends
 pub mod StartLaws
 pub mod ArrivalLaws
+pub mod SeenLaws
 pub mod RunLaws
 pub mod LineLaws
 pub mod RecordLaws

@@ -1,6 +1,6 @@
 -- The records that come from a reader, one after another.
 use Rattle.std.specs.Prelude.{IfOk, IfSome, MatchOption, OnOk, max}
-use Rattle.std.proofs.Common.{◌≡◌, ◌≢◌, ◌≤◌, ◌<◌, ◌+◌, ◌++◌, ℕ, List, [], ◌∷◌, length, Option, Some, None, Result, Ok, Err, refl, sym, ap, ◌∙◌, subst, append_assoc, append-nil, arith}
+use Rattle.std.proofs.Common.{◌≡◌, ◌≢◌, ◌<◌, ◌+◌, ◌++◌, ℕ, List, [], ◌∷◌, length, Option, Some, None, Result, Ok, Err, refl, sym, ap, ◌∙◌, subst, append_assoc, append-nil}
 use Rattle.std.proofs.Math.ListN.{get_or}
 use Rattle.std.proofs.Math.Seq.{get_or-append_seam}
 use Rattle.std.proofs.lemmas.List.{length-append}
@@ -15,7 +15,7 @@ use Rattle.capture.specs.declared.format.Format.{Format}
 use Rattle.capture.specs.declared.reader.End.{End}
 use Rattle.capture.specs.declared.reader.End.TheVariants.{Whole, Broken}
 use Rattle.abstract_port.specs.declared.Event.TheVariants.{Arrive, Clock}
-use Rattle.octet_store.specs.Stored.{Kept, kept}
+use Rattle.octet_store.specs.Stored.{kept}
 use Rattle.script.specs.Requests.{Request, Asks}
 use Rattle.replay.specs.Merge.{Came, Timed, before_end, came_from, lines_after, lines_by, lines_past, requests_of}
 use Rattle.replay.specs.Outputs.{kept_in, no_entry}
@@ -104,7 +104,7 @@ kept-at es front rest e number split count =
 
 -- what is answered, whatever the call answers
 same_ok : {T U : Type 0} {x : T} (y : U) (es : List Entry) (rs : List Request) (s t : State) → Answers {T = T} es (Ok x) rs s t → Answers {T = U} es (Ok y) rs s t
-same_ok {T} {U} {x} y es rs s t a = record { port = a.port; keeps = a.keeps; out = record { left = a.out.left; sent = a.out.sent; all = a.out.all; short = λ w. cc } }
+same_ok {T} {U} {x} y es rs s t a = record { port = a.port; keeps = a.keeps; seen = a.seen; out = record { left = a.out.left; sent = a.out.sent; all = a.out.all; short = λ w. cc } }
 
 module _ {R : Type 0} (remaining : R → Option (List ℕ)) (l after : Left R) (e : Entry) (begun : l.ended ≡ None) (p : Next remaining l (Ok (Some e)) after) where
   pub step_ended : after.ended ≡ None

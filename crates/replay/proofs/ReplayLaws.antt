@@ -1,10 +1,10 @@
 -- A whole replay, from what its parts leave.
-use Rattle.std.specs.Prelude.{IfSome, if◌then◌else◌}
+use Rattle.std.specs.Prelude.{IfSome}
 use Rattle.std.specs.Io.KnownBytes.{prepend_known}
-use Rattle.std.proofs.Common.{◌≡◌, ℕ, List, [], ◌++◌, length, drop, map, Bool, true, false, Option, Some, None, Result, Ok, Err, refl, sym, ap, ◌∙◌, subst}
+use Rattle.std.proofs.Common.{◌≡◌, ℕ, List, [], length, drop, map, false, Option, Some, None, Result, Ok, Err, refl, sym, ap, ◌∙◌, subst}
 use Rattle.abstract_port.specs.AbstractPort.{AbstractPort, new_port}
 use Rattle.abstract_port.specs.declared.Command.{Command}
-use Rattle.capture.specs.CaptureReader.{IsNewReader, Left, octets_left}
+use Rattle.capture.specs.CaptureReader.{IsNewReader, Left}
 use Rattle.capture.specs.Captures.{AreRecords}
 use Rattle.capture.specs.FileHeader.{format_of}
 use Rattle.capture.specs.Records.{Entry}
@@ -17,10 +17,12 @@ use Rattle.script.specs.Requests.{Request}
 use Rattle.script.specs.Setup.{Setup}
 use Rattle.script.specs.declared.faults.ScriptFault.{ScriptFault}
 use Rattle.tc_reader.specs.declared.fault.TcFault.{TcFault}
+use Rattle.summary.specs.Observed.{Observed}
+use Rattle.summary.specs.Wanted.{watched}
 use Rattle.replay.specs.Keeping.{IsScriptFault}
 use Rattle.replay.specs.Lines.{reading_of}
 use Rattle.replay.specs.Merge.{all_requests}
-use Rattle.replay.specs.Outcome.{Ends, IsOpenFault, Outcome, ReadsAs, end_fault, is_too_late, outcome_of, outcome_read, outcome_said, outcome_whole, refused, told_and_left}
+use Rattle.replay.specs.Outcome.{Ends, IsOpenFault, Outcome, ReadsAs, end_fault, is_too_late, outcome_of, outcome_read, outcome_said, outcome_whole, refused, told_to_end}
 use Rattle.octet_store.specs.Stored.{Stored, new_store}
 use Rattle.wire_time.specs.declared.Frame.{Frame}
 use Rattle.replay.specs.Outputs.{Got, kept_in}
@@ -37,6 +39,10 @@ when_known (Some x) P f = f x refl
 
 pub known_at : {X : Type 0} (o : Option X) (x : X) (P : X → Type 0) → o ≡ Some x → IfSome o P → P x
 known_at o x P e h = subst (λ o. IfSome o P) e h
+
+-- memory was wanting before anything was read
+pub memory_wanting : (T : Type 0) (r : Result T ReplayFault) (old : Got) (o : Outcome) → r ≡ Err Faults.Memory → Ends r old old o
+memory_wanting T r old o is = subst (λ (q : Result T ReplayFault). Ends q old old o) (sym is) (o.output, both_none old o.output)
 
 module _ (read : List (List ℕ) → Result Command TcFault) (s : Setup) (lines : List ℕ) (records : Result (List Entry × End) CapFault) (late : is_too_late s.until ≡ false) where
   abbrev reading : Reading
@@ -84,13 +90,14 @@ comes_new remaining known l octets es last new is reads =
       are = subst (λ (f : Format). AreRecords f l.number (drop 24 octets) es last) same (subst (λ (n : ℕ). AreRecords reads.0 n (drop 24 octets) es last) (sym new.0) reads.1.1);
     }
 
--- the same outcome of a port, a script and a moment that are those of the settings and the inputs
-pub outcome_at : (s : Setup) (script kept : List Request) (es : List Entry) (last : End) (until : Option ℕ) (p : AbstractPort) → kept ≡ script → until ≡ s.until → p ≡ new_port s.rate s.mtu s.room
-    → with_header (record { output = told_and_left es (all_requests kept es until) p; fault = end_fault (length es) last }) ≡ outcome_whole s script es last
-outcome_at s script kept es last until p a b d =
-    ap (λ (k : List Request). with_header (record { output = told_and_left es (all_requests k es until) p; fault = end_fault (length es) last })) a
-    ∙ ap (λ (u : Option ℕ). with_header (record { output = told_and_left es (all_requests script es u) p; fault = end_fault (length es) last })) b
-    ∙ ap (λ (q : AbstractPort). with_header (record { output = told_and_left es (all_requests script es s.until) q; fault = end_fault (length es) last })) d
+-- the same outcome of a port, a script, a moment and what is seen that are those of the settings and the inputs
+pub outcome_at : (s : Setup) (script kept : List Request) (es : List Entry) (last : End) (until : Option ℕ) (p : AbstractPort) (o : Option Observed) → kept ≡ script → until ≡ s.until → p ≡ new_port s.rate s.mtu s.room → o ≡ watched s.summary s.room
+    → with_header (record { output = told_to_end es (all_requests kept es until) p o; fault = end_fault (length es) last }) ≡ outcome_whole s script es last
+outcome_at s script kept es last until p o a b d e =
+    ap (λ (k : List Request). with_header (record { output = told_to_end es (all_requests k es until) p o; fault = end_fault (length es) last })) a
+    ∙ ap (λ (u : Option ℕ). with_header (record { output = told_to_end es (all_requests script es u) p o; fault = end_fault (length es) last })) b
+    ∙ ap (λ (q : AbstractPort). with_header (record { output = told_to_end es (all_requests script es s.until) q o; fault = end_fault (length es) last })) d
+    ∙ ap (λ (n : Option Observed). with_header (record { output = told_to_end es (all_requests script es s.until) (new_port s.rate s.mtu s.room) n; fault = end_fault (length es) last })) e
 
 -- a capture whose header was read has records
 pub opened : {R : Type 0} (remaining : R → Option (List ℕ)) (known : Option (List ℕ)) (l : Left R) (octets : List ℕ) (records : Result (List Entry × End) CapFault)
@@ -100,14 +107,14 @@ opened remaining known l octets (Err fault) new is reads =
     let k = known_at known octets _ is new.3 in
     absurd (let both : Err fault ≡ Ok l.format = sym reads ∙ k.0 in cc)
 
--- the outcome where nothing is refused, of a port, a script and a moment that are those of the settings and the inputs
+-- the outcome where nothing is refused, of a port, a script, a moment and what is seen that are those of the settings and the inputs
 pub outcome_all : (read : List (List ℕ) → Result Command TcFault) (s : Setup) (lines : List ℕ) (records : Result (List Entry × End) CapFault) → is_too_late s.until ≡ false
     → (reading_of read (script_of lines)).fault ≡ None → (es : List Entry) (last : End) → records ≡ Ok (es, last)
-    → (kept : List Request) (until : Option ℕ) (p : AbstractPort) → kept ≡ (reading_of read (script_of lines)).requests → until ≡ s.until → p ≡ new_port s.rate s.mtu s.room
-    → with_header (record { output = told_and_left es (all_requests kept es until) p; fault = end_fault (length es) last }) ≡ outcome_of read s lines records
-outcome_all read s lines records late good es last are kept until p a b d =
+    → (kept : List Request) (until : Option ℕ) (p : AbstractPort) (o : Option Observed) → kept ≡ (reading_of read (script_of lines)).requests → until ≡ s.until → p ≡ new_port s.rate s.mtu s.room → o ≡ watched s.summary s.room
+    → with_header (record { output = told_to_end es (all_requests kept es until) p o; fault = end_fault (length es) last }) ≡ outcome_of read s lines records
+outcome_all read s lines records late good es last are kept until p o a b d e =
     let script = (reading_of read (script_of lines)).requests in
-    outcome_at s script kept es last until p a b d ∙ sym (outcome_good read s lines records late good ∙ ap (outcome_read s script) are)
+    outcome_at s script kept es last until p o a b d e ∙ sym (outcome_good read s lines records late good ∙ ap (outcome_read s script) are)
 
 -- what is kept in a new store beside a new port
 pub keeps_none : (es : List Entry) (s : State) (ps mtu room : ℕ) → s.port ≡ new_port ps mtu room → s.store ≡ new_store room → Keeps es s

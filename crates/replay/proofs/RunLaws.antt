@@ -1,5 +1,4 @@
 -- What is told of requests, and of more after them.
-use Rattle.std.specs.Prelude.{OnOk}
 use Rattle.std.specs.List.{flat_map}
 use Rattle.std.proofs.Common.{◌≡◌, ℕ, List, [], ◌∷◌, ◌++◌, map, Result, Ok, Err, refl, sym, ap, ◌∙◌, append_assoc, append-nil, subst}
 use Rattle.std.proofs.lemmas.Grind.{flat_map-append}
@@ -11,10 +10,11 @@ use Rattle.abstract_port.proofs.RunLaws.{IsTimely, same-event, settled-after, se
 use Rattle.capture.specs.Records.{Entry}
 use Rattle.script.specs.Requests.{Request, Asks, NoCommand}
 use Rattle.script.specs.Responses.{Gave, Faulted, Response, events_of, response_lines, responses_of, responses_to}
-use Rattle.replay.specs.Outputs.{Output, PutsBoth, joined, nothing, output, response_record}
+use Rattle.replay.specs.Outputs.{PutsBoth, joined, nothing, output, response_record}
 use Rattle.replay.specs.Running.{Answers, Keeps, State}
 use Rattle.replay.specs.declared.faults.Stop.{Stop}
 use Rattle.replay.specs.declared.faults.Stop.TheVariants as Stops
+use Rattle.replay.proofs.SeenLaws.{seen-append, seen-nil, seen-settled, seen_of}
 use Rattle.replay.proofs.Sends.{both_all, both_exit, both_none, both_stop, both_then, never, on_ok_map}
 
 -- the port after requests
@@ -56,7 +56,7 @@ output-append es xs ys =
 
 -- nothing is asked
 pub answers_none : {T : Type 0} (x : T) (es : List Entry) (s : State) → IsSoundPort s.port → Keeps es s → Answers {T = T} es (Ok x) [] s s
-answers_none x es s sound k = record { port = sym (settled-current s.port sound.current); keeps = k; out = both_all x (both_none s.got nothing) refl }
+answers_none x es s sound k = record { port = sym (settled-current s.port sound.current); keeps = k; seen = sym (seen-nil s.port s.seen); out = both_all x (both_none s.got nothing) refl }
 
 -- the parts of what is told, where the port after the first is known
 module _ (es : List Entry) (s t : State) (sound : IsSoundPort s.port) (xs ys : List Request) (is : t.port ≡ settled (after xs s.port)) where
@@ -70,6 +70,12 @@ module _ (es : List Entry) (s t : State) (sound : IsSoundPort s.port) (xs ys : L
   later_port =
       ap (λ (p : AbstractPort). settled (after ys p)) is ∙ settled-after (events_of ys) (after xs s.port) fit ∙ ap (λ (p : AbstractPort). settled p) (sym (after-append xs ys s.port))
 
+  pub later_seen : t.seen ≡ seen_of xs s.port s.seen → seen_of ys t.port t.seen ≡ seen_of (xs ++ ys) s.port s.seen
+  later_seen seen =
+      ap (λ o. seen_of ys t.port o) seen
+      ∙ (ap (λ (p : AbstractPort). seen_of ys p (seen_of xs s.port s.seen)) is ∙ seen-settled ys (after xs s.port) (seen_of xs s.port s.seen) fit)
+      ∙ sym (seen-append xs ys s.port s.seen)
+
   pub parts : output es (responses_of (xs ++ ys) s.port) ≡ joined (output es (responses_of xs s.port)) (output es (responses_of ys t.port))
   parts =
       ap (λ (x : List Response). output es x) (responses-append xs ys s.port)
@@ -82,6 +88,7 @@ pub answers_then : {T U : Type 0} {y : U} (r : Result T Stop) (es : List Entry) 
 answers_then r es xs ys s t u sound a b = record {
   port = on_ok_map r (λ e. e ∙ later_port es s t sound xs ys a.port) b.port;
   keeps = b.keeps;
+  seen = on_ok_map r (λ e. e ∙ later_seen es s t sound xs ys a.port a.seen) b.seen;
   out = both_then r u.got _ _ (parts es s t sound xs ys a.port) a.out b.out;
 }
 
@@ -91,6 +98,7 @@ pub answers_exit : {T U : Type 0} {y : Stop} (r : Result T Stop) (es : List Entr
 answers_exit r es xs ys s t is a = record {
   port = never _ is;
   keeps = never _ is;
+  seen = never _ is;
   out = both_exit r t.got (output es (responses_of xs s.port)) (output es (responses_of ys (after xs s.port))) is (both_none s.got _)
       (ap (λ (x : List Response). output es x) (responses-append xs ys s.port) ∙ output-append es (responses_of xs s.port) (responses_of ys (after xs s.port))) a.out;
 }
@@ -112,7 +120,7 @@ module _ {es : List Entry} {s t : State} {all : List Request} (sound : IsSoundPo
   done_more {T} {x} {left} u xs rest d e a = record {
     done = d.done ++ xs;
     parts = append_assoc d.done xs rest ∙ ap (λ (y : List Request). d.done ++ y) (sym e) ∙ d.parts;
-    answers = answers_then {U = Unit {0}} {y = tt} (Ok tt) es d.done xs s t u sound d.answers (record { port = a.port; keeps = a.keeps; out = same_out a.out });
+    answers = answers_then {U = Unit {0}} {y = tt} (Ok tt) es d.done xs s t u sound d.answers (record { port = a.port; keeps = a.keeps; seen = a.seen; out = same_out a.out });
   }
     where
       same_out : PutsBoth {T = T} (Ok x) t.got u.got (output es (responses_of xs t.port)) → PutsBoth {T = Unit {0}} (Ok tt) t.got u.got (output es (responses_of xs t.port))
@@ -133,7 +141,7 @@ module _ {es : List Entry} {s t : State} {all : List Request} (sound : IsSoundPo
 
   -- the exit where nothing was asked
   pub done_stop : {T : Type 0} {y : Stop} {left : List Request} (r : Result T Stop) → r ≡ Err y → (y ≡ Stops.Write → ⊥) → Done es s t left all → Answers es r all s t
-  done_stop {T} {y} {left} r is other d = done_last r t d (record { port = never _ is; keeps = never _ is; out = both_stop r is other (both_none t.got _) })
+  done_stop {T} {y} {left} r is other d = done_last r t d (record { port = never _ is; keeps = never _ is; seen = never _ is; out = both_stop r is other (both_none t.got _) })
 
   pub done_whole : {left : List Request} → Done es s t left all → left ≡ [] → Answers {T = Unit {0}} es (Ok tt) all s t
   done_whole {left} d e = done_all (subst (λ (x : List Request). Done es s t x all) e d)

@@ -1,10 +1,10 @@
 -- One part of two outputs after another.
-use Rattle.std.specs.Prelude.{OnOk}
-use Rattle.std.proofs.Common.{◌≡◌, ℕ, ◌+◌, ◌<◌, List, [], ◌++◌, length, Option, Result, Ok, Err, refl, sym, ap, ◌∙◌, append_assoc, append-nil, subst, arith}
+use Rattle.std.specs.Prelude.{IfErr, OnOk}
+use Rattle.std.proofs.Common.{◌≡◌, ℕ, ◌+◌, List, [], ◌++◌, length, Option, Result, Ok, Err, refl, sym, ap, ◌∙◌, append_assoc, append-nil, subst, arith}
 use Rattle.std.proofs.lemmas.List.{length-append}
 use Rattle.std.specs.Io.KnownBytes.{Appends}
 use Rattle.octet_writer.specs.Writes.{FallsShort, Sent, Writes}
-use Rattle.octet_writer.proofs.Fronts.{Appends-append, sent_none, sent_more}
+use Rattle.octet_writer.proofs.Fronts.{Appends-append, sent_none}
 use Rattle.replay.specs.Outputs.{Got, Output, PutsBoth, SentBoth, joined, nothing}
 use Rattle.replay.specs.declared.faults.Stop.{Stop}
 use Rattle.replay.specs.declared.faults.Stop.TheVariants as Stops
@@ -15,6 +15,10 @@ always (Err e) p = tt
 
 pub never : {T : Type 0} {r : Result T Stop} {y : Stop} (P : Type 0) → r ≡ Err y → OnOk r P
 never {T} {r} P e = let Q : Result T Stop → Type 0 = λ r. OnOk r P in subst Q (sym e) tt
+
+-- what holds of the error of a call
+pub of_error : {T : Type 0} (r : Result T Stop) (y : Stop) (P : Stop → Type 0) → r ≡ Err y → P y → IfErr r P
+of_error {T} r y P e p = let Q : Result T Stop → Type 0 = λ x. IfErr x P in subst Q (sym e) p
 
 pub on_ok_map : {T P Q : Type 0} (r : Result T Stop) → (P → Q) → OnOk r P → OnOk r Q
 on_ok_map (Ok x) f p = f p

@@ -1,8 +1,8 @@
 -- What a start is: the first of its class goes, and no other queue changes.
-use Rattle.std.proofs.Common.{◌≡◌, ◌<◌, ◌≤◌, ◌+◌, ◌-◌, ◌++◌, ℕ, zero, suc, List, [], ◌∷◌, length, map, drop, Option, Some, None, refl, sym, ap, ◌∙◌, subst, arith}
+use Rattle.std.proofs.Common.{◌≡◌, ◌<◌, ◌≤◌, ◌+◌, ◌-◌, ℕ, zero, suc, List, [], ◌∷◌, length, map, drop, Option, Some, None, refl, sym, ap, ◌∙◌, subst, arith}
 use Rattle.std.specs.Prelude.{slice_get}
 use Rattle.std.proofs.Math.ListN.{get_or, set, get_or-map}
-use Rattle.std.proofs.lemmas.List.{map-set, length-set, length-drop}
+use Rattle.std.proofs.lemmas.List.{map-set, length-drop}
 use Rattle.wire_time.specs.declared.Frame.{Frame}
 use Rattle.wire_time.specs.Wire.{occupancy_of}
 use Rattle.abstract_port.specs.AbstractPort.{AbstractPort, choice, next_start, queue_of, scan, settled, start_head, start_or, starts_until, waiting}
@@ -16,7 +16,10 @@ use Rattle.answer_text.specs.Lines.{answer_lines}
 use Rattle.capture.specs.Records.{Entry}
 use Rattle.octet_store.specs.Stored.{Kept, Stored, kept, kept_at}
 use Rattle.script.specs.Responses.{Gave}
-use Rattle.replay.specs.Outputs.{Output, joined, kept_in, nothing, output, start_record}
+use Rattle.summary.specs.Observed.{Observed}
+use Rattle.summary.specs.Wanted.{noted, noted_all}
+use Rattle.summary.proofs.WantedLaws.{noted_all-cons, noted_all-nil}
+use Rattle.replay.specs.Outputs.{joined, kept_in, nothing, output, start_record}
 use Rattle.replay.specs.Running.{IsTogether, Keeps, State, first_kept}
 
 -- ---- the frame that starts
@@ -103,9 +106,16 @@ module _ (p q : AbstractPort) (upto : ℕ) (later : p.now ≤ upto) (after : q �
         ≡ joined (record { report = answer_lines (Answered.Start s); capture = start_record s.at (kept_in es s.id) }) (output es (map Gave (map Answered.Start (starts_until q upto).0)))
     starts-out es = ap (λ (x : List Start). output es (map Gave (map Answered.Start x))) starts-more
 
+    pub starts-seen : (now : ℕ) (o : Option Observed) → noted_all now (map Answered.Start (starts_until p upto).0) o ≡ noted_all now (map Answered.Start (starts_until q upto).0) (noted now (Answered.Start s) o)
+    starts-seen now o =
+        ap (λ (x : List Start). noted_all now (map Answered.Start x) o) starts-more ∙ noted_all-cons now (Answered.Start s) (map Answered.Start (starts_until q upto).0) o
+
   module _ (e : (next_start p upto).0 ≡ None) where
     pub no-starts-out : (es : List Entry) → output es (map Gave (map Answered.Start (starts_until p upto).0)) ≡ nothing
     no-starts-out es = ap (λ (x : List Start × AbstractPort). output es (map Gave (map Answered.Start x.0))) (starts_until-none p upto e)
+
+    pub no-starts-seen : (now : ℕ) (o : Option Observed) → noted_all now (map Answered.Start (starts_until p upto).0) o ≡ o
+    no-starts-seen now o = ap (λ (x : List Start × AbstractPort). noted_all now (map Answered.Start x.0) o) (starts_until-none p upto e) ∙ noted_all-nil now o
 
     pub no-starts-end : q ≡ settled (starts_until p upto).1
     no-starts-end = after ∙ sym (ap (λ (x : List Start × AbstractPort). settled x.1) (starts_until-none p upto e))

@@ -2,7 +2,7 @@
 use Rattle.std.specs.Prelude.{OnOk, nat_lt, if◌then◌else◌}
 use Rattle.std.specs.List.{flat_map}
 use Rattle.std.specs.Io.KnownBytes.{Appends}
-use Rattle.std.proofs.Common.{◌≡◌, ◌<◌, ◌≤◌, ℕ, List, [], ◌∷◌, ◌++◌, map, Bool, true, false, ◌||◌, Option, Some, None, Result, Ok, Err, refl, sym, ap, ◌∙◌, subst, append-nil, arith}
+use Rattle.std.proofs.Common.{◌≡◌, ◌<◌, ◌≤◌, ℕ, List, [], ◌∷◌, ◌++◌, map, Bool, true, false, Option, Some, None, Result, Ok, Err, refl, sym, ap, ◌∙◌, subst, append-nil, arith}
 use Rattle.std.proofs.lemmas.Bool.{lt-ltb, le-ltb}
 use Rattle.wire_time.specs.declared.Frame.{Frame}
 use Rattle.wire_time.specs.Moment.{greatest_moment}
@@ -15,7 +15,7 @@ use Rattle.abstract_port.specs.declared.Command.{Command}
 use Rattle.abstract_port.specs.declared.Command.TheVariants.{Delete, Replace}
 use Rattle.abstract_port.specs.declared.Dropped.{Dropped}
 use Rattle.abstract_port.specs.declared.Event.{Event}
-use Rattle.abstract_port.specs.declared.Event.TheVariants.{Arrive, Clock, Count, Install, Query}
+use Rattle.abstract_port.specs.declared.Event.TheVariants.{Arrive, Clock, Count, Query}
 use Rattle.abstract_port.specs.declared.Refused.{Refused}
 use Rattle.abstract_port.proofs.RunLaws.{settled-current}
 use Rattle.answer_text.specs.Lines.{answer_lines}
@@ -24,21 +24,25 @@ use Rattle.capture.specs.declared.writer.TheConstants.{CAPTURE_END}
 use Rattle.octet_store.specs.Stored.{Stored}
 use Rattle.octet_writer.specs.Writes.{FallsShort}
 use Rattle.tc_reader.specs.declared.fault.TcFault.{TcFault}
-use Rattle.script.specs.Requests.{Request, Asks, NoCommand, lent, tc_request}
-use Rattle.script.specs.Responses.{Gave, Response, events_of, lines_of, responses_of, responses_to}
-use Rattle.replay.specs.Outputs.{Got, Output, PutsBoth, answer_record, got, output, response_record}
+use Rattle.script.specs.Requests.{Request, Asks, NoCommand, tc_request}
+use Rattle.script.specs.Responses.{Gave, Response, events_of, lines_of, noted_by, responses_of, responses_to}
+use Rattle.summary.specs.Observed.{Observed}
+use Rattle.summary.specs.Wanted.{noted, noted_all}
+use Rattle.replay.specs.Outputs.{Output, PutsBoth, answer_record, got, output, response_record}
 use Rattle.replay.specs.Running.{Answers, IsTogether, Keeps, State}
 use Rattle.replay.specs.declared.faults.Stop.{Stop}
 use Rattle.replay.proofs.ArrivalLaws.{one_answer}
 use Rattle.replay.proofs.Sends.{never, on_ok_map, report_short, report_whole}
 use Rattle.replay.proofs.StartLaws.{still_keeps, still_together}
+use Rattle.replay.proofs.SeenLaws.{noted-one, seen-one, seen-told}
 
 -- an event with these answers
 pub answers_one : {T : Type 0} (r : Result T Stop) (es : List Entry) (event : Event) (s t : State) (told : List Answer) (q : AbstractPort) → answers_to event s.port ≡ (told, q)
-    → OnOk r (t.port ≡ settled q) → OnOk r (Keeps es t) → PutsBoth r s.got t.got (output es (map Gave told)) → Answers es r (Asks event ∷ []) s t
-answers_one r es event s t told q is port keeps out = record {
+    → OnOk r (t.port ≡ settled q) → OnOk r (Keeps es t) → OnOk r (t.seen ≡ noted_all s.port.now told s.seen) → PutsBoth r s.got t.got (output es (map Gave told)) → Answers es r (Asks event ∷ []) s t
+answers_one r es event s t told q is port keeps seen out = record {
   port = on_ok_map r (λ e. e ∙ ap (λ (x : List Answer × AbstractPort). settled x.1) (sym is)) port;
   keeps = keeps;
+  seen = on_ok_map r (λ e. e ∙ seen-told event s.port s.seen told q is) seen;
   out = subst (λ (o : List Response). PutsBoth r s.got t.got (output es o)) (sym (ap (λ (x : List Answer × AbstractPort). map Gave x.0 ++ []) is ∙ append-nil (map Gave told))) out;
 }
 
@@ -95,35 +99,37 @@ one_after : (r : Request) (p : AbstractPort) → settled (responses_to r p).1 �
 one_after (Asks event) p = refl
 one_after (NoCommand fault) p = refl
 
--- a port, its store and what was written
-abbrev pub at : AbstractPort → Stored → Option (List ℕ) → Option (List ℕ) → State
-at p w report capture = record { port = p; store = w; got = got report capture }
+-- a port, its store, what is seen of it and what was written
+abbrev pub at : AbstractPort → Stored → Option Observed → Option (List ℕ) → Option (List ℕ) → State
+at p w o report capture = record { port = p; store = w; seen = o; got = got report capture }
 
 one_told : (es : List Entry) (r : Request) (p : AbstractPort) → IsSilent es r p → output es (responses_of (r ∷ []) p) ≡ record { report = lines_of (responses_to r p).0; capture = [] }
 one_told es r p silent =
     ap (λ (x : List Response). output es x) (append-nil (responses_to r p).0)
     ∙ ap (λ (t : List ℕ). record { report = lines_of (responses_to r p).0; capture = t }) silent.told
 
-module _ (es : List Entry) (r : Request) (p q : AbstractPort) (w : Stored) (a b c : Option (List ℕ)) (silent : IsSilent es r p) where
+module _ (es : List Entry) (r : Request) (p q : AbstractPort) (w : Stored) (n o : Option Observed) (a b c : Option (List ℕ)) (silent : IsSilent es r p) where
   -- what is told of it is written
-  pub told_line : {T : Type 0} (y : T) → Appends a b (lines_of (responses_to r p).0) → q ≡ settled (responses_to r p).1 → Keeps es (at p w a c) → Answers {T = T} es (Ok y) (r ∷ []) (at p w a c) (at q w b c)
-  told_line {T} y text port keeps = record {
+  pub told_line : {T : Type 0} (y : T) → Appends a b (lines_of (responses_to r p).0) → q ≡ settled (responses_to r p).1 → o ≡ noted_by r p n → Keeps es (at p w n a c) → Answers {T = T} es (Ok y) (r ∷ []) (at p w n a c) (at q w o b c)
+  told_line {T} y text port seen keeps = record {
     port = port ∙ one_after r p;
-    keeps = still_keeps es (at p w a c) (at q w b c) (ap (λ (x : AbstractPort). x.queues) port ∙ silent.queues) refl keeps;
-    out = subst (λ (o : Output). PutsBoth {T = T} (Ok y) (got a c) (got b c) o) (sym (one_told es r p silent)) (report_whole y c text);
+    keeps = still_keeps es (at p w n a c) (at q w o b c) (ap (λ (x : AbstractPort). x.queues) port ∙ silent.queues) refl keeps;
+    seen = seen ∙ seen-one r p n;
+    out = subst (λ (x : Output). PutsBoth {T = T} (Ok y) (got a c) (got b c) x) (sym (one_told es r p silent)) (report_whole y c text);
   }
 
   -- a front of it is
-  pub told_short : {T : Type 0} {y : Stop} (x : Result T Stop) → x ≡ Err y → FallsShort a b (lines_of (responses_to r p).0) → Answers {T = T} es x (r ∷ []) (at p w a c) (at q w b c)
+  pub told_short : {T : Type 0} {y : Stop} (x : Result T Stop) → x ≡ Err y → FallsShort a b (lines_of (responses_to r p).0) → Answers {T = T} es x (r ∷ []) (at p w n a c) (at q w o b c)
   told_short x is text = record {
     port = never _ is;
     keeps = never _ is;
-    out = subst (λ (o : Output). PutsBoth x (got a c) (got b c) o) (sym (one_told es r p silent)) (report_short x c [] is text);
+    seen = never _ is;
+    out = subst (λ (z : Output). PutsBoth x (got a c) (got b c) z) (sym (one_told es r p silent)) (report_short x c [] is text);
   }
 
-  pub told_together : q ≡ settled (responses_to r p).1 → IsSoundPort q → IsTogether (at p w a c) → IsTogether (at q w b c)
+  pub told_together : q ≡ settled (responses_to r p).1 → IsSoundPort q → IsTogether (at p w n a c) → IsTogether (at q w o b c)
   told_together port sound i =
-      still_together (at p w a c) (at q w b c) (ap (λ (x : AbstractPort). x.queues) port ∙ silent.queues) (ap (λ (x : AbstractPort). x.room) port ∙ silent.room) refl sound i
+      still_together (at p w n a c) (at q w o b c) (ap (λ (x : AbstractPort). x.queues) port ∙ silent.queues) (ap (λ (x : AbstractPort). x.room) port ∙ silent.room) refl sound i
 
 -- ---- an arrival
 
@@ -132,10 +138,11 @@ arrival_record es f (Ok class) = refl
 arrival_record es f (Err why) = refl
 
 pub arrival_told : {T : Type 0} (r : Result T Stop) (es : List Entry) (f : Frame) (v : Result ℕ Dropped) (s t : State) → v ≡ verdict s.port f
-    → OnOk r (t.port ≡ settled (after_arrival s.port f v)) → OnOk r (Keeps es t) → PutsBoth r s.got t.got (record { report = answer_lines (arrival_answer f v); capture = [] })
+    → OnOk r (t.port ≡ settled (after_arrival s.port f v)) → OnOk r (Keeps es t) → OnOk r (t.seen ≡ noted s.port.now (arrival_answer f v) s.seen) → PutsBoth r s.got t.got (record { report = answer_lines (arrival_answer f v); capture = [] })
     → Answers es r (Asks (Arrive f) ∷ []) s t
-arrival_told r es f v s t is port keeps out =
+arrival_told r es f v s t is port keeps seen out =
     answers_one r es (Arrive f) s t (arrival_answer f v ∷ []) (after_arrival s.port f v) (ap (λ (v : Result ℕ Dropped). (arrival_answer f v ∷ [], after_arrival s.port f v)) (sym is)) port keeps
+    (on_ok_map r (λ e. e ∙ noted-one s.port.now (arrival_answer f v) s.seen) seen)
     (subst (λ (o : Output). PutsBoth r s.got t.got o) (sym (one_answer es (arrival_answer f v) (arrival_record es f v))) out)
 
 -- a sound port after an arrival

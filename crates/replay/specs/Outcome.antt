@@ -1,8 +1,8 @@
 -- What is written for a script and a capture, and the fault that ends it.
-use Rattle.std.specs.Prelude.{◌≡◌, ◌<◌, ◌+◌, nat_lt, ℕ, List, [], ◌∷◌, Bool, false, Option, Some, None, Result, Ok, Err, length, IfSome, if◌then◌else◌}
+use Rattle.std.specs.Prelude.{◌≡◌, ◌<◌, ◌+◌, nat_lt, ℕ, List, [], Bool, false, Option, Some, None, Result, Ok, Err, length, IfSome, if◌then◌else◌}
 use Rattle.std.specs.Io.KnownBytes.{Appends}
 use Rattle.abstract_port.specs.AbstractPort.{AbstractPort, new_port}
-use Rattle.abstract_port.specs.Answers.{answers_of, port_after}
+use Rattle.abstract_port.specs.Answers.{port_after}
 use Rattle.abstract_port.specs.declared.Command.{Command}
 use Rattle.capture.specs.Captures.{IsCapture}
 use Rattle.capture.specs.CaptureWriter.{written_header}
@@ -16,10 +16,11 @@ use Rattle.capture.specs.declared.reader.End.TheVariants.{Whole, Broken}
 use Rattle.capture.specs.declared.writer.TheConstants.{CAPTURE_END}
 use Rattle.line_reader.specs.Script.{script_of}
 use Rattle.script.specs.Requests.{Request}
-use Rattle.script.specs.Responses.{events_of, left_lines, responses_of}
-use Rattle.script.specs.Outcome.{Reading}
+use Rattle.script.specs.Responses.{end_lines, events_of, responses_of}
 use Rattle.script.specs.Setup.{Setup}
 use Rattle.script.specs.declared.faults.ScriptFault.{ScriptFault}
+use Rattle.summary.specs.Observed.{Observed}
+use Rattle.summary.specs.Wanted.{noted_after, watched}
 use Rattle.tc_reader.specs.declared.fault.TcFault.{TcFault}
 use Rattle.replay.specs.Lines.{reading_of}
 use Rattle.replay.specs.Merge.{all_requests}
@@ -49,24 +50,26 @@ refused fault = record { output = nothing; fault = Some fault }
 abbrev pub header : Output
 header = record { report = []; capture = written_header }
 
--- how many frames each class still has
-abbrev pub left_of : AbstractPort → Output
-left_of p = record { report = left_lines p; capture = [] }
+-- how many frames each class still has, and the summary where one is wanted
+abbrev pub end_of : AbstractPort → Option Observed → Output
+end_of p o = record { report = end_lines p o; capture = [] }
 
--- what is told of requests, and then how many frames are left
-abbrev pub told_and_left : List Entry → List Request → AbstractPort → Output
-told_and_left entries requests p = joined (output entries (responses_of requests p)) (left_of (port_after (events_of requests) p))
+-- what is told of requests, and then how many frames are left, and the summary
+abbrev pub told_to_end : List Entry → List Request → AbstractPort → Option Observed → Output
+told_to_end entries requests p o =
+    let events = events_of requests in joined (output entries (responses_of requests p)) (end_of (port_after events p) (noted_after events p o))
 
 -- the fault with which the records of a capture end, if they do; there are so many
 abbrev pub end_fault : ℕ → End → Option ReplayFault
 end_fault number Whole = None
 end_fault number (Broken fault) = Some (Faults.Capture number fault)
 
--- what is told of all that a script asks and of the records, from a new port: the header, the answers, and how many frames are left
+-- what is told of all that a script asks and of the records, from a new port: the header, the answers, how many frames are left, and the
+-- summary where one is wanted
 abbrev pub outcome_whole : Setup → List Request → List Entry → End → Outcome
 outcome_whole s script entries last =
     record {
-      output = joined header (told_and_left entries (all_requests script entries s.until) (new_port s.rate s.mtu s.room));
+      output = joined header (told_to_end entries (all_requests script entries s.until) (new_port s.rate s.mtu s.room) (watched s.summary s.room));
       fault = end_fault (length entries) last;
     }
 

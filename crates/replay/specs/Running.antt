@@ -1,5 +1,5 @@
--- A port that runs, with the octets of the frames that wait in it.
-use Rattle.std.specs.Prelude.{◌≡◌, ℕ, List, [], length, map, drop, Option, Result, OnOk, slice_index_or}
+-- A port that runs, with the octets of the frames that wait in it, and what is seen of it where a summary is wanted.
+use Rattle.std.specs.Prelude.{◌≡◌, ℕ, List, [], length, map, Option, Result, OnOk, slice_index_or}
 use Rattle.wire_time.specs.declared.Frame.{Frame}
 use Rattle.abstract_port.specs.AbstractPort.{AbstractPort, settled, starts_until}
 use Rattle.abstract_port.specs.Answers.{port_after}
@@ -9,19 +9,22 @@ use Rattle.capture.specs.Records.{Entry}
 use Rattle.octet_store.specs.Stored.{Kept, Stored, kept, kept_at}
 use Rattle.script.specs.Requests.{Request}
 use Rattle.script.specs.Responses.{Gave, events_of, responses_of}
+use Rattle.summary.specs.Observed.{Observed}
+use Rattle.summary.specs.Wanted.{noted_after, noted_all}
 use Rattle.replay.specs.Outputs.{Got, PutsBoth, kept_in, output}
 use Rattle.replay.specs.declared.faults.Stop.{Stop}
 use Rattle.replay.specs.declared.sending.Sending.{Sending}
 
--- a port, the octets beside it, and what the two writers have got
+-- a port, the octets beside it, what is seen of it, and what the two writers have got
 pub record State : Type 0 where
   pub port : AbstractPort
   pub store : Stored
+  pub seen : Option Observed
   pub got : Got
 
 -- the same of what runs
 abbrev pub state : {A : Type 0} → Sending A → Option (List ℕ) → Option (List ℕ) → State
-state s report capture = record { port = s.port.port; store = s.store; got = record { report = report; capture = capture } }
+state s report capture = record { port = s.port.port; store = s.store; seen = s.summary; got = record { report = report; capture = capture } }
 
 -- the store beside the queues: as many frames in each class, and the same room
 pub record IsTogether (s : State) : Type 0 where
@@ -37,15 +40,17 @@ Keeps entries s = s.store.kept ≡ map (map (λ (f : Frame). kept_in entries f.i
 abbrev pub first_kept : Stored → ℕ → Kept
 first_kept s class = slice_index_or (kept_at s.kept class) 0 (kept 0 [])
 
--- what is asked is answered: the outputs got what is told, and the port and its store are where that leaves them
+-- what is asked is answered: the outputs got what is told, the port and its store are where that leaves them, and what is seen is noted
 module _ {T : Type 0} where
   pub record Answers (entries : List Entry) (r : Result T Stop) (requests : List Request) (s t : State) : Type 0 where
     pub port : OnOk r (t.port ≡ settled (port_after (events_of requests) s.port))
     pub keeps : OnOk r (Keeps entries t)
+    pub seen : OnOk r (t.seen ≡ noted_after (events_of requests) s.port s.seen)
     pub out : PutsBoth r s.got t.got (output entries (responses_of requests s.port))
 
   -- the same of the starts before a moment
   pub record AnswersStarts (entries : List Entry) (r : Result T Stop) (upto : ℕ) (s t : State) : Type 0 where
     pub port : OnOk r (t.port ≡ settled (starts_until s.port upto).1)
     pub keeps : OnOk r (Keeps entries t)
+    pub seen : OnOk r (t.seen ≡ noted_all s.port.now (map Answered.Start (starts_until s.port upto).0) s.seen)
     pub out : PutsBoth r s.got t.got (output entries (map Gave (map Answered.Start (starts_until s.port upto).0)))

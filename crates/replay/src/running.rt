@@ -15,7 +15,7 @@ ghost use Rattle.replay.specs.LinesLeft.{lines_left};
 ghost use Rattle.octet_store.specs.Stored.{new_store};
 ghost use Rattle.replay.specs.KeptScript.{kept_requests};
 ghost use Rattle.replay.specs.Merge.{all_requests, requests_of};
-ghost use Rattle.replay.specs.Outcome.{Ends, IsOpenFault, ReadsAs, end_fault, header, is_too_late, open_fault, outcome_of, told_and_left};
+ghost use Rattle.replay.specs.Outcome.{Ends, IsOpenFault, ReadsAs, end_fault, header, is_too_late, open_fault, outcome_of, told_to_end};
 ghost use Rattle.replay.specs.Outputs.{PutsBoth, got};
 ghost use Rattle.replay.specs.RecordsLeft.{Comes};
 ghost use Rattle.replay.specs.Running.{Answers, IsTogether, Keeps, state};
@@ -30,9 +30,10 @@ use crate::sending::{Sending, put_clock};
 use crate::watch::Watch;
 use capture::{CAPTURE_END, CapFault, CaptureReader, CaptureWriter};
 use octet_store::OctetStore;
-use script::{RunningPort, Settings, put_all_left};
+use script::{RunningPort, Settings, put_end};
 use std::alloc::Allocator;
 use std::io::{Read, Write};
+use summary::{Summary, summary_wanted};
 
 // Whether a moment is after the last that a capture can say.
 fn is_too_late(until: Option<u128>) -> bool
@@ -63,7 +64,8 @@ fn run_to<A: Allocator, W: Write, V: Write>(
     }
 }
 
-// Answers the lines that are left, runs to the moment after the input, if there is one, and writes how many frames are left.
+// Answers the lines that are left, runs to the moment after the input, if there is one, and writes how many frames are left, and the
+// summary where one is wanted.
 fn finish<A: Allocator, B: Allocator, W: Write, V: Write>(
     sending: &mut Sending<A>,
     script: &KeptScript<B>,
@@ -77,11 +79,11 @@ fn finish<A: Allocator, B: Allocator, W: Write, V: Write>(
     ensures { (read : List (List ℕ) → Result Command TcFault) → IsReader read
         → (entries : List Entry) → Keeps entries (state sending.old (V.contents report.old) (W.contents capture.old)) →
         PutsBoth result (got (V.contents report.old) (W.contents capture.old)) (got (V.contents report.new) (W.contents capture.new))
-        (told_and_left entries (requests_of (lines_left read script.now cursor.old) ++ clock_after until) sending.old.port.port) }
+        (told_to_end entries (requests_of (lines_left read script.now cursor.old) ++ clock_after until) sending.old.port.port sending.old.summary) }
 {
     run_lines(sending, script, cursor, CAPTURE_END, capture, report)?;
     run_to(sending, until, capture, report)?;
-    put_all_left(&sending.port, report)?;
+    put_end(&sending.port, &sending.summary, report)?;
     Ok(())
 }
 
@@ -103,7 +105,7 @@ fn run<A: Allocator + Clone, B: Allocator, C: Allocator, R: Read, W: Write, V: W
         → (entries : List Entry) (last : End) → Comes R.remaining (left records.old) entries last
         → Keeps entries (state sending.old (V.contents report.old) (W.contents capture.old)) →
         Ends result (got (V.contents report.old) (W.contents capture.old)) (got (V.contents report.new) (W.contents capture.new))
-        (record { output = told_and_left entries (all_requests (kept_requests read script.now.octets.items script.now.lines.items) entries until) sending.old.port.port; fault = end_fault (length entries) last }) }
+        (record { output = told_to_end entries (all_requests (kept_requests read script.now.octets.items script.now.lines.items) entries until) sending.old.port.port sending.old.summary; fault = end_fault (length entries) last }) }
 {
     let mut cursor = Cursor { at: 0, clock: 0 };
     let broken = run_records(
@@ -147,14 +149,16 @@ fn open<A: Allocator, R: Read + Drop>(
     }
 }
 
-// Makes a new port with its store, and then writes the file header of the output capture.
+// Makes a new port with its store, beside what is to be seen of it, and then writes the file header of the output capture.
 fn begin<A: Allocator + Clone, W: Write>(
     alloc: &A,
     settings: Settings,
+    summary: Option<Summary<A>>,
     capture: &mut W,
 ) -> Result<Sending<A>, Stop>
     ensures port { IfOk result (λ s. s.port.port ≡ new_port settings.rate settings.mtu settings.room) }
     ensures store { IfOk result (λ s. s.store ≡ new_store settings.room) }
+    ensures seen { IfOk result (λ s. s.summary ≡ summary) }
     ensures sound { IfOk result (λ s. IsSoundPort s.port.port) }
     ensures out { (report : Option (List ℕ)) → PutsBoth result (got report (W.contents capture.old)) (got report (W.contents capture.new)) header }
 {
@@ -170,7 +174,7 @@ fn begin<A: Allocator + Clone, W: Write>(
     match CaptureWriter::begin(capture) {
         Ok(writer) => Ok(Sending {
             port,
-            summary: None,
+            summary,
             store,
             writer,
         }),
@@ -181,13 +185,15 @@ fn begin<A: Allocator + Clone, W: Write>(
 /// Runs a script and a capture through a new port, by moment: the answers to both go to the report, and the frames that start into
 /// the output capture.
 ///
-/// The script is read whole first, and nothing is written where it has a fault; then the file header of the capture, and nothing is
+/// The memory of a summary is taken first. Then the script is read whole, and nothing is written where it has a fault; then the file header of the capture, and nothing is
 /// written where that has one. Then come its records, each taken when its turn comes, after the lines up to its moment, which is the
 /// greater of its own and that of the record before. After the last record, also one after which the capture ends with a fault, come
-/// the other lines, the moment to run to, where the settings have one, and how many frames each class still has.
+/// the other lines, the moment to run to, where the settings have one, how many frames each class still has, and a summary where the
+/// settings want one.
 ///
 /// A read or a write that fails, or takes nothing, isn't tried again. Nothing that is kept grows with the capture: of a script its
-/// lines are kept, and of a capture the octets of the frames that wait. Who watches is told of each record once it is taken.
+/// lines are kept, and of a capture the octets of the frames that wait, and where a summary is wanted when they came. Who watches is told of
+/// each record once it is taken.
 pub fn replay<A: Allocator, R: Read + Drop, S: Read + Drop, W: Write, V: Write, P: Watch>(
     alloc: A,
     script: R,
@@ -207,9 +213,10 @@ pub fn replay<A: Allocator, R: Read + Drop, S: Read + Drop, W: Write, V: Write, 
         return Err(ReplayFault::Until);
     }
     let alloc = &alloc;
+    let summary = summary_wanted(&alloc, settings.summary(), settings.room())?;
     let script = read_script(&alloc, script)?;
     let mut records = open(alloc, capture)?;
-    let mut sending = begin(&alloc, settings, out_capture)?;
+    let mut sending = begin(&alloc, settings, summary, out_capture)?;
     run(
         &mut sending,
         &script,

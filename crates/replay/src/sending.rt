@@ -1,4 +1,4 @@
-//! A port that runs, beside it the octets of the frames that wait, and the capture of what leaves.
+//! A port that runs, beside it the octets of the frames that wait, what is seen of it, and the capture of what leaves.
 
 ghost use Rattle.std.specs.Prelude.{◌≡◌, ◌≤◌, ◌<◌, ◌∷◌, ◌⊎◌, [], ℕ, List, None, Option, length, drop, IfErr, OnOk, slice_set};
 ghost use Rattle.abstract_port.specs.declared.Answer.TheVariants as Answered;
@@ -13,16 +13,17 @@ ghost use Rattle.script.specs.Requests.{Asks};
 ghost use Rattle.replay.specs.Outputs.{PutsBoth, kept_in, start_record};
 ghost use Rattle.replay.specs.Running.{Answers, AnswersStarts, IsTogether, Keeps, first_kept, state};
 ghost use Rattle.replay.specs.declared.faults.Stop.TheVariants as Stops;
+ghost use Rattle.summary.specs.Wanted.{noted};
 
 use crate::faults::Stop;
 use abstract_port::{Answer, Start};
-use answer_text::put_answer;
+use answer_text::{WriteFault, put_answer};
 use capture::CaptureWriter;
 use octet_store::OctetStore;
 use script::RunningPort;
 use std::alloc::{Allocator, Global};
 use std::io::Write;
-use summary::Summary;
+use summary::{Summary, note};
 use wire_time::Frame;
 
 /// A port that runs, with the octets of the frames that wait in it, and the capture that they leave for.
@@ -38,6 +39,20 @@ pub struct Sending<A: Allocator = Global> {
     pub writer: CaptureWriter,
 }
 
+// Writes an answer to an event that is taken at this moment, noted where a summary is wanted. At a fault a front of it is written.
+fn put_noted<A: Allocator, V: Write>(
+    summary: &mut Option<Summary<A>>,
+    now: u128,
+    answer: &Answer,
+    report: &mut V,
+) -> Result<(), WriteFault>
+    ensures text { Writes result (V.contents report.old) (V.contents report.new) (answer_lines answer.now) }
+    ensures seen { summary.new ≡ noted now answer.now summary.old }
+{
+    note(summary, now, answer);
+    put_answer(report, answer)
+}
+
 // Writes the first record that is kept of the class of a start, and gives it up.
 fn put_record<A: Allocator, W: Write>(
     sending: &mut Sending<A>,
@@ -48,6 +63,7 @@ fn put_record<A: Allocator, W: Write>(
     requires waits { 0 < length (kept_at sending.old.store.kept start.class) }
     requires early { start.at < CAPTURE_END }
     ensures port { sending.new.port ≡ sending.old.port }
+    ensures seen { sending.new.summary ≡ sending.old.summary }
     ensures store { sending.new.store ≡ record sending.old.store { kept = slice_set sending.old.store.kept start.class (drop 1 (kept_at sending.old.store.kept start.class)); taken = sending.new.store.taken } }
     ensures out { Writes result (W.contents capture.old) (W.contents capture.new) (start_record start.at (first_kept sending.old.store start.class)) }
     ensures fault { IfErr result (λ fault. fault ≡ Stops.Write) }
@@ -62,9 +78,10 @@ fn put_record<A: Allocator, W: Write>(
     }
 }
 
-// Tells a start, writes the first record that is kept of its class, and gives it up.
+// Tells a start, as an answer to an event that is taken at this moment, writes the first record that is kept of its class, and gives it up.
 fn put_start<A: Allocator, W: Write, V: Write>(
     sending: &mut Sending<A>,
+    now: u128,
     start: Start,
     capture: &mut W,
     report: &mut V,
@@ -73,12 +90,13 @@ fn put_start<A: Allocator, W: Write, V: Write>(
     requires waits { 0 < length (kept_at sending.old.store.kept start.class) }
     requires early { start.at < CAPTURE_END }
     ensures port { sending.new.port ≡ sending.old.port }
+    ensures seen { sending.new.summary ≡ noted now (Answered.Start start) sending.old.summary }
     ensures store { OnOk result (sending.new.store ≡ record sending.old.store { kept = slice_set sending.old.store.kept start.class (drop 1 (kept_at sending.old.store.kept start.class)); taken = sending.new.store.taken }) }
     ensures out { PutsBoth result (record { report = V.contents report.old; capture = W.contents capture.old }) (record { report = V.contents report.new; capture = W.contents capture.new })
         (record { report = answer_lines (Answered.Start start); capture = start_record start.at (first_kept sending.old.store start.class) }) }
     ensures fault { IfErr result (λ fault. fault ≡ Stops.Write) }
 {
-    put_answer(report, &Answer::Start(start))?;
+    put_noted(&mut sending.summary, now, &Answer::Start(start), report)?;
     put_record(sending, start, capture)
 }
 
@@ -97,9 +115,10 @@ fn put_starts<A: Allocator, W: Write, V: Write>(
         AnswersStarts entries result until (state sending.old (V.contents report.old) (W.contents capture.old)) (state sending.new (V.contents report.new) (W.contents capture.new)) }
     ensures fault { IfErr result (λ fault. fault ≡ Stops.Write) }
 {
+    let now = sending.port.now();
     loop {
         match sending.port.step(until) {
-            Some(start) => put_start(sending, start, capture, report)?,
+            Some(start) => put_start(sending, now, start, capture, report)?,
             None => return Ok(()),
         }
     }
@@ -119,8 +138,9 @@ pub fn put_clock<A: Allocator, W: Write, V: Write>(
         Answers entries result (Asks (Events.Clock moment) ∷ []) (state sending.old (V.contents report.old) (W.contents capture.old)) (state sending.new (V.contents report.new) (W.contents capture.new)) }
     ensures fault { IfErr result (λ fault. fault ≡ Stops.Write) }
 {
-    if moment < sending.port.now() {
-        put_answer(report, &Answer::Backward)?;
+    let now = sending.port.now();
+    if moment < now {
+        put_noted(&mut sending.summary, now, &Answer::Backward, report)?;
         return Ok(());
     }
     put_starts(sending, moment, capture, report)
@@ -142,15 +162,18 @@ pub fn put_arrival<A: Allocator + Clone, V: Write>(
         Answers entries result (Asks (Events.Arrive frame) ∷ []) (state sending.old (V.contents report.old) captured) (state sending.new (V.contents report.new) captured) }
     ensures fault { IfErr result (λ fault. (fault ≡ Stops.Write) ⊎ (fault ≡ Stops.Memory)) }
 {
+    let came = sending.port.now();
     match sending.port.arrive(frame) {
         Ok(class) => {
             sending.store.put(class, original, octets)?;
             let id = frame.id;
-            put_answer(report, &Answer::Queued { id, class })?;
+            let answer = Answer::Queued { id, class };
+            put_noted(&mut sending.summary, came, &answer, report)?;
         }
         Err(why) => {
             let id = frame.id;
-            put_answer(report, &Answer::Dropped { id, why })?;
+            let answer = Answer::Dropped { id, why };
+            put_noted(&mut sending.summary, came, &answer, report)?;
         }
     }
     Ok(())

@@ -2,6 +2,7 @@
 
 use capture::{CAPTURE_END, CapFault, CaptureWriter};
 use linked_list_allocator::LocalHeap;
+use refusing_heap::RefusingHeap;
 use replay::{
     Inputs, Outputs, ReplayFault, Unwatched, Watch, answer_replay, replay, say_replay_fault,
     say_unopened,
@@ -111,6 +112,181 @@ fn two_frames_leave(rt: HostRuntime) -> Result<(), Fail> {
     assert_eq!(rt; got.result, Ok(()));
     assert_eq!(rt; got.report.as_slice(), REPORT);
     assert_eq!(rt; got.capture.as_slice(), two_starts(rt.alloc())?.as_slice());
+    Ok(())
+}
+
+/// What is told of the frames of `a_dropped_frame`, run far enough for all to leave, and to a moment at which only one has.
+const DROPPED: [&[u8]; 2] = [
+    b"queued 0 class 3\ndropped 1 Runt\nqueued 2 class 0\nqueued 3 class 3\n\
+start 0 class 3 at 1000000 end 1672000\nstart 3 class 3 at 1672000 end 2344000\nstart 2 class 0 at 2344000 end 3336000\n",
+    b"queued 0 class 3\ndropped 1 Runt\nqueued 2 class 0\nqueued 3 class 3\n\
+start 0 class 3 at 1000000 end 1672000\nleft class 0 frames 1\nleft class 3 frames 1\n",
+];
+
+/// What they come to. Of the frame that is on the wire at the last moment a single picosecond counts.
+const DROPPED_SUMMED: [&[u8]; 2] = [
+    b"summary class 0 queued 1 sent 1 dropped 1 octets 100 least 1344000 mean 1344000 greatest 1344000 most 1\n\
+summary class 3 queued 2 sent 2 dropped 0 octets 120 least 0 mean 336000 greatest 672000 most 2\n\
+summary wire busy 2336000 ppm 233600\n",
+    b"summary class 0 queued 1 sent 0 dropped 1 octets 0 least - mean - greatest - most 1\n\
+summary class 3 queued 2 sent 1 dropped 0 octets 60 least 0 mean 0 greatest 0 most 2\n\
+summary wire busy 1 ppm 0\n",
+];
+
+/// Two frames of class 3, between them a frame that is too short and one of class 0, all at a microsecond.
+fn a_dropped_frame(alloc: Global) -> io::Result<Vec<u8>> {
+    capture_of(
+        alloc,
+        &[
+            (1_000_000, 60, &PRIORITY_3),
+            (1_000_000, 13, &[1u8; 13]),
+            (1_000_000, 100, &[8u8; 100]),
+            (1_000_000, 60, &PRIORITY_3),
+        ],
+    )
+}
+
+/// A schedule that opens class 5 from 20 to 30 microseconds and class 3 from 30 to 40, a moment after the start, and what class 3 has counted.
+const WINDOWS: &[u8] = b"tc qdisc replace dev eth0 root taprio num_tc 8 map 0 1 2 3 4 5 6 7 \
+base-time 20000 sched-entry S 20 10000 sched-entry S 08 10000\nclock 35000000\ncount 3\n";
+
+/// What is told of a frame of class 3 that comes at 21 microseconds.
+const WINDOWS_TOLD: &[u8] =
+    b"installed change 20000000\nqueued 0 class 3\nstart 0 class 3 at 30000000 end 30672000\n\
+count class 3 accepted 1 sent 1 octets 60 runt 0 too-long 0 over-sdu 0 full 0 waiting 0\n";
+
+/// It has waited for its gate for 9 microseconds.
+const WINDOWS_SUMMED: &[u8] =
+    b"summary class 3 queued 1 sent 1 dropped 0 octets 60 least 9000000 mean 9000000 greatest 9000000 most 1\n\
+summary wire busy 672000 ppm 16800\n";
+
+/// A script, a capture and the moment to run to, what is told, and the summary behind it where one is wanted; without one, all else is the same.
+#[test]
+fn sums_up(rt: HostRuntime) -> Result<(), Fail> {
+    let two = two_frames(rt.alloc())?;
+    let dropped = a_dropped_frame(rt.alloc())?;
+    let one = capture_of(rt.alloc(), &[(21_000_000, 60, &PRIORITY_3)])?;
+    let none = capture_of(rt.alloc(), &[])?;
+    let rows: [(&[u8], &[u8], Option<u128>, &[u8], &[u8]); 6] = [
+        (
+            b"",
+            &two,
+            Some(3_000_000_000_000),
+            REPORT,
+            b"summary class 3 queued 1 sent 1 dropped 0 octets 60 least 672000 mean 672000 greatest 672000 most 1\n\
+summary class 5 queued 1 sent 1 dropped 0 octets 60 least 0 mean 0 greatest 0 most 1\nsummary wire busy 1344000 ppm 0\n",
+        ),
+        (
+            b"",
+            &two,
+            Some(1),
+            b"queued 0 class 3\nqueued 1 class 5\nbackward\nleft class 3 frames 1\nleft class 5 frames 1\n",
+            b"summary class 3 queued 1 sent 0 dropped 0 octets 0 least - mean - greatest - most 1\n\
+summary class 5 queued 1 sent 0 dropped 0 octets 0 least - mean - greatest - most 1\nsummary wire busy 0 ppm 0\n",
+        ),
+        (
+            b"",
+            &dropped,
+            Some(10_000_000),
+            DROPPED[0],
+            DROPPED_SUMMED[0],
+        ),
+        (
+            b"",
+            &dropped,
+            Some(1_000_001),
+            DROPPED[1],
+            DROPPED_SUMMED[1],
+        ),
+        (
+            WINDOWS,
+            &one,
+            Some(40_000_000),
+            WINDOWS_TOLD,
+            WINDOWS_SUMMED,
+        ),
+        (b"", &none, None, b"", b"summary wire busy 0 ppm 0\n"),
+    ];
+    for (script, capture, until, report, summary) in rows {
+        let settings = settings(&rt, until);
+        let without = run_in_memory(rt.alloc(), script, capture, settings);
+        assert_eq!(rt; without.result, Ok(()));
+        assert_eq!(rt; without.report.as_slice(), report);
+        let with = run_in_memory(rt.alloc(), script, capture, settings.with_summary(true));
+        assert_eq!(rt; with.result, Ok(()));
+        assert!(rt; with.report.as_slice().starts_with(report));
+        assert_eq!(rt;
+            &with.report.as_slice()[report.len().min(with.report.len())..],
+            summary
+        );
+        assert_eq!(rt; with.capture.as_slice(), without.capture.as_slice());
+    }
+    Ok(())
+}
+
+/// After a fault of a record the summary follows what the records before it give; after one of the script there is none.
+#[test]
+fn sums_up_before_a_fault(rt: HostRuntime) -> Result<(), Fail> {
+    let capture = two_frames(rt.alloc())?;
+    let wanted = settings(&rt, Some(3_000_000_000_000)).with_summary(true);
+    let front = &capture.as_slice()[..capture.len().min(68)];
+    let got = run_in_memory(rt.alloc(), b"", front, wanted);
+    assert_eq!(rt;
+        got.result,
+        Err(ReplayFault::Capture(1, CapFault::ShortRecord))
+    );
+    assert_eq!(rt;
+        got.report.as_slice(),
+        b"queued 0 class 3\nstart 0 class 3 at 2000500000000 end 2000500672000\n\
+summary class 3 queued 1 sent 1 dropped 0 octets 60 least 0 mean 0 greatest 0 most 1\nsummary wire busy 672000 ppm 0\n"
+            .as_slice()
+    );
+    let got = run_in_memory(rt.alloc(), b"x\n", capture.as_slice(), wanted);
+    assert_eq!(rt;
+        got.result,
+        Err(ReplayFault::Script(1, ScriptFault::UnknownLine))
+    );
+    assert!(rt; got.report.is_empty() && got.capture.is_empty());
+    Ok(())
+}
+
+/// How many growths a replay asks for, and how many of them leave both outputs empty where they are refused. Each that is refused is told.
+fn growths_of(rt: &impl Abort, alloc: Global, capture: &[u8], settings: Settings) -> (u64, u64) {
+    let mut silent = 0u64;
+    for refused in 0..1000u64 {
+        let heap = RefusingHeap::new(alloc, refused, true);
+        let mut report = Vec::new(alloc);
+        let mut written = Vec::new(alloc);
+        let result = replay(
+            &heap,
+            b"".as_slice(),
+            capture,
+            &mut written,
+            &mut report,
+            settings,
+            &mut Unwatched,
+        );
+        if heap.asked() <= refused {
+            assert_eq!(rt; result, Ok(()));
+            return (refused, silent);
+        }
+        assert_eq!(rt; result, Err(ReplayFault::Memory));
+        if report.is_empty() && written.is_empty() {
+            silent = silent.saturating_add(1);
+        }
+    }
+    (1000, silent)
+}
+
+/// A summary takes the memory for its eight classes before anything is written, and no more: each of these growths is a fault where it is refused.
+#[test]
+fn sums_up_in_memory_that_is_taken_first(rt: HostRuntime) -> Result<(), Fail> {
+    let capture = two_frames(rt.alloc())?;
+    let usual = settings(&rt, Some(3_000_000_000_000));
+    let (asked, silent) = growths_of(&rt, rt.alloc(), capture.as_slice(), usual);
+    let wanted = usual.with_summary(true);
+    let summed = growths_of(&rt, rt.alloc(), capture.as_slice(), wanted);
+    assert_eq!(rt; summed, (asked.saturating_add(8), silent.saturating_add(8)));
     Ok(())
 }
 
