@@ -30,7 +30,7 @@ fn wide(from: u128, to: Option<u128>) -> DrawOptions {
 }
 
 /// What is drawn of a script.
-fn drawn(rt: &HostRuntime, script: &[u8], options: DrawOptions) -> Result<String, Fail> {
+fn drawn<R: Abort + AllocGlobal>(rt: &R, script: &[u8], options: DrawOptions) -> Result<String, Fail> {
     let mut got = Vec::new(rt.alloc());
     let run = draw(rt.alloc(), script, &mut got, usual(rt), options);
     assert!(rt; run.is_ok());
@@ -95,8 +95,8 @@ fn shows_each_part_at_its_moment(rt: HostRuntime) -> Result<(), Fail> {
     for line in lines {
         assert_eq!(rt; (line, count_of(&text, line)), (line, 1));
     }
-    // Six open times of class 7 and five of each other.
-    assert_eq!(rt; count_begun(&text, "<rect class=\"o\""), 1 + 5 + 7 * 5);
+    // Four open times of class 7 and five of each other, and the legend.
+    assert_eq!(rt; count_begun(&text, "<rect class=\"o\""), 1 + 4 + 7 * 5);
     assert_eq!(rt; count_begun(&text, "<rect class=\"f\""), 1 + 2);
     Ok(())
 }
@@ -154,7 +154,7 @@ clock 25000000\ntc qdisc del dev eth0 root\nclock 100000000\n";
 }
 
 /// A script of so many frames of 60 octets, one each 10 microseconds.
-fn many_frames(rt: &HostRuntime, count: u64) -> Result<Vec<u8>, Fail> {
+fn many_frames<R: AllocGlobal>(rt: &R, count: u64) -> Result<Vec<u8>, Fail> {
     let mut script = Vec::new(rt.alloc());
     for id in 0..count {
         let line = format!(in rt.alloc(); "clock {}\nframe {id} {} 60\n", u128::from(id) * 10_000_000, id % 8)?;

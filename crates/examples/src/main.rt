@@ -1,7 +1,8 @@
-//! Runs each example script, the worked scripts and the examples of checks, of a table of streams and of a replay, and says whether their
+//! Runs and draws each example script, the worked scripts and the examples of checks, of a table of streams and of a replay, and says whether their
 //! answers are those that lie beside them.
 #![tactic(auto)]
 
+use drawing::{DrawOptions, draw};
 use replay::{Unwatched, replay};
 use schedule_check::{CheckSettings, check};
 use script::{Settings, run_script};
@@ -26,6 +27,32 @@ const EXAMPLES: [(&str, &str, bool); 8] = [
 const CHECKS: [(&str, &str, bool); 2] = [
     ("apart.schedules", "apart.answers", false),
     ("windows.schedules", "windows.answers", true),
+];
+
+/// The examples of a picture, each with its script, its picture, and the moments that it begins and ends at, in picoseconds.
+const PICTURES: [(&str, &str, u128, Option<u128>); 7] = [
+    ("first.script", "first.svg", 0, None),
+    ("priorities.script", "priorities.svg", 0, None),
+    ("schedule.script", "schedule.svg", 0, Some(60_000_000)),
+    (
+        "manual.script",
+        "manual.svg",
+        1_528_743_495_910_000_000_000,
+        Some(1_528_743_495_913_000_000_000),
+    ),
+    (
+        "guard_band.script",
+        "guard_band.svg",
+        100_000_000,
+        Some(130_000_000),
+    ),
+    (
+        "extension.script",
+        "extension.svg",
+        3_000_000_000,
+        Some(6_000_000_000),
+    ),
+    ("summary.script", "summary.svg", 0, None),
 ];
 
 /// The settings that the program has where no words are given, with a moment to run to.
@@ -116,6 +143,29 @@ fn replay_agrees<R: Files + AllocGlobal>(rt: &R, summary: bool) -> io::Result<bo
     )
 }
 
+/// Whether an example is drawn as the picture that lies beside it.
+fn picture_agrees<R: Files + AllocGlobal>(
+    rt: &R,
+    script: &str,
+    picture: &str,
+    from: u128,
+    to: Option<u128>,
+) -> io::Result<bool> {
+    let script = fs::read(rt, script)?;
+    let picture = fs::read(rt, picture)?;
+    let Some(settings) = settings(None) else {
+        return Ok(false);
+    };
+    let options = DrawOptions {
+        from,
+        to,
+        width: 1200,
+    };
+    let mut got = Vec::new(rt.alloc());
+    let drawn = draw(rt.alloc(), script.as_slice(), &mut got, settings, options);
+    Ok(drawn.is_ok() && got.as_slice() == picture.as_slice())
+}
+
 /// The words behind the name of an example.
 fn told(agrees: bool) -> &'static str {
     if agrees {
@@ -156,6 +206,10 @@ fn main(rt: HostRuntime) -> io::Result<()> {
     for (name, summary) in [("machine.script", false), ("machine.summary", true)] {
         let told = told(replay_agrees(&rt, summary)?);
         println!(rt; "{name} {told}")?;
+    }
+    for (script, picture, from, to) in PICTURES {
+        let told = told(picture_agrees(&rt, script, picture, from, to)?);
+        println!(rt; "{picture} {told}")?;
     }
     let (scripts, answered) = worked(&rt)?;
     println!(rt; "{answered} of {scripts} worked scripts answer as they should")?;

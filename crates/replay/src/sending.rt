@@ -167,13 +167,13 @@ pub fn put_arrival<A: Allocator + Clone, V: Write>(
         Ok(class) => {
             sending.store.put(class, original, octets)?;
             let id = frame.id;
-            let answer = Answer::Queued { id, class };
-            put_noted(&mut sending.summary, came, &answer, report)?;
+            let queued = Answer::Queued { id, class };
+            put_noted(&mut sending.summary, came, &queued, report)?;
         }
         Err(why) => {
             let id = frame.id;
-            let answer = Answer::Dropped { id, why };
-            put_noted(&mut sending.summary, came, &answer, report)?;
+            let dropped = Answer::Dropped { id, why };
+            put_noted(&mut sending.summary, came, &dropped, report)?;
         }
     }
     Ok(())
