@@ -3,8 +3,8 @@
 ghost use Rattle.std.specs.Prelude.{◌≡◌, ◌≤◌, IfSome, option_map};
 ghost use Rattle.drawing.specs.Options.{end_in, number_or, options_of, width_where, window_shown};
 
-use crate::view::View;
 use crate::page::{LEFT, MAX_WIDTH, MIN_WIDTH, RIGHT};
+use crate::view::View;
 use picture::Window;
 use script::BadValue;
 use wire_time::MAX_MOMENT;

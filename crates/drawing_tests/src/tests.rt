@@ -30,7 +30,11 @@ fn wide(from: u128, to: Option<u128>) -> DrawOptions {
 }
 
 /// What is drawn of a script.
-fn drawn<R: Abort + AllocGlobal>(rt: &R, script: &[u8], options: DrawOptions) -> Result<String, Fail> {
+fn drawn<R: Abort + AllocGlobal>(
+    rt: &R,
+    script: &[u8],
+    options: DrawOptions,
+) -> Result<String, Fail> {
     let mut got = Vec::new(rt.alloc());
     let run = draw(rt.alloc(), script, &mut got, usual(rt), options);
     assert!(rt; run.is_ok());
@@ -135,21 +139,40 @@ fn ends_with_the_run(rt: HostRuntime) -> Result<(), Fail> {
     assert_eq!(rt; count_of(&text, open), 1);
     assert_eq!(rt; count_begun(&text, "<rect class=\"o\""), 1 + 1);
     let text = drawn(&rt, b"", wide(0, None))?;
-    assert_eq!(rt; count_of(&text, "<text class=\"m\" x=\"1064\" y=\"398\">1000 ns</text>"), 1);
+    assert_eq!(rt;
+        count_of(
+            &text,
+            "<text class=\"m\" x=\"1064\" y=\"398\">1000 ns</text>"
+        ),
+        1
+    );
     Ok(())
 }
 
 /// A refused command changes nothing, and one that is deleted ends the bands of its schedule at the lead moment.
 #[test]
 fn follows_the_commands(rt: HostRuntime) -> Result<(), Fail> {
-    let script = b"tc qdisc replace dev eth0 root taprio num_tc 1 map 0 base-time 20000 sched-entry S 00 10000 sched-entry S 01 10000\n\
+    let script =
+        b"tc qdisc replace dev eth0 root taprio num_tc 1 map 0 base-time 20000 sched-entry S 00 10000 sched-entry S 01 10000\n\
 tc qdisc replace dev eth0 root taprio base-time 20000 sched-entry S 00 10\n\
 clock 25000000\ntc qdisc del dev eth0 root\nclock 100000000\n";
     let text = drawn(&rt, script, wide(0, Some(100_000_000)))?;
     // The lead is that of a frame of 1522 octets in all: (8 + 1522 + 12) * 8000 ps and one picosecond behind 25 microseconds.
     assert_eq!(rt; count_begun(&text, "<path class=\"c\""), 2 + 1);
-    assert_eq!(rt; count_of(&text, "<text class=\"m\" x=\"264\" y=\"44\">change 1</text>"), 1);
-    assert_eq!(rt; count_begun(&text, "<rect class=\"o\" x=\"64.00\" y=\"310\" width=\"200.00\""), 1);
+    assert_eq!(rt;
+        count_of(
+            &text,
+            "<text class=\"m\" x=\"264\" y=\"44\">change 1</text>"
+        ),
+        1
+    );
+    assert_eq!(rt;
+        count_begun(
+            &text,
+            "<rect class=\"o\" x=\"64.00\" y=\"310\" width=\"200.00\""
+        ),
+        1
+    );
     Ok(())
 }
 
@@ -157,7 +180,11 @@ clock 25000000\ntc qdisc del dev eth0 root\nclock 100000000\n";
 fn many_frames<R: AllocGlobal>(rt: &R, count: u64) -> Result<Vec<u8>, Fail> {
     let mut script = Vec::new(rt.alloc());
     for id in 0..count {
-        let line = format!(in rt.alloc(); "clock {}\nframe {id} {} 60\n", u128::from(id) * 10_000_000, id % 8)?;
+        let line = format!(in rt.alloc();
+            "clock {}\nframe {id} {} 60\n",
+            u128::from(id) * 10_000_000,
+            id % 8
+        )?;
         script.write_all(line.as_bytes())?;
     }
     Ok(script)
@@ -184,17 +211,80 @@ fn a_long_run_is_joined_and_a_window_of_it_is_not(rt: HostRuntime) -> Result<(),
 /// The status, and what is told, where options or scripts are bad: nothing is drawn.
 #[test]
 fn faults_are_told_and_nothing_is_drawn(rt: HostRuntime) -> Result<(), Fail> {
-    type Row<'a> = (Option<&'a str>, Option<&'a str>, Option<&'a str>, &'a [u8], u8, &'a [u8]);
+    type Row<'a> = (
+        Option<&'a str>,
+        Option<&'a str>,
+        Option<&'a str>,
+        &'a [u8],
+        u8,
+        &'a [u8],
+    );
     let broken: &[u8] = b"frame 1 0 60\nframe 2 0\nframe 3 0 60\n";
     let rows: [Row<'_>; 8] = [
-        (Some("x"), None, None, SCRIPT, 2, b"taprio_port: bad value of --from\n"),
-        (Some("5"), Some("5"), None, SCRIPT, 2, b"taprio_port: bad value of --to\n"),
-        (None, Some("0"), None, SCRIPT, 2, b"taprio_port: bad value of --to\n"),
-        (None, None, Some("399"), SCRIPT, 2, b"taprio_port: bad value of --width\n"),
-        (None, None, Some("2401"), SCRIPT, 2, b"taprio_port: bad value of --width\n"),
-        (None, None, None, broken, 3, b"taprio_port: script line 2: WordCount\n"),
-        (None, None, None, b"clock 9223372036854775807001", 3, b"taprio_port: script line 1: ClockTooLate\n"),
-        (Some("9223372036854774807000"), None, Some("400"), SCRIPT, 0, b""),
+        (
+            Some("x"),
+            None,
+            None,
+            SCRIPT,
+            2,
+            b"taprio_port: bad value of --from\n",
+        ),
+        (
+            Some("5"),
+            Some("5"),
+            None,
+            SCRIPT,
+            2,
+            b"taprio_port: bad value of --to\n",
+        ),
+        (
+            None,
+            Some("0"),
+            None,
+            SCRIPT,
+            2,
+            b"taprio_port: bad value of --to\n",
+        ),
+        (
+            None,
+            None,
+            Some("399"),
+            SCRIPT,
+            2,
+            b"taprio_port: bad value of --width\n",
+        ),
+        (
+            None,
+            None,
+            Some("2401"),
+            SCRIPT,
+            2,
+            b"taprio_port: bad value of --width\n",
+        ),
+        (
+            None,
+            None,
+            None,
+            broken,
+            3,
+            b"taprio_port: script line 2: WordCount\n",
+        ),
+        (
+            None,
+            None,
+            None,
+            b"clock 9223372036854775807001",
+            3,
+            b"taprio_port: script line 1: ClockTooLate\n",
+        ),
+        (
+            Some("9223372036854774807000"),
+            None,
+            Some("400"),
+            SCRIPT,
+            0,
+            b"",
+        ),
     ];
     for (from, to, width, mut script, status, told) in rows {
         let values = Values {
@@ -207,7 +297,14 @@ fn faults_are_told_and_nothing_is_drawn(rt: HostRuntime) -> Result<(), Fail> {
         let answers = BufWriter::new(rt.alloc(), Vec::new(rt.alloc()))?;
         let mut errors = Vec::new(rt.alloc());
         let draws = DrawValues { from, to, width };
-        let (ended, got) = answer_draw(rt.alloc(), values, draws, &mut script, answers, &mut errors);
+        let (ended, got) = answer_draw(
+            rt.alloc(),
+            values,
+            draws,
+            &mut script,
+            answers,
+            &mut errors,
+        );
         assert_eq!(rt; (ended.status, ended.told), (status, true));
         assert_eq!(rt; errors.as_slice(), told);
         assert_eq!(rt; got.is_empty(), status != 0);
@@ -239,7 +336,13 @@ fn failed_reads_and_writes_end_it(rt: HostRuntime) -> Result<(), Fail> {
         assert!(rt; whole.as_bytes().starts_with(narrow.got.as_slice()));
     }
     let mut got = Vec::new(rt.alloc());
-    let run = draw(rt.alloc(), b"clock 1\nclock x\n".as_slice(), &mut got, usual(&rt), options);
+    let run = draw(
+        rt.alloc(),
+        b"clock 1\nclock x\n".as_slice(),
+        &mut got,
+        usual(&rt),
+        options,
+    );
     assert_eq!(rt; run, Err(RunFault::Script(2, ScriptFault::BadNumber)));
     assert!(rt; got.is_empty());
     Ok(())

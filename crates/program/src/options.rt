@@ -122,10 +122,9 @@ fn with_options<'a>(
 fn with_picture<'a>(alloc: Global, command: Command<'a>) -> Result<Command<'a>, AllocError> {
     command
         .arg(
-            Arg::new(alloc, "from")
-                .long("from")
-                .value_name("PS")
-                .help("The moment that the picture begins at, in picoseconds [default: 0]"),
+            Arg::new(alloc, "from").long("from").value_name("PS").help(
+                "The moment that the picture begins at, in picoseconds [default: 0]",
+            ),
         )?
         .arg(
             Arg::new(alloc, "to").long("to").value_name("PS").help(
