@@ -11,7 +11,7 @@ use std::io::Write;
 const LEAST_WIDTH: u64 = 100;
 
 /// How far apart the labels of changes stand at least, in hundredths of a pixel.
-const LABEL_WIDTH: u64 = 6_400;
+const LABEL_WIDTH: u64 = 9_600;
 
 /// Writes a rectangle from one place to another, both in hundredths of a pixel, at this height from above and of this height, in pixels.
 pub fn put_rect<W: Write>(
@@ -248,14 +248,20 @@ pub fn put_drops<W: Write>(
 // Writes the name of a change above its line: the number of its command, or that changes are joined.
 fn put_change_name<W: Write>(
     writer: &mut W,
+    page: &Page,
     x: u64,
     number: Option<u64>,
 ) -> Result<(), WriteFault> {
+    let count = match number {
+        Some(number) => digits(u128::from(number)),
+        None => 0,
+    };
+    let label = page.label(x, 7 + count);
     put_parts(
         writer,
         &[
             Part::Text(b"<text class=\"m\" x=\""),
-            Part::Number(u128::from(x / 100)),
+            Part::Number(u128::from(label / 100)),
             Part::Text(b"\" y=\""),
             Part::Number(u128::from(CLASS_TOP - 14)),
             Part::Text(b"\">"),
@@ -286,7 +292,7 @@ pub fn put_changes<W: Write>(
             let x = page.x(span.from);
             put_line(writer, b"c", x, CLASS_TOP - 10, BOTTOM)?;
             if free <= x {
-                put_change_name(writer, x, shape.id)?;
+                put_change_name(writer, page, x, shape.id)?;
                 free = x + LABEL_WIDTH;
             }
         }

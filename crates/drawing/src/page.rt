@@ -2,7 +2,7 @@
 
 ghost use Rattle.std.specs.Prelude.{◌≡◌, ◌<◌, ◌≤◌, ◌+◌, ◌*◌};
 ghost use Rattle.picture.specs.Windows.{x_in};
-ghost use Rattle.drawing.specs.Layout.{top_of};
+ghost use Rattle.drawing.specs.Layout.{label_at, top_of};
 
 use picture::Window;
 use wire_time::Rate;
@@ -46,6 +46,9 @@ pub const LEGEND: u32 = BOTTOM + 44;
 /// The height of the picture, in pixels.
 pub const HEIGHT: u32 = BOTTOM + 58;
 
+/// How many hundredths of a pixel half a character takes, at most.
+pub const HALF_CHARACTER: u64 = 325;
+
 /// The window of a picture, its width, and the rate and the mtu that it tells.
 #[derive(Clone, Copy, Debug)]
 pub struct Page {
@@ -65,6 +68,16 @@ impl Page {
     {
         let _width = self.window.width();
         u64::from(LEFT) * 100 + self.window.x(moment)
+    }
+
+    /// Where the middle of a label stands that belongs to this place and has so many characters: at its place, or as near to it as the label
+    /// is still whole; both in hundredths of a pixel from the left.
+    pub fn label(&self, place: u64, characters: u32) -> u64
+        ensures { result ≡ label_at (LEFT + self.now.window.width + RIGHT) place characters }
+    {
+        let half = u64::from(characters) * HALF_CHARACTER;
+        let most = (u64::from(self.width()) * 100).saturating_sub(half);
+        place.min(most).max(half)
     }
 
     /// The width of the picture, in pixels.

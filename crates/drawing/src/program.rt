@@ -15,7 +15,7 @@ use std::io::{BufWriter, Read, Write};
 use wire_time::MAX_MOMENT;
 
 /// Draws the run of the script that `reader` gives, by these values, through `answers`, with the text of a fault on `errors`; and gives the
-/// writer of the answers back.
+/// writer of the answers back. At a fault of the script nothing is drawn.
 pub fn answer_draw<B: Allocator, R: Read, W: Write + Drop, E: Write>(
     alloc: Global,
     values: Values<'_>,
@@ -26,7 +26,7 @@ pub fn answer_draw<B: Allocator, R: Read, W: Write + Drop, E: Write>(
 ) -> (Ended, W)
     ensures ending { IsDrawEnding (settings_given greatest_moment (option_map (λ text. text.now) values.entry.rate) (option_map (λ text. text.now) values.entry.mtu) (option_map (λ text. text.now) values.entry.room) (option_map (λ text. text.now) values.entry.until) values.entry.summary)
         (options_of (option_map (λ text. text.now) draws.entry.from) (option_map (λ text. text.now) draws.entry.to) (option_map (λ text. text.now) draws.entry.width))
-        result.0 (writer_contents W.contents answers) (W.contents result.1) (E.contents errors.old) (E.contents errors.new) }
+        (R.remaining reader.old) result.0 (writer_contents W.contents answers) (W.contents result.1) (E.contents errors.old) (E.contents errors.new) }
     ensures unread { IfErr (settings_given greatest_moment (option_map (λ text. text.now) values.entry.rate) (option_map (λ text. text.now) values.entry.mtu) (option_map (λ text. text.now) values.entry.room) (option_map (λ text. text.now) values.entry.until) values.entry.summary) (λ _. reader.new ≡ reader.old) }
     ensures unused { IfErr (options_of (option_map (λ text. text.now) draws.entry.from) (option_map (λ text. text.now) draws.entry.to) (option_map (λ text. text.now) draws.entry.width)) (λ _. reader.new ≡ reader.old) }
 {

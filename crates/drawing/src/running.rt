@@ -12,6 +12,7 @@ ghost use Rattle.tc_reader.specs.declared.fault.TcFault.{TcFault};
 ghost use Rattle.script.specs.Outcome.{reading_of};
 ghost use Rattle.script.specs.Requests.{request_of, tc_request};
 ghost use Rattle.drawing.specs.Course.{class_at, seen_at};
+ghost use Rattle.drawing.specs.Ending.{IsDrawn, fault_in};
 ghost use Rattle.drawing.specs.Taken.{Takes, TakesLine, seen_by};
 
 use crate::course::Course;
@@ -205,7 +206,10 @@ fn draw_lines<A: Allocator, B: Allocator, R: Read + Drop, W: Write>(
     writer: &mut W,
     settings: Settings,
     options: DrawOptions,
-) -> Result<(), RunFault> {
+) -> Result<(), RunFault>
+    ensures { (read : List (List ℕ) → Result Command TcFault) → IsReader read → IfSome (script_left R.remaining lines.old) (λ script.
+        IsDrawn result (W.contents writer.old) (W.contents writer.new) (reading_of read script).fault) }
+{
     take_lines(port, bands, course, lines, settings)?;
     let last = last_moment(port, course);
     end(port, bands, course, options, last);
@@ -222,7 +226,10 @@ fn draw_course<B: Allocator, R: Read + Drop, W: Write>(
     writer: &mut W,
     settings: Settings,
     options: DrawOptions,
-) -> Result<(), RunFault> {
+) -> Result<(), RunFault>
+    ensures { (read : List (List ℕ) → Result Command TcFault) → IsReader read → IfSome (script_left R.remaining lines.old) (λ script.
+        IsDrawn result (W.contents writer.old) (W.contents writer.new) (reading_of read script).fault) }
+{
     let mut course = Course::new(alloc, settings.room(), options.view())?;
     draw_lines(port, bands, &mut course, lines, writer, settings, options)
 }
@@ -235,7 +242,10 @@ fn draw_bands<B: Allocator, R: Read + Drop, W: Write>(
     writer: &mut W,
     settings: Settings,
     options: DrawOptions,
-) -> Result<(), RunFault> {
+) -> Result<(), RunFault>
+    ensures { (read : List (List ℕ) → Result Command TcFault) → IsReader read → IfSome (script_left R.remaining lines.old) (λ script.
+        IsDrawn result (W.contents writer.old) (W.contents writer.new) (reading_of read script).fault) }
+{
     let mut bands = Bands::new(alloc, options.from, options.to)?;
     draw_course(alloc, port, &mut bands, lines, writer, settings, options)
 }
@@ -247,7 +257,10 @@ fn draw_port<B: Allocator, R: Read + Drop, W: Write>(
     writer: &mut W,
     settings: Settings,
     options: DrawOptions,
-) -> Result<(), RunFault> {
+) -> Result<(), RunFault>
+    ensures { (read : List (List ℕ) → Result Command TcFault) → IsReader read → IfSome (script_left R.remaining lines.old) (λ script.
+        IsDrawn result (W.contents writer.old) (W.contents writer.new) (reading_of read script).fault) }
+{
     let rate = settings.rate();
     let _ps = rate.ps_per_octet();
     let mtu = settings.mtu();
@@ -258,14 +271,18 @@ fn draw_port<B: Allocator, R: Read + Drop, W: Write>(
     draw_bands(alloc, &mut port, lines, writer, settings, options)
 }
 
-/// Runs a script, and writes the picture of its run. At a fault of the script nothing is drawn, and at a failed write a front.
+/// Runs a script to its end, and writes the picture of its run. At the first fault of the script, at a failed read, and where memory is wanting,
+/// nothing is written; at a failed write a front of the picture.
 pub fn draw<R: Read + Drop, W: Write>(
     alloc: Global,
     reader: R,
     writer: &mut W,
     settings: Settings,
     options: DrawOptions,
-) -> Result<(), RunFault> {
+) -> Result<(), RunFault>
+    ensures { (read : List (List ℕ) → Result Command TcFault) → IsReader read → IfSome (R.remaining reader) (λ input.
+        IsDrawn result (W.contents writer.old) (W.contents writer.new) (fault_in read input)) }
+{
     let mut lines = LineReader::new(&alloc, reader)?;
     draw_port(&alloc, &mut lines, writer, settings, options)
 }

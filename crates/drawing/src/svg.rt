@@ -5,7 +5,9 @@ ghost use Rattle.std.specs.Prelude.{◌<◌};
 use crate::marks::{
     digits, put_bands, put_bars, put_changes, put_drops, put_line, put_rect, put_waits,
 };
-use crate::page::{AXIS, BOTTOM, CLASS_TOP, HEIGHT, LEFT, LEGEND, Page, ROWS, WIRE, row_top};
+use crate::page::{
+    AXIS, BOTTOM, CLASS_TOP, HALF_CHARACTER, HEIGHT, LEFT, LEGEND, Page, ROWS, WIRE, row_top,
+};
 use crate::shapes::Shapes;
 use answer_text::{Part, WriteFault, put, put_parts};
 use picture::{Bands, tick_step, unit_of};
@@ -38,9 +40,6 @@ text{fill:#e6e6e6}
 }
 </style>
 ";
-
-/// How many hundredths of a pixel a character of the axis takes.
-const CHARACTER: u128 = 650;
 
 // Writes what the picture is called: its rate and its mtu.
 fn put_name<W: Write>(writer: &mut W, page: &Page) -> Result<(), WriteFault> {
@@ -98,18 +97,25 @@ fn axis_step(page: &Page) -> u128
     let step = tick_step(length, (plot / 8_000) as u32);
     let unit = unit_of(step);
     let label = u128::from(digits(page.window.to() / unit.ps())) + 3;
-    let most = (plot / (label * CHARACTER + 1_200)).max(2);
+    let most = (plot / (label * u128::from(2 * HALF_CHARACTER) + 1_200)).max(2);
     tick_step(length, most as u32).max(step).max(1)
 }
 
-// Writes a tick of the axis, with its line through the rows.
-fn put_tick<W: Write>(writer: &mut W, x: u64, number: u128, unit: &[u8]) -> Result<(), WriteFault> {
+// Writes a tick of the axis at this place, with its line through the rows.
+fn put_tick<W: Write>(
+    writer: &mut W,
+    page: &Page,
+    x: u64,
+    number: u128,
+    unit: &[u8],
+) -> Result<(), WriteFault> {
     put_line(writer, b"g", x, CLASS_TOP - 6, BOTTOM)?;
+    let label = page.label(x, digits(number) + 3);
     put_parts(
         writer,
         &[
             Part::Text(b"<text class=\"m\" x=\""),
-            Part::Number(u128::from(x / 100)),
+            Part::Number(u128::from(label / 100)),
             Part::Text(b"\" y=\""),
             Part::Number(u128::from(AXIS)),
             Part::Text(b"\">"),
@@ -132,6 +138,7 @@ fn put_axis<W: Write>(writer: &mut W, page: &Page) -> Result<(), WriteFault> {
         let moment = tick * step;
         put_tick(
             writer,
+            page,
             page.x(moment),
             moment / unit.ps(),
             unit.name().as_bytes(),

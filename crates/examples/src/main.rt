@@ -30,7 +30,7 @@ const CHECKS: [(&str, &str, bool); 2] = [
 ];
 
 /// The examples of a picture, each with its script, its picture, and the moments that it begins and ends at, in picoseconds.
-const PICTURES: [(&str, &str, u128, Option<u128>); 7] = [
+const PICTURES: [(&str, &str, u128, Option<u128>); 11] = [
     ("first.script", "first.svg", 0, None),
     ("priorities.script", "priorities.svg", 0, None),
     ("schedule.script", "schedule.svg", 0, Some(60_000_000)),
@@ -53,6 +53,20 @@ const PICTURES: [(&str, &str, u128, Option<u128>); 7] = [
         Some(6_000_000_000),
     ),
     ("summary.script", "summary.svg", 0, None),
+    ("planned.script", "planned.svg", 0, Some(60_000_000)),
+    ("machine.script", "machine.svg", 0, Some(1_000_000_000)),
+    (
+        "apart.schedules",
+        "apart.svg",
+        1_528_743_495_910_000_000_000,
+        Some(1_528_743_495_913_000_000_000),
+    ),
+    (
+        "windows.schedules",
+        "windows.svg",
+        1_528_743_495_910_000_000_000,
+        Some(1_528_743_495_913_000_000_000),
+    ),
 ];
 
 /// The settings that the program has where no words are given, with a moment to run to.

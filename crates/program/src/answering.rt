@@ -59,7 +59,7 @@ pub fn check_given<B: Allocator, R: Read, W: Write + Drop, E: Write>(
 }
 
 /// Draws the run of the script that `reader` gives, by the values that the words give to the options, through `answers`, with the text of
-/// a fault on `errors`; and gives the writer of the answers back.
+/// a fault on `errors`; and gives the writer of the answers back. At a fault of the script nothing is drawn.
 pub fn draw_given<B: Allocator, R: Read, W: Write + Drop, E: Write>(
     alloc: Global,
     matches: &ArgMatches<'_>,
@@ -68,7 +68,7 @@ pub fn draw_given<B: Allocator, R: Read, W: Write + Drop, E: Write>(
     errors: &mut E,
 ) -> (Ended, W)
     ensures ending { IsDrawEnding (settings_in greatest_moment (found_of matches.now)) (draws_in (found_of matches.now))
-        result.0 (writer_contents W.contents answers) (W.contents result.1) (E.contents errors.old) (E.contents errors.new) }
+        (R.remaining reader.old) result.0 (writer_contents W.contents answers) (W.contents result.1) (E.contents errors.old) (E.contents errors.new) }
     ensures unread { IfErr (settings_in greatest_moment (found_of matches.now)) (λ _. reader.new ≡ reader.old) }
     ensures unused { IfErr (draws_in (found_of matches.now)) (λ _. reader.new ≡ reader.old) }
 {

@@ -245,6 +245,7 @@ fn failed_reads(rt: HostRuntime) -> Result<(), Fail> {
     let words = ["replay", "--until", "1", &script, "-", &out];
     assert!(rt; tells_a_failed_read(&rt, &["script"])?);
     assert!(rt; tells_a_failed_read(&rt, &["check"])?);
+    assert!(rt; tells_a_failed_read(&rt, &["draw"])?);
     assert!(rt; tells_a_failed_read(&rt, &words)?);
     folder.remove()?;
     Ok(())

@@ -4,4 +4,6 @@
 #[cfg(test)]
 mod faults;
 #[cfg(test)]
+mod pictures;
+#[cfg(test)]
 mod tests;

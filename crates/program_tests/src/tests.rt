@@ -265,9 +265,10 @@ fn a_failed_write_is_told(rt: HostRuntime) -> Result<(), Fail> {
     let script = folder.file("script", b"")?;
     let out = folder.path_of("out")?;
     let replay = ["replay", "--until", "3000000000000", &script, "-", &out];
-    let rows: [(&[&str], &[u8]); 4] = [
+    let rows: [(&[&str], &[u8]); 5] = [
         (&["script"], BROKEN),
         (&["check"], b"tc qdisc del dev eth0 root\n"),
+        (&["draw"], b"frame 1 0 60\n"),
         (&["streams"], b"stream 1 5 60 250us 0ns 2\n"),
         (&replay, &TWO_RECORDS),
     ];
