@@ -71,14 +71,14 @@ fn a_script_becomes_a_picture(rt: HostRuntime) -> Result<(), Fail> {
 #[test]
 fn nothing_is_drawn_at_a_fault(rt: HostRuntime) -> Result<(), Fail> {
     let rows: [(&[u8], &[u8]); 3] = [
-        (b"clock\n", b"taprio_port: script line 1: Fields\n"),
+        (b"clock\n", b"taprio_port: script line 1: WordCount\n"),
         (
             b"frame 1 0 60\nclock 50000000\nfrom 2\n",
-            b"taprio_port: script line 3: UnknownWord\n",
+            b"taprio_port: script line 3: UnknownLine\n",
         ),
         (
             b"frame 1 0 60\nframe 2 0 60 x",
-            b"taprio_port: script line 2: Fields\n",
+            b"taprio_port: script line 2: WordCount\n",
         ),
     ];
     for (script, told) in rows {
