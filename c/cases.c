@@ -1,0 +1,303 @@
+/* Tests of the library from C. `cases FOLDER` runs every example of the folder against its answers, and small cases besides: too
+ * little room and then the room that was told, faults, values out of their limits, empty inputs. It tells what is wrong. */
+#include "taprio.h"
+#include <stdio.h>
+#include <stdlib.h>
+#include <string.h>
+
+_Static_assert(sizeof(size_t) == 8, "a pointer has 64 bits");
+_Static_assert(sizeof(struct taprio_port_values) == 40, "no padding");
+_Static_assert(sizeof(struct taprio_picture_values) == 48, "no padding");
+_Static_assert(sizeof(struct taprio_ran) == 24 && offsetof(struct taprio_ran, status) == 16, "padding at the end alone");
+_Static_assert(sizeof(struct taprio_replay_ran) == 32 && offsetof(struct taprio_replay_ran, status) == 24, "the same");
+
+struct octets {
+    uint8_t *at;
+    size_t length;
+};
+
+static int wrong, cases;
+static const char *folder;
+
+static void expect(int holds, const char *what, const char *name) {
+    cases++;
+    if (!holds) {
+        wrong++;
+        printf("WRONG: %s: %s\n", name, what);
+    }
+}
+
+static void *need(void *at) {
+    if (!at) {
+        fputs("out of memory\n", stderr);
+        exit(4);
+    }
+    return at;
+}
+
+/* the octets of a file of the folder; a block of just that length, so that a read past it is seen */
+static struct octets file(const char *name) {
+    char path[4096];
+    snprintf(path, sizeof path, "%s/%s", folder, name);
+    FILE *in = fopen(path, "rb");
+    if (!in) {
+        perror(path);
+        exit(4);
+    }
+    struct octets got = {need(malloc(1)), 0};
+    int octet;
+    while ((octet = getc(in)) != EOF) {
+        if ((got.length & (got.length + 1)) == 0)
+            got.at = need(realloc(got.at, 2 * (got.length + 1)));
+        got.at[got.length++] = (uint8_t)octet;
+    }
+    fclose(in);
+    got.at = need(realloc(got.at, got.length ? got.length : 1));
+    return got;
+}
+
+static struct octets text(const char *of) {
+    struct octets got = {need(malloc(strlen(of) + 1)), strlen(of)};
+    memcpy(got.at, of, got.length);
+    return got;
+}
+
+static struct octets lent(size_t length) {
+    struct octets got = {need(malloc(length ? length : 1)), length};
+    memset(got.at, '.', length);
+    return got;
+}
+
+static int is_untouched(struct octets slice, size_t from) {
+    for (; from < slice.length; from++)
+        if (slice.at[from] != '.')
+            return 0;
+    return 1;
+}
+
+static int begins(struct octets slice, struct octets with) {
+    return slice.length >= with.length && memcmp(slice.at, with.at, with.length) == 0 && is_untouched(slice, with.length);
+}
+
+enum job { RUN, CHECK, STREAMS, DRAW };
+
+struct call {
+    enum job job;
+    struct taprio_port_values values;
+    struct taprio_picture_values shown;
+    uint32_t windows;
+    struct octets input, second;
+};
+
+static struct taprio_ran call(const struct call *c, struct octets output, struct octets fault) {
+    struct taprio_ran ran;
+    switch (c->job) {
+    case RUN:
+        taprio_run(&c->values, c->input.at, c->input.length, output.at, output.length, fault.at, fault.length, &ran);
+        break;
+    case CHECK:
+        taprio_check(c->values.rate, c->windows, c->input.at, c->input.length, output.at, output.length, fault.at, fault.length,
+                     &ran);
+        break;
+    case STREAMS:
+        taprio_streams(c->input.at, c->input.length, c->second.at, c->second.length, output.at, output.length, fault.at,
+                       fault.length, &ran);
+        break;
+    default:
+        taprio_draw(&c->values, &c->shown, c->input.at, c->input.length, output.at, output.length, fault.at, fault.length, &ran);
+    }
+    return ran;
+}
+
+/* with no room, with one octet too few, with the room that was told, and with more */
+static void agrees(const char *name, const struct call *c, int status, struct octets answers, struct octets told) {
+    for (int more = -2; more <= 1; more++) {
+        const size_t wanted = answers.length ? answers.length : told.length;
+        const size_t lacking = more == -2 ? wanted : more == -1 && wanted ? 1 : 0;
+        const size_t room = answers.length ? answers.length - lacking : 0, place = answers.length ? told.length : told.length - lacking;
+        struct octets output = lent(room + (more == 1 ? 7 : 0)), fault = lent(place + (more == 1 ? 7 : 0));
+        const struct taprio_ran ran = call(c, output, fault);
+        expect(ran.output == answers.length && ran.fault == told.length, "the lengths that are told", name);
+        if (lacking) {
+            expect(ran.status == TAPRIO_NO_ROOM, "the status where there is no room", name);
+            expect(is_untouched(output, 0) && is_untouched(fault, 0), "something is written where there is no room", name);
+        } else {
+            expect(ran.status == status, "the status", name);
+            expect(begins(output, answers), "the output", name);
+            expect(begins(fault, told), "the text of the fault", name);
+        }
+        free(output.at);
+        free(fault.at);
+    }
+}
+
+static const struct taprio_port_values usual = TAPRIO_PORT_VALUES;
+static const struct taprio_picture_values whole = TAPRIO_PICTURE_VALUES;
+
+static void small(const char *name, struct call c, const char *input, int status, const char *answers, const char *told) {
+    struct octets given = text(input), wanted = text(answers), said = text(told);
+    c.input = given;
+    if (!c.second.at)
+        c.second = given, c.second.length = 0;
+    agrees(name, &c, status, wanted, said);
+    free(given.at);
+    free(wanted.at);
+    free(said.at);
+}
+
+static void of_files(struct call c, const char *input, const char *second, const char *answers) {
+    struct octets given = file(input), more = second ? file(second) : text(""), wanted = file(answers), none = text("");
+    c.input = given;
+    c.second = more;
+    agrees(answers, &c, TAPRIO_DONE, wanted, none);
+    free(given.at);
+    free(more.at);
+    free(wanted.at);
+    free(none.at);
+}
+
+/* worked scripts: a script and its answers are parted by four dashes, one script from the next by four equals signs */
+static void worked(void) {
+    struct octets all = file("worked.txt");
+    char *from = need(malloc(all.length + 1));
+    memcpy(from, all.at, all.length);
+    from[all.length] = 0;
+    struct call c = {RUN, usual, whole, 0, {0}, {0}};
+    int scripts = 0;
+    for (char *at = from; at;) {
+        char *end = strstr(at, "====\n"), *part = strstr(at, "----\n");
+        if (end)
+            *end = 0;
+        expect(part != NULL, "no answers", "worked.txt");
+        if (part) {
+            *part = 0;
+            small("worked.txt", c, at, TAPRIO_DONE, part + 5, "");
+        }
+        scripts++;
+        at = end ? end + 5 : NULL;
+    }
+    expect(scripts > 5, "few scripts", "worked.txt");
+    free(from);
+    free(all.at);
+}
+
+static void replays(const char *name, struct taprio_port_values values, struct octets script, struct octets capture, int status,
+                    struct octets report, struct octets departures, struct octets told) {
+    for (int lacking = 0; lacking < 4; lacking++) {
+        const size_t short_of[3] = {lacking == 0 && report.length, lacking == 1 && departures.length, lacking == 2 && told.length};
+        struct octets first = lent(report.length - short_of[0]), second = lent(departures.length - short_of[1]);
+        struct octets fault = lent(told.length - short_of[2]);
+        struct taprio_replay_ran ran;
+        taprio_replay(&values, script.at, script.length, capture.at, capture.length, first.at, first.length, second.at,
+                      second.length, fault.at, fault.length, &ran);
+        expect(ran.report == report.length && ran.departures == departures.length && ran.fault == told.length, "the lengths", name);
+        if (short_of[0] || short_of[1] || short_of[2]) {
+            expect(ran.status == TAPRIO_NO_ROOM, "the status where there is no room", name);
+            expect(is_untouched(first, 0) && is_untouched(second, 0) && is_untouched(fault, 0), "something is written", name);
+        } else {
+            expect(ran.status == status, "the status", name);
+            expect(begins(first, report) && begins(second, departures) && begins(fault, told), "what is written", name);
+        }
+        free(first.at);
+        free(second.at);
+        free(fault.at);
+    }
+}
+
+static void machine(void) {
+    struct octets script = file("machine.script"), capture = file("machine.pcap"), report = file("machine.report");
+    struct octets summary = file("machine.summary"), departures = file("machine.departures.pcap"), none = text("");
+    struct taprio_port_values values = usual;
+    values.has_until = 1;
+    values.until_low = 2000000000;
+    replays("machine.report", values, script, capture, TAPRIO_DONE, report, departures, none);
+    struct octets both = lent(report.length + summary.length);
+    memcpy(both.at, report.at, report.length);
+    memcpy(both.at + report.length, summary.at, summary.length);
+    values.summary = 1;
+    replays("machine.summary", values, script, capture, TAPRIO_DONE, both, departures, none);
+    struct octets short_header = text("taprio_port: capture header: ShortHeader\n");
+    struct octets cut = {capture.at, 23};
+    replays("a cut header", values, script, cut, TAPRIO_BAD_INPUT, none, none, short_header);
+    struct octets late = text("taprio_port: bad value of --until\n");
+    values.until_low = (uint64_t)0 - 1;
+    values.until_high = 300; /* over 4294967296000000000000, and below the greatest moment of a script */
+    replays("a late moment", values, script, capture, TAPRIO_BAD_VALUE, none, none, late);
+    struct octets all[] = {script, capture, report, summary, departures, none, both, short_header, late};
+    for (size_t at = 0; at < sizeof all / sizeof *all; at++)
+        free(all[at].at);
+}
+
+int main(int count, char **words) {
+    folder = count > 1 ? words[1] : "examples";
+    struct call c = {RUN, usual, whole, 0, {0}, {0}};
+    static const char *const scripts[] = {"first", "priorities", "schedule", "manual", "guard_band", "extension"};
+    for (size_t at = 0; at < sizeof scripts / sizeof *scripts; at++) {
+        char script[64], answers[64];
+        snprintf(script, sizeof script, "%s.script", scripts[at]);
+        snprintf(answers, sizeof answers, "%s.answers", scripts[at]);
+        of_files(c, script, NULL, answers);
+    }
+    of_files(c, "planned.script", NULL, "schedule.answers");
+    c.values.summary = 7;
+    of_files(c, "summary.script", NULL, "summary.answers");
+    worked();
+    struct call check = {CHECK, usual, whole, 0, {0}, {0}};
+    of_files(check, "apart.schedules", NULL, "apart.answers");
+    check.windows = 1;
+    of_files(check, "windows.schedules", NULL, "windows.answers");
+    struct call table = {STREAMS, usual, whole, 0, {0}, {0}};
+    of_files(table, "planned.streams", "planned.schedule", "planned.script");
+    struct call draw = {DRAW, usual, whole, 0, {0}, {0}};
+    of_files(draw, "first.script", NULL, "first.svg");
+    of_files(draw, "priorities.script", NULL, "priorities.svg");
+    of_files(draw, "summary.script", NULL, "summary.svg");
+    struct call part = draw;
+    part.shown.has_to = 1;
+    part.shown.to_low = 60000000;
+    of_files(part, "schedule.script", NULL, "schedule.svg");
+    part.shown.from_low = 100000000;
+    part.shown.to_low = 130000000;
+    of_files(part, "guard_band.script", NULL, "guard_band.svg");
+    part.shown.from_low = 3000000000;
+    part.shown.to_low = 6000000000;
+    of_files(part, "extension.script", NULL, "extension.svg");
+    /* 1528743495910000000000 and 1528743495913000000000: 82 * 2^64 and so much */
+    part.shown.from_high = part.shown.to_high = 82;
+    part.shown.from_low = 16110481865816767488u;
+    part.shown.to_low = 16110481868816767488u;
+    of_files(part, "manual.script", NULL, "manual.svg");
+    machine();
+
+    struct call run = {RUN, usual, whole, 0, {0}, {0}};
+    small("no script", run, "", TAPRIO_DONE, "", "");
+    small("a fault", run, "frame 1 0 60\nclock 1000000\nclok 5\n", TAPRIO_BAD_INPUT,
+          "queued 1 class 0\nstart 1 class 0 at 0 end 672000\n", "taprio_port: script line 3: UnknownLine\n");
+    small("a table's fault", table, "stream", TAPRIO_BAD_INPUT, "", "taprio_port: table line 1: WordCount\n");
+    small("a check's fault", check, "clock 5", TAPRIO_BAD_INPUT, "", "taprio_port: script line 1: UnknownLine\n");
+    small("a picture's fault", draw, "frame 1 0 60\nclok 5", TAPRIO_BAD_INPUT, "", "taprio_port: script line 2: UnknownLine\n");
+    struct call bad = run;
+    bad.values.rate = 1001;
+    small("a rate", bad, "clock 5", TAPRIO_BAD_VALUE, "", "taprio_port: bad value of --rate\n");
+    bad = run;
+    bad.values.mtu = 67;
+    small("an mtu", bad, "clock 5", TAPRIO_BAD_VALUE, "", "taprio_port: bad value of --mtu\n");
+    bad = run;
+    bad.values.room = 4097;
+    small("a room", bad, "clock 5", TAPRIO_BAD_VALUE, "", "taprio_port: bad value of --room\n");
+    bad = run;
+    bad.values.has_until = 1;
+    bad.values.until_high = 500;
+    small("a moment", bad, "clock 5", TAPRIO_BAD_VALUE, "", "taprio_port: bad value of --until\n");
+    bad = draw;
+    bad.shown.from_high = 500;
+    small("a beginning", bad, "clock 5", TAPRIO_BAD_VALUE, "", "taprio_port: bad value of --from\n");
+    bad = draw;
+    bad.shown.has_to = 1;
+    small("an end", bad, "clock 5", TAPRIO_BAD_VALUE, "", "taprio_port: bad value of --to\n");
+    bad = draw;
+    bad.shown.width = 399;
+    small("a width", bad, "clock 5", TAPRIO_BAD_VALUE, "", "taprio_port: bad value of --width\n");
+    printf("%d of %d hold\n", cases - wrong, cases);
+    return wrong != 0;
+}

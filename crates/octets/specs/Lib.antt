@@ -1,0 +1,5 @@
+pub mod Values
+pub mod Slices
+pub mod Tables
+pub mod Captures
+pub mod Pictures

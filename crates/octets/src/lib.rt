@@ -1,0 +1,22 @@
+//! The jobs of the program over memory: octets in, octets out into slices that are lent, with no file, no stream and no word.
+//!
+//! Each call answers how it ended (`Ran`). At status 0 the whole output stands at the front of its slice, at 3 what an input with a fault
+//! gives, and at 2 and 3 the text of the fault stands at the front of its own slice; what lies behind is as it was. At 5 a slice has too
+//! little room, and at 4 memory was wanting: nothing is written then.
+#![tactic(auto)]
+
+mod answering;
+mod captures;
+mod checks;
+mod pictures;
+mod scripts;
+mod tables;
+mod values;
+
+pub use answering::Ran;
+pub use captures::{ReplayRan, replay_octets};
+pub use checks::check_octets;
+pub use pictures::{PictureValues, draw_octets};
+pub use scripts::run_octets;
+pub use tables::streams_octets;
+pub use values::PortValues;

@@ -1,0 +1,40 @@
+//! What tests lend: slices of dots, and what a port runs with.
+
+ghost use Rattle.std.specs.Prelude.{◌≤◌};
+
+use octets::PortValues;
+
+/// So many dots are lent for an output.
+pub const ROOM: usize = 512;
+
+/// A slice that nothing was written to.
+pub const DOTS: [u8; ROOM] = [b'.'; ROOM];
+
+/// What the program has where no words are given.
+pub const USUAL: PortValues = PortValues {
+    rate: 1000,
+    mtu: 1500,
+    room: 128,
+    until: None,
+    summary: false,
+};
+
+/// Whether a slice of dots has this text at its front, and nothing else.
+pub fn has(slice: &[u8], text: &[u8]) -> bool {
+    match slice.strip_prefix(text) {
+        Some(rest) => rest.iter().all(|octet| *octet == b'.'),
+        None => false,
+    }
+}
+
+/// As much room as a text takes, or one octet less; at most as much as is lent.
+pub fn room_for(text: &[u8], is_short: bool) -> usize
+    ensures { result ≤ ROOM }
+{
+    let room = if is_short {
+        text.len().saturating_sub(1)
+    } else {
+        text.len()
+    };
+    room.min(ROOM)
+}

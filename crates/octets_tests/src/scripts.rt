@@ -1,0 +1,202 @@
+//! Scripts in memory.
+
+use crate::lent::{DOTS, USUAL, has, room_for};
+use octets::{PortValues, Ran, run_octets};
+use refusing_heap::RefusingHeap;
+use std::test::Fail;
+
+/// A frame, and a microsecond.
+const SCRIPT: &[u8] = b"frame 1 0 60\nclock 1000000\n";
+
+/// What is answered.
+const ANSWERS: &[u8] = b"queued 1 class 0\nstart 1 class 0 at 0 end 672000\n";
+
+#[test]
+fn the_answers_stand_at_the_front(rt: HostRuntime) -> Result<(), Fail> {
+    let (mut output, mut fault) = (DOTS, DOTS);
+    let ran = run_octets(&rt.alloc(), USUAL, SCRIPT, &mut output, &mut fault);
+    assert_eq!(rt;
+        ran,
+        Ran {
+            output: ANSWERS.len(),
+            fault: 0,
+            status: 0,
+        }
+    );
+    assert!(rt; has(&output, ANSWERS));
+    assert!(rt; has(&fault, b""));
+    Ok(())
+}
+
+#[test]
+fn an_empty_script_has_no_answers(rt: HostRuntime) -> Result<(), Fail> {
+    let ran = run_octets(&rt.alloc(), USUAL, b"", &mut [], &mut []);
+    assert_eq!(rt;
+        ran,
+        Ran {
+            output: 0,
+            fault: 0,
+            status: 0,
+        }
+    );
+    Ok(())
+}
+
+#[test]
+fn runs_to_the_moment_and_ends_with_a_summary(rt: HostRuntime) -> Result<(), Fail> {
+    let (mut output, mut fault) = (DOTS, DOTS);
+    let values = PortValues {
+        until: Some(672_000),
+        summary: true,
+        ..USUAL
+    };
+    let script = b"frame 1 5 60";
+    let ran = run_octets(&rt.alloc(), values, script, &mut output, &mut fault);
+    let text: &[u8] = b"queued 1 class 5\nstart 1 class 5 at 0 end 672000\n\
+summary class 5 queued 1 sent 1 dropped 0 octets 60 least 0 mean 0 greatest 0 most 1\n\
+summary wire busy 672000 ppm 1000000\n";
+    assert_eq!(rt;
+        ran,
+        Ran {
+            output: text.len(),
+            fault: 0,
+            status: 0,
+        }
+    );
+    assert!(rt; has(&output, text));
+    Ok(())
+}
+
+#[test]
+fn a_fault_of_a_line_comes_after_the_answers_before_it(rt: HostRuntime) -> Result<(), Fail> {
+    let (mut output, mut fault) = (DOTS, DOTS);
+    let script = b"frame 1 0 60\nclock 1000000\nclok 5\nframe 2 0 60\n";
+    let ran = run_octets(&rt.alloc(), USUAL, script, &mut output, &mut fault);
+    let text: &[u8] = b"taprio_port: script line 3: UnknownLine\n";
+    assert_eq!(rt;
+        ran,
+        Ran {
+            output: ANSWERS.len(),
+            fault: text.len(),
+            status: 3,
+        }
+    );
+    assert!(rt; has(&output, ANSWERS));
+    assert!(rt; has(&fault, text));
+    Ok(())
+}
+
+/// In the order in which the program judges them.
+#[test]
+fn bad_values_are_told(rt: HostRuntime) -> Result<(), Fail> {
+    let rows: [(PortValues, &[u8]); 4] = [
+        (
+            PortValues {
+                rate: 1001,
+                mtu: 67,
+                ..USUAL
+            },
+            b"taprio_port: bad value of --rate\n",
+        ),
+        (
+            PortValues {
+                mtu: 67,
+                room: 0,
+                ..USUAL
+            },
+            b"taprio_port: bad value of --mtu\n",
+        ),
+        (
+            PortValues {
+                room: 4097,
+                ..USUAL
+            },
+            b"taprio_port: bad value of --room\n",
+        ),
+        (
+            PortValues {
+                until: Some(9_223_372_036_854_775_807_001),
+                ..USUAL
+            },
+            b"taprio_port: bad value of --until\n",
+        ),
+    ];
+    for (values, text) in rows {
+        let (mut output, mut fault) = (DOTS, DOTS);
+        let ran = run_octets(&rt.alloc(), values, SCRIPT, &mut output, &mut fault);
+        assert_eq!(rt;
+            ran,
+            Ran {
+                output: 0,
+                fault: text.len(),
+                status: 2,
+            }
+        );
+        assert!(rt; has(&output, b""));
+        assert!(rt; has(&fault, text));
+    }
+    Ok(())
+}
+
+/// With too little room for the answers by one octet, and for the text of the fault, and then with just enough.
+#[test]
+fn the_room_that_is_told_is_enough(rt: HostRuntime) -> Result<(), Fail> {
+    let script = b"frame 1 0 60\nclock 1000000\nclok 5\n";
+    let text: &[u8] = b"taprio_port: script line 3: UnknownLine\n";
+    for lacking in 0..3u8 {
+        let (mut output, mut fault) = (DOTS, DOTS);
+        let ran = run_octets(
+            &rt.alloc(),
+            USUAL,
+            script,
+            &mut output[..room_for(ANSWERS, lacking == 0)],
+            &mut fault[..room_for(text, lacking == 1)],
+        );
+        assert_eq!(rt;
+            ran,
+            Ran {
+                output: ANSWERS.len(),
+                fault: text.len(),
+                status: if lacking < 2 { 5 } else { 3 },
+            }
+        );
+        if lacking < 2 {
+            assert!(rt; has(&output, b"") && has(&fault, b""));
+        } else {
+            assert!(rt; has(&output, ANSWERS) && has(&fault, text));
+        }
+    }
+    Ok(())
+}
+
+/// Each growth refused in turn, until a run asks for no further one.
+#[test]
+fn memory_is_wanting_only_where_it_is_refused(rt: HostRuntime) -> Result<(), Fail> {
+    let script = b"frame 1 0 60\nclock 1000000\nclok 5\n";
+    let text: &[u8] = b"taprio_port: script line 3: UnknownLine\n";
+    let mut refused = 0u32;
+    for number in 0..64 {
+        let (mut output, mut fault) = (DOTS, DOTS);
+        let heap = RefusingHeap::new(rt.alloc(), number, false);
+        let ran = run_octets(&heap, USUAL, script, &mut output, &mut fault);
+        if heap.asked() > number {
+            refused = refused.saturating_add(1);
+            assert_eq!(rt;
+                ran,
+                Ran {
+                    output: 0,
+                    fault: 0,
+                    status: 4,
+                }
+            );
+            assert!(rt; has(&output, b""));
+            assert!(rt; has(&fault, b""));
+        } else {
+            assert_eq!(rt; ran.status, 3);
+            assert!(rt; has(&output, ANSWERS));
+            assert!(rt; has(&fault, text));
+        }
+    }
+    assert!(rt; 4 < refused && refused < 64);
+    Ok(())
+}

@@ -1,0 +1,26 @@
+-- What the values that C hands over say.
+use Rattle.std.specs.Prelude.{ℕ, ◌+◌, ◌*◌, ◌^◌, nat_lt, Bool, Option, Some, None, if◌then◌else◌}
+use Rattle.octets.specs.declared.pictures.PictureValues.{PictureValues}
+use Rattle.octets.specs.declared.values.PortValues.{PortValues}
+use Rattle.taprio_c.specs.declared.values.CPictureValues.{CPictureValues}
+use Rattle.taprio_c.specs.declared.values.CPortValues.{CPortValues}
+
+-- 0 no, else yes
+abbrev pub is_wanted : ℕ → Bool
+is_wanted value = nat_lt 0 value
+
+-- the moment of two halves
+abbrev pub moment_of : ℕ → ℕ → ℕ
+moment_of low high = high * 2 ^ 64 + low
+
+-- the same where there is one
+abbrev pub moment_where : ℕ → ℕ → ℕ → Option ℕ
+moment_where is_there low high = if is_wanted is_there then Some (moment_of low high) else None
+
+-- what a port runs with
+abbrev pub port_values : CPortValues → PortValues
+port_values v = record { rate = v.rate; mtu = v.mtu; room = v.room; until = moment_where v.has_until v.until_low v.until_high; summary = is_wanted v.summary }
+
+-- what a picture shows
+abbrev pub picture_values : CPictureValues → PictureValues
+picture_values v = record { from = moment_of v.from_low v.from_high; to = moment_where v.has_to v.to_low v.to_high; width = v.width }

@@ -1,0 +1,122 @@
+//! The library as C calls it: one function for each of the program's jobs over memory, whose declarations are in `c/taprio.h`.
+#![tactic(auto)]
+
+mod values;
+
+ghost use Rattle.std.specs.Prelude.{List, ℕ, Result};
+ghost use Rattle.abstract_port.specs.declared.Command.{Command};
+ghost use Rattle.capture.specs.Records.{Entry};
+ghost use Rattle.capture.specs.declared.fault.CapFault.{CapFault};
+ghost use Rattle.capture.specs.declared.reader.End.{End};
+ghost use Rattle.octets.specs.Captures.{Replays, outputs, told_by_replay};
+ghost use Rattle.octets.specs.Pictures.{DrawsWith, options_at};
+ghost use Rattle.octets.specs.Slices.{Answers, slices, told_by};
+ghost use Rattle.octets.specs.Tables.{told_of_streams};
+ghost use Rattle.octets.specs.Values.{rate_at, settings_at};
+ghost use Rattle.replay.specs.Outcome.{ReadsAs, outcome_of as replay_outcome_of};
+ghost use Rattle.schedule_check.specs.Checked.{whole_check};
+ghost use Rattle.schedule_check.specs.Windows.{IsTeller, Teller};
+ghost use Rattle.script.specs.Outcome.{outcome_of};
+ghost use Rattle.taprio_c.specs.FromC.{is_wanted, picture_values, port_values};
+ghost use Rattle.tc_reader.specs.Reader.{IsReader};
+ghost use Rattle.tc_reader.specs.declared.fault.TcFault.{TcFault};
+ghost use Rattle.traffic.specs.Outcome.{outcome_of as streams_outcome_of};
+
+use crate::values::{is_wanted, picture_values, port_values};
+use octets::{
+    Ran, ReplayRan, check_octets, draw_octets, replay_octets, run_octets, streams_octets,
+};
+use std::alloc::Global;
+pub use values::{CPictureValues, CPortValues};
+
+/// Runs a script: its answers come into `output`, and the text of a fault into `fault`; how it ended is written to `ran`.
+#[unsafe(no_mangle)]
+pub extern "C" fn taprio_run(
+    alloc: Global,
+    values: &CPortValues,
+    script: &[u8],
+    output: &mut [u8],
+    fault: &mut [u8],
+    ran: &mut Ran,
+)
+    ensures { (read : List (List ℕ) → Result Command TcFault) → IsReader read →
+        Answers (told_by (λ settings. outcome_of read settings script.now) (settings_at (port_values values.now))) ran.new (slices output.old fault.old) (slices output.new fault.new) }
+{
+    *ran = run_octets(&alloc, port_values(values), script, output, fault);
+}
+
+/// Checks schedule commands at a line rate in Mb/s, with windows unless `windows` is 0.
+#[unsafe(no_mangle)]
+pub extern "C" fn taprio_check(
+    alloc: Global,
+    rate: u32,
+    windows: u32,
+    schedules: &[u8],
+    output: &mut [u8],
+    fault: &mut [u8],
+    ran: &mut Ran,
+)
+    ensures { (tell : Teller) → IsTeller tell → (read : List (List ℕ) → Result Command TcFault) → IsReader read →
+        Answers (told_by (λ ps. whole_check tell (is_wanted windows) ps read schedules.now) (rate_at rate)) ran.new (slices output.old fault.old) (slices output.new fault.new) }
+{
+    let windows = is_wanted(windows);
+    *ran = check_octets(&alloc, rate, windows, schedules, output, fault);
+}
+
+/// Makes a script of a table of streams, with the lines of `script` among their frames, which may have no octets.
+#[unsafe(no_mangle)]
+pub extern "C" fn taprio_streams(
+    alloc: Global,
+    table: &[u8],
+    script: &[u8],
+    output: &mut [u8],
+    fault: &mut [u8],
+    ran: &mut Ran,
+)
+    ensures { Answers (told_of_streams (streams_outcome_of table.now script.now)) ran.new (slices output.old fault.old) (slices output.new fault.new) }
+{
+    *ran = streams_octets(&alloc, table, script, output, fault);
+}
+
+/// Draws the run of a script as an SVG picture.
+#[unsafe(no_mangle)]
+pub extern "C" fn taprio_draw(
+    alloc: Global,
+    values: &CPortValues,
+    shown: &CPictureValues,
+    script: &[u8],
+    output: &mut [u8],
+    fault: &mut [u8],
+    ran: &mut Ran,
+)
+    ensures { DrawsWith (settings_at (port_values values.now)) (options_at (picture_values shown.now)) ran.new (slices output.old fault.old) (slices output.new fault.new) }
+{
+    let shown = picture_values(shown);
+    *ran = draw_octets(alloc, port_values(values), shown, script, output, fault);
+}
+
+/// Replays a script and a capture: the report and the capture of the frames that leave.
+#[unsafe(no_mangle)]
+pub extern "C" fn taprio_replay(
+    alloc: Global,
+    values: &CPortValues,
+    script: &[u8],
+    capture: &[u8],
+    report: &mut [u8],
+    departures: &mut [u8],
+    fault: &mut [u8],
+    ran: &mut ReplayRan,
+)
+    ensures { (read : List (List ℕ) → Result Command TcFault) → IsReader read → (records : Result (List Entry × End) CapFault) → ReadsAs capture.now records →
+        Replays (told_by_replay (λ settings. replay_outcome_of read settings script.now records) (settings_at (port_values values.now))) ran.new (outputs report.old departures.old fault.old) (outputs report.new departures.new fault.new) }
+{
+    *ran = replay_octets(
+        &alloc,
+        port_values(values),
+        script,
+        capture,
+        report,
+        departures,
+        fault,
+    );
+}
