@@ -19,6 +19,7 @@ const beside = new Editor(at("beside-editor"));
 
 let own = null; // what was typed, while an example is shown
 let shown = null; // the time that the picture shows
+let slow = 0; // the timer after which it is said that a run goes on
 let made = ""; // the script that the last table of streams gave
 let turn = 0; // the number of the run whose results are wanted
 
@@ -90,6 +91,7 @@ function linesIn(output) {
 
 function sayStatus({ status, output, time }) {
   const names = { 0: "Done", 2: "A value is refused", 3: "The input has a fault", 4: "Memory was wanting" };
+  clearTimeout(slow);
   const after = status === 3 ? " before it" : "";
   at("status").textContent = `${names[status]}: ${count(linesIn(output), "line")}${after}, in ${time.toFixed(time < 10 ? 1 : 0)} ms (status ${status}).`;
 }
@@ -169,17 +171,20 @@ function showError(error) {
 // Begins a run of all or of the picture alone; one that still goes on is stopped.
 async function begin(what) {
   const mine = ++turn;
+  clearTimeout(slow);
   if (!at("stop").disabled) runner.stop();
   clearFault();
   running(true);
-  const slow = setTimeout(() => (at("status").textContent = "Running ..."), 300);
+  slow = setTimeout(() => (at("status").textContent = "Running ..."), 300);
   try {
     await what(mine);
   } catch (error) {
     if (mine === turn) showError(error);
   } finally {
-    clearTimeout(slow);
-    if (mine === turn) running(false);
+    if (mine === turn) {
+      clearTimeout(slow);
+      running(false);
+    }
   }
 }
 
