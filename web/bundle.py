@@ -10,8 +10,10 @@ import sys
 WEB = pathlib.Path(__file__).resolve().parent
 IMPORT = re.compile(r'^import \{[^}]*\} from "\./([a-z]+\.js)";\n', re.M)
 KINDS = {".script": "script", ".schedules": "check", ".streams": "streams"}
-# The line on its words that a document of the repository gives to an example, where the program is to be run with more than its input.
-OPTIONS = {"summary.script": {"summary": "1"}, "windows.schedules": {"windows": "1"}}
+# How the repository's program of examples lists them: with answers and a flag, and with a picture and the time that it shows.
+LISTED = re.compile(r'\("(\w+\.\w+)",\s*"\w+\.answers",\s*true,?\s*\)')
+DRAWN = re.compile(r'\(\s*"(\w+\.\w+)",\s*"\w+\.svg",\s*([\d_]+),\s*(?:None|Some\(([\d_]+)\)),?\s*\)')
+FLAGS = {"script": "summary", "check": "windows", "streams": ""}
 
 
 def modules(name, seen):
@@ -40,8 +42,19 @@ def bundle(name):
     return text
 
 
+def options(folder):
+    """The options with which the program of examples runs and draws each example, where it has any."""
+    text = (folder.resolve().parent / "src" / "main.rt").read_text(encoding="utf-8")
+    found = {name: {FLAGS[KINDS["." + name.partition(".")[2]]]: "1"} for name in LISTED.findall(text)}
+    for name, begin, end in DRAWN.findall(text):
+        times = {"from": begin.replace("_", ""), "to": end.replace("_", "")}
+        found.setdefault(name, {}).update({key: value for key, value in times.items() if value not in ("", "0")})
+    return found
+
+
 def examples(folder):
     """The examples by name: what kind each is, its text, its options, and for a table the script that goes among its frames."""
+    given = options(folder)
     found = []
     for path in sorted(folder.iterdir()):
         if path.suffix not in KINDS:
@@ -50,7 +63,7 @@ def examples(folder):
         entry = {"name": path.name, "job": KINDS[path.suffix], "text": path.read_text(encoding="utf-8")}
         if path.suffix == ".streams" and beside.exists():
             entry["beside"] = beside.read_text(encoding="utf-8")
-        found.append(entry | OPTIONS.get(path.name, {}))
+        found.append(entry | given.get(path.name, {}))
     return found
 
 

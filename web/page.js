@@ -8,6 +8,7 @@ import { between, shownIn, stepped } from "./picture.js";
 import { writeMoment } from "./moments.js";
 
 const SHOWN = 200_000; // characters of answers that are shown
+const RUNNING = "Running ..."; // what is said of a run that takes long
 const OWN = "own"; // the example that is what was typed
 
 const at = (id) => document.getElementById(id);
@@ -71,13 +72,12 @@ const editorOf = (source) => (job() === "streams" && source === "script" ? besid
 function showFault(text) {
   const { text: words, line, source } = explain(text);
   at("fault-text").textContent = words;
-  at("go").hidden = line === null;
-  if (line !== null) {
-    editorOf(source).markLine(line);
-    at("go").onclick = () => editorOf(source).goTo(line);
-  }
-  const field = /--(\w+)/.exec(words)?.[1];
-  if (field) at(field)?.setAttribute("aria-invalid", "true");
+  const field = at(/--(\w+)/.exec(words)?.[1] ?? "");
+  field?.setAttribute("aria-invalid", "true");
+  if (line !== null) editorOf(source).markLine(line);
+  at("go").hidden = line === null && !field;
+  at("go").textContent = field ? "Go to the option" : "Go to the line";
+  at("go").onclick = () => (field ? field.focus() : editorOf(source).goTo(line));
   at("fault").hidden = false;
 }
 
@@ -175,7 +175,8 @@ async function begin(what) {
   if (!at("stop").disabled) runner.stop();
   clearFault();
   running(true);
-  slow = setTimeout(() => (at("status").textContent = "Running ..."), 300);
+  const before = at("status").textContent;
+  slow = setTimeout(() => (at("status").textContent = RUNNING), 300);
   try {
     await what(mine);
   } catch (error) {
@@ -183,11 +184,13 @@ async function begin(what) {
   } finally {
     if (mine === turn) {
       clearTimeout(slow);
+      if (at("status").textContent === RUNNING) at("status").textContent = before;
       running(false);
     }
   }
 }
 
+// Begins a run; the picture shows the whole of it, or what is asked for.
 const runAll = () => begin(work);
 const runPicture = () => begin(draw);
 

@@ -10,6 +10,7 @@ import tempfile
 import threading
 import time
 
+from bundle import options
 from browsers import Broken, Chromium, Firefox, wait_for
 
 WEB = pathlib.Path(__file__).resolve().parent
@@ -17,7 +18,7 @@ TOP = WEB.parent
 OUT = WEB / "out"
 EXAMPLES = TOP / "examples"
 SHOTS = OUT / "shots"
-WORDS = {"summary.script": ["--summary"], "windows.schedules": ["--windows"]}
+OPTIONS_OF = options(TOP / "examples")
 PS = {"ps": 1, "ns": 10**3, "us": 10**6, "ms": 10**9, "s": 10**12}
 
 
@@ -129,20 +130,26 @@ def moment(text):
     return str((int(whole + part) * PS[unit]) // 10 ** len(part))
 
 
-def try_script(page, path):
+def words_of(path, *names):
+    """The words of the program for the options of an example, of these names."""
+    given = {name: value for name, value in OPTIONS_OF.get(path.name, {}).items() if name in names}
+    return [word for name, value in given.items() for word in ([f"--{name}"] if value == "1" else [f"--{name}", value])]
+
+
+def try_script(page, path, *times):
     text = path.read_bytes()
-    _, wanted, _ = program("script", *WORDS.get(path.name, []), text=text)
+    _, wanted, _ = program("script", *words_of(path, "summary"), text=text)
     page.answers(path.name, wanted)
-    page.picture(path.name, text)
+    page.picture(path.name, text, *times)
 
 
 def try_examples(page):
     for path in sorted(EXAMPLES.glob("*.script")):
         page.choose(path.name)
-        try_script(page, path)
+        try_script(page, path, *words_of(path, "from", "to"))
     for path in sorted(EXAMPLES.glob("*.schedules")):
         page.choose(path.name)
-        page.answers(path.name, program("check", *WORDS.get(path.name, []), text=path.read_bytes())[1])
+        page.answers(path.name, program("check", *words_of(path, "windows"), text=path.read_bytes())[1])
     for path in sorted(EXAMPLES.glob("*.streams")):
         page.choose(path.name)
         wanted = program("streams", "--with", path.with_suffix(".schedule"), text=path.read_bytes())[1]
@@ -155,7 +162,7 @@ def try_examples(page):
 def try_typing(page):
     for path in sorted(EXAMPLES.glob("*.script")):
         page.choose("first.script")
-        page.set("summary", path.name in WORDS)
+        page.set("summary", "summary" in OPTIONS_OF.get(path.name, {}))
         page.type(path.read_text(encoding="utf-8"))
         try_script(page, path)
 
@@ -218,6 +225,8 @@ def window(page):
 def try_zoom(page):
     page.choose("schedule.script")
     text = (EXAMPLES / "schedule.script").read_bytes()
+    page.click("[data-step=whole]")
+    page.settle()
     for step in ("nearer", "nearer", "later", "earlier", "farther"):
         page.click(f"[data-step={step}]")
         page.settle()
