@@ -4,6 +4,7 @@ import { Editor } from "./editor.js";
 import { BadOption, setOptions, valuesFor, wordsOfOptions } from "./options.js";
 import { readLink, writeLink } from "./link.js";
 import { explain } from "./faults.js";
+import { refusedCommands } from "./commands.js";
 import { between, shownIn, stepped } from "./picture.js";
 import { writeMoment } from "./moments.js";
 
@@ -58,6 +59,22 @@ function showAnswers(output) {
   at("save-answers").download = job() === "streams" ? "traffic.script" : "answers.txt";
   made = job() === "streams" ? text : "";
   at("take").hidden = made === "";
+}
+
+// Lists the schedule commands that weren't taken, each as a button to its line.
+function showRefused(output) {
+  const refused = job() === "streams" ? [] : refusedCommands(editor.text, new TextDecoder().decode(output));
+  const items = refused.map(({ line, answer }) => {
+    const button = document.createElement("button");
+    button.type = "button";
+    button.textContent = `Line ${line}: ${answer}`;
+    button.addEventListener("click", () => editor.goTo(line));
+    const item = document.createElement("li");
+    item.append(button);
+    return item;
+  });
+  at("refused-list").replaceChildren(...items);
+  at("refused").hidden = items.length === 0;
 }
 
 function clearFault() {
@@ -153,6 +170,7 @@ async function work(mine) {
   const told = await ask(mine, name, valuesFor(name));
   if (!told) return;
   showAnswers(told.output);
+  showRefused(told.output);
   sayStatus(told);
   if (told.status !== 0) showFault(told.fault);
   if (name !== "script") return;

@@ -218,6 +218,24 @@ def try_faults(page):
         page.same("invalid", page.do(f"return at('{name}').getAttribute('aria-invalid')"), "true")
 
 
+REFUSED = """# a comment: tc
+tc qdisc replace dev eth0 root taprio num_tc 8 map 0 1 2 3 4 5 6 7 \\
+  sched-entry S 01 300000
+ tc qdisc replace dev eth0 root taprio num_tc 2
+frame 1 0 60
+tc qdisc replace dev eth0 root taprio num_tc 8 map 0 1 2 3 4 5 6 7 sched-entry S 01 4
+"""
+
+
+def try_refused(page):
+    page.choose("first.script")
+    page.type(REFUSED)
+    page.same("refused", page.do("return [...document.querySelectorAll('#refused-list button')].map((it) => it.textContent)"),
+              ["Line 4: tc-fault MissingWord map", "Line 6: refused IntervalTooShort 0"])
+    page.click("#refused-list button")
+    page.same("line of a command", page.do("const it = at('text'); return it.value.slice(it.selectionStart, it.selectionEnd)"), REFUSED.split("\n")[3])
+
+
 def window(page):
     return [moment(page.do(f"return at('{name}').value")) for name in ("from", "to")]
 
@@ -342,7 +360,7 @@ def try_looks(page):
     shoot(page, "streams")
 
 
-TRIES = [try_examples, try_typing, try_options, try_worked, try_faults, try_zoom, try_link, try_stop, try_access, try_looks]
+TRIES = [try_examples, try_typing, try_options, try_worked, try_faults, try_refused, try_zoom, try_link, try_stop, try_access, try_looks]
 
 
 def try_page(kind, address, server):
