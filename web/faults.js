@@ -1,0 +1,25 @@
+// What faults say, in words.
+
+const MEANINGS = {
+  LongLine: "the line has more than 65,536 octets.",
+  TooManyLines: "there are more than 4,000,000 lines.",
+  UnknownLine: "the first word of the line is none that may stand there.",
+  WordCount: "the line has too few or too many words.",
+  BadNumber: "a word is no number, or is out of its range.",
+  ClockTooLate: "the moment is after the greatest, 9223372036854775807000 ps.",
+};
+
+/**
+ * The place and the meaning of a fault.
+ *
+ * @param {string} text as the program says it
+ * @returns {{text: string, line: number | null, source: "script" | "table" | null}}
+ */
+export function explain(text) {
+  const said = text.trim().replace(/^taprio_port: /, "");
+  const found = /^(script|table) line (\d+): (\w+)/.exec(said);
+  if (!found) return { text: said, line: null, source: null };
+  const [, source, line, name] = found;
+  const meaning = MEANINGS[name];
+  return { text: `Line ${line}: ${name}${meaning ? `, ${meaning}` : ""}`, line: Number(line), source };
+}

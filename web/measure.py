@@ -1,0 +1,61 @@
+#!/usr/bin/env python3
+"""Measures the page of web/out beside the program of the repository: times until it has run its first example, and of long scripts."""
+import json
+import random
+import statistics
+import subprocess
+import sys
+import tempfile
+import time
+
+from browsers import Chromium, Firefox
+from test import OUT, TOP, Page
+
+sys.path.insert(0, str(TOP / "bench"))
+import workloads  # noqa: E402
+
+RUNS = 3
+LOADED = "const it = performance.timing; return it.domContentLoadedEventEnd - it.navigationStart"
+
+
+def of_program(text):
+    """The seconds that the program takes, and what it answers."""
+    begun = time.monotonic()
+    ran = subprocess.run([TOP / "taprio_port", "script"], input=text.encode(), capture_output=True, check=True)
+    return time.monotonic() - begun, ran.stdout
+
+
+def of_page(page, text, wanted):
+    """The milliseconds that the page says for the script."""
+    page.do(f"at('text').value = {json.dumps(text)}")
+    page.run(300)
+    page.same("a long script", page.saved("save-answers"), wanted)
+    return float(page.text("status").split(" in ")[1].split(" ms")[0].replace(",", ""))
+
+
+def measure(kind, scripts):
+    with tempfile.TemporaryDirectory() as downloads:
+        browser = kind(downloads)
+        try:
+            browser.look()
+            page = Page(browser, downloads, (OUT / "taprio.html").as_uri())
+            print(f"{browser.name}: {page.do(LOADED)} ms to the page; {page.text('status')}")
+            for name, text, seconds, wanted in scripts:
+                times = [of_page(page, text, wanted) for _ in range(RUNS)]
+                print(f"{browser.name}, {name}: {statistics.median(times):.0f} ms; the program {1000 * seconds:.0f} ms", flush=True)
+        finally:
+            browser.close()
+
+
+def main():
+    scripts = []
+    for name, lines in (("open", workloads.open_gates), ("sched16", workloads.sixteen_entries)):
+        text = "\n".join(list(lines(random.Random(1), 100_000))) + "\n"
+        runs = [of_program(text) for _ in range(RUNS)]
+        scripts.append((f"{name}, {text.count(chr(10)):,} lines", text, statistics.median(it[0] for it in runs), runs[0][1]))
+    for kind in (Chromium, Firefox):
+        measure(kind, scripts)
+
+
+if __name__ == "__main__":
+    main()

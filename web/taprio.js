@@ -1,0 +1,196 @@
+// Calls the port's WebAssembly module, as c/taprio.h declares it. Only this file knows where its values lie, and where its heap is.
+
+/** The jobs that the module does, by the names of the program's. */
+export const JOBS = ["script", "draw", "check", "streams"];
+
+const BLOCK = 16; // octets of the least block of the heap, and of what stands before each block
+const PAGE = 65536; // octets of a page of the module's memory
+const PORT_VALUES = 40; // octets of struct taprio_port_values
+const PICTURE_VALUES = 48; // octets of struct taprio_picture_values
+const RAN = 24; // octets of struct taprio_ran
+const NO_ROOM = 5; // the status where a slice has too little room
+const FAULT_ROOM = 256;
+const LEAST_ROOM = 1 << 20;
+
+/** The module's heap: from its end on, blocks of 16 * 2^k octets, each behind 16 octets that hold its k. */
+class Heap {
+  #free = new Map();
+
+  /** @param {WebAssembly.Exports} exports the instance's */
+  bind(exports) {
+    this.memory = exports.memory;
+    this.end = Math.ceil(Number(exports.__heap_base.value) / BLOCK) * BLOCK;
+  }
+
+  view() {
+    return new DataView(this.memory.buffer);
+  }
+
+  /** A block of at least this many octets, or 0 where there is none. */
+  take(length) {
+    let k = 0;
+    while (BLOCK * 2 ** k < length) k += 1;
+    const freed = this.#free.get(k);
+    if (freed?.length) return freed.pop();
+    const at = this.end + BLOCK;
+    const end = at + BLOCK * 2 ** k;
+    if (!this.#reach(end)) return 0;
+    this.end = end;
+    this.view().setUint8(at - BLOCK, k);
+    return at;
+  }
+
+  /** Gives a block back. */
+  give(at) {
+    const k = this.view().getUint8(at - BLOCK);
+    if (!this.#free.has(k)) this.#free.set(k, []);
+    this.#free.get(k).push(at);
+  }
+
+  /** What the module imports. */
+  imports() {
+    return {
+      page_alloc: (result, length) => this.#tell(result, this.take(Number(length))),
+      page_realloc: (result, at, kept, length) =>
+        this.#tell(result, this.#resize(Number(at), Number(kept), Number(length))),
+      page_dealloc: (at) => this.give(Number(at)),
+    };
+  }
+
+  // Whether the memory reaches this far, grown where it didn't.
+  #reach(end) {
+    const lacking = end - this.memory.buffer.byteLength;
+    if (lacking <= 0) return true;
+    try {
+      this.memory.grow(BigInt(Math.ceil(lacking / PAGE)));
+      return true;
+    } catch {
+      return false;
+    }
+  }
+
+  #resize(old, kept, length) {
+    const k = this.view().getUint8(old - BLOCK);
+    if (length <= BLOCK * 2 ** k) return old;
+    const at = this.take(length);
+    if (at) {
+      new Uint8Array(this.memory.buffer).copyWithin(at, old, old + kept);
+      this.give(old);
+    }
+    return at;
+  }
+
+  // Writes { ok: bool, p: *mut u8 }: a refusal has a pointer too, that isn't null.
+  #tell(result, at) {
+    const view = this.view();
+    view.setUint8(Number(result), at ? 1 : 0);
+    view.setBigUint64(Number(result) + 8, BigInt(at || BLOCK), true);
+  }
+}
+
+// Writes a moment as its lower and its upper 64 bits.
+function putMoment(view, at, moment) {
+  const value = moment ?? 0n;
+  view.setBigUint64(at, BigInt.asUintN(64, value), true);
+  view.setBigUint64(at + 8, BigInt.asUintN(64, value >> 64n), true);
+}
+
+// Writes struct taprio_port_values.
+function putPort(view, at, values) {
+  view.setUint32(at, values.rate, true);
+  view.setUint32(at + 4, values.mtu, true);
+  view.setUint32(at + 8, values.room, true);
+  view.setUint32(at + 12, values.summary ? 1 : 0, true);
+  view.setBigUint64(at + 16, values.until === null ? 0n : 1n, true);
+  putMoment(view, at + 24, values.until);
+}
+
+// Writes struct taprio_picture_values.
+function putPicture(view, at, values) {
+  putMoment(view, at, values.from);
+  view.setBigUint64(at + 16, values.to === null ? 0n : 1n, true);
+  putMoment(view, at + 24, values.to);
+  view.setUint32(at + 40, values.width, true);
+  view.setUint32(at + 44, 0, true);
+}
+
+// What each job calls, and the words of the call before its outputs; a slice is its address and its length.
+const CALLS = {
+  script: ["taprio_run", (at, { input }) => [at.port, at.input, input.length]],
+  draw: ["taprio_draw", (at, { input }) => [at.port, at.picture, at.input, input.length]],
+  streams: ["taprio_streams", (at, { input, beside }) => [at.input, input.length, at.beside, beside.length]],
+};
+
+// Calls the module: addresses and lengths are 64 bits wide, the two numbers of a check are 32.
+function call(exports, at, request, room) {
+  const ends = [at.output, room, at.fault, FAULT_ROOM, at.ran].map(BigInt);
+  if (request.job === "check") {
+    const { rate, windows } = request.values;
+    exports.taprio_check(rate, windows ? 1 : 0, BigInt(at.input), BigInt(request.input.length), ...ends);
+    return;
+  }
+  const [name, words] = CALLS[request.job];
+  exports[name](...words(at, request).map(BigInt), ...ends);
+}
+
+const memoryWanting = () => ({ status: 4, output: new Uint8Array(), fault: "taprio_port: out of memory\n" });
+
+// Blocks for all that a call is given and tells, or null.
+function blocksFor(heap, request, room) {
+  const lengths = {
+    input: request.input.length,
+    beside: request.beside.length,
+    output: room,
+    fault: FAULT_ROOM,
+    port: PORT_VALUES,
+    picture: PICTURE_VALUES,
+    ran: RAN,
+  };
+  const at = {};
+  for (const [name, length] of Object.entries(lengths)) {
+    at[name] = heap.take(length);
+    if (!at[name]) return null;
+  }
+  return at;
+}
+
+// What struct taprio_ran and the slices tell.
+function tellOf(heap, at) {
+  const view = heap.view();
+  const status = view.getUint8(at.ran + 16);
+  const [written, said] = [at.ran, at.ran + 8].map((place) => Number(view.getBigUint64(place, true)));
+  if (status === NO_ROOM) return { status, wanted: written };
+  if (status === 4) return memoryWanting();
+  const octets = (from, length) => new Uint8Array(heap.memory.buffer, from, length).slice();
+  return { status, output: octets(at.output, written), fault: new TextDecoder().decode(octets(at.fault, said)) };
+}
+
+function runWith(module, request, room) {
+  const heap = new Heap();
+  const { exports } = new WebAssembly.Instance(module, { heap: heap.imports() });
+  heap.bind(exports);
+  const at = blocksFor(heap, request, room);
+  if (!at) return memoryWanting();
+  const memory = new Uint8Array(heap.memory.buffer);
+  memory.set(request.input, at.input);
+  memory.set(request.beside, at.beside);
+  putPort(heap.view(), at.port, request.values);
+  putPicture(heap.view(), at.picture, request.values);
+  call(exports, at, request, room);
+  return tellOf(heap, at);
+}
+
+/**
+ * Does a job in an instance of its own, so that nothing is left of a run that was broken off.
+ *
+ * @param {WebAssembly.Module} module the port's
+ * @param {{job: string, input: Uint8Array, beside: Uint8Array, values: object}} request the job, its input, the script that goes
+ *   among the frames of a table of streams, and the values of the options: numbers, moments as BigInt or null, and booleans
+ * @returns {{status: number, output: Uint8Array, fault: string}} as the program would end, write, and say on its standard error
+ */
+export function run(module, request) {
+  if (!JOBS.includes(request.job)) throw new Error(`no job ${request.job}`);
+  const room = Math.max(LEAST_ROOM, 8 * request.input.length);
+  const told = runWith(module, request, room);
+  return told.status === NO_ROOM ? runWith(module, request, told.wanted) : told;
+}
