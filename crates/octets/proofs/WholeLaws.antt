@@ -1,15 +1,37 @@
--- Some outcome belongs to each result of a run and what it has written.
-use Rattle.std.proofs.Common.{◌≡◌, ◌<◌, refl, ℕ, List, [], ◌∷◌, ◌++◌, length, Option, Some, None, Result, Ok, Err, rules}
+-- Some picture belongs to each result of a run that is drawn, and to what it has written.
+use Rattle.std.proofs.Common.{◌≡◌, ◌<◌, refl, sym, ℕ, List, [], ◌∷◌, ◌++◌, length, Option, Some, None, Result, Ok, Err, rules, subst}
+use Rattle.std.specs.Io.KnownBytes.{Appends, Keeps}
+use Rattle.drawing.specs.Ending.{IsDrawn}
 use Rattle.script.specs.Outcome.{Outcome, Runs}
 use Rattle.script.specs.declared.faults.RunFault.{RunFault}
 use Rattle.script.specs.declared.faults.RunFault.TheVariants as Faults
+use Rattle.script.specs.declared.faults.ScriptFault.{ScriptFault}
+use Rattle.octets.specs.Pictures.{drawn_with}
 
-pub some_whole : (run : Result (Unit {0}) RunFault) (written : List ℕ) → (whole : Outcome) × Runs {T = Unit {0}} run (Some []) (Some written) whole
-some_whole (Ok done) written = (record { text = written; fault = None }, (refl, refl))
-some_whole (Err (Faults.Script line fault)) written = (record { text = written; fault = Some (line, fault) }, (refl, refl))
-some_whole (Err Faults.Read) written =
-    (record { text = written ++ []; fault = None }, ([], record { done = written; appended = refl; parts = refl }))
-some_whole (Err Faults.Write) written =
-    (record { text = written ++ 0 ∷ []; fault = None }, (0 ∷ [], search rules, record { done = written; appended = refl; parts = refl }))
-some_whole (Err Faults.Memory) written =
-    (record { text = written ++ []; fault = None }, ([], record { done = written; appended = refl; parts = refl }))
+-- the picture of a run that has written this: at a failed write there is more of it
+abbrev pub picture_of : Result (Unit {0}) RunFault → List ℕ → List ℕ
+picture_of (Ok done) written = written
+picture_of (Err (Faults.Script line fault)) written = []
+picture_of (Err Faults.Read) written = []
+picture_of (Err Faults.Write) written = written ++ 0 ∷ []
+picture_of (Err Faults.Memory) written = []
+
+-- a run without a fault of its script
+drawn_whole : (run : Result (Unit {0}) RunFault) (written picture : List ℕ) (first : Option (ℕ × ScriptFault)) → first ≡ None
+    → Runs run (Some []) (Some written) (record { text = picture; fault = None }) → Runs run (Some []) (Some written) (drawn_with picture first)
+drawn_whole run written picture first none runs = subst (λ f. Runs run (Some []) (Some written) (drawn_with picture f)) (sym none) runs
+
+-- nothing is written, whatever is to come
+front_of_nothing : (written : List ℕ) (whole : Outcome) → written ≡ [] → Runs {T = Unit {0}} (Err Faults.Memory) (Some []) (Some written) whole
+front_of_nothing written whole empty = (whole.text, record { done = []; appended = empty; parts = refl })
+
+pub some_picture : (run : Result (Unit {0}) RunFault) (written : List ℕ) (first : Option (ℕ × ScriptFault)) → IsDrawn run (Some []) (Some written) first
+    → Runs run (Some []) (Some written) (drawn_with (picture_of run written) first)
+some_picture (Ok done) written first drawn = drawn_whole (Ok done) written written first drawn (refl, refl)
+some_picture (Err (Faults.Script line fault)) written first drawn =
+    let P : Option (ℕ × ScriptFault) → Type 0 = λ f. Runs {T = Unit {0}} (Err (Faults.Script line fault)) (Some []) (Some written) (drawn_with [] f) in
+    subst P (sym drawn.0) (refl, drawn.1)
+some_picture (Err Faults.Read) written first drawn = front_of_nothing written (drawn_with [] first) drawn
+some_picture (Err Faults.Write) written first drawn =
+    drawn_whole (Err Faults.Write) written (written ++ 0 ∷ []) first drawn (0 ∷ [], search rules, record { done = written; appended = refl; parts = refl })
+some_picture (Err Faults.Memory) written first drawn = front_of_nothing written (drawn_with [] first) drawn

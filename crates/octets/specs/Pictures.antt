@@ -1,10 +1,15 @@
 -- What a drawing over memory tells, and what it leaves in the two slices that it is lent.
-use Rattle.std.specs.Prelude.{Option, Some, Result, Ok, Err, decimal, option_map}
+use Rattle.std.specs.Prelude.{List, ℕ, [], Option, Some, None, Result, Ok, Err, decimal, option_map}
+use Rattle.abstract_port.specs.declared.Command.{Command}
+use Rattle.drawing.specs.Ending.{fault_in}
 use Rattle.drawing.specs.Options.{options_of}
 use Rattle.drawing.specs.declared.options.DrawOptions.{DrawOptions}
 use Rattle.script.specs.Outcome.{Outcome}
 use Rattle.script.specs.Setup.{Setup}
 use Rattle.script.specs.declared.settings.BadValue.{BadValue}
+use Rattle.script.specs.declared.faults.ScriptFault.{ScriptFault}
+use Rattle.tc_reader.specs.Reader.{IsReader}
+use Rattle.tc_reader.specs.declared.fault.TcFault.{TcFault}
 use Rattle.octets.specs.Slices.{Answers, Slices, refused, told_of}
 use Rattle.octets.specs.declared.answering.Ran.{Ran}
 use Rattle.octets.specs.declared.pictures.PictureValues.{PictureValues}
@@ -13,12 +18,18 @@ use Rattle.octets.specs.declared.pictures.PictureValues.{PictureValues}
 abbrev pub options_at : PictureValues → Result DrawOptions BadValue
 options_at v = options_of (Some (decimal v.from)) (option_map decimal v.to) (Some (decimal v.width))
 
--- Some output is told, with no fault or with one of a script. What a picture's text is, and which fault a script has, is not said here.
-abbrev pub Draws : Ran → Slices → Slices → Type 0
-Draws ran old new = (whole : Outcome) × Answers (told_of whole) ran old new
+-- this picture, or, where the script has a fault, no picture and its first fault
+abbrev pub drawn_with : List ℕ → Option (ℕ × ScriptFault) → Outcome
+drawn_with picture None = record { text = picture; fault = None }
+drawn_with picture (Some fault) = record { text = []; fault = Some fault }
+
+-- Some picture of a script is told, or its first fault. What a picture's text is, is not said here.
+abbrev pub Draws : List ℕ → Ran → Slices → Slices → Type 0
+Draws script ran old new =
+    (picture : List ℕ) × ((read : List (List ℕ) → Result Command TcFault) → IsReader read → Answers (told_of (drawn_with picture (fault_in read script))) ran old new)
 
 -- by the settings and the options: the first bad value is told, and nothing is drawn
-abbrev pub DrawsWith : Result Setup BadValue → Result DrawOptions BadValue → Ran → Slices → Slices → Type 0
-DrawsWith (Err value) options ran old new = Answers (refused value) ran old new
-DrawsWith (Ok settings) (Err value) ran old new = Answers (refused value) ran old new
-DrawsWith (Ok settings) (Ok options) ran old new = Draws ran old new
+abbrev pub DrawsWith : Result Setup BadValue → Result DrawOptions BadValue → List ℕ → Ran → Slices → Slices → Type 0
+DrawsWith (Err value) options script ran old new = Answers (refused value) ran old new
+DrawsWith (Ok settings) (Err value) script ran old new = Answers (refused value) ran old new
+DrawsWith (Ok settings) (Ok options) script ran old new = Draws script ran old new

@@ -50,7 +50,7 @@ fn draw_with(
     output: &mut [u8],
     fault: &mut [u8],
 ) -> Ran
-    ensures { Draws result (slices output.old fault.old) (slices output.new fault.new) }
+    ensures { Draws script.now result (slices output.old fault.old) (slices output.new fault.new) }
 {
     let mut written = Vec::new(alloc);
     let run = draw(alloc, script, &mut written, settings, options);
@@ -60,7 +60,7 @@ fn draw_with(
 /// Draws the run of a script with these values: the picture, as `drawing::draw` writes it, comes into `output`, and the text of a fault into
 /// `fault`, as the program writes it on its standard error. The memory is that of `Global`, as a drawing's is.
 ///
-/// Status 2 where a value is out of its limits, first those of the port; 3 where a line has a fault.
+/// Status 2 where a value is out of its limits, first those of the port; 3 where a line has a fault, with its text and no picture.
 pub fn draw_octets(
     alloc: Global,
     values: PortValues,
@@ -69,7 +69,7 @@ pub fn draw_octets(
     output: &mut [u8],
     fault: &mut [u8],
 ) -> Ran
-    ensures { DrawsWith (settings_at values) (options_at shown) result (slices output.old fault.old) (slices output.new fault.new) }
+    ensures { DrawsWith (settings_at values) (options_at shown) script.now result (slices output.old fault.old) (slices output.new fault.new) }
 {
     let settings = match settings_at(values) {
         Ok(settings) => settings,

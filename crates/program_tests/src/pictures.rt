@@ -94,23 +94,32 @@ fn nothing_is_drawn_at_a_fault(rt: HostRuntime) -> Result<(), Fail> {
 #[test]
 fn bad_values_of_a_picture(rt: HostRuntime) -> Result<(), Fail> {
     let rows: [(&[&str], &[u8]); 5] = [
-        (&["draw", "--width", "399"], b"--width"),
-        (&["draw", "--width", "2401"], b"--width"),
-        (&["draw", "--from", "x"], b"--from"),
-        (&["draw", "--from", "5", "--to", "5"], b"--to"),
-        (&["draw", "--rate", "0"], b"--rate"),
+        (
+            &["draw", "--width", "399"],
+            b"taprio_port: bad value of --width\n",
+        ),
+        (
+            &["draw", "--width", "2401"],
+            b"taprio_port: bad value of --width\n",
+        ),
+        (
+            &["draw", "--from", "x"],
+            b"taprio_port: bad value of --from\n",
+        ),
+        (
+            &["draw", "--from", "5", "--to", "5"],
+            b"taprio_port: bad value of --to\n",
+        ),
+        (
+            &["draw", "--rate", "0"],
+            b"taprio_port: bad value of --rate\n",
+        ),
     ];
-    for (words, option) in rows {
+    for (words, told) in rows {
         let outcome = outcome_of(&rt, words, SCRIPT)?;
         assert_eq!(rt; outcome.status, 2);
         assert!(rt; outcome.answers.is_empty());
-        assert!(rt;
-            outcome
-                .errors
-                .as_slice()
-                .windows(option.len())
-                .any(|part| part == option)
-        );
+        assert_eq!(rt; outcome.errors.as_slice(), told);
     }
     Ok(())
 }

@@ -89,7 +89,7 @@ pub extern "C" fn taprio_draw(
     fault: &mut [u8],
     ran: &mut Ran,
 )
-    ensures { DrawsWith (settings_at (port_values values.now)) (options_at (picture_values shown.now)) ran.new (slices output.old fault.old) (slices output.new fault.new) }
+    ensures { DrawsWith (settings_at (port_values values.now)) (options_at (picture_values shown.now)) script.now ran.new (slices output.old fault.old) (slices output.new fault.new) }
 {
     let shown = picture_values(shown);
     *ran = draw_octets(alloc, port_values(values), shown, script, output, fault);

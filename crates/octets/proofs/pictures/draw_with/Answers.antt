@@ -1,5 +1,14 @@
-use Rattle.octets.proofs.WholeLaws.{some_whole}
+use Rattle.std.proofs.Common.{List, [], Some, rules}
+use Rattle.drawing.specs.Ending.{IsDrawn, fault_in}
+use Rattle.octets.specs.Pictures.{drawn_with}
+use Rattle.octets.proofs.WholeLaws.{picture_of, some_picture}
 use Rattle.octets.proofs.pictures.draw_with.Goals as goal
 
 pub returns : goal.returns
-returns c = let whole = some_whole c.draw-run.result c.as_slice.result.now in (whole.0, c.end_in_memory.ensures whole.0 whole.1)
+returns c =
+    let written = c.as_slice.result.now in
+    (picture_of c.draw-run.result written,
+        λ read is. let first = fault_in read c.args.script.now in
+        let drawn = c.draw-run.ensures read is in
+        let same : IsDrawn c.draw-run.result (Some []) (Some written) first = search rules in
+        c.end_in_memory.ensures (drawn_with (picture_of c.draw-run.result written) first) (some_picture c.draw-run.result written first same))
