@@ -26,8 +26,10 @@
  * - Inputs and values are initialised, and so are the slices that are written.
  * - `ran` and the values are aligned as their types are, to 8 octets; slices of octets have no alignment.
  * - Nothing that a running call was handed is read or written meanwhile, but inputs and values, which may be read.
- * - malloc, realloc and free are those of one allocator, and align each block of 16 octets or more to 16. What a call takes it
- *   gives back before it returns: a few tens of kilobytes, and room for its output.
+ * - malloc, realloc and free are those of one allocator, and align a block to each power of two up to 16 that divides its size.
+ *   What a call takes of them it gives back before it returns; it is room for its outputs too.
+ * - The stack has 2 MB left. On x86-64 the calls were seen to take up to 640 kB of it, and no proof says how much; a thread's stack
+ *   has 8 MB by default under glibc, but 128 kB under musl.
  * - No call is made from a signal handler, or in a child that a program with threads has forked.
  * A call keeps nothing for the next one: calls with different outputs may run in several threads at once.
  *

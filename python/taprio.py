@@ -138,27 +138,23 @@ def _octets(text):
     return bytes(memoryview(text))
 
 
-def _number(value, bits, option):
-    """A number that fits a field of so many bits; every limit of a value lies below."""
+def _number(value, bits, name):
+    """A whole number in a field of so many bits. One that does not fit is the greatest, which is over the limits of every value."""
     if not isinstance(value, int):
-        raise TypeError(f"{option[2:]} is a whole number")
-    if not 0 <= value < 2**bits:
-        raise BadValue(f"bad value of {option}", option)
-    return int(value)
+        raise TypeError(f"{name} is a whole number")
+    return int(value) if 0 <= value < 2**bits else 2**bits - 1
 
 
-def _halves(moment, option):
+def _halves(moment, name):
     if moment is None:
         return 0, 0, 0
-    moment = _number(moment, 128, option)
+    moment = _number(moment, 128, name)
     return 1, moment & 0xFFFF_FFFF_FFFF_FFFF, moment >> 64
 
 
 def _port(rate, mtu, room, until, summary):
-    has_until, low, high = _halves(until, "--until")
-    return _PortValues(
-        _number(rate, 32, "--rate"), _number(mtu, 32, "--mtu"), _number(room, 32, "--room"), bool(summary), has_until, low, high
-    )
+    numbers = _number(rate, 32, "rate"), _number(mtu, 32, "mtu"), _number(room, 32, "room")
+    return _PortValues(*numbers, bool(summary), *_halves(until, "until"))
 
 
 def _call(function, given, ran, names, guess):
@@ -211,7 +207,7 @@ def run(script, rate=1000, mtu=1500, room=128, until=None, summary=False):
 def check(schedules, rate=1000, windows=False):
     """Tells of each schedule command which classes it keeps apart, with `windows` also what it gives each class."""
     schedules = _octets(schedules)
-    given = [_number(rate, 32, "--rate"), bool(windows), schedules, len(schedules)]
+    given = [_number(rate, 32, "rate"), bool(windows), schedules, len(schedules)]
     return _one(_LIBRARY.taprio_check, given, 4 * len(schedules) + 4096)
 
 
@@ -228,9 +224,9 @@ def draw(script, rate=1000, mtu=1500, room=128, until=None, begin=0, end=None, w
     `begin` is at most 9223372036854774807000, `end` after it and at most 9223372036854775807000, `width` 400 to 2400.
     """
     script = _octets(script)
-    _, from_low, from_high = _halves(begin, "--from")
-    has_to, to_low, to_high = _halves(end, "--to")
-    shown = _PictureValues(from_low, from_high, has_to, to_low, to_high, _number(width, 32, "--width"), 0)
+    _, from_low, from_high = _halves(begin, "begin")
+    has_to, to_low, to_high = _halves(end, "end")
+    shown = _PictureValues(from_low, from_high, has_to, to_low, to_high, _number(width, 32, "width"), 0)
     given = [ctypes.byref(_port(rate, mtu, room, until, False)), ctypes.byref(shown), script, len(script)]
     return _one(_LIBRARY.taprio_draw, given, 65536)
 

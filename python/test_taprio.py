@@ -101,6 +101,7 @@ class Faults(unittest.TestCase):
             ("--room", {"room": 4097}),
             ("--until", {"until": 9_223_372_036_854_775_807_001}),
             ("--until", {"until": 2**128}),
+            ("--rate", {"rate": 1001, "mtu": 2**32, "until": -1}),
         ):
             with self.subTest(values), self.assertRaises(taprio.BadValue) as raised:
                 taprio.run("", **values)
