@@ -159,6 +159,26 @@ def try_examples(page):
         page.answers(f"script of {path.name}", program("script", text=wanted)[1])
 
 
+def replayed(*words):
+    """What the program reports of the replay of the examples, and the capture that it writes."""
+    with tempfile.NamedTemporaryFile() as out:
+        _, report, said = program("replay", *words, EXAMPLES / "machine.script", EXAMPLES / "machine.pcap", out.name)
+        return report, pathlib.Path(out.name).read_bytes(), said
+
+
+def try_replay(page):
+    page.choose("machine.pcap")
+    for summary in (False, True):
+        page.set("summary", summary)
+        page.run()
+        report, departures, _ = replayed("--until", "2000000000", *(["--summary"] if summary else []))
+        page.answers("report", report)
+        page.same("departures", page.saved("save-departures"), departures)
+    page.set("until", "")
+    page.run()
+    page.same("a replay without an end", page.text("fault-text"), "bad value of --until")
+
+
 def try_typing(page):
     for path in sorted(EXAMPLES.glob("*.script")):
         page.choose("first.script")
@@ -358,9 +378,11 @@ def try_looks(page):
     shoot(page, "check")
     page.choose("planned.streams")
     shoot(page, "streams")
+    page.choose("machine.pcap")
+    shoot(page, "replay")
 
 
-TRIES = [try_examples, try_typing, try_options, try_worked, try_faults, try_refused, try_zoom, try_link, try_stop, try_access, try_looks]
+TRIES = [try_examples, try_replay, try_typing, try_options, try_worked, try_faults, try_refused, try_zoom, try_link, try_stop, try_access, try_looks]
 
 
 def try_page(kind, address, server):
