@@ -116,7 +116,7 @@ PREFERENCES = """user_pref("browser.download.folderList", 2);
 user_pref("browser.download.dir", "%s");
 user_pref("browser.download.useDownloadDir", true);
 user_pref("browser.download.alwaysOpenPanel", false);
-user_pref("browser.helperApps.neverAsk.saveToDisk", "text/plain,image/svg+xml");
+user_pref("browser.helperApps.neverAsk.saveToDisk", "text/plain,image/svg+xml,application/vnd.tcpdump.pcap");
 user_pref("browser.shell.checkDefaultBrowser", false);
 user_pref("datareporting.policy.dataSubmissionEnabled", false);
 user_pref("app.update.enabled", false);

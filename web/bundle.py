@@ -52,6 +52,15 @@ def options(folder):
     return found
 
 
+def captures(folder):
+    """The captures that a script of their name is beside, each with the moment that the program of examples replays it to."""
+    text = (folder.resolve().parent / "src" / "main.rt").read_text(encoding="utf-8")
+    until = re.search(r"settings\(Some\(([\d_]+)\)\)", text)[1].replace("_", "")
+    return [{"name": path.name, "job": "replay", "text": path.with_suffix(".script").read_text(encoding="utf-8"), "until": until,
+             "capture": base64.b64encode(path.read_bytes()).decode()}
+            for path in sorted(folder.glob("*.pcap")) if path.with_suffix(".script").exists()]
+
+
 def examples(folder):
     """The examples by name: what kind each is, its text, its options, and for a table the script that goes among its frames."""
     given = options(folder)
@@ -64,7 +73,7 @@ def examples(folder):
         if path.suffix == ".streams" and beside.exists():
             entry["beside"] = beside.read_text(encoding="utf-8")
         found.append(entry | given.get(path.name, {}))
-    return found
+    return found + captures(folder)
 
 
 def data(value):

@@ -4,6 +4,7 @@ const MEANINGS = {
   LongLine: "the line has more than 65,536 octets.",
   TooManyLines: "there are more than 4,000,000 lines.",
   UnknownLine: "the first word of the line is none that may stand there.",
+  FrameInReplay: "the frames of a replay are those of the capture.",
   WordCount: "the line has too few or too many words.",
   BadNumber: "a word is no number, or is out of its range.",
   ClockTooLate: "the moment is after the greatest, 9223372036854775807000 ps.",

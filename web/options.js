@@ -8,6 +8,7 @@ const GREATEST_NUMBER = 2 ** 32 - 1;
 const USED = {
   script: ["rate", "mtu", "room", "until", "summary"],
   draw: ["rate", "mtu", "room", "from", "to", "width"],
+  replay: ["rate", "mtu", "room", "until", "summary"],
   check: ["rate", "windows"],
   streams: [],
 };

@@ -14,21 +14,23 @@ const OWN = "own"; // the example that is what was typed
 
 const at = (id) => document.getElementById(id);
 const examples = JSON.parse(at("page-examples").textContent);
-const octets = Uint8Array.from(atob(at("page-wasm").textContent), (it) => it.charCodeAt(0));
-const runner = new Runner(at("page-worker").textContent, octets);
+const octetsIn = (base64) => Uint8Array.from(atob(base64), (it) => it.charCodeAt(0));
+const runner = new Runner(at("page-worker").textContent, octetsIn(at("page-wasm").textContent));
 const editor = new Editor(at("editor"));
 const beside = new Editor(at("beside-editor"));
 
 let own = null; // what was typed, while an example is shown
 let shown = null; // the time that the picture shows
+let capture = new Uint8Array(); // the capture of a replay
 let slow = 0; // the timer after which it is said that a run goes on
 let made = ""; // the script that the last table of streams gave
 let turn = 0; // the number of the run whose results are wanted
 
-const NAMES = { script: "Script", check: "Schedules", streams: "Table of streams" };
+const NAMES = { script: "Script", check: "Schedules", streams: "Table of streams", replay: "Script of the replay" };
 const HINTS = {
   script: "Lines: clock M, frame ID PRIORITY LEN [tagged], query, count CLASS, tc qdisc .. taprio ..; moments in picoseconds.",
   check: "Lines: tc qdisc .. taprio ..; each is told which classes it keeps apart.",
+  replay: "Lines of a script, without frame: the frames are the records of the capture.",
   streams: "Lines: stream FIRST_ID PRIORITY LEN PERIOD OFFSET COUNT [tagged]; times such as 250us.",
 };
 
@@ -47,6 +49,18 @@ function addressOf(link, content, type) {
   link.href = URL.createObjectURL(new Blob([content], { type }));
   link.hidden = false;
   return link.href;
+}
+
+function setCapture(octets, name) {
+  capture = octets;
+  at("capture-name").textContent = octets.length ? `${name}, ${count(octets.length, "octet")}` : "none is chosen";
+}
+
+async function chooseCapture() {
+  const [file] = at("capture").files;
+  if (!file) return;
+  setCapture(new Uint8Array(await file.arrayBuffer()), file.name);
+  becomeOwn();
 }
 
 function showAnswers(output) {
@@ -136,9 +150,15 @@ function running(is) {
   document.querySelector("main").setAttribute("aria-busy", String(is));
 }
 
+// The second input of a job.
+function besideOf(name) {
+  if (name === "replay") return capture;
+  return encoded(name === "streams" ? beside.text : "");
+}
+
 // Does a job for a run, and null where another run has begun since.
 async function ask(mine, name, values) {
-  const request = { job: name, input: encoded(editor.text), beside: encoded(name === "streams" ? beside.text : ""), values };
+  const request = { job: name, input: encoded(editor.text), beside: besideOf(name), values };
   const told = await runner.run(request);
   return mine === turn ? told : null;
 }
@@ -167,10 +187,14 @@ async function draw(mine) {
 
 async function work(mine) {
   const name = job();
-  const told = await ask(mine, name, valuesFor(name));
+  const values = valuesFor(name);
+  if (name === "replay" && values.until === null) throw new BadOption("until");
+  const told = await ask(mine, name, values);
   if (!told) return;
   showAnswers(told.output);
   showRefused(told.output);
+  at("save-departures").hidden = true;
+  if (name === "replay") addressOf(at("save-departures"), told.departures, "application/vnd.tcpdump.pcap");
   sayStatus(told);
   if (told.status !== 0) showFault(told.fault);
   if (name !== "script") return;
@@ -218,6 +242,8 @@ function load(state) {
   setOptions(state);
   editor.text = state.text ?? "";
   beside.text = state.beside ?? "";
+  at("capture").value = "";
+  setCapture(state.octets ?? octetsIn(state.capture ?? ""), state.name);
   at("link-row").hidden = true;
   return runAll();
 }
@@ -225,7 +251,7 @@ function load(state) {
 const stateNow = () => ({ job: job(), ...wordsOfOptions(), ...(job() === "streams" ? { beside: beside.text } : {}), text: editor.text });
 
 function fillExamples() {
-  const groups = { script: "Scripts", check: "Schedules", streams: "Tables of streams" };
+  const groups = { script: "Scripts", check: "Schedules", streams: "Tables of streams", replay: "Captures" };
   for (const [name, label] of Object.entries(groups)) {
     const group = document.createElement("optgroup");
     group.label = label;
@@ -254,7 +280,8 @@ async function makeLink() {
   at("address").focus();
   at("address").select();
   await navigator.clipboard?.writeText(location.href).catch(() => {});
-  at("status").textContent = "The link is made, and stands in the field below the buttons.";
+  const without = job() === "replay" ? " The capture is not in it." : "";
+  at("status").textContent = `The link is made, and stands in the field below the buttons.${without}`;
 }
 
 async function openLink() {
@@ -325,9 +352,10 @@ function listen() {
   for (const radio of at("form").elements.job) radio.addEventListener("change", () => setJob(job()));
   for (const area of [editor.area, beside.area]) area.addEventListener("input", becomeOwn);
   at("example").addEventListener("focus", () => {
-    if (at("example").value === OWN) own = stateNow();
+    if (at("example").value === OWN) own = { ...stateNow(), octets: capture, name: "your capture" };
   });
   at("example").addEventListener("change", chooseExample);
+  at("capture").addEventListener("change", chooseCapture);
   at("stop").addEventListener("click", () => runner.stop());
   at("link").addEventListener("click", makeLink);
   at("take").addEventListener("click", () => takeAsScript());

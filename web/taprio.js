@@ -1,13 +1,13 @@
 // Calls the port's WebAssembly module, as c/taprio.h declares it. Only this file knows where its values lie, and where its heap is.
 
 /** The jobs that the module does, by the names of the program's. */
-export const JOBS = ["script", "draw", "check", "streams"];
+export const JOBS = ["script", "draw", "check", "streams", "replay"];
 
 const BLOCK = 16; // octets of the least block of the heap, and of what stands before each block
 const PAGE = 65536; // octets of a page of the module's memory
 const PORT_VALUES = 40; // octets of struct taprio_port_values
 const PICTURE_VALUES = 48; // octets of struct taprio_picture_values
-const RAN = 24; // octets of struct taprio_ran
+const RAN = 32; // octets of struct taprio_replay_ran, the longer one
 const NO_ROOM = 5; // the status where a slice has too little room
 const FAULT_ROOM = 256;
 const LEAST_ROOM = 1 << 20;
@@ -119,11 +119,16 @@ const CALLS = {
   script: ["taprio_run", (at, { input }) => [at.port, at.input, input.length]],
   draw: ["taprio_draw", (at, { input }) => [at.port, at.picture, at.input, input.length]],
   streams: ["taprio_streams", (at, { input, beside }) => [at.input, input.length, at.beside, beside.length]],
+  replay: ["taprio_replay", (at, { input, beside }) => [at.port, at.input, input.length, at.beside, beside.length]],
 };
 
+// What each job fills, in the order of the lengths that are told: a replay has two outputs.
+const filled = (job) => (job === "replay" ? ["output", "departures", "fault"] : ["output", "fault"]);
+
 // Calls the module: addresses and lengths are 64 bits wide, the two numbers of a check are 32.
-function call(exports, at, request, room) {
-  const ends = [at.output, room, at.fault, FAULT_ROOM, at.ran].map(BigInt);
+function call(exports, at, request, lengths) {
+  const slices = filled(request.job).flatMap((name) => [at[name], lengths[name]]);
+  const ends = [...slices, at.ran].map(BigInt);
   if (request.job === "check") {
     const { rate, windows } = request.values;
     exports.taprio_check(rate, windows ? 1 : 0, BigInt(at.input), BigInt(request.input.length), ...ends);
@@ -133,19 +138,23 @@ function call(exports, at, request, room) {
   exports[name](...words(at, request).map(BigInt), ...ends);
 }
 
-const memoryWanting = () => ({ status: 4, output: new Uint8Array(), fault: "taprio_port: out of memory\n" });
+const NOTHING = new Uint8Array();
+const memoryWanting = () => ({ status: 4, output: NOTHING, departures: NOTHING, fault: "taprio_port: out of memory\n" });
 
-// Blocks for all that a call is given and tells, or null.
-function blocksFor(heap, request, room) {
-  const lengths = {
-    input: request.input.length,
-    beside: request.beside.length,
-    output: room,
-    fault: FAULT_ROOM,
-    port: PORT_VALUES,
-    picture: PICTURE_VALUES,
-    ran: RAN,
-  };
+// How long all is that a call is given and tells.
+const lengthsOf = ({ job, input, beside }, room) => ({
+  input: input.length,
+  beside: beside.length,
+  output: room,
+  departures: job === "replay" ? room : 0,
+  fault: FAULT_ROOM,
+  port: PORT_VALUES,
+  picture: PICTURE_VALUES,
+  ran: RAN,
+});
+
+// Blocks of these lengths, or null.
+function blocksOf(heap, lengths) {
   const at = {};
   for (const [name, length] of Object.entries(lengths)) {
     at[name] = heap.take(length);
@@ -154,30 +163,33 @@ function blocksFor(heap, request, room) {
   return at;
 }
 
-// What struct taprio_ran and the slices tell.
-function tellOf(heap, at) {
+// What struct taprio_ran or struct taprio_replay_ran and the slices tell.
+function tellOf(heap, at, job) {
   const view = heap.view();
-  const status = view.getUint8(at.ran + 16);
-  const [written, said] = [at.ran, at.ran + 8].map((place) => Number(view.getBigUint64(place, true)));
-  if (status === NO_ROOM) return { status, wanted: written };
+  const names = filled(job);
+  const status = view.getUint8(at.ran + 8 * names.length);
+  const lengths = names.map((_, place) => Number(view.getBigUint64(at.ran + 8 * place, true)));
+  if (status === NO_ROOM) return { status, wanted: Math.max(...lengths) };
   if (status === 4) return memoryWanting();
-  const octets = (from, length) => new Uint8Array(heap.memory.buffer, from, length).slice();
-  return { status, output: octets(at.output, written), fault: new TextDecoder().decode(octets(at.fault, said)) };
+  const octets = names.map((name, place) => new Uint8Array(heap.memory.buffer, at[name], lengths[place]).slice());
+  const told = Object.fromEntries(names.map((name, place) => [name, octets[place]]));
+  return { departures: NOTHING, ...told, status, fault: new TextDecoder().decode(told.fault) };
 }
 
 function runWith(module, request, room) {
   const heap = new Heap();
   const { exports } = new WebAssembly.Instance(module, { heap: heap.imports() });
   heap.bind(exports);
-  const at = blocksFor(heap, request, room);
+  const lengths = lengthsOf(request, room);
+  const at = blocksOf(heap, lengths);
   if (!at) return memoryWanting();
   const memory = new Uint8Array(heap.memory.buffer);
   memory.set(request.input, at.input);
   memory.set(request.beside, at.beside);
   putPort(heap.view(), at.port, request.values);
   putPicture(heap.view(), at.picture, request.values);
-  call(exports, at, request, room);
-  return tellOf(heap, at);
+  call(exports, at, request, lengths);
+  return tellOf(heap, at, request.job);
 }
 
 /**
@@ -185,12 +197,14 @@ function runWith(module, request, room) {
  *
  * @param {WebAssembly.Module} module the port's
  * @param {{job: string, input: Uint8Array, beside: Uint8Array, values: object}} request the job, its input, the script that goes
- *   among the frames of a table of streams, and the values of the options: numbers, moments as BigInt or null, and booleans
- * @returns {{status: number, output: Uint8Array, fault: string}} as the program would end, write, and say on its standard error
+ *   among the frames of a table of streams or the capture of a replay, and the values of the options: numbers, moments as BigInt or
+ *   null, and booleans
+ * @returns {{status: number, output: Uint8Array, departures: Uint8Array, fault: string}} as the program would end, write, and say on
+ *   its standard error; departures are the capture that a replay writes
  */
 export function run(module, request) {
   if (!JOBS.includes(request.job)) throw new Error(`no job ${request.job}`);
-  const room = Math.max(LEAST_ROOM, 8 * request.input.length);
+  const room = Math.max(LEAST_ROOM, 8 * request.input.length, 2 * request.beside.length);
   const told = runWith(module, request, room);
   return told.status === NO_ROOM ? runWith(module, request, told.wanted) : told;
 }

@@ -109,7 +109,7 @@ class Page:
 
     def same(self, what, got, wanted):
         if got != wanted:
-            raise Broken(f"{self.browser.name} {self.address} {what}: got {got[:400]!r}, wanted {wanted[:400]!r}")
+            raise Broken(f"{self.browser.name} {self.address} {what}: got {repr(got)[:400]}, wanted {repr(wanted)[:400]}")
         self.compared += 1
 
     def answers(self, what, wanted):
@@ -157,6 +157,26 @@ def try_examples(page):
         page.click("#take")
         page.settle()
         page.answers(f"script of {path.name}", program("script", text=wanted)[1])
+
+
+def replayed(*words):
+    """What the program reports of the replay of the examples, and the capture that it writes."""
+    with tempfile.NamedTemporaryFile() as out:
+        _, report, said = program("replay", *words, EXAMPLES / "machine.script", EXAMPLES / "machine.pcap", out.name)
+        return report, pathlib.Path(out.name).read_bytes(), said
+
+
+def try_replay(page):
+    page.choose("machine.pcap")
+    for summary in (False, True):
+        page.set("summary", summary)
+        page.run()
+        report, departures, _ = replayed("--until", "2000000000", *(["--summary"] if summary else []))
+        page.answers("report", report)
+        page.same("departures", page.saved("save-departures"), departures)
+    page.set("until", "")
+    page.run()
+    page.same("a replay without an end", page.text("fault-text"), "bad value of --until")
 
 
 def try_typing(page):
@@ -218,7 +238,8 @@ def try_faults(page):
         page.same("invalid", page.do(f"return at('{name}').getAttribute('aria-invalid')"), "true")
 
 
-REFUSED = """# a comment: tc
+REFUSED = """# a comment that goes on \\
+tc qdisc
 tc qdisc replace dev eth0 root taprio num_tc 8 map 0 1 2 3 4 5 6 7 \\
   sched-entry S 01 300000
  tc qdisc replace dev eth0 root taprio num_tc 2
@@ -231,9 +252,9 @@ def try_refused(page):
     page.choose("first.script")
     page.type(REFUSED)
     page.same("refused", page.do("return [...document.querySelectorAll('#refused-list button')].map((it) => it.textContent)"),
-              ["Line 4: tc-fault MissingWord map", "Line 6: refused IntervalTooShort 0"])
+              ["Line 5: tc-fault MissingWord map", "Line 7: refused IntervalTooShort 0"])
     page.click("#refused-list button")
-    page.same("line of a command", page.do("const it = at('text'); return it.value.slice(it.selectionStart, it.selectionEnd)"), REFUSED.split("\n")[3])
+    page.same("line of a command", page.do("const it = at('text'); return it.value.slice(it.selectionStart, it.selectionEnd)"), REFUSED.split("\n")[4])
 
 
 def window(page):
@@ -245,10 +266,13 @@ def try_zoom(page):
     text = (EXAMPLES / "schedule.script").read_bytes()
     page.click("[data-step=whole]")
     page.settle()
-    for step in ("nearer", "nearer", "later", "earlier", "farther"):
+    steps = {"nearer": (25, 75), "later": (50, 100), "earlier": (25, 75), "farther": (0, 100)}
+    for step, wanted in steps.items():
         page.click(f"[data-step={step}]")
         page.settle()
         begin, end = window(page)
+        near = all(abs(int(got) - 10**6 * it) < 10**6 for got, it in zip((begin, end), wanted))
+        page.same(f"time after {step}", near, True)
         page.picture(f"zoom {step}", text, "--from", begin, "--to", end)
     page.click("[data-step=whole]")
     page.settle()
@@ -358,9 +382,11 @@ def try_looks(page):
     shoot(page, "check")
     page.choose("planned.streams")
     shoot(page, "streams")
+    page.choose("machine.pcap")
+    shoot(page, "replay")
 
 
-TRIES = [try_examples, try_typing, try_options, try_worked, try_faults, try_refused, try_zoom, try_link, try_stop, try_access, try_looks]
+TRIES = [try_examples, try_replay, try_typing, try_options, try_worked, try_faults, try_refused, try_zoom, try_link, try_stop, try_access, try_looks]
 
 
 def try_page(kind, address, server):
