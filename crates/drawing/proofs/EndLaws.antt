@@ -11,7 +11,7 @@ use Rattle.tc_reader.specs.Reader.{IsReader}
 use Rattle.tc_reader.specs.declared.fault.TcFault.{TcFault}
 use Rattle.octet_writer.specs.Writes.{AppendsFront, FallsShort}
 use Rattle.script.specs.Ending.{IsRunEnding, RunsOut, Whole}
-use Rattle.script.specs.Outcome.{Outcome, Reading, Runs}
+use Rattle.script.specs.Outcome.{Reading, Runs}
 use Rattle.script.specs.Setup.{Setup}
 use Rattle.script.specs.declared.settings.BadValue.{BadValue}
 use Rattle.script.specs.declared.faults.Ended.{Ended}

@@ -4,7 +4,6 @@ use Rattle.std.specs.Prelude.{IfSome, ⊤}
 use Rattle.abstract_port.specs.AbstractPort.{AbstractPort, class_for, settled}
 use Rattle.abstract_port.specs.Answers.{answers_to, port_after}
 use Rattle.abstract_port.specs.Sound.{IsSoundPort}
-use Rattle.abstract_port.specs.declared.Answer.{Answer}
 use Rattle.abstract_port.specs.declared.Event.{Event}
 use Rattle.abstract_port.specs.declared.Event.TheVariants.{Arrive, Install, Clock, Query, Count}
 use Rattle.abstract_port.specs.declared.Command.{Command}

@@ -1,5 +1,5 @@
 -- What is drawn of a run, event by event. Moments are in picoseconds.
-use Rattle.std.specs.Prelude.{ℕ, List, [], ◌∷◌, Option, Some, None, unwrap_or}
+use Rattle.std.specs.Prelude.{ℕ, List, [], ◌∷◌, Option, None, unwrap_or}
 use Rattle.abstract_port.specs.AbstractPort.{AbstractPort, class_for}
 use Rattle.abstract_port.specs.Answers.{answers_to}
 use Rattle.abstract_port.specs.declared.Answer.{Answer}

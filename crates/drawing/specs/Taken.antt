@@ -1,5 +1,5 @@
 -- What the lines of a script draw, and the fault that ends them.
-use Rattle.std.specs.Prelude.{◌≡◌, ⊤, ℕ, List, Option, Some, None, Result, Ok, Err}
+use Rattle.std.specs.Prelude.{◌≡◌, ⊤, Option, Some, None, Result, Ok, Err}
 use Rattle.abstract_port.specs.AbstractPort.{AbstractPort, settled}
 use Rattle.abstract_port.specs.Answers.{port_after}
 use Rattle.script.specs.Requests.{Request, Asks, NoCommand}

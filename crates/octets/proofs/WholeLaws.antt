@@ -1,6 +1,5 @@
 -- Some picture belongs to each result of a run that is drawn, and to what it has written.
-use Rattle.std.proofs.Common.{◌≡◌, ◌<◌, refl, sym, ℕ, List, [], ◌∷◌, ◌++◌, length, Option, Some, None, Result, Ok, Err, rules, subst}
-use Rattle.std.specs.Io.KnownBytes.{Appends, Keeps}
+use Rattle.std.proofs.Common.{◌≡◌, refl, sym, ℕ, List, [], ◌∷◌, ◌++◌, Option, Some, None, Result, Ok, Err, rules, subst}
 use Rattle.drawing.specs.Ending.{IsDrawn}
 use Rattle.script.specs.Outcome.{Outcome, Runs}
 use Rattle.script.specs.declared.faults.RunFault.{RunFault}

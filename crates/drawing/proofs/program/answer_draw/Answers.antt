@@ -1,4 +1,4 @@
-use Rattle.std.proofs.Common.{◌≡◌, sym, ◌∙◌}
+use Rattle.std.proofs.Common.{sym, ◌∙◌}
 use Rattle.std.specs.Io.Buffered.{writer_contents}
 use Rattle.drawing.proofs.EndLaws.{good_ending, picture_ending}
 use Rattle.drawing.proofs.program.answer_draw.Goals as goal

@@ -1,4 +1,4 @@
-use Rattle.std.proofs.Common.{List, [], Some, rules}
+use Rattle.std.proofs.Common.{[], Some, rules}
 use Rattle.drawing.specs.Ending.{IsDrawn, fault_in}
 use Rattle.octets.specs.Pictures.{drawn_with}
 use Rattle.octets.proofs.WholeLaws.{picture_of, some_picture}
