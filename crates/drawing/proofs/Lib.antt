@@ -1,3 +1,4 @@
 pub mod Taking
 pub mod CountLaws
 pub mod EndLaws
+pub mod DigitLaws

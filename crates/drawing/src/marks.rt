@@ -1,6 +1,6 @@
 //! The marks of a picture: bands, frames, waits, drops and changes.
 
-ghost use Rattle.std.specs.Prelude.{◌≤◌};
+ghost use Rattle.std.specs.Prelude.{◌≡◌, ◌≤◌, decimal, length};
 
 use crate::page::{BOTTOM, CLASS_TOP, Page, ROW_HEIGHT};
 use answer_text::{Part, WriteFault, put, put_parts};
@@ -100,7 +100,8 @@ pub fn put_bands<W: Write>(
 
 /// How many decimal digits a number has.
 pub fn digits(number: u128) -> u32
-    ensures { result ≤ 40 }
+    ensures value { result ≡ length (decimal number) }
+    ensures within { result ≤ 40 }
 {
     let mut rest = number;
     for count in 1..40u32 {
