@@ -1,10 +1,11 @@
 -- The gates by the commands that count, and by where the list in force stands.
-use Rattle.std.proofs.Common.{◌≡◌, ◌<◌, ◌≤◌, ℕ, min, Bool, cond, ◌&&◌, leb, ltb, List, [], ◌∷◌, ◌++◌, Option, Some, None, MatchOption, option_map, inl, inr, refl, sym, ap, ◌∙◌, subst, arith, le_refl, lt_of_lt_of_le, le_of_lt, ◌⊎◌, Any, IfSome}
+use Rattle.std.proofs.Common.{◌≡◌, ◌<◌, ◌≤◌, ℕ, ◌+◌, min, Bool, cond, ◌&&◌, leb, ltb, List, [], ◌∷◌, ◌++◌, Option, Some, None, MatchOption, option_map, inl, inr, refl, sym, ap, ◌∙◌, subst, arith, le_refl, lt_of_lt_of_le, le_of_lt, ◌⊎◌, Any, IfSome}
 use Rattle.std.proofs.lemmas.Bool.{lt-leb, lt-ltb, le-ltb, cases_lt}
 use Rattle.std.proofs.lemmas.Option.{same_Some}
 use Rattle.std.specs.Option.{ForSome, option_or}
 use Rattle.gate_list.specs.Gate.{Plan, IsSchedule, mask_since}
 use Rattle.gate_list.specs.Open.{open_while}
+use Rattle.gate_list.proofs.OpenLaws.{same_while}
 use Rattle.list_config.specs.History.{Accepted, pending, announced, gates, kept, mask_under, open_through, cons_some, three, is_in_time, only_if, plan_of, start_of, mask_of_plan, IsWaiting, IsAhead}
 use Rattle.list_config.specs.Stretch.{mask_in, stretches_from}
 use Rattle.list_config.specs.Current.{IsCurrent, with_command, with_command_by}
@@ -248,6 +249,13 @@ module _ (c : Commands) (s : AreCommands c) where
       ∙ (ap (λ f. open_while (mask_in (stretches_from f (cons_some (pending (history_of c) c.moment) (cons_some (announced (history_of c) c.moment) [])))) class c.moment d) (settled_force c.moment c.in_force c.pending c.announced s.settled)
       ∙ (ap (λ q. open_while (mask_in (stretches_from c.in_force (cons_some q (cons_some (announced (history_of c) c.moment) [])))) class c.moment d) (settled_pending c.moment c.in_force c.pending c.announced s.settled)
       ∙ ap (λ x. open_while (mask_in (stretches_from c.in_force (cons_some c.pending (cons_some x [])))) class c.moment d) (settled_announced c.moment c.in_force c.pending c.announced s.settled)))
+
+  -- where no command comes up to the end of a while, the one in force tells of it
+  pub alone_while : (class d : ℕ) → NoneBy c.pending c.announced (c.moment + d) → open_while (shows_under c.in_force c.pending) class c.moment d ≡ open_while (mask_in (stretches_from c.in_force (cons_some c.pending (cons_some c.announced [])))) class c.moment d
+  alone_while class d none =
+      same_while (shows_under c.in_force c.pending) (gates (history_of c)) class c.moment d
+      (λ m l below. sym (gates_ahead m l (λ a is. (let far = none.0 a is in omega arith), λ a is. (let far = none.1 a is in omega arith))))
+      ∙ open_now class d
 
   -- an answer of the stretches to come is that of the history
   pub open_answer : (f : Option Accepted) (rest : List Accepted) → f ≡ c.in_force → cons_some c.pending (cons_some c.announced []) ≡ rest → (class n d : ℕ) → n ≡ c.moment → (answer : Bool) → answer ≡ open_while (mask_in (stretches_from f rest)) class n d → answer ≡ open_through (history_of c) class c.moment d

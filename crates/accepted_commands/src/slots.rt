@@ -142,7 +142,7 @@ impl Slots {
     }
 
     /// Whether no command comes up to a moment, in picoseconds.
-    fn is_alone_until(&self, t: u128) -> bool
+    pub fn is_alone_until(&self, t: u128) -> bool
         ensures { IsTrue result ↔ NoneBy self.now.commands.pending self.now.commands.announced t }
     {
         changes_after(self.pending(), t) && leads_after(self.announced(), t)

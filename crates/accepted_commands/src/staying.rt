@@ -1,12 +1,12 @@
 //! Whether a class stays open from now on.
-ghost use Rattle.std.specs.Prelude.{◌≡◌, ◌*◌, ◌<◌, ◌≤◌, [], None};
+ghost use Rattle.std.specs.Prelude.{◌≡◌, ◌*◌, ◌<◌, ◌≤◌, []};
 ghost use Rattle.std.specs.Option.{ForSome};
 ghost use Rattle.wire_time.specs.Moment.{greatest_moment};
 ghost use Rattle.gate_list.specs.Open.{open_while};
 ghost use Rattle.list_config.specs.History.{cons_some};
 ghost use Rattle.list_config.specs.Stretch.{mask_in, stretches_from};
 ghost use Rattle.accepted_commands.specs.Commands.{AreCommands, IsUsable, command_of};
-ghost use Rattle.accepted_commands.specs.Standing.{Stands, position_lent};
+ghost use Rattle.accepted_commands.specs.Standing.{Stands, position_lent, shows_under};
 ghost use Rattle.accepted_commands.specs.Resume.{Resumes};
 
 use crate::ahead::legs_ahead;
@@ -16,18 +16,23 @@ use crate::under::list_in;
 use list_position::{Need, Position};
 use wire_time::CLASSES;
 
-/// Whether a class stays open by the command in force, where no other comes.
-fn stays_open_alone(in_force: Option<&AcceptedCommand>, need: Need) -> bool
+/// Whether a class stays open by the command in force, with a change pending that comes later.
+fn stays_open_alone(
+    in_force: Option<&AcceptedCommand>,
+    pending: Option<&AcceptedCommand>,
+    need: Need,
+) -> bool
     requires usable { ForSome (command_of in_force) IsUsable }
-    requires stands { Stands (command_of in_force) None need.from (position_lent in_force) }
+    requires pending { ForSome (command_of pending) IsUsable }
+    requires stands { Stands (command_of in_force) (command_of pending) need.from (position_lent in_force) }
     requires class { need.class < CLASSES }
     requires moment { need.from ≤ 2 * greatest_moment }
     requires within { need.length ≤ greatest_moment }
-    ensures { result ≡ open_while (mask_in (stretches_from (command_of in_force.entry) [])) need.class need.from need.length }
+    ensures { result ≡ open_while (shows_under (command_of in_force.entry) (command_of pending.entry)) need.class need.from need.length }
 {
     match list_in(in_force) {
         None => true,
-        Some(list) => list.position.stays_open(None, need),
+        Some(list) => list.position.stays_open(list.held_from(pending), need),
     }
 }
 
@@ -45,7 +50,9 @@ fn stays_open_through(slots: &Slots, resumed: &Option<Position>, need: Need) -> 
     ahead.leg.stays_open_ahead(&ahead.rest, need)
 }
 
-/// Whether a class stays open from now on, by the commands that count. Where only one is in force no legs are made.
+/// Whether a class stays open from now on, by the commands that count. Where no other comes up to the end of the need, the one in
+/// force tells it, and no legs are made.
+#[tactic(auto, using(crate::proofs::CommandLaws::alone_while))]
 pub fn stays_open(slots: &Slots, resumed: &Option<Position>, need: Need) -> bool
     requires sound { AreCommands slots.now.commands }
     requires stands { Stands slots.now.commands.in_force slots.now.commands.pending slots.now.commands.moment slots.now.position }
@@ -55,11 +62,9 @@ pub fn stays_open(slots: &Slots, resumed: &Option<Position>, need: Need) -> bool
     requires within { need.length ≤ greatest_moment }
     ensures { result ≡ open_while (mask_in (stretches_from slots.now.commands.in_force (cons_some slots.now.commands.pending (cons_some slots.now.commands.announced [])))) need.class need.from need.length }
 {
-    match slots.pending() {
-        None => match slots.announced() {
-            None => stays_open_alone(slots.in_force(), need),
-            Some(_) => stays_open_through(slots, resumed, need),
-        },
-        Some(_) => stays_open_through(slots, resumed, need),
+    if slots.is_alone_until(need.from + need.length) {
+        stays_open_alone(slots.in_force(), slots.pending(), need)
+    } else {
+        stays_open_through(slots, resumed, need)
     }
 }

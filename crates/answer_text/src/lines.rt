@@ -1,26 +1,30 @@
 //! The lines of answers.
 
 ghost use Rattle.std.specs.Prelude.{◌≡◌};
+ghost use Rattle.abstract_port.specs.Answers.{arrival_answer};
 ghost use Rattle.answer_text.specs.Lines.{queued_line, dropped_line, installed_line, refused_line, start_line, count_line, left_line, answer_lines, number_text, tc_fault_line};
 ghost use Rattle.octet_writer.specs.Writes.{Writes};
 
-use crate::ending::{LINE_CAPACITY, number_before, short_before, text_before};
+use crate::digits::{octet_before, short_before};
+use crate::ending::{LINE_CAPACITY, text_before};
 use crate::names::{
-    dropped_name, refused_name, refused_number, tc_fault_name, tc_fault_place, tc_fault_word,
+    dropped_before, refused_name, refused_number, tc_fault_name, tc_fault_place, tc_fault_word,
 };
 use crate::reports::put_report;
+use crate::span::span_before;
 use crate::writing::{Part, put_parts};
 use abstract_port::{Answer, Counters, Dropped, Refused, Start};
 use octet_writer::{WriteFault, put};
 use std::io::Write;
 use tc_reader::TcFault;
+use wire_time::Frame;
 
 fn put_queued<W: Write>(writer: &mut W, id: u64, class: u8) -> Result<(), WriteFault>
     ensures { Writes result (W.contents writer.old) (W.contents writer.new) (queued_line id class) }
 {
     let mut line = [0; LINE_CAPACITY];
     let end = text_before(b"\n", &mut line, LINE_CAPACITY);
-    let end = short_before(u64::from(class), &mut line, end);
+    let end = octet_before(class, &mut line, end);
     let end = text_before(b" class ", &mut line, end);
     let end = short_before(id, &mut line, end);
     let start = text_before(b"queued ", &mut line, end);
@@ -30,16 +34,27 @@ fn put_queued<W: Write>(writer: &mut W, id: u64, class: u8) -> Result<(), WriteF
 fn put_dropped<W: Write>(writer: &mut W, id: u64, why: Dropped) -> Result<(), WriteFault>
     ensures { Writes result (W.contents writer.old) (W.contents writer.new) (dropped_line id why) }
 {
-    put_parts(
-        writer,
-        &[
-            Part::Text(b"dropped "),
-            Part::Number(u128::from(id)),
-            Part::Text(b" "),
-            Part::Text(dropped_name(why)),
-            Part::Text(b"\n"),
-        ],
-    )
+    let mut line = [0; LINE_CAPACITY];
+    let end = text_before(b"\n", &mut line, LINE_CAPACITY);
+    let end = dropped_before(why, &mut line, end);
+    let end = text_before(b" ", &mut line, end);
+    let end = short_before(id, &mut line, end);
+    let start = text_before(b"dropped ", &mut line, end);
+    put(writer, &line[start..])
+}
+
+/// Writes the line of a frame that arrived: its class, or why it was dropped. At a fault a front of it is written.
+pub fn put_arrival<W: Write>(
+    writer: &mut W,
+    frame: &Frame,
+    verdict: Result<u8, Dropped>,
+) -> Result<(), WriteFault>
+    ensures { Writes result (W.contents writer.old) (W.contents writer.new) (answer_lines (arrival_answer frame.now verdict)) }
+{
+    match verdict {
+        Ok(class) => put_queued(writer, frame.id, class),
+        Err(why) => put_dropped(writer, frame.id, why),
+    }
 }
 
 fn put_installed<W: Write>(writer: &mut W, change: u128) -> Result<(), WriteFault>
@@ -77,16 +92,15 @@ fn put_refused<W: Write>(writer: &mut W, why: Refused) -> Result<(), WriteFault>
     }
 }
 
-fn put_start<W: Write>(writer: &mut W, start: &Start) -> Result<(), WriteFault>
+/// Writes the line of a frame that starts. At a fault a front of it is written.
+pub fn put_start<W: Write>(writer: &mut W, start: &Start) -> Result<(), WriteFault>
     ensures { Writes result (W.contents writer.old) (W.contents writer.new) (start_line start.now) }
 {
     let mut line = [0; LINE_CAPACITY];
     let end = text_before(b"\n", &mut line, LINE_CAPACITY);
-    let end = number_before(start.end, &mut line, end);
-    let end = text_before(b" end ", &mut line, end);
-    let end = number_before(start.at, &mut line, end);
+    let end = span_before(start.at, start.end, &mut line, end);
     let end = text_before(b" at ", &mut line, end);
-    let end = short_before(u64::from(start.class), &mut line, end);
+    let end = octet_before(start.class, &mut line, end);
     let end = text_before(b" class ", &mut line, end);
     let end = short_before(start.id, &mut line, end);
     let first = text_before(b"start ", &mut line, end);

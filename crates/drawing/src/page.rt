@@ -46,8 +46,9 @@ pub const LEGEND: u32 = BOTTOM + 44;
 /// The height of the picture, in pixels.
 pub const HEIGHT: u32 = BOTTOM + 58;
 
-/// How many hundredths of a pixel half a character takes, at most.
-pub const HALF_CHARACTER: u64 = 325;
+/// How many hundredths of a pixel half a character of a label takes, at most: a digit has seven pixels in DejaVu Sans, the widest of the common
+/// fonts.
+pub const HALF_CHARACTER: u64 = 350;
 
 /// The window of a picture, its width, and the rate and the mtu that it tells.
 #[derive(Clone, Copy, Debug)]

@@ -1,7 +1,7 @@
 //! Runs a script, and draws what happens.
 
 ghost use Rattle.std.specs.Prelude.{◌≡◌, ◌≤◌, ℕ, IfSome, List, Ok, Result};
-ghost use Rattle.abstract_port.specs.AbstractPort.{class_for, installs, settled};
+ghost use Rattle.abstract_port.specs.AbstractPort.{installs, settled};
 ghost use Rattle.abstract_port.specs.Answers.{answers_to};
 ghost use Rattle.abstract_port.specs.Sound.{IsSoundPort};
 ghost use Rattle.wire_time.specs.Moment.{greatest_moment};
@@ -30,28 +30,12 @@ use std::alloc::{Allocator, Global};
 use std::io::{Read, Write};
 use wire_time::{MAX_MOMENT, lead};
 
-// The class of a priority now, if it has one.
-fn class_of<A: Allocator>(port: &RunningPort<A>, priority: u8) -> Option<u8>
-    ensures { result ≡ class_for port.now.port priority }
-{
-    match port.report().classes {
-        Some((map, _queues)) => map.class_of(priority),
-        None => if priority < 8 {
-            Some(priority)
-        } else if priority < 16 {
-            Some(0)
-        } else {
-            None
-        },
-    }
-}
-
 // The class of a frame that comes.
 fn class_at<A: Allocator>(port: &RunningPort<A>, event: &Event<'_>) -> Option<u8>
     ensures { result ≡ class_at event.now port.now.port }
 {
     match event {
-        Event::Arrive(frame) => class_of(port, frame.priority),
+        Event::Arrive(frame) => port.class_for(frame.priority),
         _ => None,
     }
 }

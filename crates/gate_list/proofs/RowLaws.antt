@@ -1,17 +1,17 @@
 -- What a table tells of an entry.
-use Rattle.std.proofs.Common.{◌≡◌, ◌<◌, ◌≤◌, ℕ, zero, suc, ◌+◌, ◌-◌, ◌*◌, Bool, true, false, cond, List, [], ◌∷◌, ◌++◌, length, take, drop, get_or, slice_get, Option, Some, None, ◌⊎◌, inl, inr, refl, sym, ap, ◌∙◌, arith, ltb, subst}
-use Rattle.std.proofs.lemmas.Bool.{ne_eqb, cases_lt, lt-ltb, le-ltb}
+use Rattle.std.proofs.Common.{◌≡◌, ◌<◌, ◌≤◌, ℕ, zero, suc, ◌+◌, ◌-◌, ◌*◌, false, cond, List, [], ◌∷◌, length, take, get_or, slice_get, Option, Some, None, ◌⊎◌, inl, inr, refl, sym, ap, ◌∙◌, arith, ltb, subst}
+use Rattle.std.proofs.lemmas.Bool.{cases_lt, lt-ltb, le-ltb}
 use Rattle.std.proofs.lemmas.Option.{same_Some, slice_get-get_or}
 use Rattle.gate_list.specs.declared.Entry.{Entry}
 use Rattle.gate_list.specs.declared.Slot.{Slot}
 use Rattle.gate_list.specs.declared.Stay.{Stay}
-use Rattle.gate_list.specs.declared.Stay.TheVariants.{Lasts, Always}
+use Rattle.gate_list.specs.declared.Stay.TheVariants.{Lasts}
 use Rattle.gate_list.specs.Gate.{Plan, IsPlan, IsShownAt, in_ps, prefix, mask_since}
 use Rattle.gate_list.specs.Open.{open_while}
-use Rattle.gate_list.specs.Stay.{slots, length_of, run_of, is_open_in_all, stay, lasts, told_stay, stay_lasts, AreStays, AreClosed, TellOpenTime}
-use Rattle.gate_list.specs.Table.{forever, number_of, stay_of, number_at, IsTabled}
-use Rattle.gate_list.proofs.StayLaws.{length_both, slots_cut, slots_more, slots_total, slots_begin, slot_there, slot_of, plan_law}
-use Rattle.gate_list.proofs.TableLaws.{run_le, room_left}
+use Rattle.gate_list.specs.Stay.{slots, length_of, stay, lasts, told_stay, stay_lasts, AreStays, AreClosed, TellOpenTime}
+use Rattle.gate_list.specs.Table.{stay_at, IsTabled}
+use Rattle.gate_list.specs.declared.table.Table.{Table}
+use Rattle.gate_list.proofs.StayLaws.{slots_cut, slots_more, slots_total, slots_begin, slot_there, slot_of, plan_law}
 
 -- the slots fill the cycle at most
 pub slots_room : (es : List Entry) (cycle : ℕ) → length_of (slots es cycle) ≤ cycle
@@ -32,37 +32,13 @@ slot_soon (e ∷ f ∷ es) cycle (suc i) above l =
       | inr cut ↦ absurd (let one : suc i < 1 = subst (λ r. suc i < length r) (slots_cut e f es cycle cut) l in omega arith)
     ]
 
--- a number of the table is that of its stay alone
-pub stay_back : (t : ℕ) → t < forever → stay_of t ≡ Lasts t
-stay_back t l = ap (λ b. cond b Always (Lasts t)) (ne_eqb t forever (λ e. omega arith))
-
-pub told_back : (cycle : List Slot) (i class : ℕ) → 2 * length_of cycle < forever → stay_of (number_of (stay cycle i class)) ≡ told_stay (stay cycle i class)
-told_back cycle i class fits = by (is_open_in_all cycle class)
-  where
-    run : ℕ
-    run = run_of (drop i cycle ++ cycle) class
-
-    few : run < forever
-    few =
-        let most = run_le (drop i cycle ++ cycle) class in
-        let both = length_both (drop i cycle) cycle in
-        let rest = room_left cycle i in
-        omega arith
-
-    by : (b : Bool) → stay_of (number_of (cond b None (Some run))) ≡ told_stay (cond b None (Some run))
-    by true = refl
-    by false = stay_back run few
-
-module _ (plan : Plan) (table : List (List ℕ)) (i : ℕ) (stays : List Stay) (tabled : IsTabled plan table) (within : i < length plan.entries) (read : (class : ℕ) → class < 8 → slice_get stays class ≡ Some (stay_of (number_at table class i))) where
+module _ (plan : Plan) (table : Table) (i : ℕ) (stays : List Stay) (tabled : IsTabled plan table) (within : i < length plan.entries) (read : (class : ℕ) → class < 8 → slice_get stays class ≡ Some (stay_at table class i)) where
   pub row_stays : prefix plan.entries i < in_ps plan.cycle → AreStays plan i stays
   row_stays soon class low =
       let cyc : List Slot = slots plan.entries (in_ps plan.cycle) in
-      let room = slots_room plan.entries (in_ps plan.cycle) in
-      let most = tabled.sound.cycle in
       let there = lt-ltb i (length cyc) (slot_there plan.entries (in_ps plan.cycle) i within soon) in
       read class low
-      ∙ ap (λ n. Some (stay_of n)) (tabled.stays class i low ∙ ap (λ b. cond b (number_of (stay cyc i class)) 0) there)
-      ∙ ap Some (told_back cyc i class (omega arith))
+      ∙ ap Some (tabled.stays class i low ∙ ap (λ b. cond b (told_stay (stay cyc i class)) (Lasts 0)) there)
 
   pub row_closed : in_ps plan.cycle ≤ prefix plan.entries i → AreClosed stays
   row_closed late class low =
@@ -72,7 +48,7 @@ module _ (plan : Plan) (table : List (List ℕ)) (i : ℕ) (stays : List Stay) (
         | inl soon ↦ absurd (let before = slot_soon plan.entries (in_ps plan.cycle) i (omega arith) soon in omega arith)
         | inr past ↦ le-ltb i (length cyc) past
       ] in
-      read class low ∙ ap (λ n. Some (stay_of n)) (tabled.stays class i low ∙ ap (λ b. cond b (number_of (stay cyc i class)) 0) none)
+      read class low ∙ ap Some (tabled.stays class i low ∙ ap (λ b. cond b (told_stay (stay cyc i class)) (Lasts 0)) none)
 
 -- ---- open time
 

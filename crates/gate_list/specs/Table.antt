@@ -1,38 +1,56 @@
 -- How a schedule keeps its table of open time.
-use Rattle.std.specs.Prelude.{◌≡◌, ◌<◌, ◌-◌, ◌^◌, ◌==◌, ℕ, if◌then◌else◌, List, [], Option, Some, None, length, nat_lt, slice_index, slice_index_or}
+use Rattle.std.specs.Prelude.{◌≡◌, ◌<◌, ◌+◌, ◌-◌, ℕ, false, if◌then◌else◌, List, [], length, nat_lt, slice_index, slice_index_or, take, drop, ◌++◌}
 use Rattle.gate_list.specs.declared.Slot.{Slot}
 use Rattle.gate_list.specs.declared.Stay.{Stay}
 use Rattle.gate_list.specs.declared.Stay.TheVariants.{Lasts, Always}
-use Rattle.gate_list.specs.Gate.{Plan, IsSchedule, in_ps}
+use Rattle.gate_list.specs.declared.table.Table.{Table}
+use Rattle.gate_list.specs.Gate.{Plan, IsSchedule, in_ps, opens}
 use Rattle.wire_time.specs.declared.TheConstants.{CLASSES}
-use Rattle.gate_list.specs.Stay.{slots, stay}
+use Rattle.gate_list.specs.Stay.{slots, stay, told_stay, length_of, run_of}
 
--- the number that stands for a stay without end
-abbrev pub forever : ℕ
-forever = 2 ^ 64 - 1
+-- When slots begin that start one after another, from the start of the first.
+abbrev pub AreStarts : List Slot → List ℕ → Type 0
+AreStarts cycle starts = (i : ℕ) → i < length cycle → slice_index starts i ≡ length_of (take i cycle)
 
--- a stay as a number: the greatest u64 stands for ever
-abbrev pub number_of : Option ℕ → ℕ
-number_of None = forever
-number_of (Some t) = t
+-- from the start of slot i to that of slot c, which is one of the next cycle where it is before slot i
+abbrev pub time_between : List Slot → ℕ → ℕ → ℕ
+time_between cycle i c =
+    if nat_lt c i then length_of cycle - length_of (take i cycle) + length_of (take c cycle)
+    else length_of (take c cycle) - length_of (take i cycle)
 
--- the stay that a number stands for
-abbrev pub stay_of : ℕ → Stay
-stay_of n = if n == forever then Always else Lasts n
+-- Going round the cycle from slot i on, slot c is the first that closes the class.
+pub record Closes (cycle : List Slot) (class i c : ℕ) : Type 0 where
+  pub listed : c < length cycle
+  pub shut : opens (slice_index_or cycle c (record { mask = 0; span = 0 })).mask class ≡ false
+  pub run : run_of (drop i cycle ++ cycle) class ≡ time_between cycle i c
+
+-- A column has for each slot the one that closes the class.
+abbrev pub IsColumn : List Slot → ℕ → List ℕ → Type 0
+IsColumn cycle class column = (i : ℕ) → i < length cycle → Closes cycle class i (slice_index column i)
+
+-- the same by a list of when the slots begin
+abbrev pub time_to : ℕ → List ℕ → ℕ → ℕ → ℕ
+time_to cycle starts i c =
+    if nat_lt c i then cycle - slice_index starts i + slice_index starts c
+    else slice_index starts c - slice_index starts i
 
 -- what a table has for a class at an entry
-abbrev pub number_at : List (List ℕ) → ℕ → ℕ → ℕ
-number_at table class i = slice_index (slice_index_or table class []) i
+abbrev pub stay_at : Table → ℕ → ℕ → Stay
+stay_at table class i =
+    if nat_lt i table.shown
+    then if slice_index_or table.always class false then Always
+    else Lasts (time_to table.cycle table.starts i (slice_index (slice_index_or table.closing class []) i))
+    else Lasts 0
 
 -- what it has to have there: 0 where no slot is
-abbrev pub number_told : List Slot → ℕ → ℕ → ℕ
-number_told cycle i class = if nat_lt i (length cycle) then number_of (stay cycle i class) else 0
+abbrev pub stay_told : List Slot → ℕ → ℕ → Stay
+stay_told cycle i class = if nat_lt i (length cycle) then told_stay (stay cycle i class) else Lasts 0
 
--- a table has the stays of so many classes
-abbrev pub HasStays : List Slot → ℕ → List (List ℕ) → Type 0
-HasStays cycle classes table = (class i : ℕ) → class < classes → number_at table class i ≡ number_told cycle i class
+-- a table has the stays of all classes
+abbrev pub HasStays : List Slot → Table → Type 0
+HasStays cycle table = (class i : ℕ) → class < CLASSES → stay_at table class i ≡ stay_told cycle i class
 
 -- a schedule with its table
-pub record IsTabled (plan : Plan) (table : List (List ℕ)) : Type 0 where
+pub record IsTabled (plan : Plan) (table : Table) : Type 0 where
   pub sound : IsSchedule plan
-  pub stays : HasStays (slots plan.entries (in_ps plan.cycle)) CLASSES table
+  pub stays : HasStays (slots plan.entries (in_ps plan.cycle)) table

@@ -1,20 +1,31 @@
 //! The table of open time: how long each class stays open from the start of each entry of a list repeated for ever.
 //!
-//! It is made once, in time linear in the entries, by walks from the end of the cycle to its start.
-ghost use Rattle.std.specs.Prelude.{◌≡◌, ℕ, ◌<◌, ◌≤◌, ◌^◌, length, slice_get, slice_index, Some};
+//! It is made once, in time linear in the entries, by walks from the end of the cycle to its start. It has the slot that closes a
+//! class, which is an octet, in place of the time up to there: a schedule is copied whole wherever it is handed over.
+ghost use Rattle.std.specs.Prelude.{◌≡◌, ℕ, ◌<◌, ◌≤◌, ◌^◌, IfSome, None, Some, false, length, slice_get, true};
 ghost use Rattle.gate_list.specs.Gate.{in_ps};
 ghost use Rattle.gate_list.specs.declared.TheConstants.{MAX_CYCLE_NS};
-ghost use Rattle.gate_list.specs.Stay.{slots, length_of, run_of, is_open_in_all};
-ghost use Rattle.gate_list.specs.Table.{number_told, number_at, stay_of, HasStays};
+ghost use Rattle.gate_list.specs.Stay.{slots, length_of, is_open_in_all};
+ghost use Rattle.gate_list.specs.Table.{AreStarts, Closes, HasStays, IsColumn, stay_at, time_to};
 
 use crate::{Entry, MAX_ENTRIES, Slot, Stay, is_open};
 use arrayvec::ArrayVec;
 use wire_time::CLASSES;
 
-/// By class and by entry, in picoseconds; `FOREVER` where the class never closes.
-pub(crate) type Table = [[u64; MAX_ENTRIES]; CLASSES];
-
-const FOREVER: u64 = u64::MAX;
+/// When the slots of a cycle begin, and which of them closes a class next. Times are in picoseconds.
+#[derive(Clone, Debug, Drop)]
+pub(crate) struct Table {
+    /// How many slots there are: that many entries are shown.
+    shown: usize,
+    /// How long the slots last together.
+    cycle: u64,
+    /// When each slot begins, from the start of the cycle.
+    starts: [u64; MAX_ENTRIES],
+    /// Whether every slot opens the class.
+    always: [bool; CLASSES],
+    /// By class and by slot, the first slot from there on that closes the class; past the last slot the first one comes again.
+    closing: [[u8; MAX_ENTRIES]; CLASSES],
+}
 
 /// What a cycle of so many nanoseconds shows, one slot after another.
 fn slots_of(entries: &[Entry], cycle_ns: u64) -> ArrayVec<Slot, MAX_ENTRIES>
@@ -42,86 +53,125 @@ fn slots_of(entries: &[Entry], cycle_ns: u64) -> ArrayVec<Slot, MAX_ENTRIES>
     slots
 }
 
-/// Whether all slots open a class, and for how long it is open from the start of the first on.
-fn first_run(slots: &[Slot], class: u8) -> (bool, u64)
-    requires low { class < CLASSES }
+/// When each slot begins, in picoseconds from the start of the first, and how long they last together.
+fn starts_of(slots: &[Slot]) -> ([u64; MAX_ENTRIES], u64)
+    requires room { length slots.now ≤ MAX_ENTRIES }
     requires fits { length_of slots.now < 2 ^ 62 }
-    ensures all { result.0 ≡ is_open_in_all slots.now class }
-    ensures run { result.1 ≡ run_of slots.now class }
+    ensures starts { AreStarts slots.now result.0 }
+    ensures total { result.1 ≡ length_of slots.now }
 {
-    let mut all = true;
-    let mut run = 0;
-    let mut left = slots.len();
-    while left > 0 {
-        left -= 1;
-        let slot = slots[left];
-        if is_open(slot.mask, class) {
-            run += slot.span;
-        } else {
-            run = 0;
-            all = false;
-        }
+    let mut starts = [0; MAX_ENTRIES];
+    let mut end = 0;
+    for (i, slot) in slots.iter().enumerate() {
+        starts[i] = end;
+        end += slot.span;
     }
-    (all, run)
+    (starts, end)
 }
 
-/// For each slot, how long a class stays open from its start; 0 where there is no slot.
-fn column_of(slots: &[Slot], class: u8) -> [u64; MAX_ENTRIES]
+/// The first slot that closes a class.
+fn first_closing(slots: &[Slot], class: u8) -> Option<u8>
     requires room { length slots.now ≤ MAX_ENTRIES }
     requires low { class < CLASSES }
-    requires fits { length_of slots.now < 2 ^ 62 }
-    ensures { (i : ℕ) → slice_index result i ≡ number_told slots.now i class }
+    ensures none { result ≡ None → is_open_in_all slots.now class ≡ true }
+    ensures some { IfSome result (λ c. is_open_in_all slots.now class ≡ false) }
+    ensures closes { IfSome result (Closes slots.now class (length slots.now)) }
 {
-    let (all, mut run) = first_run(slots, class);
-    let mut stays = [0; MAX_ENTRIES];
+    for (i, slot) in slots.iter().enumerate() {
+        if !is_open(slot.mask, class) {
+            return Some(i as u8);
+        }
+    }
+    None
+}
+
+/// Whether all slots open a class, and else for each slot the first one from there on that closes the class.
+fn column_of(slots: &[Slot], class: u8) -> (bool, [u8; MAX_ENTRIES])
+    requires room { length slots.now ≤ MAX_ENTRIES }
+    requires low { class < CLASSES }
+    ensures all { result.0 ≡ is_open_in_all slots.now class }
+    ensures column { result.0 ≡ false → IsColumn slots.now class result.1 }
+{
+    let mut closing = [0; MAX_ENTRIES];
+    let Some(first) = first_closing(slots, class) else {
+        return (true, closing);
+    };
+    let mut next = first;
     let mut left = slots.len();
     while left > 0 {
         left -= 1;
-        let slot = slots[left];
-        if is_open(slot.mask, class) {
-            run += slot.span;
-        } else {
-            run = 0;
+        if !is_open(slots[left].mask, class) {
+            next = left as u8;
         }
-        stays[left] = if all { FOREVER } else { run };
+        closing[left] = next;
     }
-    stays
+    (false, closing)
 }
 
-/// The table of a list whose cycle takes so many nanoseconds.
+/// The table of a list whose cycle takes so many nanoseconds. It is written where it is kept: within the body of a caller the
+/// compiler would copy its parts one by one.
+#[inline(never)]
 pub(crate) fn table_of(entries: &[Entry], cycle_ns: u64) -> Table
     requires few { length entries.now ≤ MAX_ENTRIES }
     requires fits { cycle_ns ≤ MAX_CYCLE_NS }
-    ensures { HasStays (slots entries.now (in_ps cycle_ns)) CLASSES result }
+    ensures { HasStays (slots entries.now (in_ps cycle_ns)) result }
 {
     let slots = slots_of(entries, cycle_ns);
-    let mut table = [[0; MAX_ENTRIES]; CLASSES];
+    let (starts, cycle) = starts_of(slots.as_slice());
+    let mut always = [false; CLASSES];
+    let mut closing = [[0; MAX_ENTRIES]; CLASSES];
     for class in 0..CLASSES as u8 {
-        table[usize::from(class)] = column_of(slots.as_slice(), class);
+        let (all, column) = column_of(slots.as_slice(), class);
+        always[usize::from(class)] = all;
+        closing[usize::from(class)] = column;
     }
-    table
+    Table {
+        shown: slots.len(),
+        cycle,
+        starts,
+        always,
+        closing,
+    }
 }
 
-/// The stay that a number of the table stands for.
-fn stay_of(number: u64) -> Stay
-    ensures { result ≡ stay_of number }
+/// For how long a class is open from the start of a slot to that of the one that closes it, in picoseconds.
+fn time_to(table: &Table, i: usize, closing: usize) -> u128
+    requires from { i < MAX_ENTRIES }
+    requires to { closing < MAX_ENTRIES }
+    ensures { result ≡ time_to table.now.cycle table.now.starts i closing }
 {
-    if number == FOREVER {
+    let start = table.starts[i];
+    let end = table.starts[closing];
+    if closing < i {
+        u128::from(table.cycle.saturating_sub(start)) + u128::from(end)
+    } else {
+        u128::from(end.saturating_sub(start))
+    }
+}
+
+/// What the table has for a class at an entry.
+fn stay_at(table: &Table, class: usize, i: usize) -> Stay
+    requires low { class < CLASSES }
+    requires within { i < MAX_ENTRIES }
+    ensures { result ≡ stay_at table.now class i }
+{
+    if i >= table.shown {
+        Stay::Lasts(0)
+    } else if table.always[class] {
         Stay::Always
     } else {
-        Stay::Lasts(u128::from(number))
+        Stay::Lasts(time_to(table, i, usize::from(table.closing[class][i])))
     }
 }
 
 /// What the table has for each class at an entry.
 pub(crate) fn stays_at(table: &Table, i: usize) -> [Stay; CLASSES]
     requires { i < MAX_ENTRIES }
-    ensures { (class : ℕ) → class < CLASSES
-        → slice_get result class ≡ Some (stay_of (number_at table.now class i)) }
+    ensures { (class : ℕ) → class < CLASSES → slice_get result class ≡ Some (stay_at table.now class i) }
 {
     let mut stays = [Stay::Always; CLASSES];
     for class in 0..CLASSES {
-        stays[class] = stay_of(table[class][i]);
+        stays[class] = stay_at(table, class, i);
     }
     stays
 }

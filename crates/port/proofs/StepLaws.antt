@@ -1,5 +1,5 @@
 -- Where a port makes no step.
-use Rattle.std.proofs.Common.{◌≡◌, ◌<◌, ◌≤◌, ℕ, true, false, not, ◌||◌, ltb, All, List, length, get_or, Option, Some, None, IfSome, refl, sym, ap, ◌∙◌, subst, arith}
+use Rattle.std.proofs.Common.{◌≡◌, ◌<◌, ◌≤◌, ℕ, true, false, not, ◌||◌, ltb, All, List, length, get_or, Option, Some, None, IfSome, is_some, refl, sym, ap, ◌∙◌, subst, arith}
 use Rattle.std.proofs.lemmas.Bool.{false≢true, le-ltb}
 use Rattle.wire_time.specs.Moment.{greatest_moment}
 use Rattle.abstract_port.specs.declared.Answer.{Answer}
@@ -56,6 +56,10 @@ stayed_more event p (Some x) q so_far same answer left r more kept none = (kept 
     by (Some e) one =
         let clock : x ≡ Clock one.upto = (let is = one.same in let x_is : x ≡ e = (cc) in x_is ∙ one.clock) in
         absurd (false≢true (sym still ∙ (ap (makes_step q.port.now) clock ∙ clock_steps q.port.now one.upto one.onward one.within)))
+
+pub not_asked : (asked : Option Event) → is_some asked ≡ false → asked ≡ None
+not_asked None e = refl
+not_asked (Some x) e = absurd (cc)
 
 -- So far of a list of events: where none makes a step the visits and the moment are those before.
 abbrev pub HaveStayed : List Event → PortState → PortState → Type 0

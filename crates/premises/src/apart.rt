@@ -41,15 +41,17 @@ fn is_apart(command: &Command, class: u8) -> bool
 }
 
 /// Whether a schedule is in force.
-fn is_scheduled<G: Gates, A: Allocator>(port: &Port<G, A>) -> bool
-    ensures { IsTrue result ↔ IsScheduled port.now.port }
+fn is_scheduled<G: Gates, A: Allocator>(port: &mut Port<G, A>) -> bool
+    ensures scheduled { IsTrue result ↔ IsScheduled port.old.port }
+    ensures same { port.new ≡ port.old }
 {
     port.report().in_force.is_some()
 }
 
 /// Whether an arrival of this priority is as the law of separation asks: its class is another, or a schedule is in force.
-fn is_arrival_apart<G: Gates, A: Allocator>(port: &Port<G, A>, class: u8, priority: u8) -> bool
-    ensures { IsTrue result ↔ (class_for port.now.port priority ≡ Some class → IsScheduled port.now.port) }
+fn is_arrival_apart<G: Gates, A: Allocator>(port: &mut Port<G, A>, class: u8, priority: u8) -> bool
+    ensures apart { IsTrue result ↔ (class_for port.old.port priority ≡ Some class → IsScheduled port.old.port) }
+    ensures same { port.new ≡ port.old }
 {
     port.class_for(priority) != Some(class) || is_scheduled(port)
 }

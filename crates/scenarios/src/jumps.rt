@@ -1,8 +1,9 @@
 //! How many entries each step of a port on jumping gates looks at, counted by hand: no more for a far clock than for a near one.
 //!
 //! A list of N entries that is searched without a find takes N - 1 entries up to the end of its cycle, as many and the first
-//! of the next cycle, and as many and the first of the last whole cycle before its end. A list that goes on takes each entry
-//! that it comes to in its cycle, and in another cycle all from the first up to the one of the moment.
+//! of the next cycle, as many and the first of the last whole cycle before the greatest moment, and those of the cycle that this one
+//! cuts. A list that goes on takes each entry that it comes to in its cycle, and in another cycle all from the first up to the one of
+//! the moment. The gates move only where they are asked, or while a command is to come.
 use super::ports::{command, frame, plain_map};
 use super::*;
 use abstract_port::{Answer, Command, Event, Start};
@@ -60,7 +61,7 @@ fn by_turns(many: usize, interval: u32) -> Option<Command> {
     command(&given, plain_map())
 }
 
-/// A schedule of so many entries, what a clock event that goes far over it looks at while a frame can't start, and what is open
+/// A schedule of so many entries, what a clock event that goes over it looks at while a frame can't start, and what is open
 /// then.
 #[derive(Clone, Copy)]
 struct Waiting {
@@ -70,30 +71,31 @@ struct Waiting {
     mask: u8,
 }
 
-/// A frame waits through 5 * 10^12 cycles, 10^15 and 4 * 10^12: a step that took each of them would not end.
+/// A frame waits through 5 * 10^12 cycles, 10^15 and 4 * 10^12: a step that took each of them would not end. It is searched for
+/// once, up to the greatest moment, and then it is known that it never starts.
 #[test]
 fn a_frame_waits_through_far_clocks(rt: HostRuntime) -> Result<(), Fail> {
     for waiting in [
-        // The second entry of three cycles, the first of two cycles and of the last one, which the clock cuts at 180 us, and the
-        // second of that one; placed there: both.
+        // The second entry of three cycles, the first of two cycles and of the last one, which the greatest moment cuts at 155.807 us,
+        // and the second of that one.
         Waiting {
             many: 2,
             interval: 100_000,
-            visits: 3 + 3 + 1 + 2,
+            visits: 3 + 3 + 1,
             mask: 0x04,
         },
-        // The clock stops where a cycle begins: no cycle is cut, and the list is placed in the first entry.
+        // The greatest moment cuts the last cycle at 0.807 us.
         Waiting {
             many: 2,
             interval: 500,
-            visits: 3 + 2 + 1,
+            visits: 3 + 3 + 1,
             mask: 0x02,
         },
-        // The clock cuts the last cycle at 236 us: in its 237th entry, which begins there.
+        // The greatest moment cuts the last cycle at 227.807 us: in its entry of index 227.
         Waiting {
             many: 256,
             interval: 1000,
-            visits: 3 * 255 + 3 + 235 + 237,
+            visits: 3 * 255 + 3 + 227,
             mask: 0x02,
         },
     ] {
@@ -114,8 +116,8 @@ fn a_frame_waits_through_far_clocks(rt: HostRuntime) -> Result<(), Fail> {
         assert_eq!(rt; port.now(), FAR);
         assert_eq!(rt; port.report().mask, waiting.mask);
         assert_eq!(rt; port.counters(0).waiting, 1);
-        // Within the entry that is shown nothing is looked at.
-        steps(&rt, &mut port, Event::Clock(FAR + 1), &[], 0);
+        // It is known that the frame doesn't start.
+        steps(&rt, &mut port, Event::Clock(2 * FAR), &[], 0);
     }
     Ok(())
 }
@@ -287,34 +289,62 @@ fn changes_of_long_lists_are_found_from_afar(rt: HostRuntime) -> Result<(), Fail
     Ok(())
 }
 
-/// Clock events over 256 entries of 500 ns: within an entry none is looked at, and at the next boundary only the one that begins, also
-/// where a cycle begins. No frame waits, so nothing is searched: further on each entry that begins is looked at once, on the way.
+/// A frame arrives at a moment, and starts at once: what the step up to its start looks at is given.
+#[derive(Clone, Copy)]
+struct Starting {
+    class: u8,
+    at: u128,
+    visits: u64,
+}
+
+/// Takes a clock event at the moment, which looks at nothing, then the frame, and then a picosecond.
+fn starts_at_once<R: Abort>(rt: &R, port: &mut Port<Jumping>, starting: &Starting) {
+    let Starting { class, at, visits } = *starting;
+    let queued = Answer::Queued { id: 1, class };
+    let start = Answer::Start(Start {
+        id: 1,
+        class,
+        at,
+        end: at.saturating_add(672_000),
+    });
+    steps(rt, port, Event::Clock(at), &[], 0);
+    let arrival = Event::Arrive(frame(1, class, 60));
+    steps(rt, port, arrival, &[(queued, 0)], 0);
+    let until = Event::Clock(at.saturating_add(1));
+    steps(rt, port, until, &[(start, visits)], 0);
+}
+
+/// Frames that arrive over 256 entries of 1 us, and start at once. Clock events look at no entry. A start in the entry after that of
+/// the last start looks at that entry alone, also where a cycle begins; further on each entry that begins is looked at once, on the
+/// way.
 #[test]
-fn near_clocks_look_at_the_next_entry_alone(rt: HostRuntime) -> Result<(), Fail> {
-    let list = by_turns(256, 500).ok_or("a command")?;
+fn near_starts_look_at_the_next_entry_alone(rt: HostRuntime) -> Result<(), Fail> {
+    let list = by_turns(256, 1000).ok_or("a command")?;
     let mut port = new_port(&rt)?;
     let installed = Answer::Installed(20_000_000);
     steps(&rt, &mut port, Event::Install(&list), &[(installed, 0)], 0);
     steps(&rt, &mut port, Event::Clock(20_000_000), &[], 1);
     for i in 1..256u32 {
-        let begins = 20_000_000 + 500_000 * u128::from(i);
-        steps(&rt, &mut port, Event::Clock(begins - 1), &[], 0);
-        steps(&rt, &mut port, Event::Clock(begins), &[], 1);
+        let starting = Starting {
+            class: if i % 2 == 0 { 1 } else { 2 },
+            at: 20_000_000 + 1_000_000 * u128::from(i),
+            visits: 1,
+        };
+        starts_at_once(&rt, &mut port, &starting);
     }
-    for (moment, visits) in [
-        // The second cycle, from 148 us on.
-        (148_000_000, 1),
+    for (class, at, visits) in [
+        // The second cycle, from 276 us on.
+        (1, 276_000_000, 1),
         // Its fourth entry, which begins there, from its first.
-        (149_500_000, 3),
+        (2, 279_000_000, 3),
         // Its last, from its fourth.
-        (275_999_999, 252),
-        // The third entry of the third cycle, which began at 276 us.
-        (277_499_999, 3),
-        // The first of the fifth, from 532 us on: no entry between is looked at.
-        (532_000_000, 1),
-        (532_499_999, 0),
+        (2, 531_000_000, 252),
+        // The third entry of the third cycle, which began at 532 us.
+        (1, 534_200_000, 3),
+        // The first of the fifth, from 1044 us on: no entry between is looked at.
+        (1, 1_044_000_000, 1),
     ] {
-        steps(&rt, &mut port, Event::Clock(moment), &[], visits);
+        starts_at_once(&rt, &mut port, &Starting { class, at, visits });
     }
     Ok(())
 }

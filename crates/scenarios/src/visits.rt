@@ -52,8 +52,9 @@ fn counts<R: Abort + AllocGlobal>(rt: &R, port: &mut Port<Stepped>, steps: &[(Ev
 }
 
 /// A list that comes into force, or is placed anew at a lead moment, looks at its entries from the first up to the one of the
-/// moment; each entry that begins later is one more, also where a cycle begins. A cycle that begins in a hold looks at its
-/// first entry and at the last. No other event than the clock's changes what is shown.
+/// moment; while a command is to come each entry that begins later is one more, also where a cycle begins. A cycle that begins in a
+/// hold looks at its first entry and at the last. Where no command is to come and no frame waits, nothing is looked at. No other event
+/// than the clock's changes what is shown.
 #[test]
 fn each_step_counts_what_it_looks_at(rt: HostRuntime) -> Result<(), Fail> {
     let first = three_entries().ok_or("a command")?;
@@ -65,12 +66,11 @@ fn each_step_counts_what_it_looks_at(rt: HostRuntime) -> Result<(), Fail> {
         (Event::Clock(12_336_000), 0),
         // The list comes into force at its first entry.
         (Event::Clock(60_000_000), 1),
-        // The second entry.
-        (Event::Clock(80_000_000), 1),
-        // The third at 100 us, and the first of the next cycle at 120 us.
-        (Event::Clock(125_000_000), 2),
-        (Event::Install(&second), 2),
-        (Event::Install(&second), 2),
+        // The second entry, the third at 100 us, and the first of the next cycle at 120 us: the gates are not asked.
+        (Event::Clock(80_000_000), 0),
+        (Event::Clock(125_000_000), 0),
+        (Event::Install(&second), 0),
+        (Event::Install(&second), 0),
         // The lead moment of the second command: the list is placed anew, at its first entry.
         (Event::Clock(137_336_000), 1),
         (Event::Query, 1),
@@ -108,9 +108,9 @@ fn each_start_has_its_own_count(rt: HostRuntime) -> Result<(), Fail> {
     };
     assert_eq!(rt; port.next_answer(&mut asked), Some(Answer::Start(start)));
     assert_eq!(rt; port.visits(), 2);
-    // The first entry of the cycle from 120 us on.
+    // No frame waits: the first entry of the cycle from 120 us on is not looked at.
     assert_eq!(rt; port.next_answer(&mut asked), None);
-    assert_eq!(rt; port.visits(), 1);
+    assert_eq!(rt; port.visits(), 0);
     Ok(())
 }
 
@@ -123,9 +123,9 @@ fn a_list_is_placed_anew_entry_by_entry(rt: HostRuntime) -> Result<(), Fail> {
     let steps = [
         (Event::Install(&first), 0),
         (Event::Clock(60_000_000), 1),
-        // The second entry at 80 us, the third at 100 us.
-        (Event::Clock(100_000_000), 2),
-        (Event::Install(&second), 2),
+        // The second entry at 80 us, the third at 100 us: the gates move there for the command, which is no step.
+        (Event::Clock(100_000_000), 0),
+        (Event::Install(&second), 0),
         // The lead moment, in the third entry.
         (Event::Clock(112_336_000), 3),
     ];

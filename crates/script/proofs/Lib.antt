@@ -5,3 +5,4 @@ pub mod ReaderLaws
 pub mod Going
 pub mod EndingLaws
 pub mod SeparatedLaws
+pub mod ClockLaws

@@ -48,6 +48,12 @@ frame_event (id ∷ priority ∷ []) = Err WordCount
 frame_event (id ∷ []) = Err WordCount
 frame_event [] = Err WordCount
 
+-- whether a frame is tagged, by the words behind its numbers
+abbrev pub tag_in : List (List ℕ) → Option Bool
+tag_in [] = Some false
+tag_in (tag ∷ []) = if bytes_eq tag (codes "tagged") then Some true else None
+tag_in (tag ∷ more ∷ ws) = None
+
 -- query
 abbrev pub query_event : List (List ℕ) → Result Event ScriptFault
 query_event [] = Ok Query

@@ -1,9 +1,10 @@
 //! What a port answers to the lines of a script, written as it comes.
 
-ghost use Rattle.std.specs.Prelude.{ℕ, List, Result, ◌≡◌, ◌<◌, length, OnOk};
+ghost use Rattle.std.specs.Prelude.{ℕ, List, Result, ◌≡◌, ◌<◌, ◌≤◌, length, OnOk};
 ghost use Rattle.abstract_port.specs.AbstractPort.{queue_of, settled};
-ghost use Rattle.abstract_port.specs.Answers.{answers_to};
+ghost use Rattle.abstract_port.specs.Answers.{answers_to, arrival_answer};
 ghost use Rattle.abstract_port.specs.Sound.{IsSoundPort};
+ghost use Rattle.abstract_port.specs.declared.Answer.TheVariants as Answers;
 ghost use Rattle.abstract_port.specs.declared.Command.{Command};
 ghost use Rattle.abstract_port.specs.declared.Event.TheVariants as Events;
 ghost use Rattle.octet_writer.specs.Writes.{Writes};
@@ -12,24 +13,115 @@ ghost use Rattle.words.specs.Words.{words_of};
 ghost use Rattle.script.specs.Requests.{Asks, tc_request};
 ghost use Rattle.tc_reader.specs.Reader.{IsReader};
 ghost use Rattle.script.specs.Responses.{left_lines, left_text, lines_of, noted_by, responses_to};
-ghost use Rattle.summary.specs.Wanted.{noted_at};
+ghost use Rattle.summary.specs.Observed.{seen};
+ghost use Rattle.summary.specs.Wanted.{noted, noted_at};
+ghost use Rattle.wire_time.specs.Moment.{greatest_moment};
 
 use crate::reading::read_tc;
-use abstract_port::{Command, Event};
-use answer_text::{WriteFault, put_answer, put_left, put_tc_fault};
+use abstract_port::{Answer, Command, Dropped, Event, Start};
+use answer_text::{WriteFault, put_answer, put_arrival, put_left, put_start, put_tc_fault};
 use jumping::Jumping;
 use port::Port;
 use std::alloc::Allocator;
 use std::io::Write;
 use summary::{Summary, note};
 use tc_reader::TcFault;
+use wire_time::{Frame, MAX_MOMENT};
 
 /// The port that runs. Another implementation of the gates takes the place of this one here.
 pub type RunningPort<A> = Port<Jumping, A>;
 
-/// Takes an event, and writes the answers to it as they come, each noted where a summary is wanted. At a fault a front of them is
-/// written.
-pub fn put_answers<A: Allocator, W: Write>(
+// Takes note of a frame that arrived now, in picoseconds. Apart, since mostly no summary is wanted.
+#[inline(never)]
+fn see_verdict<A: Allocator>(
+    summary: &mut Summary<A>,
+    now: u128,
+    frame: &Frame,
+    verdict: Result<u8, Dropped>,
+)
+    ensures { summary.new ≡ seen now (arrival_answer frame.now verdict) summary.old }
+{
+    let id = frame.id;
+    match verdict {
+        Ok(class) => summary.see(now, &Answer::Queued { id, class }),
+        Err(why) => summary.see(now, &Answer::Dropped { id, why }),
+    }
+}
+
+// The same where a summary is wanted.
+fn note_verdict<A: Allocator>(
+    summary: &mut Option<Summary<A>>,
+    now: u128,
+    frame: &Frame,
+    verdict: Result<u8, Dropped>,
+)
+    ensures { summary.new ≡ noted now (arrival_answer frame.now verdict) summary.old }
+{
+    if let Some(summary) = summary {
+        see_verdict(summary, now, frame, verdict);
+    }
+}
+
+// Takes note of a frame that starts, told at a moment in picoseconds. Apart, since mostly no summary is wanted.
+#[inline(never)]
+fn see_start<A: Allocator>(summary: &mut Summary<A>, now: u128, start: &Start)
+    ensures { summary.new ≡ seen now (Answers.Start start.now) summary.old }
+{
+    summary.see(now, &Answer::Start(*start));
+}
+
+// The same where a summary is wanted.
+fn note_start<A: Allocator>(summary: &mut Option<Summary<A>>, now: u128, start: &Start)
+    ensures { summary.new ≡ noted now (Answers.Start start.now) summary.old }
+{
+    if let Some(summary) = summary {
+        see_start(summary, now, start);
+    }
+}
+
+// Takes a frame that arrives, and writes the answer.
+fn put_frame<A: Allocator, W: Write>(
+    port: &mut RunningPort<A>,
+    summary: &mut Option<Summary<A>>,
+    frame: &Frame,
+    writer: &mut W,
+) -> Result<(), WriteFault>
+    ensures text { Writes result (W.contents writer.old) (W.contents writer.new) (lines_of (responses_to (Asks (Events.Arrive frame.now)) port.old.port).0) }
+    ensures port { OnOk result (port.new.port ≡ settled (answers_to (Events.Arrive frame.now) port.old.port).1) }
+    ensures seen { OnOk result (summary.new ≡ noted_at (Events.Arrive frame.now) port.old.port summary.old) }
+    ensures sound { OnOk result (IsSoundPort port.new.port) }
+{
+    let now = port.now();
+    let verdict = port.arrive(*frame);
+    note_verdict(summary, now, frame, verdict);
+    put_arrival(writer, frame, verdict)
+}
+
+// Runs to a moment that is not refused, in picoseconds, and writes the starts before it.
+fn put_starts<A: Allocator, W: Write>(
+    port: &mut RunningPort<A>,
+    summary: &mut Option<Summary<A>>,
+    until: u128,
+    writer: &mut W,
+) -> Result<(), WriteFault>
+    requires later { port.old.port.now ≤ until }
+    requires within { until ≤ greatest_moment }
+    ensures text { Writes result (W.contents writer.old) (W.contents writer.new) (lines_of (responses_to (Asks (Events.Clock until)) port.old.port).0) }
+    ensures port { OnOk result (port.new.port ≡ settled (answers_to (Events.Clock until) port.old.port).1) }
+    ensures seen { OnOk result (summary.new ≡ noted_at (Events.Clock until) port.old.port summary.old) }
+    ensures sound { OnOk result (IsSoundPort port.new.port) }
+{
+    let now = port.now();
+    while let Some(start) = port.step(until) {
+        note_start(summary, now, &start);
+        put_start(writer, &start)?;
+    }
+    Ok(())
+}
+
+// Takes an event of any kind, and writes the answers to it as the port gives them. Apart, since its locals are large.
+#[inline(never)]
+fn put_each<A: Allocator, W: Write>(
     port: &mut RunningPort<A>,
     summary: &mut Option<Summary<A>>,
     event: &Event<'_>,
@@ -49,22 +141,61 @@ pub fn put_answers<A: Allocator, W: Write>(
     Ok(())
 }
 
+// Takes a clock event, with its moment in picoseconds, and writes the answers to it.
+fn put_clock<A: Allocator, W: Write>(
+    port: &mut RunningPort<A>,
+    summary: &mut Option<Summary<A>>,
+    until: u128,
+    writer: &mut W,
+) -> Result<(), WriteFault>
+    ensures text { Writes result (W.contents writer.old) (W.contents writer.new) (lines_of (responses_to (Asks (Events.Clock until)) port.old.port).0) }
+    ensures port { OnOk result (port.new.port ≡ settled (answers_to (Events.Clock until) port.old.port).1) }
+    ensures seen { OnOk result (summary.new ≡ noted_at (Events.Clock until) port.old.port summary.old) }
+    ensures sound { OnOk result (IsSoundPort port.new.port) }
+{
+    if port.now() <= until && until <= MAX_MOMENT {
+        put_starts(port, summary, until, writer)
+    } else {
+        put_each(port, summary, &Event::Clock(until), writer)
+    }
+}
+
+/// Takes an event, and writes the answers to it as they come, each noted where a summary is wanted. At a fault a front of them is
+/// written.
+pub fn put_answers<A: Allocator, W: Write>(
+    port: &mut RunningPort<A>,
+    summary: &mut Option<Summary<A>>,
+    event: &Event<'_>,
+    writer: &mut W,
+) -> Result<(), WriteFault>
+    ensures text { Writes result (W.contents writer.old) (W.contents writer.new) (lines_of (responses_to (Asks event.now) port.old.port).0) }
+    ensures port { OnOk result (port.new.port ≡ settled (answers_to event.now port.old.port).1) }
+    ensures seen { OnOk result (summary.new ≡ noted_at event.now port.old.port summary.old) }
+    ensures sound { OnOk result (IsSoundPort port.new.port) }
+{
+    match event {
+        Event::Arrive(frame) => put_frame(port, summary, frame, writer),
+        Event::Clock(until) => put_clock(port, summary, *until, writer),
+        _ => put_each(port, summary, event, writer),
+    }
+}
+
 // Gives a command to the port and writes its answer, or writes why there is none.
 fn put_command<A: Allocator, W: Write>(
     port: &mut RunningPort<A>,
     summary: &mut Option<Summary<A>>,
-    read: Result<Command, TcFault>,
+    read: &Result<Command, TcFault>,
     writer: &mut W,
 ) -> Result<(), WriteFault>
-    ensures text { Writes result (W.contents writer.old) (W.contents writer.new) (lines_of (responses_to (tc_request read) port.old.port).0) }
-    ensures port { OnOk result (port.new.port ≡ settled (responses_to (tc_request read) port.old.port).1) }
-    ensures seen { OnOk result (summary.new ≡ noted_by (tc_request read) port.old.port summary.old) }
+    ensures text { Writes result (W.contents writer.old) (W.contents writer.new) (lines_of (responses_to (tc_request read.now) port.old.port).0) }
+    ensures port { OnOk result (port.new.port ≡ settled (responses_to (tc_request read.now) port.old.port).1) }
+    ensures seen { OnOk result (summary.new ≡ noted_by (tc_request read.now) port.old.port summary.old) }
     ensures sound { OnOk result (IsSoundPort port.new.port) }
 {
     let _now = port.now();
     match read {
-        Ok(command) => put_answers(port, summary, &Event::Install(&command), writer),
-        Err(fault) => put_tc_fault(writer, fault),
+        Ok(command) => put_answers(port, summary, &Event::Install(command), writer),
+        Err(fault) => put_tc_fault(writer, *fault),
     }
 }
 
@@ -83,7 +214,7 @@ pub fn put_tc<A: Allocator, W: Write>(
         OnOk result (summary.new ≡ noted_by (tc_request (read (words_of line.now))) port.old.port summary.old) }
     ensures sound { OnOk result (IsSoundPort port.new.port) }
 {
-    put_command(port, summary, read_tc(line), writer)
+    put_command(port, summary, &read_tc(line), writer)
 }
 
 // Writes how many frames a class still has, where it has some.

@@ -1,11 +1,11 @@
 //! What the lines of a script say.
 
-ghost use Rattle.std.specs.Prelude.{◌≡◌, ◌≤◌, ◌<◌, ◌^◌, ◌-◌, ℕ, List, Result};
+ghost use Rattle.std.specs.Prelude.{◌≡◌, ◌≤◌, ◌<◌, ◌^◌, ◌-◌, ℕ, List, Result, IfSome};
 ghost use Rattle.abstract_port.specs.declared.Command.{Command};
 ghost use Rattle.tc_reader.specs.declared.fault.TcFault.{TcFault};
 ghost use Rattle.words.specs.Words.{words_of};
 ghost use Rattle.words.specs.WordsLeft.{words_left};
-ghost use Rattle.script.specs.Requests.{clock_event, count_event, frame_event, frame_in_words, query_event, said_in};
+ghost use Rattle.script.specs.Requests.{clock_event, count_event, frame_event, frame_with, query_event, said_in, tag_in};
 ghost use Rattle.tc_reader.specs.Reader.{IsReader};
 
 use crate::faults::ScriptFault;
@@ -13,7 +13,7 @@ use abstract_port::{Command, Event};
 use tc_reader::laws::one_reading;
 use tc_reader::{TcFault, read_command};
 use wire_time::{Frame, MAX_MOMENT};
-use words::{Words, number};
+use words::Words;
 
 /// What a line says. A line that begins with `tc` is read where it is answered: a command takes two kilobytes, and would make
 /// each value of this type as large.
@@ -28,34 +28,31 @@ pub enum Said {
 fn read_clock(mut words: Words<'_>) -> Result<Event<'static>, ScriptFault>
     ensures { result ≡ clock_event (words_left words.entry) }
 {
-    let Some(moment) = words.next_word() else {
+    let Some(moment) = words.next_number(u128::MAX) else {
         return Err(ScriptFault::WordCount);
     };
     if words.next_word().is_some() {
         return Err(ScriptFault::WordCount);
     }
-    match number(moment, u128::MAX) {
+    match moment {
         None => Err(ScriptFault::BadNumber),
         Some(moment) if moment > MAX_MOMENT => Err(ScriptFault::ClockTooLate),
         Some(moment) => Ok(Event::Clock(moment)),
     }
 }
 
-fn frame_in_words(
-    id: &[u8],
-    priority: &[u8],
-    len: &[u8],
+fn frame_of(
+    id: Option<u128>,
+    priority: Option<u128>,
+    len: Option<u128>,
     tagged: bool,
 ) -> Result<Event<'static>, ScriptFault>
-    ensures { result ≡ frame_in_words id.now priority.now len.now tagged }
+    requires id { IfSome id (λ n. n < 2 ^ 64) }
+    requires priority { IfSome priority (λ n. n < 2 ^ 8) }
+    requires len { IfSome len (λ n. n < 2 ^ 32) }
+    ensures { result ≡ frame_with id priority len tagged }
 {
-    let Some(id) = number(id, u128::from(u64::MAX)) else {
-        return Err(ScriptFault::BadNumber);
-    };
-    let Some(priority) = number(priority, u128::from(u8::MAX)) else {
-        return Err(ScriptFault::BadNumber);
-    };
-    let Some(len) = number(len, u128::from(u32::MAX)) else {
+    let (Some(id), Some(priority), Some(len)) = (id, priority, len) else {
         return Err(ScriptFault::BadNumber);
     };
     Ok(Event::Arrive(Frame {
@@ -66,25 +63,41 @@ fn frame_in_words(
     }))
 }
 
+// Whether a frame is tagged, by the words behind its numbers.
+fn read_tag(mut words: Words<'_>) -> Option<bool>
+    ensures { result ≡ tag_in (words_left words.entry) }
+{
+    match words.octets() {
+        // Most frames.
+        [] => return Some(false),
+        [b' ', b't', b'a', b'g', b'g', b'e', b'd'] => return Some(true),
+        _ => {}
+    }
+    let Some(tag) = words.next_word() else {
+        return Some(false);
+    };
+    if words.next_word().is_some() || tag != b"tagged".as_slice() {
+        return None;
+    }
+    Some(true)
+}
+
 fn read_frame(mut words: Words<'_>) -> Result<Event<'static>, ScriptFault>
     ensures { result ≡ frame_event (words_left words.entry) }
 {
-    let Some(id) = words.next_word() else {
+    let Some(id) = words.next_number(u128::from(u64::MAX)) else {
         return Err(ScriptFault::WordCount);
     };
-    let Some(priority) = words.next_word() else {
+    let Some(priority) = words.next_number(u128::from(u8::MAX)) else {
         return Err(ScriptFault::WordCount);
     };
-    let Some(len) = words.next_word() else {
+    let Some(len) = words.next_number(u128::from(u32::MAX)) else {
         return Err(ScriptFault::WordCount);
     };
-    let Some(tag) = words.next_word() else {
-        return frame_in_words(id, priority, len, false);
-    };
-    if words.next_word().is_some() || tag != b"tagged".as_slice() {
+    let Some(tagged) = read_tag(words) else {
         return Err(ScriptFault::WordCount);
-    }
-    frame_in_words(id, priority, len, true)
+    };
+    frame_of(id, priority, len, tagged)
 }
 
 fn read_query(mut words: Words<'_>) -> Result<Event<'static>, ScriptFault>
@@ -99,13 +112,13 @@ fn read_query(mut words: Words<'_>) -> Result<Event<'static>, ScriptFault>
 fn read_count(mut words: Words<'_>) -> Result<Event<'static>, ScriptFault>
     ensures { result ≡ count_event (words_left words.entry) }
 {
-    let Some(class) = words.next_word() else {
+    let Some(class) = words.next_number(7) else {
         return Err(ScriptFault::WordCount);
     };
     if words.next_word().is_some() {
         return Err(ScriptFault::WordCount);
     }
-    match number(class, 7) {
+    match class {
         None => Err(ScriptFault::BadNumber),
         Some(class) => Ok(Event::Count(class as u8)),
     }
@@ -116,14 +129,11 @@ pub fn read_tc(line: &[u8]) -> Result<Command, TcFault>
     ensures { (read : List (List ℕ) → Result Command TcFault) → IsReader read → result ≡ read (words_of line.now) }
 {
     one_reading();
-    match read_command(line) {
-        Ok(command) => Ok(command),
-        Err(fault) => Err(fault),
-    }
+    read_command(line)
 }
 
-/// What a line says, or None where it is skipped: it has no words, or is a comment.
-pub fn read_line(line: &[u8]) -> Result<Option<Said>, ScriptFault>
+// What a line says, whatever its first words and blanks are.
+fn read_any_line(line: &[u8]) -> Result<Option<Said>, ScriptFault>
     ensures { result ≡ said_in line.now }
 {
     let mut words = Words::new(line);
@@ -147,4 +157,20 @@ pub fn read_line(line: &[u8]) -> Result<Option<Said>, ScriptFault>
         return Err(ScriptFault::UnknownLine);
     };
     Ok(Some(Said::Asked(event)))
+}
+
+/// What a line says, or None where it is skipped: it has no words, or is a comment.
+pub fn read_line(line: &[u8]) -> Result<Option<Said>, ScriptFault>
+    ensures { result ≡ said_in line.now }
+{
+    match line {
+        // Most lines.
+        [b'f', b'r', b'a', b'm', b'e', b' ', rest @ ..] => {
+            Ok(Some(Said::Asked(read_frame(Words::new(rest))?)))
+        }
+        [b'c', b'l', b'o', b'c', b'k', b' ', rest @ ..] => {
+            Ok(Some(Said::Asked(read_clock(Words::new(rest))?)))
+        }
+        _ => read_any_line(line),
+    }
 }

@@ -8,6 +8,7 @@ ghost use Rattle.tc_reader.specs.Seen.{behind_heads};
 ghost use Rattle.tc_reader.specs.Lines.{verb_of, verb_at, ReadsOptions, deletion_before, ReadsLine, HasFault};
 ghost use Rattle.tc_reader.specs.Grammar.{IsCommand};
 
+use crate::capped::CappedOptions;
 use crate::end::{change_given, check_heads};
 use crate::fault::TcFault;
 use crate::heads::{Seen, read_heads};
@@ -55,7 +56,8 @@ fn take_verb(words: &mut Words<'_>) -> Option<Verb>
 fn read_replacement(words: Words<'_>, seen: Seen) -> Result<Command, TcFault>
     ensures { ReadsOptions (total words.entry) seen.dev seen.parent (words_left words.entry) result }
 {
-    let given = read_options(words)?;
+    let mut given = CappedOptions::new();
+    read_options(words, &mut given)?;
     check_heads(seen)?;
     Ok(Command::Replace(change_given(&given)?))
 }

@@ -42,18 +42,19 @@ fn take_option(
     take_values(given, words, opt)
 }
 
-/// The options of the words after `taprio`, up to the end or the first fault.
-pub fn read_options(words: Words<'_>) -> Result<CappedOptions, TcFault>
+/// Reads the options of the words after `taprio`, up to the end or the first fault. They are written where they are kept, since they
+/// take two kilobytes.
+pub fn read_options(words: Words<'_>, given: &mut CappedOptions) -> Result<(), TcFault>
+    requires { view given.old ≡ no_options }
     ensures { MatchResult result
-        (λ g. (items : List Item) × Reads no_options (total words.entry) (words_left words.entry) items None × (view g ≡ capped (given_by items)))
+        (λ _. (items : List Item) × Reads no_options (total words.entry) (words_left words.entry) items None × (view given.new ≡ capped (given_by items)))
         (λ f. (items : List Item) × Reads no_options (total words.entry) (words_left words.entry) items (Some f)) }
 {
-    let mut given = CappedOptions::new();
     let mut rest = words;
     let mut place = rest.place();
     while let Some(word) = rest.next_word() {
-        take_option(&mut given, &mut rest, place, word)?;
+        take_option(given, &mut rest, place, word)?;
         place = rest.place();
     }
-    Ok(given)
+    Ok(())
 }

@@ -1,9 +1,10 @@
 -- Reading a number digit by digit.
-use Rattle.std.proofs.Common.{◌≡◌, ℕ, ◌+◌, ◌*◌, ◌<◌, ◌≤◌, true, false, eqb, List, [], ◌∷◌, length, get_or, drop, None, Some, Option, refl, ap, ◌∙◌, arith}
+use Rattle.std.proofs.Common.{◌≡◌, ℕ, ◌+◌, ◌*◌, ◌^◌, ◌<◌, ◌≤◌, true, false, eqb, List, [], ◌∷◌, ◌++◌, length, get_or, take, drop, None, Some, Option, refl, ap, ◌∙◌, arith}
 use Rattle.std.specs.Prelude.{option_and_then}
 use Rattle.std.proofs.lemmas.Bool.{lt-leb}
-use Rattle.std.proofs.lemmas.List.{at_drop_more}
-use Rattle.std.proofs.Math.Nat.{le-mul_of_pos_right}
+use Rattle.std.proofs.lemmas.List.{at_drop_more, take_more}
+use Rattle.std.proofs.Math.Nat.{le-mul_of_pos_right, pow-le-pow_right}
+use Rattle.std.proofs.lemmas.Grind.{pow_more}
 use Rattle.std.proofs.Math.ListN.{drop_of_length-le}
 use Rattle.std.specs.Prelude.{if◌then◌else◌}
 use Rattle.words.specs.Numbers.{digit_in, value_behind, at_most, number_in}
@@ -56,6 +57,34 @@ unfolding value_behind
 read_all base most n i word some end whole =
     ap (λ t. if t then None else at_most most (value_behind base 0 word)) some ∙ ap (at_most most) (whole ∙ ap (λ (l : List ℕ). value_behind base n l) (drop_of_length-le word end))
 
-pub value_at_end : (base n i : ℕ) (word : List ℕ) → length word ≤ i → value_behind base n (drop i word) ≡ Some n
+-- one digit more than less than so many digits
+pub digit_fits : (n d i k : ℕ) → n < 10 ^ i → d < 10 → i < k → n * 10 + d < 10 ^ k
+digit_fits n d i k short digit room =
+    let step : 10 ^ (i + 1) ≡ 10 ^ i * 10 = pow_more 10 i in
+    let more : 10 ^ (i + 1) ≤ 10 ^ k = pow-le-pow_right {n = 10} (omega arith) {i = i + 1} {j = k} (omega arith) in
+    omega arith
+
+value_on : (base n m : ℕ) (bs ys : List ℕ) → ((k : ℕ) → value_behind base k bs ≡ Some m → value_behind base k (bs ++ ys) ≡ value_behind base m ys) → (o : Option ℕ) → option_and_then (λ d. value_behind base (n * base + d) bs) o ≡ Some m → option_and_then (λ d. value_behind base (n * base + d) (bs ++ ys)) o ≡ value_behind base m ys
+value_on base n m bs ys after None e = absurd cc
+value_on base n m bs ys after (Some d) e = after (n * base + d) e
+
+-- digits behind digits that stand for a number
+pub value_append : (base n m : ℕ) (xs ys : List ℕ) → value_behind base n xs ≡ Some m → value_behind base n (xs ++ ys) ≡ value_behind base m ys
 unfolding value_behind
-value_at_end base n i word end = ap (λ (l : List ℕ). value_behind base n l) (drop_of_length-le word end)
+value_append base n m [] ys e = (let same : n ≡ m = cc in ap (λ k. value_behind base k ys) same)
+value_append base n m (b ∷ bs) ys e = value_on base n m bs ys (λ k. value_append base k m bs ys) (digit_in base b) e
+
+one_digit : (n d b : ℕ) → digit_in 10 b ≡ Some d → value_behind 10 n (b ∷ []) ≡ Some (n * 10 + d)
+unfolding value_behind
+one_digit n d b is = ap (option_and_then (λ d. Some (n * 10 + d))) is
+
+-- a run of digits, one digit on
+pub run_more : (n d i : ℕ) (octets : List ℕ) → i < length octets → value_behind 10 0 (take i octets) ≡ Some n → digit_in 10 (get_or octets i 0) ≡ Some d → value_behind 10 0 (take (i + 1) octets) ≡ Some (n * 10 + d)
+run_more n d i octets within is digit =
+    ap (value_behind 10 0) (take_more octets i 0 within)
+    ∙ value_append 10 0 n (take i octets) (get_or octets i 0 ∷ []) is
+    ∙ one_digit n d (get_or octets i 0) digit
+
+pub no_digits : (n : ℕ) → value_behind 10 n [] ≡ Some n
+unfolding value_behind
+no_digits n = refl

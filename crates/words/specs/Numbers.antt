@@ -34,3 +34,13 @@ is_digit octet = nat_le 48 octet && nat_le octet 57
 -- one decimal digit or more
 abbrev pub is_digits : List ℕ → Bool
 is_digits word = nat_lt 0 (length word) && list_all is_digit word
+
+-- the first of words as a decimal number up to a greatest one, if there is a word
+abbrev pub first_number : ℕ → List (List ℕ) → Option (Option ℕ)
+first_number most [] = None
+first_number most (word ∷ rest) = Some (number_in 10 most word)
+
+-- the words behind the first
+abbrev pub behind_first : List (List ℕ) → List (List ℕ)
+behind_first [] = []
+behind_first (word ∷ rest) = rest

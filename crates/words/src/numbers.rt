@@ -1,7 +1,8 @@
 //! Words that are numbers.
 
-ghost use Rattle.std.specs.Prelude.{◌≡◌, ◌<◌, ◌≤◌, Some, IfSome};
+ghost use Rattle.std.specs.Prelude.{◌≡◌, ◌<◌, ◌≤◌, ◌^◌, Some, IfSome, length, take};
 ghost use Rattle.std.specs.List.{list_all};
+ghost use Rattle.words.specs.declared.numbers.TheConstants.{SHORT_DIGITS, LONG_DIGITS};
 ghost use Rattle.words.specs.Numbers.{digit_in, number_in, value_behind, is_digit, is_digits};
 
 fn digit_in(base: u8, octet: u8) -> Option<u8>
@@ -16,22 +17,75 @@ fn digit_in(base: u8, octet: u8) -> Option<u8>
     if digit < base { Some(digit) } else { None }
 }
 
-// The greatest number that any decimal digit may follow in 64 bits.
-const LAST_SHORT: u64 = 1_844_674_407_370_955_160;
+// How many decimal digits surely make a number of 64 bits.
+const SHORT_DIGITS: usize = 19;
 
-// The number that decimal digits are, where a word has no other octet and its value fits 64 bits.
-fn short_number(word: &[u8]) -> Option<u64>
-    ensures { IfSome result (λ n. value_behind 10 0 word.now ≡ Some n) }
+// How many decimal digits surely make a number of 128 bits.
+const LONG_DIGITS: usize = 38;
+
+fn decimal_digit(octet: u8) -> Option<u8>
+    ensures digit { result ≡ digit_in 10 octet }
+    ensures bound { IfSome result (λ d. d < 10) }
 {
-    let mut number = 0u64;
-    for octet in word {
-        let digit = digit_in(10, *octet)?;
-        if number > LAST_SHORT {
-            return None;
-        }
-        number = number * 10 + u64::from(digit);
+    if b'0' <= octet && octet <= b'9' {
+        Some(octet - b'0')
+    } else {
+        None
     }
-    Some(number)
+}
+
+// The number that the decimal digits at the front of octets are, as far as they surely fit 64 bits, and how many these are.
+fn short_run(octets: &[u8]) -> (u64, usize)
+    ensures within { result.1 ≤ length octets.now }
+    ensures few { result.1 ≤ SHORT_DIGITS }
+    ensures value { value_behind 10 0 (take result.1 octets.now) ≡ Some result.0 }
+    ensures bound { result.0 < 10 ^ result.1 }
+{
+    let stop = octets.len().min(SHORT_DIGITS);
+    let mut number = 0u64;
+    let mut end = 0;
+    while end < stop {
+        let Some(digit) = decimal_digit(octets[end]) else {
+            return (number, end);
+        };
+        number = number * 10 + u64::from(digit);
+        end += 1;
+    }
+    (number, end)
+}
+
+// The same as far as they surely fit 128 bits, from the number that the first of them are.
+#[inline(never)]
+fn long_run(front: u64, octets: &[u8]) -> (u128, usize)
+    requires within { SHORT_DIGITS ≤ length octets.now }
+    requires value { value_behind 10 0 (take SHORT_DIGITS octets.now) ≡ Some front }
+    requires bound { front < 10 ^ SHORT_DIGITS }
+    ensures within { result.1 ≤ length octets.now }
+    ensures value { value_behind 10 0 (take result.1 octets.now) ≡ Some result.0 }
+{
+    let stop = octets.len().min(LONG_DIGITS);
+    let mut number = u128::from(front);
+    let mut end = SHORT_DIGITS;
+    while end < stop {
+        let Some(digit) = decimal_digit(octets[end]) else {
+            return (number, end);
+        };
+        number = number * 10 + u128::from(digit);
+        end += 1;
+    }
+    (number, end)
+}
+
+// The number that the decimal digits at the front of octets are, but for those past 38, and how many these are.
+pub(crate) fn decimal_run(octets: &[u8]) -> (u128, usize)
+    ensures within { result.1 ≤ length octets.now }
+    ensures value { value_behind 10 0 (take result.1 octets.now) ≡ Some result.0 }
+{
+    let (front, end) = short_run(octets);
+    if end == SHORT_DIGITS {
+        return long_run(front, octets);
+    }
+    (u128::from(front), end)
 }
 
 // The number of at most `most` that digits of a base are.
@@ -61,11 +115,11 @@ pub fn number(word: &[u8], most: u128) -> Option<u128>
     if word.is_empty() {
         return None;
     }
-    match short_number(word) {
-        Some(number) if u128::from(number) <= most => Some(u128::from(number)),
-        Some(_) => None,
-        None => number_in(10, most, word),
+    let (number, end) = decimal_run(word);
+    if end < word.len() {
+        return number_in(10, most, word);
     }
+    if number > most { None } else { Some(number) }
 }
 
 /// A hexadecimal number of at most `most`: one digit or more, of either case, with no prefix.

@@ -1,13 +1,27 @@
 //! The words of a line, one after another.
 
-ghost use Rattle.std.specs.Prelude.{◌≡◌, ◌≤◌, ◌<◌, ◌+◌, ◌^◌, ◌∷◌, [], ℕ, List, drop, length, MatchOption, IfSome, true, false};
-ghost use Rattle.words.specs.Words.{starts_blank, word_length, words_of};
+ghost use Rattle.std.specs.Prelude.{◌≡◌, ◌≤◌, ◌<◌, ◌+◌, ◌^◌, ◌∷◌, [], ℕ, List, drop, length, MatchOption, IfSome, Some, true, false};
+ghost use Rattle.words.specs.Numbers.{at_most, first_number, behind_first};
+ghost use Rattle.words.specs.Words.{starts_blank, starts_with_break, word_length, words_of};
+
+use crate::numbers::{decimal_run, number};
 
 // Whether an octet is no blank, whatever comes after it.
 fn is_ordinary(octet: u8) -> bool
     ensures { result ≡ true → (rest : List ℕ) → starts_blank (octet ∷ rest) ≡ false }
 {
     octet > b' ' && octet != b'\\'
+}
+
+// Whether octets start with a blank, of whatever kind.
+fn starts_any_blank(octets: &[u8]) -> bool
+    ensures { result ≡ starts_blank octets.now }
+{
+    match octets {
+        [] | [b' ' | b'\t' | b'\r' | b'\n', ..] => true,
+        [b'\\', b'\n', ..] | [b'\\', b'\r', b'\n', ..] => true,
+        _ => false,
+    }
 }
 
 fn starts_blank(octets: &[u8]) -> bool
@@ -17,9 +31,7 @@ fn starts_blank(octets: &[u8]) -> bool
         // Most octets of a line, and then most of the others.
         [octet, ..] if is_ordinary(*octet) => false,
         [b' ', ..] => true,
-        [] | [b'\t' | b'\r' | b'\n', ..] => true,
-        [b'\\', b'\n', ..] | [b'\\', b'\r', b'\n', ..] => true,
-        _ => false,
+        _ => starts_any_blank(octets),
     }
 }
 
@@ -44,13 +56,25 @@ fn word_on(octets: &[u8], place: usize) -> usize
     next
 }
 
+// What comes after a space, where there is one first.
+fn past_space(octets: &[u8]) -> &[u8]
+    ensures words { words_of result.now ≡ words_of octets.now }
+    ensures short { length result.now ≤ length octets.now }
+{
+    match octets {
+        [b' ', rest @ ..] => rest,
+        _ => octets,
+    }
+}
+
 // The first word, and what comes after it.
+#[inline(never)]
 fn split_word(octets: &[u8]) -> Option<(&[u8], &[u8])>
     ensures word { MatchOption result (words_of octets.now ≡ [])
         (λ x. words_of octets.now ≡ x.0.now ∷ words_of x.1.now) }
     ensures less { IfSome result (λ x. length x.1.now < length octets.now) }
 {
-    let mut rest = octets;
+    let mut rest = past_space(octets);
     while starts_blank(rest) {
         let (_, more) = rest.split_first()?;
         rest = more;
@@ -60,6 +84,32 @@ fn split_word(octets: &[u8]) -> Option<(&[u8], &[u8])>
         end = word_on(rest, end);
     }
     Some(rest.split_at(end))
+}
+
+// Whether octets end at this place, or go on with a space.
+fn is_plain_end(octets: &[u8], place: usize) -> bool
+    requires { place ≤ length octets.now }
+    ensures blank { result ≡ true → starts_blank (drop place octets.now) ≡ true }
+    ensures whole { result ≡ true → starts_with_break (drop place octets.now) ≡ false }
+{
+    place == octets.len() || octets[place] == b' '
+}
+
+// The number that the first word is, where it has digits alone, at most 38 of them, and no blanks about it but spaces; and
+// what comes after it.
+#[inline]
+fn split_number(octets: &[u8]) -> Option<(u128, &[u8])>
+    ensures number { IfSome result (λ x. (most : ℕ) → first_number most (words_of octets.now) ≡ Some (at_most most (Some x.0))) }
+    ensures rest { IfSome result (λ x. behind_first (words_of octets.now) ≡ words_of x.1.now) }
+    ensures less { IfSome result (λ x. length x.1.now < length octets.now) }
+{
+    let rest = past_space(octets);
+    let (number, end) = decimal_run(rest);
+    if end == 0 || !is_plain_end(rest, end) {
+        return None;
+    }
+    let (_, behind) = rest.split_at(end);
+    Some((number, behind))
 }
 
 /// The words of a line: the runs of octets that are no blanks.
@@ -93,16 +143,54 @@ impl<'a> Words<'a> {
         self.place
     }
 
+    // Goes on to what comes after a word.
+    fn go_on(&mut self, rest: &'a [u8])
+        requires { length rest.now < length self.old.rest.now }
+        ensures left { words_left self.new ≡ words_of rest.now }
+        ensures taken { words_taken self.new ≡ words_taken self.old + 1 }
+    {
+        self.rest = rest;
+        self.place += 1;
+    }
+
     /// The next word. After the last one there is none, and so on.
+    #[inline]
     pub fn next_word(&mut self) -> Option<&'a [u8]>
         ensures word { MatchOption result ((words_left self.old ≡ []) × (words_left self.new ≡ []))
             (λ word. words_left self.old ≡ word.now ∷ words_left self.new) }
         ensures taken { MatchOption result (words_taken self.new ≡ words_taken self.old)
             (λ _. words_taken self.new ≡ words_taken self.old + 1) }
     {
+        if self.rest.is_empty() {
+            return None;
+        }
         let (word, rest) = split_word(self.rest)?;
-        self.rest = rest;
-        self.place += 1;
+        self.go_on(rest);
         Some(word)
+    }
+
+    /// The octets that no word was taken of. Its words are those that are still to come.
+    pub fn octets(&self) -> &'a [u8]
+        ensures { words_of result.now ≡ words_left self.now }
+    {
+        self.rest
+    }
+
+    /// The next word as a decimal number of at most `most`: None after the last word, and Some(None) for a word that is no such
+    /// number.
+    #[inline(always)]
+    pub fn next_number(&mut self, most: u128) -> Option<Option<u128>>
+        ensures number { result ≡ first_number most (words_left self.old) }
+        ensures bound { IfSome result (λ number. IfSome number (λ n. n ≤ most)) }
+        ensures left { words_left self.new ≡ behind_first (words_left self.old) }
+        ensures taken { MatchOption result (words_taken self.new ≡ words_taken self.old)
+            (λ _. words_taken self.new ≡ words_taken self.old + 1) }
+    {
+        if let Some((value, rest)) = split_number(self.rest) {
+            self.go_on(rest);
+            return Some(if value <= most { Some(value) } else { None });
+        }
+        let word = self.next_word()?;
+        Some(number(word, most))
     }
 }

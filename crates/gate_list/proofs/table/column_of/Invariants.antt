@@ -1,14 +1,13 @@
-use Rattle.std.proofs.Common.{◌≡◌, ◌≤◌, ◌++◌, ℕ, drop, length, slice_index}
-use Rattle.gate_list.specs.Stay.{run_of}
-use Rattle.gate_list.specs.Table.{number_told}
+use Rattle.std.proofs.Common.{◌≡◌, ◌<◌, ◌≤◌, ℕ, length, slice_index}
+use Rattle.gate_list.specs.Table.{Closes}
 use Rattle.gate_list.proofs.table.column_of.Given as goal
 
 abbrev pub invariant-loop-left : goal.invariant-loop-left
 invariant-loop-left l = record {
-  size : length l.stays ≡ 256;
+  size : length l.closing ≡ 256;
   within : l.left ≤ length l.slots;
-  run_is : l.run ≡ run_of (drop l.left l.slots ++ l.slots) l.class;
-  written : (i : ℕ) → l.left ≤ i → slice_index l.stays i ≡ number_told l.slots i l.class;
+  next_is : Closes l.slots l.class l.left l.next;
+  written : (i : ℕ) → l.left ≤ i → i < length l.slots → Closes l.slots l.class i (slice_index l.closing i);
 }
 
 abbrev pub decreases-loop-left : goal.decreases-loop-left

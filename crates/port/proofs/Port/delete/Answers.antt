@@ -12,7 +12,7 @@ returns-clause-port g c = (delete_taken _ c.args.self.now.port c.args.e (ap (λ 
 
 pub returns-clause-sound : goal.returns-clause-sound
 returns-clause-sound g c =
-    sound_by _ _ (g.met.G.Gates.is_current c.delete.new.self c.delete.ensures.sound)
+    sound_by _ _ c.delete.ensures.current
     (subst (λ m. IsKept c.self.inside.rate c.self.inside.mtu c.self.inside.room m c.self.inside.free c.self.inside.queues) (sym c.delete.ensures.moment) c.self.invariant.1) c.self.invariant.2 refl
 
 pub returns-in-Err-clause-answer : goal.returns-in-Err-clause-answer
@@ -23,5 +23,5 @@ returns-in-Err-clause-port g c = (delete_busy _ c.args.self.now.port c.args.e (a
 
 pub returns-in-Err-clause-sound : goal.returns-in-Err-clause-sound
 returns-in-Err-clause-sound g c =
-    sound_by _ _ (g.met.G.Gates.is_current c.delete.new.self c.delete.ensures.sound)
+    sound_by _ _ c.delete.ensures.current
     (subst (λ m. IsKept c.self.inside.rate c.self.inside.mtu c.self.inside.room m c.self.inside.free c.self.inside.queues) (sym c.delete.ensures.moment) c.self.invariant.1) c.self.invariant.2 refl

@@ -12,14 +12,14 @@ counted g c =
     rw c.count_dropped.ensures (counted_set _ _ _ _ c.self.invariant.2 (capped_dropped c.args.why _ (counts_capped _ _ c.in-Some.class no_counts c.self.invariant.2 less)))
 
 pub invariant_of-self : goal.invariant_of-self
-invariant_of-self g c = (c.self.invariant.0, c.self.invariant.1, counted g c)
+invariant_of-self g c = (c.self.invariant.0, c.self.invariant.1, counted g c, c.self.invariant.3)
 
 pub returns-in-Some-clause-sound : goal.returns-in-Some-clause-sound
-returns-in-Some-clause-sound g c = sound_by _ _ (g.met.G.Gates.is_current c.self.inside.gates c.self.invariant.0) c.self.invariant.1 (counted g c) refl
+returns-in-Some-clause-sound g c = sound_by _ _ c.self.invariant.0 c.self.invariant.1 (counted g c) refl
 
 pub invariant_of-self-in-None : goal.invariant_of-self-in-None
-invariant_of-self-in-None g c = (c.self.invariant.0, c.self.invariant.1, counted_unclassed _ _ _ c.self.invariant.2 c.saturating_add-self-inside.ensures)
+invariant_of-self-in-None g c = (c.self.invariant.0, c.self.invariant.1, counted_unclassed _ _ _ c.self.invariant.2 c.saturating_add-self-inside.ensures, c.self.invariant.3)
 
 pub returns-in-None-clause-sound : goal.returns-in-None-clause-sound
 returns-in-None-clause-sound g c =
-    sound_by _ _ (g.met.G.Gates.is_current c.self.inside.gates c.self.invariant.0) c.self.invariant.1 (counted_unclassed _ _ _ c.self.invariant.2 c.saturating_add-self-inside.ensures) refl
+    sound_by _ _ c.self.invariant.0 c.self.invariant.1 (counted_unclassed _ _ _ c.self.invariant.2 c.saturating_add-self-inside.ensures) refl

@@ -1,5 +1,6 @@
-use Rattle.std.proofs.Common.{◌≤◌, arith}
+use Rattle.std.proofs.Common.{◌≤◌, map, sym, ap, ◌∙◌, arith}
 use Rattle.abstract_port.specs.Counting.{AreCapped}
+use Rattle.abstract_port.specs.AbstractPort.{head_need}
 use Rattle.abstract_port.specs.Sound.{IsMtu}
 use Rattle.class_queue.specs.Queue.{IsRoom}
 use Rattle.port.proofs.SoundLaws.{kept_new, counted_new}
@@ -12,7 +13,14 @@ invariant_of-result g c =
     let room : IsRoom c.args.room = c.is_room.ensures.within.0 c.if-not-is_room.false in
     let n = c.default.ensures in
     let capped : AreCapped c.default.result = record { accepted = omega arith; sent = omega arith; sent_octets = omega arith; runt = omega arith; too_long = omega arith; over_sdu = omega arith; full = omega arith } in (
-      c.begin.ensures.sound,
+      c.new.ensures.current,
       kept_new c.args.rate c.args.mtu c.args.room _ c.in-Ok.queues rate mtu room c.in-Ok.ensures.1 c.in-Ok.ensures.0,
       counted_new c.default.result capped,
+      ap (λ w. w.needs) c.new.ensures.value ∙ sym (ap (map (head_need c.args.rate)) c.in-Ok.ensures.0),
     )
+
+pub returns-in-Ok-clause-within : goal.returns-in-Ok-clause-within
+returns-in-Ok-clause-within g c = (c.is_mtu.ensures.within.0 c.if-not-is_mtu.false, c.is_room.ensures.within.0 c.if-not-is_room.false)
+
+pub returns-in-Err-clause-memory : goal.returns-in-Err-clause-memory
+returns-in-Err-clause-memory g c = λ _. (c.is_mtu.ensures.within.0 c.if-not-is_mtu.false, c.is_room.ensures.within.0 c.if-not-is_room.false)

@@ -3,4 +3,4 @@ use Rattle.port.proofs.SoundLaws.{sound_by}
 use Rattle.port.proofs.Port.now.Goals as goal
 
 pub returns-clause-sound : goal.returns-clause-sound
-returns-clause-sound g c = rw (← c.self.view_is) (sound_by _ _ (g.met.G.Gates.is_current c.self.inside.gates c.self.invariant.0) c.self.invariant.1 c.self.invariant.2 refl)
+returns-clause-sound g c = rw (← c.self.view_is) (sound_by _ _ c.self.invariant.0 c.self.invariant.1 c.self.invariant.2 refl)

@@ -16,7 +16,7 @@ returns-in-Ok-clause-port g c =
 
 pub returns-in-Ok-clause-sound : goal.returns-in-Ok-clause-sound
 returns-in-Ok-clause-sound g c =
-    sound_by _ _ (g.met.G.Gates.is_current c.install.new.self c.install.ensures.sound)
+    sound_by _ _ c.install.ensures.current
     (subst (λ m. IsKept c.self.inside.rate c.self.inside.mtu c.self.inside.room m c.self.inside.free c.self.inside.queues) (sym c.install.ensures.moment) c.self.invariant.1) c.self.invariant.2 refl
 
 pub returns-in-Err-clause-answer : goal.returns-in-Err-clause-answer
@@ -31,5 +31,5 @@ returns-in-Err-clause-port g c =
 
 pub returns-in-Err-clause-sound : goal.returns-in-Err-clause-sound
 returns-in-Err-clause-sound g c =
-    sound_by _ _ (g.met.G.Gates.is_current c.install.new.self c.install.ensures.sound)
+    sound_by _ _ c.install.ensures.current
     (subst (λ m. IsKept c.self.inside.rate c.self.inside.mtu c.self.inside.room m c.self.inside.free c.self.inside.queues) (sym c.install.ensures.moment) c.self.invariant.1) c.self.invariant.2 refl

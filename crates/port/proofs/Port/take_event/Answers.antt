@@ -3,8 +3,8 @@ use Rattle.abstract_port.specs.declared.Answer.{Answer}
 use Rattle.abstract_port.specs.Answers.{IsBegun}
 use Rattle.abstract_port.proofs.RunLaws.{timely-sound}
 use Rattle.abstract_port.specs.Asked.{IsStopped}
-use Rattle.abstract_port.proofs.AskedLaws.{going_begins, going_more, going_fewer, gone_begun, gone_stopped, asked_some, on_err_of}
-use Rattle.port.proofs.StepLaws.{stayed_more}
+use Rattle.abstract_port.proofs.AskedLaws.{Going, going_begins, going_more, going_last, going_fewer, gone_begun, gone_stopped, gone_answers, gone_port, asked_some, on_err_of}
+use Rattle.port.proofs.StepLaws.{not_asked, stayed_more}
 use Rattle.port.proofs.Port.take_event.Goals as goal
 
 pub loop-asked-init : goal.loop-asked-init
@@ -44,3 +44,21 @@ loop-asked-smaller g c =
     let n = c.next_answer.ensures in
     let fewer = going_fewer e.0 _ _ c.next_answer.result _ _ e.1 (record { answers = n.answers; port = n.port; none = n.none; more = n.more }) in
     omega (arith, fewer)
+
+pub loop-asked-preserved : goal.loop-asked-preserved
+loop-asked-preserved g c =
+    let n = c.next_answer.ensures in (
+      n.sound,
+      subst (λ items. Going c.args.event.now c.args.answers.now.items c.args.self.now.port c.next_answer.new.asked items c.next_answer.new.self.port) (sym c.reserve.ensures.items)
+          (going_last _ _ _ _ _ _ c.loop-asked.invariant.1 (timely-sound _ c.now-now.ensures.sound) c.next_answer.result _ _ (record { answers = n.answers; port = n.port; none = n.none; more = n.more }) c.in-None.is),
+      stayed_more _ c.args.self.now _ c.loop-asked.self c.loop-asked.invariant.2 c.loop-asked.invariant.1.same c.next_answer.result _ c.next_answer.new.self n.more n.visits,
+    )
+
+pub returns-clause-visits : goal.returns-clause-visits
+returns-clause-visits g c = λ none. (c.loop-asked.invariant.2 none).0
+
+pub returns-clause-ok : goal.returns-clause-ok
+returns-clause-ok g c = gone_answers _ _ _ _ _ _ c.loop-asked.invariant.1 (not_asked _ (sym c.is_some.ensures ∙ c.loop-asked-test.false))
+
+pub returns-clause-port : goal.returns-clause-port
+returns-clause-port g c = gone_port _ _ _ _ _ _ c.loop-asked.invariant.1 (not_asked _ (sym c.is_some.ensures ∙ c.loop-asked-test.false)) c.loop-asked.invariant.0

@@ -1,4 +1,4 @@
-use Rattle.std.proofs.Common.{get_or, ◌≡◌, ◌<◌, ◌≤◌, length, sym, ap, ◌∙◌, subst, arith}
+use Rattle.std.proofs.Common.{get_or, ◌≡◌, ◌<◌, ◌≤◌, length, sym, ap, ◌∙◌, subst, arith, rules}
 use Rattle.wire_time.specs.Wire.{sdu_of}
 use Rattle.abstract_port.specs.AbstractPort.{judged, queue_of}
 use Rattle.abstract_port.proofs.ArrivalLaws.{verdict_is, fits_on}
@@ -32,3 +32,6 @@ pub returns-clause-fits : goal.returns-clause-fits
 returns-clause-fits g c =
     let mtu : 68 ≤ c.args.self.now.port.mtu = rw (← c.self.view_is) c.self.invariant.1.mtu_within.0 in
     fits_on c.judge.result c.args.self.now.port c.args.frame.now (omega (arith, mtu)) (returns-clause-verdict g c)
+
+pub waiting_in-waiting-requires : goal.waiting_in-waiting-requires
+waiting_in-waiting-requires g c = (search rules, c.requires.within _ c.in-Some.is)

@@ -10,7 +10,7 @@ pub loop-word-init : goal.loop-word-init
 loop-word-init c = record {
   place = c.place-place.ensures;
   count = search rules;
-  so_far = SoFar-begin (total c.args.words) (words_left c.args.words) (view c.new-given.result) c.new-given.ensures;
+  so_far = SoFar-begin (total c.args.words) (words_left c.args.words) (view c.args.given.now) c.requires;
 }
 
 pub take_option-requires : goal.take_option-requires

@@ -1,0 +1,92 @@
+//! Two moments of a line. Where the second comes soon after the first, all but their last eight digits are mostly the same.
+
+ghost use Rattle.std.specs.Prelude.{◌≡◌, ◌<◌, ◌≤◌, ◌+◌, ◌*◌, ◌/◌, ◌++◌, codes, drop, decimal};
+ghost use Rattle.answer_text.specs.declared.digits.TheConstants.{EIGHT_DIGITS, SHORT_CAPACITY};
+ghost use Rattle.answer_text.specs.declared.ending.TheConstants.{LINE_CAPACITY};
+ghost use Rattle.answer_text.specs.declared.span.TheConstants.{SPAN_CAPACITY};
+
+use crate::digits::{EIGHT_DIGITS, SHORT_CAPACITY, eight_before, number_before};
+use crate::ending::{LINE_CAPACITY, Line, text_before};
+use itoa::write_digits;
+
+/// The octets of a line that two moments may take.
+pub const SPAN_CAPACITY: usize = 85;
+
+// Two numbers, each by itself.
+fn apart_before(first: u128, second: u128, line: &mut Line, end: usize) -> usize
+    requires room { SPAN_CAPACITY ≤ end }
+    requires within { end ≤ LINE_CAPACITY }
+    ensures start { end ≤ result + SPAN_CAPACITY }
+    ensures before { result ≤ end }
+    ensures line { drop result line.new ≡ decimal first ++ (codes " end " ++ (decimal second ++ drop end line.old)) }
+{
+    let middle = number_before(second, line, end);
+    let middle = text_before(b" end ", line, middle);
+    number_before(first, line, middle)
+}
+
+// The digits of a number, from `from` on, by a copy of a length that is known.
+#[inline(always)]
+fn copy_before(digits: &[u8; SHORT_CAPACITY], from: usize, line: &mut Line, end: usize) -> usize
+    requires from { from ≤ SHORT_CAPACITY }
+    requires room { SHORT_CAPACITY ≤ end }
+    requires within { end ≤ LINE_CAPACITY }
+    ensures start { result + SHORT_CAPACITY ≡ end + from }
+    ensures line { drop result line.new ≡ drop from digits.now ++ drop end line.old }
+{
+    text_before(digits, line, end) + from
+}
+
+// Two numbers that differ in their last eight digits alone.
+fn near_before(front: u64, first: u64, second: u64, line: &mut Line, end: usize) -> usize
+    requires front { 0 < front }
+    requires first { first < EIGHT_DIGITS }
+    requires second { second < EIGHT_DIGITS }
+    requires room { SPAN_CAPACITY ≤ end }
+    requires within { end ≤ LINE_CAPACITY }
+    ensures start { end ≤ result + SPAN_CAPACITY }
+    ensures before { result ≤ end }
+    ensures line { drop result line.new ≡
+        decimal (front * EIGHT_DIGITS + first) ++ (codes " end " ++ (decimal (front * EIGHT_DIGITS + second) ++ drop end line.old)) }
+{
+    let mut digits = [0; SHORT_CAPACITY];
+    let from = write_digits(front, &mut digits, SHORT_CAPACITY);
+    let middle = eight_before(second, line, end);
+    let middle = copy_before(&digits, from, line, middle);
+    let middle = text_before(b" end ", line, middle);
+    let middle = eight_before(first, line, middle);
+    copy_before(&digits, from, line, middle)
+}
+
+// All but the last eight digits of a number.
+#[inline]
+fn front_of(number: u128) -> u128
+    ensures { result ≡ number / EIGHT_DIGITS }
+{
+    if number <= u128::from(u64::MAX) {
+        u128::from(number as u64 / EIGHT_DIGITS)
+    } else {
+        number / u128::from(EIGHT_DIGITS)
+    }
+}
+
+/// Puts the moment of a start, ` end ` and the moment of its end before what ends a line from `end` on, and answers where the line begins
+/// then. Both are in picoseconds.
+pub fn span_before(first: u128, second: u128, line: &mut Line, end: usize) -> usize
+    requires room { SPAN_CAPACITY ≤ end }
+    requires within { end ≤ LINE_CAPACITY }
+    ensures start { end ≤ result + SPAN_CAPACITY }
+    ensures before { result ≤ end }
+    ensures line { drop result line.new ≡ decimal first ++ (codes " end " ++ (decimal second ++ drop end line.old)) }
+{
+    let front = front_of(first);
+    if front == 0 || front > u128::from(u64::MAX) || second < first {
+        return apart_before(first, second, line, end);
+    }
+    let eight = first - front * u128::from(EIGHT_DIGITS);
+    let other = second - first + eight;
+    if other >= u128::from(EIGHT_DIGITS) {
+        return apart_before(first, second, line, end);
+    }
+    near_before(front as u64, eight as u64, other as u64, line, end)
+}

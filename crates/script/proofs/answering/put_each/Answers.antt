@@ -1,0 +1,47 @@
+use Rattle.std.proofs.Common.{refl, sym, ap, ◌∙◌, arith}
+use Rattle.std.proofs.lemmas.Result.{err_from_is_err_and}
+use Rattle.octet_writer.proofs.Fronts.{sent_none, sent_more, sent_exit}
+use Rattle.abstract_port.proofs.AskedLaws.{given_fewer}
+use Rattle.abstract_port.specs.Asked.{with_answer, answers_left}
+use Rattle.script.proofs.OutputLaws.{lines_of_answers}
+use Rattle.summary.proofs.WantedLaws.{noted_all-cons, noted_all-event, noted_all-nil}
+use Rattle.summary.specs.Wanted.{noted_all}
+use Rattle.script.proofs.answering.put_each.Goals as goal
+
+pub loop-answer-smaller : goal.loop-answer-smaller
+loop-answer-smaller g c =
+    let n = c.next_answer.ensures in
+    let fewer = given_fewer _ _ c.next_answer.result c.in-Some.answer _ _ c.in-Some.is (record { answers = n.answers; port = n.port; none = n.none; more = n.more }) in
+    omega (arith, fewer)
+
+pub loop-answer-init : goal.loop-answer-init
+loop-answer-init g c = record { sent = sent_none _ _; same_seen = noted_all-event _ c.args.event.now _ _ c.now-now.ensures.now; same_end = refl }
+
+pub loop-answer-preserved : goal.loop-answer-preserved
+loop-answer-preserved g c =
+    let n = c.next_answer.ensures in
+    let i = c.loop-answer.invariant in
+    let later = (answers_left c.next_answer.new.asked c.next_answer.new.self.port).0 in
+    let answers = sym n.answers ∙ ap (λ x. with_answer x later) c.in-Some.is in
+    record {
+      sent = sent_more _ _ _ i.sent (ap lines_of_answers answers) c.in_ok-put_answer.ensures;
+      same_seen = ap (noted_all c.now-now.result later) c.note.ensures ∙ sym (noted_all-cons c.now-now.result c.in-Some.answer later _) ∙ ap (λ x. noted_all c.now-now.result x c.loop-answer.summary) (sym answers) ∙ i.same_seen;
+      same_end = n.port ∙ i.same_end;
+    }
+
+pub returns-in_err-put_answer-clause-text : goal.returns-in_err-put_answer-clause-text
+returns-in_err-put_answer-clause-text g c =
+    let p = err_from_is_err_and c.from_residual.result c.from_residual.ensures.1 in
+    let n = c.next_answer.ensures in
+    let line = ap lines_of_answers (sym n.answers ∙ ap (λ x. with_answer x (answers_left c.next_answer.new.asked c.next_answer.new.self.port).0) c.in-Some.is) in
+    sent_exit _ _ _ p.1 c.loop-answer.invariant.sent line c.in_err-put_answer.ensures
+
+pub returns-clause-seen : goal.returns-clause-seen
+returns-clause-seen g c =
+    let now = c.now-now.result in
+    let summary = c.loop-answer.summary in
+    let last = c.in_default.ensures in
+    sym (noted_all-nil now summary)
+    ∙ (ap (λ a. noted_all now (answers_left a c.next_answer.new.self.port).0 summary) (sym last.none)
+    ∙ (ap (λ x. noted_all now x summary) last.answers
+    ∙ c.loop-answer.invariant.same_seen))

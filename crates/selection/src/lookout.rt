@@ -1,0 +1,229 @@
+//! Gates that are moved only when they are asked, and a memory of how long no class may start.
+
+ghost use Rattle.std.specs.Prelude.{◌≡◌, ℕ, ◌+◌, ◌*◌, ◌<◌, ◌≤◌, IsTrue, IfSome, IfNone, OnSome, [], ◌∷◌, Some, None, true, false, slice_index_or, slice_set};
+ghost use Rattle.std.specs.Option.{option_map, option_or, ForSome};
+ghost use Rattle.wire_time.specs.Moment.{greatest_moment, greatest_lead};
+ghost use Rattle.list_config.specs.History.{gates, in_force, pending, announced, kept};
+ghost use Rattle.list_config.specs.Choice.{first_choice};
+ghost use Rattle.list_config.specs.Current.{IsCurrent, longest, accepted_at, deletion_at, answer_to, with_command, installed_of};
+ghost use Rattle.selection.specs.Watched.{IsStill, with_needs};
+
+use crate::choosing::{Heads, move_to_choice};
+use gate_list::{Schedule, Visits};
+use list_config::{Gates, Installed, NotNow};
+use std::marker::Model;
+
+/// What gates show.
+#[derive(Clone, Copy, Debug, PartialEq, Eq)]
+pub struct Shown {
+    /// The classes that are open: bit c is class c.
+    pub mask: u8,
+    /// The command in force, if there is one.
+    pub in_force: Option<Installed>,
+    /// The command that is pending, if there is one.
+    pub pending: Option<Installed>,
+    /// The command that is announced, if there is one.
+    pub announced: Option<Installed>,
+}
+
+/// Whether no command is to come.
+fn is_still<G: Gates>(gates: &G) -> bool
+    requires { G.is_sound gates.now }
+    ensures { result ≡ true → IsStill (G.history gates.now) (G.moment gates.now) }
+{
+    gates.pending().is_none() && gates.announced().is_none()
+}
+
+/// Moves gates for which a command is to come to a moment, in picoseconds; where none is (`still`), the gates show there what they do
+/// where they stand. Answers whether none is to come then.
+fn catch_up<G: Gates>(gates: &mut G, still: bool, t: u128, visits: &mut Visits) -> bool
+    requires sound { G.is_sound gates.old }
+    requires still { still ≡ true → IsStill (G.history gates.old) (G.moment gates.old) }
+    requires later { G.moment gates.old ≤ t }
+    requires within { t ≤ greatest_moment }
+    ensures sound { G.is_sound gates.new }
+    ensures history { G.history gates.new ≡ kept (G.history gates.old) t }
+    ensures current { IsCurrent (G.history gates.new) t }
+    ensures upto { G.moment gates.new ≤ t }
+    ensures still { result ≡ true → IsStill (G.history gates.new) (G.moment gates.new) }
+    ensures there { result ≡ false → G.moment gates.new ≡ t }
+    ensures counted { visits.old ≤ visits.new }
+    ensures visits { IsTrue G.JUMPS → visits.new ≤ visits.old + 2 * (longest (G.history gates.old) + 1) }
+{
+    if still {
+        return true;
+    }
+    gates.move_to(t, visits);
+    is_still(gates)
+}
+
+/// The gates of a port, a moment, and what the head of each class needs. The gates stand at that moment or before it: they are moved
+/// when they are asked, or while a command is to come. Up to `idle` no class may start, so that a move to a moment before it costs a
+/// comparison.
+#[derive(Drop)]
+pub struct Lookout<G: Gates> {
+    gates: G,
+    moment: u128,
+    heads: Heads,
+    idle: u128,
+    still: bool,
+}
+
+/// A contract sees the history of the gates, which is what they would keep at the moment, the moment, and the needs.
+impl<G: Gates> Model for Lookout<G> {
+    ghost use Rattle.std.specs.Prelude.{◌≡◌, ◌≤◌, All, true, false};
+    ghost use Rattle.std.specs.Option.{ForSome};
+    ghost use Rattle.wire_time.specs.Moment.{greatest_moment};
+    ghost use Rattle.list_config.specs.Current.{IsCurrent};
+    ghost use Rattle.selection.specs.Watched.{Watched, IsIdle, IsStill};
+
+    ghost Value = { Watched };
+
+    ghost view = { λ w. record {
+      history = G.history w.gates;
+      moment = w.moment;
+      needs = w.heads.need;
+    } };
+
+    ghost invariant = { λ w. (G.is_sound w.gates)
+        × (G.moment w.gates ≤ w.moment)
+        × IsCurrent (G.history w.gates) w.moment
+        × All (λ need. ForSome need (λ d. d ≤ greatest_moment)) w.heads.need
+        × IsIdle (G.history w.gates) w.heads.need w.moment w.idle
+        × (w.still ≡ true → IsStill (G.history w.gates) (G.moment w.gates))
+        × (w.still ≡ false → G.moment w.gates ≡ w.moment) };
+}
+
+impl<G: Gates> Lookout<G> {
+    /// Gates with no command at the moment 0, and no frame that waits.
+    pub fn new() -> Lookout<G>
+        ensures current { IsCurrent result.history result.moment }
+        ensures value { result ≡ record { history = []; moment = 0; needs = None ∷ None ∷ None ∷ None ∷ None ∷ None ∷ None ∷ None ∷ [] } }
+    {
+        Lookout {
+            gates: G::begin(),
+            moment: 0,
+            heads: Heads { need: [None; 8] },
+            idle: 0,
+            still: false,
+        }
+    }
+
+    /// The moment now, in picoseconds.
+    pub fn now(&self) -> u128
+        ensures moment { result ≡ self.now.moment }
+        ensures current { IsCurrent self.now.history self.now.moment }
+    {
+        self.moment
+    }
+
+    /// The head of a class needs the wire for so long, in picoseconds; none: no frame waits there.
+    pub fn set_need(&mut self, class: u8, need: Option<u128>)
+        requires class { class < 8 }
+        requires within { ForSome need (λ d. d ≤ greatest_moment) }
+        ensures { self.new ≡ with_needs self.old (slice_set self.old.needs class need) }
+    {
+        self.heads.need[class as usize] = need;
+        self.idle = self.moment;
+    }
+
+    /// A frame that needs the wire for so long, in picoseconds, waits in a class from now on, behind those that do already.
+    pub fn add_need(&mut self, class: u8, need: u128)
+        requires class { class < 8 }
+        requires within { need ≤ greatest_moment }
+        ensures { self.new ≡ with_needs self.old (slice_set self.old.needs class (option_or (slice_index_or self.old.needs class None) (Some need))) }
+    {
+        if self.heads.need[class as usize].is_none() {
+            self.set_need(class, Some(need));
+        }
+    }
+
+    /// Moves on to the first moment from `free` on and before `until` at which some class may start, and answers the greatest that
+    /// may; or to `until`, where there is none. All are in picoseconds.
+    pub fn find_start(&mut self, free: u128, until: u128, visits: &mut Visits) -> Option<u8>
+        requires later { self.old.moment ≤ until }
+        requires within { until ≤ greatest_moment }
+        ensures needs { self.new.needs ≡ self.old.needs }
+        ensures onward { self.old.moment ≤ self.new.moment }
+        ensures history { self.new.history ≡ kept self.old.history self.new.moment }
+        ensures current { IsCurrent self.new.history self.new.moment }
+        ensures idle { (m : ℕ) → self.old.moment ≤ m → free ≤ m → m < self.new.moment → first_choice self.old.history m self.old.needs ≡ None }
+        ensures none { IfNone result (self.new.moment ≡ until) }
+        ensures before { OnSome result ((free ≤ self.new.moment) × (self.new.moment < until)) }
+        ensures choice { IfSome result (λ class. first_choice self.old.history self.new.moment self.old.needs ≡ Some class) }
+        ensures counted { visits.old ≤ visits.new }
+        ensures visits { IsTrue G.JUMPS → visits.new ≤ visits.old + 16 * (longest self.old.history + 1) }
+    {
+        let from = free.max(self.moment).max(self.idle);
+        if until <= from {
+            self.still = catch_up(&mut self.gates, self.still, until, visits);
+            self.moment = until;
+            return None;
+        }
+        self.gates.move_to(from, visits);
+        match move_to_choice(&self.heads, &mut self.gates, until, visits) {
+            Ok(class) => {
+                self.moment = self.gates.now();
+                Some(class)
+            }
+            Err(idle) => {
+                self.idle = idle;
+                self.still = catch_up(&mut self.gates, self.still, until, visits);
+                self.moment = until;
+                None
+            }
+        }
+    }
+
+    /// What the gates show now.
+    pub fn shown(&mut self) -> Shown
+        ensures same { self.new ≡ self.old }
+        ensures mask { result.mask ≡ gates self.old.history self.old.moment }
+        ensures in_force { result.in_force ≡ option_map installed_of (in_force self.old.history self.old.moment) }
+        ensures pending { result.pending ≡ option_map installed_of (pending self.old.history self.old.moment) }
+        ensures announced { result.announced ≡ option_map installed_of (announced self.old.history self.old.moment) }
+    {
+        self.gates.move_to(self.moment, &mut Visits::zero());
+        Shown {
+            mask: self.gates.mask(),
+            in_force: self.gates.in_force(),
+            pending: self.gates.pending(),
+            announced: self.gates.announced(),
+        }
+    }
+
+    /// A command with the lead moment `lead`, in picoseconds; its change moment, or why it is not accepted.
+    pub fn install(&mut self, schedule: Schedule, lead: u128) -> Result<u128, NotNow>
+        requires ahead { self.old.moment < lead }
+        requires within { lead ≤ greatest_moment + greatest_lead }
+        ensures current { IsCurrent self.new.history self.new.moment }
+        ensures moment { self.new.moment ≡ self.old.moment }
+        ensures needs { self.new.needs ≡ self.old.needs }
+        ensures answer { result ≡ answer_to self.old.history self.old.moment (accepted_at lead schedule) }
+        ensures history { self.new.history ≡ with_command self.old.history self.old.moment (accepted_at lead schedule) }
+        ensures hindsight { (n : ℕ) → n < lead → gates self.new.history n ≡ gates self.old.history n }
+    {
+        self.gates.move_to(self.moment, &mut Visits::zero());
+        self.idle = 0;
+        self.still = false;
+        self.gates.install(schedule, lead)
+    }
+
+    /// A command after which all classes are open, with the lead moment `lead`, in picoseconds; that moment, or why it is not
+    /// accepted.
+    pub fn delete(&mut self, lead: u128) -> Result<u128, NotNow>
+        requires ahead { self.old.moment < lead }
+        requires within { lead ≤ greatest_moment + greatest_lead }
+        ensures current { IsCurrent self.new.history self.new.moment }
+        ensures moment { self.new.moment ≡ self.old.moment }
+        ensures needs { self.new.needs ≡ self.old.needs }
+        ensures answer { result ≡ answer_to self.old.history self.old.moment (deletion_at lead) }
+        ensures history { self.new.history ≡ with_command self.old.history self.old.moment (deletion_at lead) }
+        ensures hindsight { (n : ℕ) → n < lead → gates self.new.history n ≡ gates self.old.history n }
+    {
+        self.gates.move_to(self.moment, &mut Visits::zero());
+        self.idle = 0;
+        self.still = false;
+        self.gates.delete(lead)
+    }
+}
