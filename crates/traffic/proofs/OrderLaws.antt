@@ -1,8 +1,7 @@
 -- Frames by rising moment.
 use Rattle.std.proofs.Common.{◌≡◌, ◌<◌, ◌≤◌, ◌+◌, ◌*◌, ◌-◌, ℕ, zero, suc, List, [], ◌∷◌, ◌++◌, Bool, true, false, cond, Some, None, refl, ap, ◌∙◌, arith, le_refl, le_trans, mul-le-mul_left}
 use Rattle.std.proofs.lemmas.Bool.{le-leb, lt-leb}
-use Rattle.traffic.specs.Frames.{by_moment, frame_after, frames_after, insert}
-use Rattle.traffic.specs.Turns.{first_of}
+use Rattle.traffic.specs.Frames.{by_moment, first_of, frame_after, frames_after, insert}
 use Rattle.traffic.specs.declared.table.Stream.{Stream}
 use Rattle.traffic.specs.declared.turn.Coming.{Coming}
 

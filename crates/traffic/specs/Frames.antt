@@ -1,5 +1,5 @@
 -- The frames of streams, by the moments at which they come.
-use Rattle.std.specs.Prelude.{ℕ, zero, suc, ◌+◌, ◌*◌, nat_le, List, [], ◌∷◌, if◌then◌else◌}
+use Rattle.std.specs.Prelude.{ℕ, zero, suc, ◌+◌, ◌-◌, ◌*◌, nat_le, List, [], ◌∷◌, Option, Some, None, if◌then◌else◌}
 use Rattle.std.specs.List.{flat_map}
 use Rattle.traffic.specs.declared.table.Stream.{Stream}
 use Rattle.traffic.specs.declared.turn.Coming.{Coming}
@@ -15,6 +15,15 @@ frame_after s k = record {
 unfoldable pub frames_after : Stream → ℕ → ℕ → List Coming
 frames_after s k zero = []
 frames_after s k (suc n) = frame_after s k ∷ frames_after s (k + 1) n
+
+-- the first of frames
+abbrev pub first_of : List Coming → Option Coming
+first_of [] = None
+first_of (f ∷ fs) = Some f
+
+-- the next frame of a stream, after so many of it
+abbrev pub next_of_stream : Stream → ℕ → Option Coming
+next_of_stream s k = first_of (frames_after s k (s.count - k))
 
 -- all frames of a stream
 abbrev pub frames_of : Stream → List Coming

@@ -1,18 +1,13 @@
 -- The frames of streams that are still to come.
 use Rattle.std.specs.Prelude.{ℕ, ◌+◌, ◌-◌, nat_lt, if◌then◌else◌, List, [], ◌∷◌, Option, Some, None}
 use Rattle.std.specs.List.{flat_map}
-use Rattle.traffic.specs.Frames.{by_moment, frames_after}
+use Rattle.traffic.specs.Frames.{by_moment, first_of, frames_after}
 use Rattle.traffic.specs.declared.turn.Turn.{Turn}
 use Rattle.traffic.specs.declared.turn.Coming.{Coming}
 
 -- what is to come of a stream
 abbrev pub left_of : Turn → List Coming
 left_of t = frames_after t.stream t.come (t.stream.count - t.come)
-
--- the first of frames
-abbrev pub first_of : List Coming → Option Coming
-first_of [] = None
-first_of (f ∷ fs) = Some f
 
 -- the next frame of a stream
 abbrev pub next_of : Turn → Option Coming

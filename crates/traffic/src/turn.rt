@@ -1,6 +1,7 @@
 //! A stream whose frames come one after another.
 
 ghost use Rattle.std.specs.Prelude.{◌≡◌, ◌≤◌};
+ghost use Rattle.traffic.specs.Frames.{next_of_stream};
 ghost use Rattle.traffic.specs.Table.{IsStream};
 
 use crate::table::Stream;
@@ -15,42 +16,52 @@ pub struct Coming {
     pub frame: Frame,
 }
 
-/// A stream, and how many of its frames have come.
+// The frame of a stream that comes after so many others of it, if there is one.
+fn frame_after(stream: &Stream, come: u32) -> Option<Coming>
+    requires fits { IsStream stream.now }
+    requires few { come ≤ stream.now.count }
+    ensures { result ≡ next_of_stream stream.now come }
+{
+    if come == stream.count {
+        return None;
+    }
+    Some(Coming {
+        moment: stream.offset + stream.period * u128::from(come),
+        frame: Frame {
+            id: stream.first_id + u64::from(come),
+            priority: stream.priority,
+            len: stream.len,
+            tagged: stream.tagged,
+        },
+    })
+}
+
+/// A stream, how many of its frames have come, and the one that comes next.
 #[derive(Clone, Copy, Debug)]
 pub struct Turn {
     stream: Stream,
     come: u32,
+    next: Option<Coming>,
     ghost fits: { IsStream stream },
     ghost few: { come ≤ stream.count },
+    ghost known: { next ≡ next_of_stream stream come },
 }
 
 impl Turn {
     ghost use Rattle.traffic.specs.Frames.{frames_of};
     ghost use Rattle.traffic.specs.Turns.{left_of, next_of};
-    ghost use Rattle.std.specs.Prelude.{◌<◌, ◌∷◌, [], Some, MatchOption, IfNone};
+    ghost use Rattle.std.specs.Prelude.{◌∷◌, [], MatchOption, IfNone};
 
     /// Before the first frame of a stream.
     pub fn first(stream: Stream) -> Turn
         requires { IsStream stream }
         ensures { left_of result ≡ frames_of stream }
     {
-        Turn { stream, come: 0 }
-    }
-
-    // The frame that comes next.
-    fn coming(&self) -> Coming
-        requires { self.now.come < self.now.stream.count }
-        ensures { next_of self.now ≡ Some result }
-    {
-        let stream = &self.stream;
-        Coming {
-            moment: stream.offset + stream.period * u128::from(self.come),
-            frame: Frame {
-                id: stream.first_id + u64::from(self.come),
-                priority: stream.priority,
-                len: stream.len,
-                tagged: stream.tagged,
-            },
+        let next = frame_after(&stream, 0);
+        Turn {
+            stream,
+            come: 0,
+            next,
         }
     }
 
@@ -58,10 +69,7 @@ impl Turn {
     pub fn next(&self) -> Option<Coming>
         ensures { result ≡ next_of self.now }
     {
-        if self.come == self.stream.count {
-            return None;
-        }
-        Some(self.coming())
+        self.next
     }
 
     /// Takes the next frame of the stream, if there is one.
@@ -72,8 +80,13 @@ impl Turn {
         if self.come == self.stream.count {
             return None;
         }
-        let next = self.coming();
-        self.come += 1;
-        Some(next)
+        let next = self.next;
+        let come = self.come + 1;
+        *self = Turn {
+            stream: self.stream,
+            come,
+            next: frame_after(&self.stream, come),
+        };
+        next
     }
 }

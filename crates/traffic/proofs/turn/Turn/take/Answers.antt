@@ -1,7 +1,15 @@
-use Rattle.std.proofs.Common.{◌≡◌, ◌+◌, ◌-◌, arith}
-use Rattle.traffic.proofs.FrameLaws.{nothing_left}
+use Rattle.std.proofs.Common.{◌≡◌, ◌<◌, ◌+◌, ◌-◌, ◌∷◌, [], Option, Some, None, arith, sym, subst, ◌∙◌}
+use Rattle.std.specs.Prelude.{MatchOption, IfNone}
+use Rattle.traffic.specs.Frames.{frame_after, frames_after}
+use Rattle.traffic.specs.Turns.{left_of}
+use Rattle.traffic.specs.declared.turn.Turn.{Turn}
+use Rattle.traffic.specs.declared.turn.Coming.{Coming}
+use Rattle.traffic.proofs.FrameLaws.{first_left, nothing_left}
 use Rattle.traffic.proofs.OrderLaws.{taken}
 use Rattle.traffic.proofs.turn.Turn.take.Goals as goal
+
+is_next : (t : Turn) → t.come < t.stream.count → t.next ≡ Some (frame_after t.stream t.come)
+is_next t less = t.known ∙ first_left t.stream t.come (t.stream.count - t.come) (omega (arith, less))
 
 pub returns-then-self-clause-left : goal.returns-then-self-clause-left
 returns-then-self-clause-left c =
@@ -12,4 +20,18 @@ returns-then-self-clause-left c =
 pub returns-clause-left : goal.returns-clause-left
 returns-clause-left c =
     let t = c.args.self.now in
-    taken t.stream t.come (t.stream.count - t.come) (t.stream.count - (t.come + 1)) c.coming-next.result c.coming-next.ensures (omega arith)
+    let less : t.come < t.stream.count = omega (arith, t.few, c.if-self.false) in
+    let next = is_next t less in
+    let left = frames_after t.stream (t.come + 1) (t.stream.count - (t.come + 1)) in
+    subst (λ o. MatchOption o (left_of t ≡ []) (λ f. left_of t ≡ f ∷ left)) (sym next)
+    (taken t.stream t.come (t.stream.count - t.come) (t.stream.count - (t.come + 1)) (frame_after t.stream t.come) (sym t.known ∙ next) (omega arith))
+
+not_none : (o : Option Coming) (f : Coming) (P : Type 0) → o ≡ Some f → IfNone o P
+not_none None f P e = absurd cc
+not_none (Some g) f P e = tt
+
+pub returns-clause-same : goal.returns-clause-same
+returns-clause-same c =
+    let t = c.args.self.now in
+    let less : t.come < t.stream.count = omega (arith, t.few, c.if-self.false) in
+    not_none t.next (frame_after t.stream t.come) _ (is_next t less)
