@@ -199,7 +199,9 @@ fn put_command<A: Allocator, W: Write>(
     }
 }
 
-/// Takes a line that begins with `tc`, and writes what is told of it. At a fault a front of that is written.
+/// Takes a line that begins with `tc`, and writes what is told of it. At a fault a front of that is written. Apart, since its
+/// locals are large.
+#[inline(never)]
 pub fn put_tc<A: Allocator, W: Write>(
     port: &mut RunningPort<A>,
     summary: &mut Option<Summary<A>>,

@@ -171,6 +171,7 @@ pub fn read_line(line: &[u8]) -> Result<Option<Said>, ScriptFault>
         [b'c', b'l', b'o', b'c', b'k', b' ', rest @ ..] => {
             Ok(Some(Said::Asked(read_clock(Words::new(rest))?)))
         }
+        [b't', b'c', b' ', ..] => Ok(Some(Said::Tc)),
         _ => read_any_line(line),
     }
 }

@@ -7,3 +7,4 @@ pub mod GrammarLemmas
 pub mod HeadsGrammar
 pub mod LineLaws
 pub mod ReadingLaws
+mod PlainLemmas

@@ -4,8 +4,9 @@ use Rattle.tc_reader.specs.declared.fault.TcFault.{TcFault}
 use Rattle.tc_reader.specs.declared.capped.CappedOptions.{CappedOptions}
 use Rattle.tc_reader.specs.declared.capped.TheConstants.{KEPT_PRIORITIES, KEPT_RANGES, KEPT_ENTRIES}
 use Rattle.wire_time.specs.declared.TheConstants.{CLASSES}
+use Rattle.gate_list.specs.declared.Entry.{Entry}
 use Rattle.tc_reader.specs.Cursor.{Word}
-use Rattle.tc_reader.specs.Options.{Options, Item, priorities, ranges, sched_entry, limits, with_item}
+use Rattle.tc_reader.specs.Options.{Options, Item, priorities, ranges, sched_entry, limits, with_item, item_at}
 
 -- the options that are kept, as lists
 abbrev pub view : CappedOptions → Options
@@ -44,6 +45,18 @@ with_read g (Err f) = Err f
 abbrev pub Takes : {X : Type 0} → Options → Result (Item × List Word) TcFault → Result X TcFault → Options → List Word → Type 0
 Takes old read (Ok _) new rest = with_read old read ≡ Ok (new, rest)
 Takes old read (Err f) new rest = read ≡ Err f
+
+-- the words of an entry stand in front, whatever options came before, and leave the rest
+abbrev pub StandsPlainly : ℕ → List Word → Entry → List Word → Type 0
+StandsPlainly place left entry rest = (w : Word) × (ws : List Word) × (left ≡ w ∷ ws) × ((g : Options) → item_at g place w ws ≡ Ok (sched_entry entry.mask entry.interval, rest))
+
+-- an option stands in front of the words, and was taken
+abbrev pub TakesOne : Options → ℕ → List Word → Options → List Word → Type 0
+TakesOne old place left new rest = (w : Word) × (ws : List Word) × (left ≡ w ∷ ws) × (with_read old (item_at old place w ws) ≡ Ok (new, rest))
+
+-- a word stands in front that begins no option, or one with this fault
+abbrev pub FailsOne : Options → ℕ → List Word → TcFault → Type 0
+FailsOne old place left fault = (w : Word) × (ws : List Word) × (left ≡ w ∷ ws) × (item_at old place w ws ≡ Err fault)
 
 -- all that was given, of which only so much is capped
 abbrev pub capped : Options → Options

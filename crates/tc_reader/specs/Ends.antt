@@ -8,6 +8,8 @@ use Rattle.gate_list.specs.Gate.{gate_fault, ok_unless}
 use Rattle.gate_list.specs.declared.Entry.{Entry}
 use Rattle.gate_list.specs.declared.GateList.{GateList}
 use Rattle.abstract_port.specs.declared.Change.{Change}
+use Rattle.abstract_port.specs.declared.Command.{Command}
+use Rattle.abstract_port.specs.declared.Command.TheVariants as commands
 use Rattle.tc_reader.specs.declared.fault.Opt.TheVariants.{Dev, Parent, NumTc, Map}
 use Rattle.tc_reader.specs.declared.fault.TcFault.{TcFault}
 use Rattle.tc_reader.specs.declared.fault.TcFault.TheVariants as faults
@@ -54,6 +56,10 @@ change_given g =
       cycle_ns = unwrap_or g.cycle_time 0;
       extension_ns = unwrap_or g.extension 0;
     })
+
+-- the command that makes this change
+abbrev pub command_given : Options → Result Command TcFault
+command_given g = change_given g >>= λ change. Ok (commands.Replace change)
 
 -- the heads that every line has
 abbrev pub heads_missing : Bool → Bool → Result (Unit {0}) TcFault

@@ -2,14 +2,14 @@
 
 ghost use Rattle.std.specs.Prelude.{◌≡◌, option_map};
 ghost use Rattle.tc_reader.specs.Capped.{view};
-ghost use Rattle.tc_reader.specs.Ends.{ranges_of, classes_of, list_given, eight_limits, change_given, heads_missing};
+ghost use Rattle.tc_reader.specs.Ends.{ranges_of, classes_of, eight_limits, command_given, heads_missing};
 
 use crate::capped::CappedOptions;
 use crate::fault::{Opt, TcFault};
 use crate::heads::Seen;
-use abstract_port::Change;
+use abstract_port::{Change, Command};
 use class_map::{ClassMap, Queues};
-use gate_list::{Entry, GateList};
+use gate_list::GateList;
 use wire_time::CLASSES;
 
 /// Whether the heads are there that every line has.
@@ -61,15 +61,6 @@ fn classes_of(given: &CappedOptions) -> Result<(Option<ClassMap>, Option<Queues>
     }
 }
 
-fn list_given(entries: &[Entry]) -> Result<GateList, TcFault>
-    ensures { result ≡ list_given entries.now }
-{
-    match GateList::new(entries) {
-        Ok(list) => Ok(list),
-        Err(fault) => Err(TcFault::Gates(fault)),
-    }
-}
-
 // The limits of all classes, in octets, 0 for those that are missing.
 fn eight_limits(limits: &[u32]) -> [u32; CLASSES]
     ensures { result ≡ eight_limits limits.now }
@@ -89,19 +80,29 @@ fn limits_of(given: &CappedOptions) -> Option<[u32; CLASSES]>
     }
 }
 
-/// The change that the options give.
-pub fn change_given(given: &CappedOptions) -> Result<Change, TcFault>
-    ensures { result ≡ change_given (view given.now) }
+/// Answers with the command that the options give. It is written where it is kept, since a list of entries takes two kilobytes.
+pub fn give_command(given: &CappedOptions, answer: &mut Result<Command, TcFault>)
+    ensures { answer.new ≡ command_given (view given.now) }
 {
-    let (map, queues) = classes_of(given)?;
-    let list = list_given(&given.entries)?;
-    Ok(Change {
-        map,
-        queues,
-        max_sdu: limits_of(given),
-        list,
-        base_ns: given.base_time.unwrap_or(0),
-        cycle_ns: given.cycle_time.unwrap_or(0),
-        extension_ns: given.extension.unwrap_or(0),
-    })
+    let (map, queues) = match classes_of(given) {
+        Ok(classes) => classes,
+        Err(fault) => {
+            *answer = Err(fault);
+            return;
+        }
+    };
+    match GateList::new(&given.entries) {
+        Ok(list) => {
+            *answer = Ok(Command::Replace(Change {
+                map,
+                queues,
+                max_sdu: limits_of(given),
+                list,
+                base_ns: given.base_time.unwrap_or(0),
+                cycle_ns: given.cycle_time.unwrap_or(0),
+                extension_ns: given.extension.unwrap_or(0),
+            }));
+        }
+        Err(fault) => *answer = Err(TcFault::Gates(fault)),
+    }
 }

@@ -9,7 +9,7 @@ ghost use Rattle.tc_reader.specs.Lines.{verb_of, verb_at, ReadsOptions, deletion
 ghost use Rattle.tc_reader.specs.Grammar.{IsCommand};
 
 use crate::capped::CappedOptions;
-use crate::end::{change_given, check_heads};
+use crate::end::{check_heads, give_command};
 use crate::fault::TcFault;
 use crate::heads::{Seen, read_heads};
 use crate::reading::read_options;
@@ -52,42 +52,62 @@ fn take_verb(words: &mut Words<'_>) -> Option<Verb>
     }
 }
 
-// The command of the options behind `taprio`.
-fn read_replacement(words: Words<'_>, seen: Seen) -> Result<Command, TcFault>
-    ensures { ReadsOptions (total words.entry) seen.dev seen.parent (words_left words.entry) result }
+// The command of the options behind `taprio`, written where it is kept.
+#[inline(never)]
+fn read_replacement(words: Words<'_>, seen: Seen, answer: &mut Result<Command, TcFault>)
+    ensures { ReadsOptions (total words.entry) seen.dev seen.parent (words_left words.entry) answer.new }
 {
     let mut given = CappedOptions::new();
-    read_options(words, &mut given)?;
-    check_heads(seen)?;
-    Ok(Command::Replace(change_given(&given)?))
+    if let Err(fault) = read_options(words, &mut given) {
+        *answer = Err(fault);
+        return;
+    }
+    match check_heads(seen) {
+        Ok(()) => {}
+        Err(fault) => {
+            *answer = Err(fault);
+            return;
+        }
+    }
+    give_command(&given, answer);
 }
 
 // A deletion, whose line ends behind `taprio` or without it.
-fn read_deletion(words: Words<'_>, seen: Seen, named: bool) -> Result<Command, TcFault>
-    ensures { result ≡ deletion_before (total words.entry) seen.dev seen.parent (behind_heads named (words_left words.entry)) }
+fn read_deletion(words: Words<'_>, seen: Seen, named: bool, answer: &mut Result<Command, TcFault>)
+    ensures { answer.new ≡ deletion_before (total words.entry) seen.dev seen.parent (behind_heads named (words_left words.entry)) }
 {
     let mut rest = words;
     let place = rest.place();
     if named && rest.next_word().is_some() {
-        return Err(TcFault::UnknownOption(place));
+        *answer = Err(TcFault::UnknownOption(place));
+        return;
     }
-    check_heads(seen)?;
-    Ok(Command::Delete)
+    match check_heads(seen) {
+        Ok(()) => *answer = Ok(Command::Delete),
+        Err(fault) => *answer = Err(fault),
+    }
 }
 
-// A line, from the left.
-fn read_line(line: &[u8]) -> Result<Command, TcFault>
-    ensures { ReadsLine (words_of line.now) result }
+// A line, from the left. The answer is written where it is kept, since a command takes two kilobytes.
+fn read_line(line: &[u8], answer: &mut Result<Command, TcFault>)
+    ensures { ReadsLine (words_of line.now) answer.new }
 {
     let mut words = Words::new(line);
     let Some(verb) = take_verb(&mut words) else {
-        return Err(TcFault::NotTaprio);
+        *answer = Err(TcFault::NotTaprio);
+        return;
     };
-    let (seen, named) = read_heads(&mut words)?;
+    let (seen, named) = match read_heads(&mut words) {
+        Ok(heads) => heads,
+        Err(fault) => {
+            *answer = Err(fault);
+            return;
+        }
+    };
     match verb {
-        Verb::Delete => read_deletion(words, seen, named),
-        Verb::Replace if named => read_replacement(words, seen),
-        Verb::Replace => Err(TcFault::NotTaprio),
+        Verb::Delete => read_deletion(words, seen, named, answer),
+        Verb::Replace if named => read_replacement(words, seen, answer),
+        Verb::Replace => *answer = Err(TcFault::NotTaprio),
     }
 }
 
@@ -99,5 +119,7 @@ pub fn read_command(line: &[u8]) -> Result<Command, TcFault>
     ensures command { (command : Command) → (result ≡ Ok command) ↔ IsCommand (words_of line.now) command }
     ensures fault { IfErr result (HasFault (words_of line.now)) }
 {
-    read_line(line)
+    let mut answer = Err(TcFault::NotTaprio);
+    read_line(line, &mut answer);
+    answer
 }

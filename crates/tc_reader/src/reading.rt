@@ -1,15 +1,17 @@
 //! All options of a line.
 
-ghost use Rattle.std.specs.Prelude.{◌≡◌, ◌+◌, List, Some, None, MatchResult};
+ghost use Rattle.std.specs.Prelude.{◌≡◌, ◌+◌, ◌<◌, List, [], Some, None, true, IfOk, MatchBool, MatchResult};
 ghost use Rattle.words.specs.WordsLeft.{words_left, words_taken};
 ghost use Rattle.tc_reader.specs.Cursor.{total, Moves};
 ghost use Rattle.tc_reader.specs.Options.{Item, no_options, item_at, allowed};
-ghost use Rattle.tc_reader.specs.Capped.{view, capped, Takes};
+ghost use Rattle.tc_reader.specs.Capped.{view, capped, FailsOne, Takes, TakesOne};
 ghost use Rattle.tc_reader.specs.Reads.{Reads, given_by};
 
 use crate::capped::CappedOptions;
 use crate::fault::{Opt, TcFault};
+use crate::lists::push_capped;
 use crate::options::{option_named, take_values};
+use crate::values::take_plain_entry;
 use words::Words;
 
 fn allowed(given: &CappedOptions, place: usize, opt: Option<Opt>) -> Result<Opt, TcFault>
@@ -42,6 +44,27 @@ fn take_option(
     take_values(given, words, opt)
 }
 
+// The next option with its values. False at the end of the line.
+fn take_next(given: &mut CappedOptions, words: &mut Words<'_>) -> Result<bool, TcFault>
+    ensures next { MatchResult result
+        (λ more. MatchBool more (TakesOne (view given.old) (words_taken words.old) (words_left words.old) (view given.new) (words_left words.new)) ((words_left words.old ≡ []) × (view given.new ≡ view given.old)))
+        (λ f. FailsOne (view given.old) (words_taken words.old) (words_left words.old) f) }
+    ensures moves { Moves words.old words.new }
+    ensures onward { IfOk result (λ more. more ≡ true → words_taken words.old < words_taken words.new) }
+{
+    if let Some(entry) = take_plain_entry(words) {
+        // Most options of a long line.
+        push_capped(&mut given.entries, entry);
+        return Ok(true);
+    }
+    let place = words.place();
+    let Some(word) = words.next_word() else {
+        return Ok(false);
+    };
+    take_option(given, words, place, word)?;
+    Ok(true)
+}
+
 /// Reads the options of the words after `taprio`, up to the end or the first fault. They are written where they are kept, since they
 /// take two kilobytes.
 pub fn read_options(words: Words<'_>, given: &mut CappedOptions) -> Result<(), TcFault>
@@ -51,10 +74,6 @@ pub fn read_options(words: Words<'_>, given: &mut CappedOptions) -> Result<(), T
         (λ f. (items : List Item) × Reads no_options (total words.entry) (words_left words.entry) items (Some f)) }
 {
     let mut rest = words;
-    let mut place = rest.place();
-    while let Some(word) = rest.next_word() {
-        take_option(given, &mut rest, place, word)?;
-        place = rest.place();
-    }
+    'options: while take_next(given, &mut rest)? {}
     Ok(())
 }

@@ -1,11 +1,12 @@
 //! One value of an option.
 
-ghost use Rattle.std.specs.Prelude.{◌≡◌, ◌≤◌, ◌<◌, ◌+◌, ◌^◌, ◌-◌, Ok, Err, MatchResult, IfOk, IfSome};
+ghost use Rattle.std.specs.Prelude.{◌≡◌, ◌≤◌, ◌<◌, ◌+◌, ◌^◌, ◌-◌, Ok, Err, MatchResult, MatchOption, IfOk, IfSome};
 ghost use Rattle.std.specs.List.{position, before_first, after_first};
 ghost use Rattle.words.specs.Numbers.{number_in};
 ghost use Rattle.words.specs.WordsLeft.{words_left, words_taken};
 ghost use Rattle.tc_reader.specs.Cursor.{Moves};
 ghost use Rattle.tc_reader.specs.Values.{after_0x, hex_in, is_sign, is_range, range_of, is_clock, limit_in};
+ghost use Rattle.tc_reader.specs.Capped.{StandsPlainly};
 ghost use Rattle.tc_reader.specs.Options.{value_at, command_at, entry_at, flags_at, clock_item, sched_entry, clock, flags};
 
 use crate::fault::{Opt, TcFault};
@@ -25,6 +26,7 @@ fn after_0x(word: &[u8]) -> &[u8]
 }
 
 /// A decimal number of at most `most`.
+#[inline(always)]
 #[tactic(auto, unfolding(crate::specs::Options::value_at))]
 pub fn take_number(words: &mut Words<'_>, opt: Opt, most: u64) -> Result<u64, TcFault>
     ensures value { MatchResult result
@@ -35,16 +37,15 @@ pub fn take_number(words: &mut Words<'_>, opt: Opt, most: u64) -> Result<u64, Tc
     ensures bound { IfOk result (λ n. n ≤ most) }
 {
     let place = words.place();
-    let Some(word) = words.next_word() else {
-        return Err(TcFault::MissingWord(opt));
-    };
-    match number(word, most as u128) {
-        Some(n) => Ok(n as u64),
-        None => Err(TcFault::BadNumber(place)),
+    match words.next_number(u128::from(most)) {
+        None => Err(TcFault::MissingWord(opt)),
+        Some(None) => Err(TcFault::BadNumber(place)),
+        Some(Some(n)) => Ok(n as u64),
     }
 }
 
 /// A hexadecimal number of at most `most`, after an optional 0x.
+#[inline(always)]
 #[tactic(auto, unfolding(crate::specs::Options::value_at))]
 fn take_hex(words: &mut Words<'_>, opt: Opt, most: u32) -> Result<u32, TcFault>
     ensures value { MatchResult result
@@ -89,6 +90,30 @@ pub fn take_entry(words: &mut Words<'_>) -> Result<Entry, TcFault>
     let mask = take_hex(words, Opt::SchedEntry, 255)? as u8;
     let interval = take_number(words, Opt::SchedEntry, 0xffff_ffff)? as u32;
     Ok(Entry { mask, interval })
+}
+
+/// An entry whose words stand as in most lines, with a space before each. None where they don't, and then no word is taken.
+pub fn take_plain_entry(words: &mut Words<'_>) -> Option<Entry>
+    ensures entry { MatchOption result (words.new ≡ words.old)
+        (λ e. StandsPlainly (words_taken words.old) (words_left words.old) e (words_left words.new)) }
+    ensures moves { Moves words.old words.new }
+    ensures onward { IfSome result (λ _. words_taken words.old < words_taken words.new) }
+{
+    let mut after = *words;
+    if !after.skip_text(b" sched-entry S ", 2) {
+        return None;
+    }
+    let Ok(mask) = take_hex(&mut after, Opt::SchedEntry, 255) else {
+        return None;
+    };
+    let Ok(interval) = take_number(&mut after, Opt::SchedEntry, 0xffff_ffff) else {
+        return None;
+    };
+    *words = after;
+    Some(Entry {
+        mask: mask as u8,
+        interval: interval as u32,
+    })
 }
 
 /// Flags that change nothing: 0 or 2.

@@ -64,6 +64,13 @@ digit_fits n d i k short digit room =
     let more : 10 ^ (i + 1) ≤ 10 ^ k = pow-le-pow_right {n = 10} (omega arith) {i = i + 1} {j = k} (omega arith) in
     omega arith
 
+-- the same of hexadecimal digits
+pub hex_fits : (n d i k : ℕ) → n < 16 ^ i → d < 16 → i < k → n * 16 + d < 16 ^ k
+hex_fits n d i k short digit room =
+    let step : 16 ^ (i + 1) ≡ 16 ^ i * 16 = pow_more 16 i in
+    let more : 16 ^ (i + 1) ≤ 16 ^ k = pow-le-pow_right {n = 16} (omega arith) {i = i + 1} {j = k} (omega arith) in
+    omega arith
+
 value_on : (base n m : ℕ) (bs ys : List ℕ) → ((k : ℕ) → value_behind base k bs ≡ Some m → value_behind base k (bs ++ ys) ≡ value_behind base m ys) → (o : Option ℕ) → option_and_then (λ d. value_behind base (n * base + d) bs) o ≡ Some m → option_and_then (λ d. value_behind base (n * base + d) (bs ++ ys)) o ≡ value_behind base m ys
 value_on base n m bs ys after None e = absurd cc
 value_on base n m bs ys after (Some d) e = after (n * base + d) e
@@ -74,17 +81,23 @@ unfolding value_behind
 value_append base n m [] ys e = (let same : n ≡ m = cc in ap (λ k. value_behind base k ys) same)
 value_append base n m (b ∷ bs) ys e = value_on base n m bs ys (λ k. value_append base k m bs ys) (digit_in base b) e
 
-one_digit : (n d b : ℕ) → digit_in 10 b ≡ Some d → value_behind 10 n (b ∷ []) ≡ Some (n * 10 + d)
+one_digit : (base n d b : ℕ) → digit_in base b ≡ Some d → value_behind base n (b ∷ []) ≡ Some (n * base + d)
 unfolding value_behind
-one_digit n d b is = ap (option_and_then (λ d. Some (n * 10 + d))) is
+one_digit base n d b is = ap (option_and_then (λ d. Some (n * base + d))) is
 
 -- a run of digits, one digit on
+pub run_more_in : (base n d i : ℕ) (octets : List ℕ) → i < length octets → value_behind base 0 (take i octets) ≡ Some n → digit_in base (get_or octets i 0) ≡ Some d → value_behind base 0 (take (i + 1) octets) ≡ Some (n * base + d)
+run_more_in base n d i octets within is digit =
+    ap (value_behind base 0) (take_more octets i 0 within)
+    ∙ value_append base 0 n (take i octets) (get_or octets i 0 ∷ []) is
+    ∙ one_digit base n d (get_or octets i 0) digit
+
 pub run_more : (n d i : ℕ) (octets : List ℕ) → i < length octets → value_behind 10 0 (take i octets) ≡ Some n → digit_in 10 (get_or octets i 0) ≡ Some d → value_behind 10 0 (take (i + 1) octets) ≡ Some (n * 10 + d)
-run_more n d i octets within is digit =
-    ap (value_behind 10 0) (take_more octets i 0 within)
-    ∙ value_append 10 0 n (take i octets) (get_or octets i 0 ∷ []) is
-    ∙ one_digit n d (get_or octets i 0) digit
+run_more = run_more_in 10
+
+pub no_digits_in : (base n : ℕ) → value_behind base n [] ≡ Some n
+unfolding value_behind
+no_digits_in base n = refl
 
 pub no_digits : (n : ℕ) → value_behind 10 n [] ≡ Some n
-unfolding value_behind
-no_digits n = refl
+no_digits = no_digits_in 10

@@ -6,11 +6,11 @@ use Rattle.std.specs.List.{list_all, onto_first, join_with_byte}
 use Rattle.words.specs.Words.{is_blank, starts_with_line_feed, starts_with_break, starts_blank, words_of}
 use Rattle.words.specs.Joined.{AreWords}
 
-and_first : (t u : Bool) → (t && u) ≡ true → t ≡ true
+pub and_first : (t u : Bool) → (t && u) ≡ true → t ≡ true
 and_first true u e = refl
 and_first false u e = absurd cc
 
-and_second : (t u : Bool) → (t && u) ≡ true → u ≡ true
+pub and_second : (t u : Bool) → (t && u) ≡ true → u ≡ true
 and_second true u e = e
 and_second false u e = absurd cc
 

@@ -2,11 +2,12 @@
 
 ghost use Rattle.std.specs.Prelude.{◌≡◌, ◌<◌, ◌≤◌, ◌^◌, Some, IfSome, length, take};
 ghost use Rattle.std.specs.List.{list_all};
-ghost use Rattle.words.specs.declared.numbers.TheConstants.{SHORT_DIGITS, LONG_DIGITS};
+ghost use Rattle.words.specs.declared.numbers.TheConstants.{SHORT_DIGITS, LONG_DIGITS, HEX_DIGITS};
 ghost use Rattle.words.specs.Numbers.{digit_in, number_in, value_behind, is_digit, is_digits};
 
 fn digit_in(base: u8, octet: u8) -> Option<u8>
-    ensures { result ≡ digit_in base octet }
+    ensures digit { result ≡ digit_in base octet }
+    ensures bound { IfSome result (λ d. d < base) }
 {
     let digit = match octet {
         b'0'..=b'9' => octet - b'0',
@@ -122,12 +123,41 @@ pub fn number(word: &[u8], most: u128) -> Option<u128>
     if number > most { None } else { Some(number) }
 }
 
+// How many hexadecimal digits surely make a number of 64 bits.
+const HEX_DIGITS: usize = 16;
+
+// The number that the hexadecimal digits at the front of octets are, as far as they surely fit 64 bits, and how many these are.
+fn hex_run(octets: &[u8]) -> (u64, usize)
+    ensures within { result.1 ≤ length octets.now }
+    ensures value { value_behind 16 0 (take result.1 octets.now) ≡ Some result.0 }
+{
+    let stop = octets.len().min(HEX_DIGITS);
+    let mut number = 0u64;
+    let mut end = 0;
+    while end < stop {
+        let Some(digit) = digit_in(16, octets[end]) else {
+            return (number, end);
+        };
+        number = number * 16 + u64::from(digit);
+        end += 1;
+    }
+    (number, end)
+}
+
 /// A hexadecimal number of at most `most`: one digit or more, of either case, with no prefix.
 pub fn hex_number(word: &[u8], most: u128) -> Option<u128>
     ensures number { result ≡ number_in 16 most word.now }
     ensures bound { IfSome result (λ n. n ≤ most) }
 {
-    number_in(16, most, word)
+    if word.is_empty() {
+        return None;
+    }
+    let (number, end) = hex_run(word);
+    if end < word.len() {
+        return number_in(16, most, word);
+    }
+    let number = u128::from(number);
+    if number > most { None } else { Some(number) }
 }
 
 fn is_digit(octet: u8) -> bool

@@ -1,8 +1,9 @@
 //! The words of a line, one after another.
 
-ghost use Rattle.std.specs.Prelude.{◌≡◌, ◌≤◌, ◌<◌, ◌+◌, ◌^◌, ◌∷◌, [], ℕ, List, drop, length, MatchOption, IfSome, Some, true, false};
+ghost use Rattle.std.specs.Prelude.{◌≡◌, ◌≤◌, ◌<◌, ◌+◌, ◌^◌, ◌∷◌, ◌++◌, [], ℕ, List, drop, get_or, length, not, take, MatchOption, IfSome, Some, true, false};
+ghost use Rattle.std.specs.List.{list_all};
 ghost use Rattle.words.specs.Numbers.{at_most, first_number, behind_first};
-ghost use Rattle.words.specs.Words.{starts_blank, starts_with_break, word_length, words_of};
+ghost use Rattle.words.specs.Words.{is_blank, starts_blank, starts_with_break, word_length, words_of};
 
 use crate::numbers::{decimal_run, number};
 
@@ -68,7 +69,6 @@ fn past_space(octets: &[u8]) -> &[u8]
 }
 
 // The first word, and what comes after it.
-#[inline(never)]
 fn split_word(octets: &[u8]) -> Option<(&[u8], &[u8])>
     ensures word { MatchOption result (words_of octets.now ≡ [])
         (λ x. words_of octets.now ≡ x.0.now ∷ words_of x.1.now) }
@@ -86,6 +86,18 @@ fn split_word(octets: &[u8]) -> Option<(&[u8], &[u8])>
     Some(rest.split_at(end))
 }
 
+// What comes after a text, where octets begin with it.
+#[inline(always)]
+fn past_text<'a>(octets: &'a [u8], text: &[u8]) -> Option<&'a [u8]>
+    ensures { IfSome result (λ rest. octets.now ≡ text.now ++ rest.now) }
+{
+    if octets.len() < text.len() {
+        return None;
+    }
+    let (front, rest) = octets.split_at(text.len());
+    if front == text { Some(rest) } else { None }
+}
+
 // Whether octets end at this place, or go on with a space.
 fn is_plain_end(octets: &[u8], place: usize) -> bool
     requires { place ≤ length octets.now }
@@ -93,6 +105,40 @@ fn is_plain_end(octets: &[u8], place: usize) -> bool
     ensures whole { result ≡ true → starts_with_break (drop place octets.now) ≡ false }
 {
     place == octets.len() || octets[place] == b' '
+}
+
+// Whether there is an octet at this place that is no blank by itself.
+fn is_unblank_at(octets: &[u8], place: usize) -> bool
+    ensures within { result ≡ true → place < length octets.now }
+    ensures unblank { result ≡ true → not (is_blank (get_or octets.now place 0)) ≡ true }
+{
+    place < octets.len() && octets[place] > b' '
+}
+
+// How many octets stand in front of the first one that is a blank by itself, or of another control.
+fn unblank_length(octets: &[u8]) -> usize
+    ensures within { result ≤ length octets.now }
+    ensures unblank { list_all (λ octet. not (is_blank octet)) (take result octets.now) ≡ true }
+{
+    let mut end = 0;
+    while is_unblank_at(octets, end) {
+        end += 1;
+    }
+    end
+}
+
+// The first word, where there are no blanks about it but spaces, and what comes after it.
+#[inline]
+fn split_plain(octets: &[u8]) -> Option<(&[u8], &[u8])>
+    ensures word { IfSome result (λ x. words_of octets.now ≡ x.0.now ∷ words_of x.1.now) }
+    ensures less { IfSome result (λ x. length x.1.now < length octets.now) }
+{
+    let rest = past_space(octets);
+    let length = unblank_length(rest);
+    if length == 0 || !is_plain_end(rest, length) {
+        return None;
+    }
+    Some(rest.split_at(length))
 }
 
 // The number that the first word is, where it has digits alone, at most 38 of them, and no blanks about it but spaces; and
@@ -143,14 +189,27 @@ impl<'a> Words<'a> {
         self.place
     }
 
-    // Goes on to what comes after a word.
-    fn go_on(&mut self, rest: &'a [u8])
-        requires { length rest.now < length self.old.rest.now }
+    // Goes on to what comes after so many words.
+    fn go_on(&mut self, rest: &'a [u8], count: usize)
+        requires { length rest.now + count ≤ length self.old.rest.now }
         ensures left { words_left self.new ≡ words_of rest.now }
-        ensures taken { words_taken self.new ≡ words_taken self.old + 1 }
+        ensures taken { words_taken self.new ≡ words_taken self.old + count }
     {
         self.rest = rest;
-        self.place += 1;
+        self.place += count;
+    }
+
+    // The next word, whatever blanks are about it. Apart, since mostly they are spaces.
+    #[inline(never)]
+    fn next_of_any(&mut self) -> Option<&'a [u8]>
+        ensures word { MatchOption result ((words_left self.old ≡ []) × (words_left self.new ≡ []))
+            (λ word. words_left self.old ≡ word.now ∷ words_left self.new) }
+        ensures taken { MatchOption result (words_taken self.new ≡ words_taken self.old)
+            (λ _. words_taken self.new ≡ words_taken self.old + 1) }
+    {
+        let (word, rest) = split_word(self.rest)?;
+        self.go_on(rest, 1);
+        Some(word)
     }
 
     /// The next word. After the last one there is none, and so on.
@@ -164,9 +223,27 @@ impl<'a> Words<'a> {
         if self.rest.is_empty() {
             return None;
         }
-        let (word, rest) = split_word(self.rest)?;
-        self.go_on(rest);
+        let Some((word, rest)) = split_plain(self.rest) else {
+            return self.next_of_any();
+        };
+        self.go_on(rest, 1);
         Some(word)
+    }
+
+    /// Goes on behind a text, which is counted as so many words, where the octets that no word was taken of begin with it; else
+    /// nothing changes.
+    #[inline(always)]
+    pub fn skip_text(&mut self, text: &[u8], count: usize) -> bool
+        requires { count ≤ length text.now }
+        ensures left { result ≡ true → (rest : List ℕ) × (words_left self.old ≡ words_of (text.now ++ rest)) × (words_left self.new ≡ words_of rest) }
+        ensures taken { result ≡ true → words_taken self.new ≡ words_taken self.old + count }
+        ensures kept { result ≡ false → self.new ≡ self.old }
+    {
+        let Some(rest) = past_text(self.rest, text) else {
+            return false;
+        };
+        self.go_on(rest, count);
+        true
     }
 
     /// The octets that no word was taken of. Its words are those that are still to come.
@@ -187,7 +264,7 @@ impl<'a> Words<'a> {
             (λ _. words_taken self.new ≡ words_taken self.old + 1) }
     {
         if let Some((value, rest)) = split_number(self.rest) {
-            self.go_on(rest);
+            self.go_on(rest, 1);
             return Some(if value <= most { Some(value) } else { None });
         }
         let word = self.next_word()?;

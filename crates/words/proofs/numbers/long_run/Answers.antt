@@ -1,4 +1,4 @@
-use Rattle.std.proofs.Common.{◌≡◌, ℕ, ◌<◌, ◌≤◌, ◌*◌, ◌+◌, ◌^◌, get_or, length, Some, refl, rules, arith}
+use Rattle.std.proofs.Common.{◌≡◌, ◌<◌, ◌+◌, get_or, length, Some, rules, arith}
 use Rattle.words.specs.Numbers.{digit_in}
 use Rattle.words.proofs.Digits.{run_more, digit_fits}
 use Rattle.words.proofs.numbers.long_run.Goals as goal

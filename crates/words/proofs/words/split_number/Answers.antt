@@ -1,4 +1,4 @@
-use Rattle.std.proofs.Common.{◌≡◌, ◌<◌, ◌≤◌, ◌∷◌, ℕ, List, Some, length, take, drop, true, false, sym, ap, ◌∙◌, rules, arith}
+use Rattle.std.proofs.Common.{◌<◌, Some, sym, ap, ◌∙◌, rules}
 use Rattle.words.specs.Numbers.{first_number, behind_first}
 use Rattle.words.specs.Words.{words_of}
 use Rattle.words.proofs.NumberWord.{digits_first, value_first}

@@ -1,0 +1,23 @@
+use Rattle.std.proofs.Common.{◌≡◌, ◌+◌, ◌-◌, ◌^◌, List, ◌∷◌, true, Ok, sym, ap, subst, ◌∙◌, rules, arith}
+use Rattle.std.specs.Prelude.{codes}
+use Rattle.words.specs.Numbers.{number_in}
+use Rattle.words.specs.WordsLeft.{words_left, words_taken}
+use Rattle.tc_reader.specs.Cursor.{Word}
+use Rattle.tc_reader.specs.Values.{hex_in}
+use Rattle.tc_reader.specs.Options.{value_at}
+use Rattle.tc_reader.specs.declared.fault.Opt.TheVariants.{SchedEntry}
+use Rattle.tc_reader.proofs.PlainLemmas.{plain_entry}
+use Rattle.tc_reader.proofs.values.take_plain_entry.Goals as goal
+
+pub returns-clause-entry : goal.returns-clause-entry
+returns-clause-entry c =
+    let place = words_taken c.args.words.now in
+    let behind = words_left c.skip_text.new.self in
+    let skips : c.skip_text.result ≡ true = search rules in
+    let skipped = c.skip_text.ensures.left skips in
+    let second : words_taken c.skip_text.new.self ≡ place + 2 = c.skip_text.ensures.taken skips in
+    let third : words_taken c.take_hex.new.words ≡ place + 3 = omega (arith, c.in-Ok.ensures.place, second) in
+    let stands : words_left c.args.words.now ≡ codes "sched-entry" ∷ codes "S" ∷ behind = skipped.1 ∙ ap (λ (ws : List Word). codes "sched-entry" ∷ codes "S" ∷ ws) (sym skipped.2) in
+    let masked = subst (λ n. value_at SchedEntry (hex_in 255) n behind ≡ Ok (c.in-Ok.mask, words_left c.take_hex.new.words)) second c.in-Ok.ensures.value in
+    let timed = subst (λ n. value_at SchedEntry (number_in 10 (2 ^ 32 - 1)) n (words_left c.take_hex.new.words) ≡ Ok (c.in-Ok-take_number.interval, words_left c.take_number.new.words)) third c.in-Ok-take_number.ensures.value in
+    (codes "sched-entry", codes "S" ∷ behind, stands, plain_entry place behind (words_left c.take_hex.new.words) (words_left c.take_number.new.words) c.in-Ok.mask c.in-Ok-take_number.interval masked timed)
