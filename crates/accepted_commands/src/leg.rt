@@ -150,7 +150,7 @@ impl Leg<'_> {
         ensures { result ≡ open_while (mask_of (stretch_of self.now)) need.class need.from need.length }
     {
         match self {
-            Leg::Listed(leg) => leg.position.stays_open(leg.held_from, need),
+            Leg::Listed(leg) => leg.position.stays_open(leg.schedule, leg.held_from, need),
             Leg::Open(_) => true,
         }
     }

@@ -32,7 +32,10 @@ fn stays_open_alone(
 {
     match list_in(in_force) {
         None => true,
-        Some(list) => list.position.stays_open(list.held_from(pending), need),
+        Some(list) => {
+            list.position
+                .stays_open(&list.schedule, list.held_from(pending), need)
+        }
     }
 }
 

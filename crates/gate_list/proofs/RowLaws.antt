@@ -8,7 +8,7 @@ use Rattle.gate_list.specs.declared.Stay.{Stay}
 use Rattle.gate_list.specs.declared.Stay.TheVariants.{Lasts}
 use Rattle.gate_list.specs.Gate.{Plan, IsPlan, IsShownAt, in_ps, prefix, mask_since}
 use Rattle.gate_list.specs.Open.{open_while}
-use Rattle.gate_list.specs.Stay.{slots, length_of, stay, lasts, told_stay, stay_lasts, AreStays, AreClosed, TellOpenTime}
+use Rattle.gate_list.specs.Stay.{slots, length_of, stay, lasts, told_stay, stay_from, stay_lasts, AreStays, AreClosed, TellsOpenTime, TellOpenTime}
 use Rattle.gate_list.specs.Table.{stay_at, IsTabled}
 use Rattle.gate_list.specs.declared.table.Table.{Table}
 use Rattle.gate_list.proofs.StayLaws.{slots_cut, slots_more, slots_total, slots_begin, slot_there, slot_of, plan_law}
@@ -32,23 +32,30 @@ slot_soon (e ∷ f ∷ es) cycle (suc i) above l =
       | inr cut ↦ absurd (let one : suc i < 1 = subst (λ r. suc i < length r) (slots_cut e f es cycle cut) l in omega arith)
     ]
 
-module _ (plan : Plan) (table : Table) (i : ℕ) (stays : List Stay) (tabled : IsTabled plan table) (within : i < length plan.entries) (read : (class : ℕ) → class < 8 → slice_get stays class ≡ Some (stay_at table class i)) where
-  pub row_stays : prefix plan.entries i < in_ps plan.cycle → AreStays plan i stays
-  row_stays soon class low =
+-- what the table has for a class at an entry
+module _ (plan : Plan) (table : Table) (i class : ℕ) (tabled : IsTabled plan table) (low : class < 8) where
+  pub stay_soon : i < length plan.entries → prefix plan.entries i < in_ps plan.cycle → stay_at table class i ≡ stay_from plan i class
+  stay_soon within soon =
       let cyc : List Slot = slots plan.entries (in_ps plan.cycle) in
       let there = lt-ltb i (length cyc) (slot_there plan.entries (in_ps plan.cycle) i within soon) in
-      read class low
-      ∙ ap Some (tabled.stays class i low ∙ ap (λ b. cond b (told_stay (stay cyc i class)) (Lasts 0)) there)
+      tabled.stays class i low ∙ ap (λ b. cond b (told_stay (stay cyc i class)) (Lasts 0)) there
 
-  pub row_closed : in_ps plan.cycle ≤ prefix plan.entries i → AreClosed stays
-  row_closed late class low =
+  pub stay_late : in_ps plan.cycle ≤ prefix plan.entries i → stay_at table class i ≡ Lasts 0
+  stay_late late =
       let cyc : List Slot = slots plan.entries (in_ps plan.cycle) in
       let above = tabled.sound.plan_is.cycle in
       let none : ltb i (length cyc) ≡ false = elim (cases_lt i (length cyc)) [
         | inl soon ↦ absurd (let before = slot_soon plan.entries (in_ps plan.cycle) i (omega arith) soon in omega arith)
         | inr past ↦ le-ltb i (length cyc) past
       ] in
-      read class low ∙ ap Some (tabled.stays class i low ∙ ap (λ b. cond b (told_stay (stay cyc i class)) (Lasts 0)) none)
+      tabled.stays class i low ∙ ap (λ b. cond b (told_stay (stay cyc i class)) (Lasts 0)) none
+
+module _ (plan : Plan) (table : Table) (i : ℕ) (stays : List Stay) (tabled : IsTabled plan table) (within : i < length plan.entries) (read : (class : ℕ) → class < 8 → slice_get stays class ≡ Some (stay_at table class i)) where
+  pub row_stays : prefix plan.entries i < in_ps plan.cycle → AreStays plan i stays
+  row_stays soon class low = read class low ∙ ap Some (stay_soon plan table i class tabled low within soon)
+
+  pub row_closed : in_ps plan.cycle ≤ prefix plan.entries i → AreClosed stays
+  row_closed late class low = read class low ∙ ap Some (stay_late plan table i class tabled low late)
 
 -- ---- open time
 
@@ -75,15 +82,20 @@ inside_slot es cycle i x s there soon shown =
     cases_last : (a b : ℕ) → a ≤ b → (a < b) ⊎ (a ≡ b)
     cases_last a b l = grind arith
 
-pub tell_open : (plan : Plan) → IsPlan plan → (i : ℕ) (stays : List Stay) → i < length plan.entries → (prefix plan.entries i < in_ps plan.cycle → AreStays plan i stays) → TellOpenTime plan i stays
-tell_open plan ok i stays within are start k class x d told low said soon shown some =
+pub tell_open : (plan : Plan) → IsPlan plan → (i class : ℕ) (told : Stay) → i < length plan.entries → (prefix plan.entries i < in_ps plan.cycle → told ≡ stay_from plan i class) → TellsOpenTime plan i class told
+tell_open plan ok i class told within is start k x d soon shown some =
     let cycle : ℕ = in_ps plan.cycle in
     let cyc : List Slot = slots plan.entries cycle in
     let there = slot_there plan.entries cycle i within (omega arith) in
     let s : Slot = get_or cyc i (record { mask = 0; span = 0 }) in
     let at = slice_get-get_or cyc i (record { mask = 0; span = 0 }) there in
     let begin = slots_begin plan.entries cycle i there in
-    let same : told ≡ told_stay (stay cyc i class) = same_Some _ _ (sym said ∙ are (omega arith) class low) in
+    let same : told ≡ told_stay (stay cyc i class) = is (omega arith) in
     ap (λ n. open_while (mask_since (Some plan) start None) class n d) (let e : start + cycle * k + (prefix plan.entries i + x) ≡ start + cycle * k + length_of (take i cyc) + x = omega arith in e)
     ∙ (plan_law plan ok start k i class x d s at (inside_slot plan.entries cycle i x s at soon shown) some
     ∙ (told_lasts (stay cyc i class) (x + d) ∙ ap (λ t. stay_lasts t (x + d)) (sym same)))
+
+-- each class of a row
+pub row_tells : (plan : Plan) → IsPlan plan → (i : ℕ) (stays : List Stay) → i < length plan.entries → (prefix plan.entries i < in_ps plan.cycle → AreStays plan i stays) → TellOpenTime plan i stays
+row_tells plan ok i stays within are class told low said =
+    tell_open plan ok i class told within (λ soon. same_Some told (stay_from plan i class) (sym said ∙ are soon class low))

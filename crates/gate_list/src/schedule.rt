@@ -1,12 +1,13 @@
 //! Schedules: a gate control list with its times, and what it tells of open time.
 ghost use Rattle.std.specs.Prelude.{◌≡◌, ◌<◌, ◌≤◌, ◌+◌, ◌^◌, Some, length, max, slice_get, sum_by};
 ghost use Rattle.gate_list.specs.Gate.{Plan, IsPlan, IsSchedule, in_ps, prefix, change_of, boundary_from, plan_with, plan_fault, ok_unless, least_interval, first_shorter, keeps_apart, is_apart_in};
-ghost use Rattle.gate_list.specs.Stay.{AreStays, AreClosed, TellOpenTime};
+ghost use Rattle.gate_list.specs.Stay.{AreStays, AreClosed, TellOpenTime, TellsOpenTime, stay_from};
 ghost use Rattle.gate_list.specs.Visits.{one_more};
+ghost use Rattle.gate_list.specs.declared.Stay.TheVariants.{Lasts};
 
-use crate::table::{Table, stays_at, table_of};
+use crate::table::{Table, stay_at, stays_at, table_of};
 use crate::{
-    Entry, GateList, MAX_BASE_NS, MAX_CYCLE_NS, MAX_ENTRIES, PlanFault, Row, Visits, copy_of,
+    Entry, GateList, MAX_BASE_NS, MAX_CYCLE_NS, MAX_ENTRIES, PlanFault, Row, Stay, Visits, copy_of,
     is_open,
 };
 use arrayvec::ArrayVec;
@@ -235,5 +236,19 @@ impl Schedule {
             entry: self.entry(i, visits),
             stay: stays_at(&self.stays, i),
         }
+    }
+
+    /// How long a class stays open from the start of the entry of an index, where the list is repeated for ever. It looks at no
+    /// entry.
+    ///
+    /// An entry that begins at or after the cycle's end is never shown: its stay is 0 picoseconds.
+    pub fn stay(&self, i: usize, class: u8) -> Stay
+        requires listed { i < length self.now.entries }
+        requires class { class < CLASSES }
+        ensures stay { prefix self.now.entries i < in_ps self.now.cycle → result ≡ stay_from self.now i class }
+        ensures open { TellsOpenTime self.now i class result }
+        ensures unseen { in_ps self.now.cycle ≤ prefix self.now.entries i → result ≡ Lasts 0 }
+    {
+        stay_at(&self.stays, class as usize, i)
     }
 }

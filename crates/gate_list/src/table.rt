@@ -150,7 +150,7 @@ fn time_to(table: &Table, i: usize, closing: usize) -> u128
 }
 
 /// What the table has for a class at an entry.
-fn stay_at(table: &Table, class: usize, i: usize) -> Stay
+pub(crate) fn stay_at(table: &Table, class: usize, i: usize) -> Stay
     requires low { class < CLASSES }
     requires within { i < MAX_ENTRIES }
     ensures { result ≡ stay_at table.now class i }

@@ -77,7 +77,7 @@ impl ListSearch<'_> {
             if limit <= end {
                 return None;
             }
-            position = position.next_entry(leg.schedule, visits);
+            position.next_entry(leg.schedule, visits);
             from = end;
         }
         Some(from)

@@ -58,13 +58,13 @@ shown_mask (d ∷ f ∷ es) p (suc i) e there shown =
       before_next = λ next. (let soon : p < prefix (d ∷ f ∷ es) (suc (i + 1)) = subst (λ k. p < prefix (d ∷ f ∷ es) k) (let at : suc i + 1 ≡ suc (i + 1) = omega arith in at) (shown.before_next (omega arith)) in omega arith);
     })
 
-pub mask_of_entry : (plan : Plan) (began i : ℕ) (walk : Walk) → ShowsEntry plan began i walk → walk_mask walk ≡ ((walk.row).entry).mask
+pub mask_of_entry : (plan : Plan) (began i : ℕ) (walk : Walk) → ShowsEntry plan began i walk → walk_mask walk ≡ (walk.entry).mask
 mask_of_entry plan began i walk shown = by walk.held shown.unheld
   where
-    by : (held : Option ℕ) → held ≡ None → (elim held [ Some mask ↦ mask | None ↦ walk.row.entry.mask ]) ≡ walk.row.entry.mask
+    by : (held : Option ℕ) → held ≡ None → (elim held [ Some mask ↦ mask | None ↦ walk.entry.mask ]) ≡ walk.entry.mask
     by None e = refl
     by (Some mask) e = cc
 
 pub mask_of_shown : (plan : Plan) (began i p : ℕ) (walk : Walk) → ShowsEntry plan began i walk → IsShownAt plan.entries p i → walk_mask walk ≡ mask_at plan.entries p
 mask_of_shown plan began i p walk shows shown =
-    mask_of_entry plan began i walk shows ∙ sym (shown_mask plan.entries p i walk.row.entry (shows.row_is).entry_is shown)
+    mask_of_entry plan began i walk shows ∙ sym (shown_mask plan.entries p i walk.entry shows.entry_is shown)

@@ -1,24 +1,22 @@
 -- List Execute (IEEE Std 802.1Q-2018, 8.6.9.2): a walk of the entries of a list, in picoseconds.
 use Rattle.std.specs.Prelude.{◌≡◌, ◌<◌, ℕ, ◌+◌, ◌⊎◌, min, if◌then◌else◌, nat_lt, List, Option, Some, None, length, slice_get}
-use Rattle.gate_list.specs.Gate.{Plan, in_ps, prefix, last_mask}
-use Rattle.gate_list.specs.Stay.{AreStays, TellOpenTime}
+use Rattle.gate_list.specs.Gate.{Plan, prefix, last_mask}
 use Rattle.gate_list.specs.Visits.{greatest_count}
 use Rattle.gate_list.specs.declared.Entry.{Entry}
-use Rattle.gate_list.specs.declared.Row.{Row}
 
--- Where a walk of a list stands: in the cycle that began at `began` the entry `index` with its row, from when and up to
--- when, and the mask of the hold, if there is one.
+-- Where a walk of a list stands: in the cycle that began at `began` the entry `index`, from when and up to when, and the
+-- mask of the hold, if there is one.
 pub record Walk : Type 0 where
   pub began : ℕ
   pub index : ℕ
   pub start : ℕ
   pub until : Option ℕ
-  pub row : Row
+  pub entry : Entry
   pub held : Option ℕ
 
 -- the classes that are open
 abbrev pub walk_mask : Walk → ℕ
-walk_mask walk = elim walk.held [ Some mask ↦ mask | None ↦ walk.row.entry.mask ]
+walk_mask walk = elim walk.held [ Some mask ↦ mask | None ↦ walk.entry.mask ]
 
 -- the end of entry i of a cycle from a moment on; the last one has none
 abbrev pub until_of : List Entry → ℕ → ℕ → Option ℕ
@@ -28,12 +26,6 @@ until_of entries began i = if nat_lt (i + 1) (length entries) then Some (began +
 abbrev pub end_of : Walk → Option ℕ
 end_of walk = elim walk.held [ Some mask ↦ None | None ↦ walk.until ]
 
--- Entry i of a plan, with how long each class stays open from its start where it begins before the cycle's end.
-pub record IsRow (plan : Plan) (i : ℕ) (row : Row) : Type 0 where
-  pub entry_is : slice_get plan.entries i ≡ Some row.entry
-  pub stays : prefix plan.entries i < in_ps plan.cycle → AreStays plan i row.stay
-  pub opens : prefix plan.entries i < in_ps plan.cycle → TellOpenTime plan i row.stay
-
 -- The walk shows entry i of the plan, at its place in the cycle that began at a moment.
 pub record ShowsEntry (plan : Plan) (began i : ℕ) (walk : Walk) : Type 0 where
   pub listed : i < length plan.entries
@@ -41,7 +33,7 @@ pub record ShowsEntry (plan : Plan) (began i : ℕ) (walk : Walk) : Type 0 where
   pub index_is : walk.index ≡ i
   pub start_is : walk.start ≡ began + prefix plan.entries i
   pub until_is : walk.until ≡ until_of plan.entries began i
-  pub row_is : IsRow plan i walk.row
+  pub entry_is : slice_get plan.entries i ≡ Some walk.entry
   pub unheld : walk.held ≡ None
 
 -- The walk shows the last mask of the plan, in the cycle that began at a moment.

@@ -1,16 +1,14 @@
 //! What a gate control list shows, entry after entry: List Execute (IEEE Std 802.1Q-2018, 8.6.9.2).
 #![tactic(auto)]
 
-ghost use Rattle.std.specs.Prelude.{◌≡◌, ◌+◌, ◌-◌, ◌*◌, ◌<◌, ◌≤◌, ◌^◌, None, IsSome, length, slice_index_or};
+ghost use Rattle.std.specs.Prelude.{◌≡◌, ◌+◌, ◌-◌, ◌*◌, ◌<◌, ◌≤◌, ◌^◌, None, Some, IsSome, length, slice_get};
 ghost use Rattle.wire_time.specs.Moment.{greatest_moment};
 ghost use Rattle.gate_list.specs.Gate.{IsShownAt, prefix, mask_at, has_come};
 ghost use Rattle.gate_list.specs.Visits.{one_more};
-ghost use Rattle.gate_list.specs.declared.Stay.TheVariants.{Lasts};
-ghost use Rattle.list_execute.specs.Walk.{in_hold, IsRow, ShowsEntry, ShowsHold, IsOf, walk_mask, end_of, more};
+ghost use Rattle.list_execute.specs.Walk.{in_hold, ShowsEntry, ShowsHold, IsOf, walk_mask, end_of, more};
 
-use gate_list::{Row, Schedule, Stay, Visits};
+use gate_list::{Entry, Schedule, Visits};
 use std::marker::Model;
-use wire_time::CLASSES;
 
 /// Where a walk of a list stands: at an entry of a cycle, or in the hold of the last mask. All moments are in picoseconds.
 #[derive(Clone, Copy, Debug, PartialEq, Eq)]
@@ -19,7 +17,7 @@ pub struct ListExecute {
     index: usize,
     start: u128,
     until: Option<u128>,
-    row: Row,
+    entry: Entry,
     held: Option<u8>,
 }
 
@@ -32,23 +30,23 @@ impl Model for ListExecute {
 
     ghost Value = { Walk };
 
-    ghost view = { λ w. record { began = w.began; index = w.index; start = w.start; until = w.until; row = w.row; held = w.held } };
+    ghost view = { λ w. record { began = w.began; index = w.index; start = w.start; until = w.until; entry = w.entry; held = w.held } };
 
     ghost invariant = { λ w. (w.began ≤ 4 * greatest_moment) × (w.index < 256) × (w.start ≤ w.began + 2 ^ 42 * w.index) × ForSome w.until (λ u. u ≤ w.began + 2 ^ 42 * (w.index + 1)) };
 
-    ghost inverse = { λ w. record { began = w.began; index = w.index; start = w.start; until = w.until; row = w.row; held = w.held } };
+    ghost inverse = { λ w. record { began = w.began; index = w.index; start = w.start; until = w.until; entry = w.entry; held = w.held } };
 }
 
-/// The entry of an index, with its stays.
-fn row_of(schedule: &Schedule, index: usize, visits: &mut Visits) -> Row
+/// The entry of an index.
+fn entry_of(schedule: &Schedule, index: usize, visits: &mut Visits) -> Entry
     requires { index < length schedule.now.entries }
-    ensures row { IsRow schedule.now index result }
+    ensures entry { slice_get schedule.now.entries index ≡ Some result }
     ensures visit { visits.new ≡ one_more visits.old }
     ensures counted { visits.old ≤ visits.new }
 {
     // The count fits a u64, which makes it no less after one more.
     let _ = visits.count();
-    schedule.row(index, visits)
+    schedule.entry(index, visits)
 }
 
 /// The walk at an entry of a cycle from a moment on. `last` is the index of the last entry.
@@ -71,9 +69,9 @@ fn walk_at(
     ensures visit { visits.new ≡ one_more visits.old }
     ensures counted { visits.old ≤ visits.new }
 {
-    let row = row_of(schedule, index, visits);
+    let entry = entry_of(schedule, index, visits);
     let until = if index < last {
-        Some(start + 1000 * u128::from(row.entry.interval))
+        Some(start + 1000 * u128::from(entry.interval))
     } else {
         None
     };
@@ -82,7 +80,7 @@ fn walk_at(
         index,
         start,
         until,
-        row,
+        entry,
         held: None,
     }
 }
@@ -104,7 +102,7 @@ impl ListExecute {
     {
         match self.held {
             Some(mask) => mask,
-            None => self.row.entry.mask,
+            None => self.entry.mask,
         }
     }
 
@@ -126,21 +124,11 @@ impl ListExecute {
         self.start
     }
 
-    /// The entry, with how long each class stays open from its start.
-    pub fn row(&self) -> Row
-        requires { self.now.held ≡ None }
-        ensures { result ≡ self.now.row }
+    /// The index of the entry.
+    pub fn index(&self) -> usize
+        ensures { result ≡ self.now.index }
     {
-        self.row
-    }
-
-    /// How long a class stays open from the start of the entry.
-    pub fn stay(&self, class: u8) -> Stay
-        requires unheld { self.now.held ≡ None }
-        requires class { class < CLASSES }
-        ensures { result ≡ slice_index_or self.now.row.stay class (Lasts 0) }
-    {
-        self.row.stay[class as usize]
+        self.index
     }
 
     /// Goes on to the entry after.
@@ -152,14 +140,8 @@ impl ListExecute {
         ensures counted { visits.old ≤ visits.new }
     {
         let Some(end) = self.until else { return };
-        *self = walk_at(
-            schedule,
-            schedule.len() - 1,
-            self.began,
-            self.index + 1,
-            end,
-            visits,
-        );
+        let index = self.index + 1;
+        *self = walk_at(schedule, schedule.len() - 1, self.began, index, end, visits);
     }
 
     /// Shows the last mask.
@@ -171,8 +153,8 @@ impl ListExecute {
         ensures visit { visits.new ≡ one_more visits.old }
         ensures counted { visits.old ≤ visits.new }
     {
-        let last = row_of(schedule, schedule.len() - 1, visits);
-        self.held = Some(last.entry.mask);
+        let last = entry_of(schedule, schedule.len() - 1, visits);
+        self.held = Some(last.mask);
     }
 
     /// Whether the entry has ended by a moment.

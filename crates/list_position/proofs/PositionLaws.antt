@@ -1,17 +1,17 @@
 -- What a list shows by where it stands.
 use Rattle.std.proofs.Common.{◌≡◌, ◌<◌, ◌≤◌, ℕ, zero, suc, ◌+◌, ◌-◌, ◌*◌, ◌%◌, min, Bool, true, false, cond, ◌&&◌, ◌||◌, ◌⊎◌, nat_le, All, List, length, get_or, slice_get, Option, Some, None, inl, inr, refl, sym, ap, ◌∙◌, subst, arith, le_refl, mul_comm}
-use Rattle.std.proofs.lemmas.Bool.{leb-false, lt-leb, le-leb, cases_lt, false≢true}
+use Rattle.std.proofs.lemmas.Bool.{leb-false, lt-leb, le-leb, cases_lt, false≢true, false_from_ne_true}
 use Rattle.std.proofs.Math.Nat.{mul-le-mul_left}
-use Rattle.std.proofs.lemmas.Option.{same_Some, get_or_from_slice_get, slice_get-get_or}
+use Rattle.std.proofs.lemmas.Option.{same_Some, slice_get-get_or}
 use Rattle.std.specs.Option.{ForSome}
 use Rattle.gate_list.specs.declared.Entry.{Entry}
 use Rattle.gate_list.specs.declared.Stay.{Stay}
 use Rattle.gate_list.specs.Gate.{Plan, IsSchedule, IsShownAt, in_ps, prefix, mask_at, last_mask, has_come, mask_since, opens}
 use Rattle.gate_list.specs.Open.{open_while}
-use Rattle.gate_list.specs.Stay.{stay_lasts}
+use Rattle.gate_list.specs.Stay.{TellsOpenTime, stay_lasts}
 use Rattle.gate_list.proofs.PhaseLaws.{prefix_rises}
 use Rattle.gate_list.proofs.RowLaws.{prefix_next}
-use Rattle.gate_list.proofs.OpenLaws.{open_from}
+use Rattle.gate_list.proofs.OpenLaws.{open_at, open_from}
 use Rattle.list_config.specs.Event.{BeginsEntry}
 use Rattle.list_config.specs.History.{cycle_start}
 use Rattle.list_config.proofs.StretchLaws.{come_later, held_while, hold_parts, same_mask_while}
@@ -25,7 +25,7 @@ use Rattle.list_position.specs.Position.{BeginsAtMost, IsPlaced, IsFlat, IsCycle
 pub mask_of_held : (walk : Walk) (mask : ℕ) → walk.held ≡ Some mask → walk_mask walk ≡ mask
 mask_of_held walk mask e = by walk.held e
   where
-    by : (held : Option ℕ) → held ≡ Some mask → (elim held [ Some m ↦ m | None ↦ walk.row.entry.mask ]) ≡ mask
+    by : (held : Option ℕ) → held ≡ Some mask → (elim held [ Some m ↦ m | None ↦ walk.entry.mask ]) ≡ mask
     by None e = cc
     by (Some m) e = same_Some m mask e
 
@@ -74,6 +74,10 @@ prefix_grows es ok i within =
     let ends = prefix_next es i e there in
     let some : 0 < e.interval = ok i (record { mask = 0; interval = 0 }) within in
     omega arith
+
+-- a class that is shut now stays open for no time
+pub shut_now : (mask : ℕ → ℕ) (class n d : ℕ) → 0 < d → opens (mask n) class ≡ false → open_while mask class n d ≡ false
+shut_now mask class n d some shut = false_from_ne_true (open_while mask class n d) (λ o. false≢true (sym shut ∙ open_at mask class n d o n (le_refl n) (omega arith)))
 
 -- a later entry begins later
 prefix_apart : (es : List Entry) → All (λ e. 0 < e.interval) es → (i j : ℕ) → i < j → j < length es → prefix es i < prefix es j
@@ -159,7 +163,7 @@ module _ (plan : Plan) (ok : IsSchedule plan) (start : ℕ) (held : Option ℕ) 
         ap (λ b. cond b (last_mask plan.entries) (mask_at plan.entries ((m - start) % in_ps plan.cycle))) (come_later held n m l (placed_hold ∙ e))
 
     -- and in the entry that is shown
-    pub entry_mask : (m : ℕ) → n ≤ m → has_come held position.timer.started ≡ false → (shows : ShowsList plan n position) → m < position.timer.next_start → ForSome (end_of position.walk) (λ u. m < u) → shown_mask_since m ≡ ((position.walk.row).entry).mask
+    pub entry_mask : (m : ℕ) → n ≤ m → has_come held position.timer.started ≡ false → (shows : ShowsList plan n position) → m < position.timer.next_start → ForSome (end_of position.walk) (λ u. m < u) → shown_mask_since m ≡ (position.walk.entry).mask
     entry_mask m l e shows before soon =
         let s = p.started_is in
         let begun = p.begun in
@@ -168,7 +172,7 @@ module _ (plan : Plan) (ok : IsSchedule plan) (start : ℕ) (held : Option ℕ) 
         let to : m < start + in_ps plan.cycle * p.cycles + in_ps plan.cycle = omega arith in
         let unheld : has_come held m ≡ false = hold_in p.held_at p.cycles m from to ∙ (ap (λ k. has_come held k) (sym s) ∙ e) in
         ap (λ b. cond b (last_mask plan.entries) (mask_at plan.entries ((m - start) % in_ps plan.cycle))) unheld
-        ∙ list_mask p.cycles m position.walk.index position.walk.row.entry from to ((shows.shows).row_is).entry_is (subst (λ k. IsShownAt plan.entries (m - k) position.walk.index) s (still_shown plan n position p.begun shows m l soon))
+        ∙ list_mask p.cycles m position.walk.index position.walk.entry from to (shows.shows).entry_is (subst (λ k. IsShownAt plan.entries (m - k) position.walk.index) s (still_shown plan n position p.begun shows m l soon))
 
     -- what is shown now
     pub placed_mask : walk_mask position.walk ≡ shown_mask_since n
@@ -182,41 +186,32 @@ module _ (plan : Plan) (ok : IsSchedule plan) (start : ℕ) (held : Option ℕ) 
             let from : start + in_ps plan.cycle * p.cycles ≤ n = omega arith in
             let to : n < start + in_ps plan.cycle * p.cycles + in_ps plan.cycle = omega arith in
             sym (ap (λ b. cond b (last_mask plan.entries) (mask_at plan.entries ((n - start) % in_ps plan.cycle))) (placed_hold ∙ e)
-            ∙ list_mask p.cycles n position.walk.index position.walk.row.entry from to ((shows.shows).row_is).entry_is (subst (λ k. IsShownAt plan.entries (n - k) position.walk.index) s shows.shown)))
+            ∙ list_mask p.cycles n position.walk.index position.walk.entry from to (shows.shows).entry_is (subst (λ k. IsShownAt plan.entries (n - k) position.walk.index) s shows.shown)))
 
     -- by its stay, a class is open from now on in the list
-    pub entry_open : has_come held position.timer.started ≡ false → (class d : ℕ) (other : Stay) → class < 8 → 0 < d → open_while (mask_since (Some plan) start None) class n d ≡ stay_lasts (get_or (position.walk.row).stay class other) (n - position.walk.start + d)
-    entry_open e class d other low some = by (has_come held position.timer.started) e p.showing
-      where
-        by : (b : Bool) → b ≡ false → Shows b plan n position → open_while (mask_since (Some plan) start None) class n d ≡ stay_lasts (get_or (position.walk.row).stay class other) (n - position.walk.start + d)
-        by true e shows = absurd (false≢true (sym e))
-        by false e shows =
-            let s = p.started_is in
-            let begun = p.begun in
-            let next_is = p.next_is in
-            let before = shows.before_next in
-            let start_is = (shows.shows).start_is in
-            let first = (shows.shown).begun in
-            let x : ℕ = n - position.walk.start in
-            let at : start + in_ps plan.cycle * p.cycles + (prefix plan.entries position.walk.index + x) ≡ n = omega arith in
-            let phase : n - position.timer.started ≡ prefix plan.entries position.walk.index + x = omega arith in
-            let within : prefix plan.entries position.walk.index < in_ps plan.cycle = omega arith in
-            let said = ((shows.shows).row_is).stays within class low in
-            subst (λ m. open_while (mask_since (Some plan) start None) class m d ≡ stay_lasts (get_or (position.walk.row).stay class other) (x + d)) at
-            (((shows.shows).row_is).opens within start p.cycles class x d _ low said (omega arith) (subst (λ q. IsShownAt plan.entries q position.walk.index) phase shows.shown) some
-            ∙ ap (λ t. stay_lasts t (x + d)) (sym (get_or_from_slice_get (position.walk.row).stay class _ other said)))
+    pub entry_open : has_come held position.timer.started ≡ false → (class d : ℕ) (told : Stay) → 0 < d → TellsOpenTime plan position.walk.index class told → open_while (mask_since (Some plan) start None) class n d ≡ stay_lasts told (n - position.walk.start + d)
+    entry_open e class d told some tells =
+        let shows = subst (λ b. Shows b plan n position) e p.showing in
+        let s = p.started_is in
+        let begun = p.begun in
+        let next_is = p.next_is in
+        let before = shows.before_next in
+        let start_is = (shows.shows).start_is in
+        let first = (shows.shown).begun in
+        let x : ℕ = n - position.walk.start in
+        let at : start + in_ps plan.cycle * p.cycles + (prefix plan.entries position.walk.index + x) ≡ n = omega arith in
+        let phase : n - position.timer.started ≡ prefix plan.entries position.walk.index + x = omega arith in
+        subst (λ m. open_while (mask_since (Some plan) start None) class m d ≡ stay_lasts told (x + d)) at
+        (tells start p.cycles x d (omega arith) (subst (λ q. IsShownAt plan.entries q position.walk.index) phase shows.shown) some)
 
-    -- where the entry started, and that it is in no hold
-    pub entry_there : has_come held position.timer.started ≡ false → (position.walk.held ≡ None) × (position.walk.start ≤ n)
-    entry_there e = by (has_come held position.timer.started) e p.showing
-      where
-        by : (b : Bool) → b ≡ false → Shows b plan n position → (position.walk.held ≡ None) × (position.walk.start ≤ n)
-        by true e shows = absurd (false≢true (sym e))
-        by false e shows =
-            let begun = p.begun in
-            let start_is = (shows.shows).start_is in
-            let first = (shows.shown).begun in
-            ((shows.shows).unheld, omega arith)
+    -- which entry is shown, where it started, and that it is in no hold
+    pub entry_there : has_come held position.timer.started ≡ false → (position.walk.held ≡ None) × (position.walk.start ≤ n) × (position.walk.index < length plan.entries)
+    entry_there e =
+        let shows = subst (λ b. Shows b plan n position) e p.showing in
+        let begun = p.begun in
+        let start_is = (shows.shows).start_is in
+        let first = (shows.shown).begun in
+        ((shows.shows).unheld, omega arith, (shows.shows).listed)
 
     -- the walk is one of the plan
     pub placed_of : IsOf plan position.walk
@@ -247,7 +242,7 @@ module _ (plan : Plan) (ok : IsSchedule plan) (start : ℕ) (held : Option ℕ) 
             go (inl at_next) = let before = shows.before_next in omega arith
             go (inr at_end) = before_end plan n position p.begun shows u at_end
 
-            upto : (shows : ShowsList plan n position) (m : ℕ) → n ≤ m → m < u → mask_since (Some plan) start held m ≡ ((position.walk.row).entry).mask
+            upto : (shows : ShowsList plan n position) (m : ℕ) → n ≤ m → m < u → mask_since (Some plan) start held m ≡ (position.walk.entry).mask
             upto shows m l below = entry_mask m l e shows (omega arith) (λ k is. (let far : u ≤ k = to_end k is in omega arith))
 
     flat_end : has_come held position.timer.started ≡ false → (e : ℕ) → end_of position.walk ≡ Some e → (u : ℕ) → u ≡ min e position.timer.next_start → IsFlat (mask_since (Some plan) start held) n (Some u)

@@ -2,7 +2,7 @@
 -- 8.6.9.2 List Execute).
 use Rattle.std.specs.Prelude.{◌≡◌, ◌<◌, ◌≤◌, ℕ, ◌+◌, ◌-◌, ◌*◌, min, Bool, true, false, if◌then◌else◌, Option, Some, None}
 use Rattle.std.specs.Option.{ForSome}
-use Rattle.gate_list.specs.Gate.{Plan, IsSchedule, IsShownAt, in_ps, last_mask, has_come}
+use Rattle.gate_list.specs.Gate.{Plan, IsShownAt, in_ps, last_mask, has_come}
 use Rattle.list_config.specs.Event.{BeginsEntry}
 use Rattle.list_execute.specs.Walk.{ShowsEntry, ShowsHold, end_of}
 use Rattle.list_position.specs.declared.Position.{Position}
@@ -38,13 +38,6 @@ pub record IsPlaced (plan : Plan) (start : ℕ) (held : Option ℕ) (n : ℕ) (p
   pub next_is : position.timer.next_start ≡ position.timer.started + in_ps plan.cycle
   pub begun : position.timer.started ≤ n
   pub showing : Shows (has_come held position.timer.started) plan n position
-
--- Some list stands so at n.
-pub record StandsSo (held : Option ℕ) (n : ℕ) (position : Position) : Type 0 where
-  pub plan : Plan
-  pub start : ℕ
-  pub sound : IsSchedule plan
-  pub placed : IsPlaced plan start held n position
 
 -- The next boundary of a list that stands so: the end of its entry or of its cycle. A hold has none of its own.
 abbrev pub boundary_of : Option ℕ → Position → Option ℕ

@@ -9,7 +9,7 @@ ghost use Rattle.gate_list.specs.Stay.{stay_lasts};
 ghost use Rattle.gate_list.specs.Visits.{one_more};
 ghost use Rattle.cycle_timer.specs.Cycle.{begun_at};
 ghost use Rattle.list_execute.specs.Walk.{IsOf, end_of, more};
-ghost use Rattle.list_position.specs.Position.{BeginsAtMost, IsPlaced, IsCycleStart, IsFlat, StandsSo, StoodBy, boundary_of};
+ghost use Rattle.list_position.specs.Position.{BeginsAtMost, IsPlaced, IsCycleStart, IsFlat, StoodBy, boundary_of};
 
 use cycle_timer::CycleTimer;
 use gate_list::{Schedule, Stay, Visits, is_open};
@@ -148,56 +148,63 @@ impl Position {
     }
 
     /// Whether a class stays open, by the stay of the entry that is shown then.
-    fn entry_stays_open(&self, need: Need) -> bool
+    fn entry_stays_open(&self, schedule: &Schedule, need: Need) -> bool
+        requires sound { IsSchedule schedule.now }
         requires unheld { self.now.walk.held ≡ None }
         requires begun { self.now.walk.start ≤ need.from }
+        requires listed { self.now.walk.index < length schedule.now.entries }
         requires class { need.class < CLASSES }
         requires some { 0 < need.length }
         requires moment { need.from ≤ 2 * greatest_moment }
         requires within { need.length ≤ greatest_moment }
-        ensures { (plan : Plan) (start : ℕ) (held : Option ℕ) → IsSchedule plan → IsPlaced plan start held need.from self.now → has_come held self.now.timer.started ≡ false → result ≡ open_while (mask_since (Some plan) start None) need.class need.from need.length }
+        ensures { (start : ℕ) (held : Option ℕ) → IsPlaced schedule.now start held need.from self.now → has_come held self.now.timer.started ≡ false → result ≡ open_while (mask_since (Some schedule.now) start None) need.class need.from need.length }
     {
-        let stay = self.walk.stay(need.class);
+        let stay = schedule.stay(self.walk.index(), need.class);
         stay_lasts(stay, need.from - self.walk.entry_start() + need.length)
     }
 
     /// Whether a class stays open in a list that is in no hold yet, and whose last state is held from a moment on.
-    fn stays_open_to_hold(&self, held_from: u128, need: Need) -> bool
-        requires stands { StandsSo (Some held_from) need.from self.now }
+    fn stays_open_to_hold(&self, schedule: &Schedule, held_from: u128, need: Need) -> bool
+        requires sound { IsSchedule schedule.now }
+        requires stands { (start : ℕ) × IsPlaced schedule.now start (Some held_from) need.from self.now }
         requires ahead { need.from < held_from }
         requires class { need.class < CLASSES }
         requires some { 0 < need.length }
         requires moment { need.from ≤ 2 * greatest_moment }
         requires within { need.length ≤ greatest_moment }
-        ensures { (plan : Plan) (start : ℕ) → IsSchedule plan → IsPlaced plan start (Some held_from) need.from self.now → result ≡ open_while (mask_since (Some plan) start (Some held_from)) need.class need.from need.length }
+        ensures { (start : ℕ) → IsPlaced schedule.now start (Some held_from) need.from self.now → result ≡ open_while (mask_since (Some schedule.now) start (Some held_from)) need.class need.from need.length }
     {
         let left = held_from - need.from;
         let within = Need {
             length: need.length.min(left),
             ..need
         };
-        let listed = self.entry_stays_open(within);
+        let listed = self.entry_stays_open(schedule, within);
         listed && (need.length <= left || is_open(self.last_mask, need.class))
     }
 
-    /// Whether a class stays open in a list that stands so then, and whose last state is held from a moment on, in
-    /// picoseconds; none: from no moment on.
-    pub fn stays_open(&self, held_from: Option<u128>, need: Need) -> bool
-        requires stands { StandsSo held_from need.from self.now }
+    /// Whether a class stays open in this list, which stands so then, and whose last state is held from a moment on, in
+    /// picoseconds; none: from no moment on. It looks at no entry.
+    pub fn stays_open(&self, schedule: &Schedule, held_from: Option<u128>, need: Need) -> bool
+        requires sound { IsSchedule schedule.now }
+        requires stands { (start : ℕ) × IsPlaced schedule.now start held_from need.from self.now }
         requires class { need.class < CLASSES }
         requires moment { need.from ≤ 2 * greatest_moment }
         requires within { need.length ≤ greatest_moment }
-        ensures { (plan : Plan) (start : ℕ) → IsSchedule plan → IsPlaced plan start held_from need.from self.now → result ≡ open_while (mask_since (Some plan) start held_from) need.class need.from need.length }
+        ensures { (start : ℕ) → IsPlaced schedule.now start held_from need.from self.now → result ≡ open_while (mask_since (Some schedule.now) start held_from) need.class need.from need.length }
     {
         if need.length == 0 {
             return true;
         }
+        if !is_open(self.walk.mask(), need.class) {
+            return false;
+        }
         match held_from {
-            None => self.entry_stays_open(need),
+            None => self.entry_stays_open(schedule, need),
             Some(held_from) => if held_from <= need.from {
                 is_open(self.last_mask, need.class)
             } else {
-                self.stays_open_to_hold(held_from, need)
+                self.stays_open_to_hold(schedule, held_from, need)
             },
         }
     }
@@ -248,21 +255,18 @@ impl Position {
         Position { walk, ..*self }
     }
 
-    /// The position of the same list at the end of its entry, where the next one begins in the same cycle. Its last state is
-    /// held from `held_from` on, in picoseconds; none: from no moment on.
-    pub fn next_entry(&self, schedule: &Schedule, visits: &mut Visits) -> Position
+    /// Goes on to the end of the entry, where the next one begins in the same cycle and is looked at.
+    pub fn next_entry(&mut self, schedule: &Schedule, visits: &mut Visits)
         requires sound { IsSchedule schedule.now }
-        requires of { IsOf schedule.now self.now.walk }
-        requires ends { IsSome (end_of self.now.walk) }
-        ensures placed { (start n e : ℕ) (held : Option ℕ) → IsPlaced schedule.now start held n self.now → has_come held self.now.timer.started ≡ false → end_of self.now.walk ≡ Some e → n ≤ e → e < self.now.timer.next_start → IsPlaced schedule.now start held e result }
-        ensures timer { result.timer ≡ self.now.timer }
-        ensures index { result.walk.index ≡ self.now.walk.index + 1 }
+        requires of { IsOf schedule.now self.old.walk }
+        requires ends { IsSome (end_of self.old.walk) }
+        ensures placed { (start n e : ℕ) (held : Option ℕ) → IsPlaced schedule.now start held n self.old → has_come held self.old.timer.started ≡ false → end_of self.old.walk ≡ Some e → n ≤ e → e < self.old.timer.next_start → IsPlaced schedule.now start held e self.new }
+        ensures timer { self.new.timer ≡ self.old.timer }
+        ensures index { self.new.walk.index ≡ self.old.walk.index + 1 }
         ensures visit { visits.new ≡ one_more visits.old }
         ensures counted { visits.old ≤ visits.new }
     {
-        let mut walk = self.walk;
-        walk.next(schedule, visits);
-        Position { walk, ..*self }
+        self.walk.next(schedule, visits);
     }
 
     /// The position of the same list at the start of the cycle that holds `t`, which is in no hold. Its last state is held

@@ -56,7 +56,7 @@ module _ (plan : Plan) (class i : ℕ) (stays : List Stay) (told : Stay) (low : 
       let at : prefix plan.entries i + (p - prefix plan.entries i) ≡ p = omega arith in
       let whole : cycle * (x / cycle) + p ≡ x = div-add-mod x cycle in
       let moment : 0 + cycle * (x / cycle) + (prefix plan.entries i + (p - prefix plan.entries i)) ≡ x = omega arith in
-      let law = tells 0 (x / cycle) class (p - prefix plan.entries i) (suc e) told low there (omega arith) (subst (λ q. IsShownAt plan.entries q i) (sym at) shown) (omega arith) in
+      let law = tells class told low there 0 (x / cycle) (p - prefix plan.entries i) (suc e) (omega arith) (subst (λ q. IsShownAt plan.entries q i) (sym at) shown) (omega arith) in
       shorter told (p - prefix plan.entries i) (suc e) (sym law ∙ (ap (λ n. open_while (alone plan) class n (suc e)) moment ∙ o))
     where
       shorter : (s : Stay) (x e : ℕ) → stay_lasts s (x + e) ≡ true → stay_lasts s e ≡ true
@@ -85,7 +85,7 @@ module _ (plan : Plan) (class i : ℕ) (stays : List Stay) (told : Stay) (low : 
     from_start : prefix plan.entries i < in_ps plan.cycle → (d : ℕ) → 0 < d → stay_lasts told d ≡ true → open_while (alone plan) class (prefix plan.entries i) d ≡ true
     from_start soon d some lasts =
         let cycle : ℕ = in_ps plan.cycle in
-        let law = tells 0 0 class 0 d told low there (omega arith) begins some in
+        let law = tells class told low there 0 0 0 d (omega arith) begins some in
         let moment : prefix plan.entries i ≡ 0 + cycle * 0 + (prefix plan.entries i + 0) = omega arith in
         let same : 0 + d ≡ d = omega arith in
         ap (λ n. open_while (alone plan) class n d) moment ∙ (law ∙ (ap (stay_lasts told) same ∙ lasts))

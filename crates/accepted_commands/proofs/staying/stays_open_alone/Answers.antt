@@ -22,3 +22,6 @@ held_from-requires-clause-sound c = list_sound (command_of c.args.in_force) (pos
 
 pub held_from-requires-clause-start : goal.held_from-requires-clause-start
 held_from-requires-clause-start c = (list_usable (command_of c.args.in_force) (position_lent c.args.in_force) c.in-Some.list.now (subst (IsListOf (command_of c.args.in_force) (position_lent c.args.in_force)) c.in-Some.is c.list_in.ensures) c.requires.usable).near
+
+pub stays_open-requires-clause-sound : goal.stays_open-requires-clause-sound
+stays_open-requires-clause-sound c = list_sound (command_of c.args.in_force) (position_lent c.args.in_force) c.in-Some.list.now (subst (IsListOf (command_of c.args.in_force) (position_lent c.args.in_force)) c.in-Some.is c.list_in.ensures) c.requires.usable

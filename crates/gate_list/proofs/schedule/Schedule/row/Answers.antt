@@ -1,7 +1,7 @@
 use Rattle.std.proofs.Common.{subst}
 use Rattle.gate_list.specs.Gate.{Plan}
 use Rattle.gate_list.specs.Table.{IsTabled}
-use Rattle.gate_list.proofs.RowLaws.{row_stays, row_closed, tell_open}
+use Rattle.gate_list.proofs.RowLaws.{row_stays, row_closed, row_tells}
 use Rattle.gate_list.proofs.schedule.Schedule.row.Goals as goal
 
 pub returns-clause-stays : goal.returns-clause-stays
@@ -12,7 +12,7 @@ returns-clause-stays c =
 pub returns-clause-open : goal.returns-clause-open
 returns-clause-open c =
     let tabled = subst (λ (p : Plan). IsTabled p c.self.inside.stays) c.self.view_is c.self.invariant in
-    tell_open c.args.self.now tabled.sound.plan_is c.args.i c.stays_at.result c.requires (returns-clause-stays c)
+    row_tells c.args.self.now tabled.sound.plan_is c.args.i c.stays_at.result c.requires (returns-clause-stays c)
 
 pub returns-clause-unseen : goal.returns-clause-unseen
 returns-clause-unseen c =

@@ -31,7 +31,6 @@ loop-position-preserved c =
     let plan = leg.schedule.now in
     let from = c.loop-position.from in
     let position = c.loop-position.position in
-    let next = c.next_entry-position in
     let inv = c.loop-position.invariant in
     let some = inv.0 in
     let early = inv.1 in
@@ -45,19 +44,19 @@ loop-position-preserved c =
     let ahead = ahead_here leg rest c.requires.search.ready c.args.self.now.stop c.requires.search.within c.requires.unheld c.requires.search.unended from position inv.2 soon in
     let same_next = ap (λ (t : Cycle). t.next_start) inv.3 in
     let inside : end < position.timer.next_start = omega (arith, before, limit, next_start, ends, same_next) in
-    let at_end = c.next_entry-position.ensures.placed leg.start from end leg.held_from inv.2 off (end_there position.timer.next_start (end_of position.walk) inside) (omega (arith, ahead)) inside in
-    let placed = subst (λ m. IsPlaced plan leg.start leg.held_from m c.next_entry-position.result) (sym ends) at_end in
-    let off_next = off_here leg rest c.requires.search.ready c.args.self.now.stop c.requires.search.within c.requires.unheld c.requires.search.unended c.boundary-end.result c.next_entry-position.result placed (omega (arith, before, limit)) in
-    let listed = entry_listed plan leg.start leg.held_from c.boundary-end.result c.next_entry-position.result placed off_next in
-    let index = c.next_entry-position.ensures.index in
-    let counted = c.next_entry-position.ensures.counted in
-    let visit = c.next_entry-position.ensures.visit in
+    let at_end = c.next_entry.ensures.placed leg.start from end leg.held_from inv.2 off (end_there position.timer.next_start (end_of position.walk) inside) (omega (arith, ahead)) inside in
+    let placed = subst (λ m. IsPlaced plan leg.start leg.held_from m c.next_entry.new.self) (sym ends) at_end in
+    let off_next = off_here leg rest c.requires.search.ready c.args.self.now.stop c.requires.search.within c.requires.unheld c.requires.search.unended c.boundary-end.result c.next_entry.new.self placed (omega (arith, before, limit)) in
+    let listed = entry_listed plan leg.start leg.held_from c.boundary-end.result c.next_entry.new.self placed off_next in
+    let index = c.next_entry.ensures.index in
+    let counted = c.next_entry.ensures.counted in
+    let visit = c.next_entry.ensures.visit in
     let old = inv.5 in
     let so_far = inv.6 in (
       omega (arith, before),
       omega (arith, early, ahead, ends),
       placed,
-      c.next_entry-position.ensures.timer ∙ inv.3,
+      c.next_entry.ensures.timer ∙ inv.3,
       fits_join (mask_in (stretches_ahead (Listed leg) rest)) c.args.self.now.needs.now leg.from from c.boundary-end.result inv.4
           (none_here leg rest c.requires.search.ready c.args.self.now.stop c.requires.search.within c.requires.unheld c.requires.search.unended from position inv.2 soon c.args.self.now.needs.now c.at.result c.at.ensures c.boundary-end.result
           (omega (arith, ends)) (omega (arith, before, limit)) (c.fits.ensures.none c.loop-position-test.true)),
