@@ -151,6 +151,7 @@ impl<R: Read + Drop, A: Allocator> LineReader<R, A> {
         ensures first { self.new.first ≡ self.old.first }
         ensures breaks { self.new.breaks ≡ self.old.breaks }
         ensures ended { self.new.source.ended ≡ self.old.source.ended }
+        ensures over { self.new.ended ≡ self.old.ended }
         ensures grows { vec_len self.old.line ≤ vec_len self.new.line }
         ensures open { (0 < vec_len self.old.line → self.old.source.ended ≡ false) → 0 < vec_len self.new.line → self.new.source.ended ≡ false }
     {
@@ -170,6 +171,7 @@ impl<R: Read + Drop, A: Allocator> LineReader<R, A> {
         ensures fewer { result ≡ Ok true → most_lines self.new < most_lines self.old }
         ensures hand { result ≡ Err ReadVariant → in_hand self.new ≡ [] }
         ensures at_end { result ≡ Ok false → IsAtEnd self.new }
+        ensures over { self.new.ended ≡ self.old.ended }
     {
         self.line.clear();
         self.first = self.breaks + 1;
@@ -212,8 +214,13 @@ impl<R: Read + Drop, A: Allocator> LineReader<R, A> {
         if let Some(ended) = self.ended {
             return answer_of(ended);
         }
-        let answer = self.next_line();
-        self.ended = ended_by(answer);
-        answer
+        // Apart, since mostly there is a line, and nothing to note.
+        match self.next_line() {
+            Ok(true) => Ok(true),
+            answer => {
+                self.ended = ended_by(answer);
+                answer
+            }
+        }
     }
 }

@@ -6,3 +6,4 @@ pub mod Going
 pub mod EndingLaws
 pub mod SeparatedLaws
 pub mod ClockLaws
+pub mod PlainLaws

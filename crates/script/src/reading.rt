@@ -1,7 +1,8 @@
 //! What the lines of a script say.
 
-ghost use Rattle.std.specs.Prelude.{◌≡◌, ◌≤◌, ◌<◌, ◌^◌, ◌-◌, ℕ, List, Result, IfSome};
+ghost use Rattle.std.specs.Prelude.{◌≡◌, ◌≤◌, ◌<◌, ◌^◌, ◌-◌, ◌++◌, ℕ, List, Result, Some, Ok, IfSome, codes};
 ghost use Rattle.abstract_port.specs.declared.Command.{Command};
+ghost use Rattle.abstract_port.specs.declared.Event.TheVariants.{Arrive, Clock};
 ghost use Rattle.tc_reader.specs.declared.fault.TcFault.{TcFault};
 ghost use Rattle.words.specs.Words.{words_of};
 ghost use Rattle.words.specs.WordsLeft.{words_left};
@@ -25,7 +26,21 @@ pub enum Said {
     Tc,
 }
 
-fn read_clock(mut words: Words<'_>) -> Result<Event<'static>, ScriptFault>
+// A moment as most lines have it.
+#[inline]
+fn plain_clock(mut words: Words<'_>) -> Option<u128>
+    ensures { IfSome result (λ moment. clock_event (words_left words.entry) ≡ Ok (Clock moment)) }
+{
+    let moment = words.next_plain()?;
+    if moment > MAX_MOMENT || !words.octets().is_empty() {
+        return None;
+    }
+    Some(moment)
+}
+
+// The same of a line that is written otherwise. Apart, since it is seldom.
+#[inline(never)]
+fn read_any_clock(mut words: Words<'_>) -> Result<Event<'static>, ScriptFault>
     ensures { result ≡ clock_event (words_left words.entry) }
 {
     let Some(moment) = words.next_number(u128::MAX) else {
@@ -38,6 +53,15 @@ fn read_clock(mut words: Words<'_>) -> Result<Event<'static>, ScriptFault>
         None => Err(ScriptFault::BadNumber),
         Some(moment) if moment > MAX_MOMENT => Err(ScriptFault::ClockTooLate),
         Some(moment) => Ok(Event::Clock(moment)),
+    }
+}
+
+fn read_clock(words: Words<'_>) -> Result<Event<'static>, ScriptFault>
+    ensures { result ≡ clock_event (words_left words.entry) }
+{
+    match plain_clock(words) {
+        Some(moment) => Ok(Event::Clock(moment)),
+        None => read_any_clock(words),
     }
 }
 
@@ -63,16 +87,42 @@ fn frame_of(
     }))
 }
 
+// Whether a frame is tagged, where what stands behind its numbers is as most lines have it.
+#[inline]
+fn plain_tag(octets: &[u8]) -> Option<bool>
+    ensures { IfSome result (λ tagged. tag_in (words_of octets.now) ≡ Some tagged) }
+{
+    match octets {
+        [] => Some(false),
+        [b' ', b't', b'a', b'g', b'g', b'e', b'd'] => Some(true),
+        _ => None,
+    }
+}
+
+// A frame as most lines have it.
+#[inline]
+fn plain_frame(mut words: Words<'_>) -> Option<Frame>
+    ensures { IfSome result (λ frame. frame_event (words_left words.entry) ≡ Ok (Arrive frame)) }
+{
+    let id = words.next_short()?;
+    let priority = words.next_short()?;
+    let len = words.next_short()?;
+    let tagged = plain_tag(words.octets())?;
+    if priority > u64::from(u8::MAX) || len > u64::from(u32::MAX) {
+        return None;
+    }
+    Some(Frame {
+        id,
+        priority: priority as u8,
+        len: len as u32,
+        tagged,
+    })
+}
+
 // Whether a frame is tagged, by the words behind its numbers.
 fn read_tag(mut words: Words<'_>) -> Option<bool>
     ensures { result ≡ tag_in (words_left words.entry) }
 {
-    match words.octets() {
-        // Most frames.
-        [] => return Some(false),
-        [b' ', b't', b'a', b'g', b'g', b'e', b'd'] => return Some(true),
-        _ => {}
-    }
     let Some(tag) = words.next_word() else {
         return Some(false);
     };
@@ -82,7 +132,9 @@ fn read_tag(mut words: Words<'_>) -> Option<bool>
     Some(true)
 }
 
-fn read_frame(mut words: Words<'_>) -> Result<Event<'static>, ScriptFault>
+// A frame that is written otherwise. Apart, since it is seldom.
+#[inline(never)]
+fn read_any_frame(mut words: Words<'_>) -> Result<Event<'static>, ScriptFault>
     ensures { result ≡ frame_event (words_left words.entry) }
 {
     let Some(id) = words.next_number(u128::from(u64::MAX)) else {
@@ -98,6 +150,15 @@ fn read_frame(mut words: Words<'_>) -> Result<Event<'static>, ScriptFault>
         return Err(ScriptFault::WordCount);
     };
     frame_of(id, priority, len, tagged)
+}
+
+fn read_frame(words: Words<'_>) -> Result<Event<'static>, ScriptFault>
+    ensures { result ≡ frame_event (words_left words.entry) }
+{
+    match plain_frame(words) {
+        Some(frame) => Ok(Event::Arrive(frame)),
+        None => read_any_frame(words),
+    }
 }
 
 fn read_query(mut words: Words<'_>) -> Result<Event<'static>, ScriptFault>
@@ -144,9 +205,9 @@ fn read_any_line(line: &[u8]) -> Result<Option<Said>, ScriptFault>
         return Ok(None);
     }
     let event = if first == b"clock".as_slice() {
-        read_clock(words)?
+        read_any_clock(words)?
     } else if first == b"frame".as_slice() {
-        read_frame(words)?
+        read_any_frame(words)?
     } else if first == b"query".as_slice() {
         read_query(words)?
     } else if first == b"count".as_slice() {
@@ -159,18 +220,40 @@ fn read_any_line(line: &[u8]) -> Result<Option<Said>, ScriptFault>
     Ok(Some(Said::Asked(event)))
 }
 
+// What comes after `frame` and a space, where a line begins with them.
+#[inline]
+fn behind_frame(line: &[u8]) -> Option<&[u8]>
+    ensures { IfSome result (λ rest. line.now ≡ codes "frame " ++ rest.now) }
+{
+    match line {
+        [b'f', b'r', b'a', b'm', b'e', b' ', rest @ ..] => Some(rest),
+        _ => None,
+    }
+}
+
+// The same of `clock`.
+#[inline]
+fn behind_clock(line: &[u8]) -> Option<&[u8]>
+    ensures { IfSome result (λ rest. line.now ≡ codes "clock " ++ rest.now) }
+{
+    match line {
+        [b'c', b'l', b'o', b'c', b'k', b' ', rest @ ..] => Some(rest),
+        _ => None,
+    }
+}
+
 /// What a line says, or None where it is skipped: it has no words, or is a comment.
 pub fn read_line(line: &[u8]) -> Result<Option<Said>, ScriptFault>
     ensures { result ≡ said_in line.now }
 {
+    // Most lines. The tests of their first octets are apart, so that the compiler takes what comes after them for likely.
+    if let Some(rest) = behind_frame(line) {
+        return Ok(Some(Said::Asked(read_frame(Words::new(rest))?)));
+    }
+    if let Some(rest) = behind_clock(line) {
+        return Ok(Some(Said::Asked(read_clock(Words::new(rest))?)));
+    }
     match line {
-        // Most lines.
-        [b'f', b'r', b'a', b'm', b'e', b' ', rest @ ..] => {
-            Ok(Some(Said::Asked(read_frame(Words::new(rest))?)))
-        }
-        [b'c', b'l', b'o', b'c', b'k', b' ', rest @ ..] => {
-            Ok(Some(Said::Asked(read_clock(Words::new(rest))?)))
-        }
         [b't', b'c', b' ', ..] => Ok(Some(Said::Tc)),
         _ => read_any_line(line),
     }

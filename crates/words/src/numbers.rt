@@ -36,7 +36,7 @@ fn decimal_digit(octet: u8) -> Option<u8>
 }
 
 // The number that the decimal digits at the front of octets are, as far as they surely fit 64 bits, and how many these are.
-fn short_run(octets: &[u8]) -> (u64, usize)
+pub(crate) fn short_run(octets: &[u8]) -> (u64, usize)
     ensures within { result.1 ≤ length octets.now }
     ensures few { result.1 ≤ SHORT_DIGITS }
     ensures value { value_behind 10 0 (take result.1 octets.now) ≡ Some result.0 }

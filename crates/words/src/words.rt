@@ -5,7 +5,7 @@ ghost use Rattle.std.specs.List.{list_all};
 ghost use Rattle.words.specs.Numbers.{at_most, first_number, behind_first};
 ghost use Rattle.words.specs.Words.{is_blank, starts_blank, starts_with_break, word_length, words_of};
 
-use crate::numbers::{decimal_run, number};
+use crate::numbers::{decimal_run, number, short_run};
 
 // Whether an octet is no blank, whatever comes after it.
 fn is_ordinary(octet: u8) -> bool
@@ -158,6 +158,22 @@ fn split_number(octets: &[u8]) -> Option<(u128, &[u8])>
     Some((number, behind))
 }
 
+// The same of at most 19 digits, which surely fit 64 bits.
+#[inline]
+fn split_short(octets: &[u8]) -> Option<(u64, &[u8])>
+    ensures number { IfSome result (λ x. (most : ℕ) → first_number most (words_of octets.now) ≡ Some (at_most most (Some x.0))) }
+    ensures rest { IfSome result (λ x. behind_first (words_of octets.now) ≡ words_of x.1.now) }
+    ensures less { IfSome result (λ x. length x.1.now < length octets.now) }
+{
+    let rest = past_space(octets);
+    let (number, end) = short_run(rest);
+    if end == 0 || !is_plain_end(rest, end) {
+        return None;
+    }
+    let (_, behind) = rest.split_at(end);
+    Some((number, behind))
+}
+
 /// The words of a line: the runs of octets that are no blanks.
 ///
 /// Blanks are space, tab, CR and LF, and a backslash directly before LF or CR LF, which joins two physical lines.
@@ -269,5 +285,32 @@ impl<'a> Words<'a> {
         }
         let word = self.next_word()?;
         Some(number(word, most))
+    }
+
+    /// The number that the next word is, where it can be told at once: it has decimal digits alone, at most 19 of them, and no blanks
+    /// about it but spaces. Else None, and nothing changes.
+    #[inline]
+    pub fn next_short(&mut self) -> Option<u64>
+        ensures number { IfSome result (λ n. (most : ℕ) → first_number most (words_left self.old) ≡ Some (at_most most (Some n))) }
+        ensures left { IfSome result (λ _. words_left self.new ≡ behind_first (words_left self.old)) }
+        ensures taken { IfSome result (λ _. words_taken self.new ≡ words_taken self.old + 1) }
+        ensures kept { result ≡ None → self.new ≡ self.old }
+    {
+        let (number, rest) = split_short(self.rest)?;
+        self.go_on(rest, 1);
+        Some(number)
+    }
+
+    /// The same of at most 38 digits.
+    #[inline]
+    pub fn next_plain(&mut self) -> Option<u128>
+        ensures number { IfSome result (λ n. (most : ℕ) → first_number most (words_left self.old) ≡ Some (at_most most (Some n))) }
+        ensures left { IfSome result (λ _. words_left self.new ≡ behind_first (words_left self.old)) }
+        ensures taken { IfSome result (λ _. words_taken self.new ≡ words_taken self.old + 1) }
+        ensures kept { result ≡ None → self.new ≡ self.old }
+    {
+        let (value, rest) = split_number(self.rest)?;
+        self.go_on(rest, 1);
+        Some(value)
     }
 }

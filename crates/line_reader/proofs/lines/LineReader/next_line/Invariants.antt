@@ -16,6 +16,7 @@ invariant-octets g l = record {
   breaks : l.fn.self.breaks ≤ l.self.breaks;
   is_open : 0 < vec_len l.self.line → l.self.source.ended ≡ false;
   ended : l.self.source.ended ≡ l.fn.self.source.ended;
+  over : l.self.ended ≡ l.fn.self.ended;
 }
 
 abbrev pub decreases-octets : goal.decreases-octets
