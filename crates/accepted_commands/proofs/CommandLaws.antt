@@ -1,9 +1,9 @@
 -- The gates by the commands that count, and by where the list in force stands.
-use Rattle.std.proofs.Common.{◌≡◌, ◌<◌, ◌≤◌, ℕ, ◌+◌, min, Bool, cond, ◌&&◌, leb, ltb, List, [], ◌∷◌, ◌++◌, Option, Some, None, MatchOption, option_map, inl, inr, refl, sym, ap, ◌∙◌, subst, arith, le_refl, lt_of_lt_of_le, le_of_lt, ◌⊎◌, Any, IfSome}
+use Rattle.std.proofs.Common.{◌≡◌, ◌<◌, ◌≤◌, ℕ, ◌+◌, min, Bool, false, cond, ◌&&◌, leb, ltb, List, [], ◌∷◌, ◌++◌, Option, Some, None, MatchOption, option_map, inl, inr, refl, sym, ap, ◌∙◌, subst, arith, le_refl, lt_of_lt_of_le, le_of_lt, ◌⊎◌, Any, IfSome}
 use Rattle.std.proofs.lemmas.Bool.{lt-leb, lt-ltb, le-ltb, cases_lt}
 use Rattle.std.proofs.lemmas.Option.{same_Some}
 use Rattle.std.specs.Option.{ForSome, option_or}
-use Rattle.gate_list.specs.Gate.{Plan, IsSchedule, mask_since}
+use Rattle.gate_list.specs.Gate.{Plan, IsSchedule, mask_since, opens}
 use Rattle.gate_list.specs.Open.{open_while}
 use Rattle.gate_list.proofs.OpenLaws.{same_while}
 use Rattle.list_config.specs.History.{Accepted, pending, announced, gates, kept, mask_under, open_through, cons_some, three, is_in_time, only_if, plan_of, start_of, mask_of_plan, IsWaiting, IsAhead}
@@ -17,7 +17,7 @@ use Rattle.list_position.specs.declared.Position.{Position}
 use Rattle.list_position.specs.Position.{IsFlat}
 use Rattle.accepted_commands.specs.Commands.{Commands, AreCommands, IsUsable, NoneBy, history_of, settled_at, in_force_by, pending_by, announced_by}
 use Rattle.accepted_commands.specs.Standing.{Stands, StandsUnder, earlier, hold_for, shown_by, shows_under, boundary_in_force, boundary_under, edge_at}
-use Rattle.list_position.proofs.PositionLaws.{boundary_begins, placed_mask}
+use Rattle.list_position.proofs.PositionLaws.{boundary_begins, placed_mask, shut_now}
 
 -- ---- what shows now and up to the next command
 
@@ -256,6 +256,12 @@ module _ (c : Commands) (s : AreCommands c) where
       same_while (shows_under c.in_force c.pending) (gates (history_of c)) class c.moment d
       (λ m l below. sym (gates_ahead m l (λ a is. (let far = none.0 a is in omega arith), λ a is. (let far = none.1 a is in omega arith))))
       ∙ open_now class d
+
+  -- a class that the mask of now shuts does not stay open
+  pub shut_ahead : (position : Option Position) → Stands c.in_force c.pending c.moment position → (class d : ℕ) → 0 < d → opens (shown_by position) class ≡ false → open_while (mask_in (stretches_from c.in_force (cons_some c.pending (cons_some c.announced [])))) class c.moment d ≡ false
+  shut_ahead position stands class d some shut =
+      sym (open_now class d)
+      ∙ shut_now (gates (history_of c)) class c.moment d some (ap (λ m. opens m class) (sym (position_shows position stands)) ∙ shut)
 
   -- an answer of the stretches to come is that of the history
   pub open_answer : (f : Option Accepted) (rest : List Accepted) → f ≡ c.in_force → cons_some c.pending (cons_some c.announced []) ≡ rest → (class n d : ℕ) → n ≡ c.moment → (answer : Bool) → answer ≡ open_while (mask_in (stretches_from f rest)) class n d → answer ≡ open_through (history_of c) class c.moment d

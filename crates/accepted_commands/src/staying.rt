@@ -1,18 +1,20 @@
 //! Whether a class stays open from now on.
-ghost use Rattle.std.specs.Prelude.{◌≡◌, ◌*◌, ◌<◌, ◌≤◌, []};
+ghost use Rattle.std.specs.Prelude.{◌≡◌, ◌*◌, ◌<◌, ◌≤◌, [], true, false};
 ghost use Rattle.std.specs.Option.{ForSome};
 ghost use Rattle.wire_time.specs.Moment.{greatest_moment};
+ghost use Rattle.gate_list.specs.Gate.{opens};
 ghost use Rattle.gate_list.specs.Open.{open_while};
 ghost use Rattle.list_config.specs.History.{cons_some};
 ghost use Rattle.list_config.specs.Stretch.{mask_in, stretches_from};
 ghost use Rattle.accepted_commands.specs.Commands.{AreCommands, IsUsable, command_of};
-ghost use Rattle.accepted_commands.specs.Standing.{Stands, position_lent, shows_under};
+ghost use Rattle.accepted_commands.specs.Standing.{Stands, position_lent, shown_by, shows_under};
 ghost use Rattle.accepted_commands.specs.Resume.{Resumes};
 
 use crate::ahead::legs_ahead;
 use crate::command::AcceptedCommand;
 use crate::slots::Slots;
-use crate::under::list_in;
+use crate::under::{list_in, mask_under};
+use gate_list::is_open;
 use list_position::{Need, Position};
 use wire_time::CLASSES;
 
@@ -53,8 +55,16 @@ fn stays_open_through(slots: &Slots, resumed: &Option<Position>, need: Need) -> 
     ahead.leg.stays_open_ahead(&ahead.rest, need)
 }
 
-/// Whether a class stays open from now on, by the commands that count. Where no other comes up to the end of the need, the one in
-/// force tells it, and no legs are made.
+/// Whether a class that needs some time is shut now, by the mask that shows.
+fn is_shut_now(slots: &Slots, need: Need) -> bool
+    requires class { need.class < CLASSES }
+    ensures { result ≡ true → (0 < need.length) × (opens (shown_by slots.now.position) need.class ≡ false) }
+{
+    need.length != 0 && !is_open(mask_under(slots.in_force()), need.class)
+}
+
+/// Whether a class stays open from now on, by the commands that count. The mask that shows tells of a class that is shut now, which most
+/// that are asked for are. Where no other command comes up to the end of the need, the one in force tells it, and no legs are made.
 #[tactic(auto, using(crate::proofs::CommandLaws::alone_while))]
 pub fn stays_open(slots: &Slots, resumed: &Option<Position>, need: Need) -> bool
     requires sound { AreCommands slots.now.commands }
@@ -65,6 +75,9 @@ pub fn stays_open(slots: &Slots, resumed: &Option<Position>, need: Need) -> bool
     requires within { need.length ≤ greatest_moment }
     ensures { result ≡ open_while (mask_in (stretches_from slots.now.commands.in_force (cons_some slots.now.commands.pending (cons_some slots.now.commands.announced [])))) need.class need.from need.length }
 {
+    if is_shut_now(slots, need) {
+        return false;
+    }
     if slots.is_alone_until(need.from + need.length) {
         stays_open_alone(slots.in_force(), slots.pending(), need)
     } else {

@@ -13,10 +13,10 @@ use Rattle.list_position.proofs.PositionLaws.{placed_hold, flat_min, flat_cycle}
 use Rattle.accepted_commands.specs.declared.leg.Leg.TheVariants.{Listed}
 use Rattle.accepted_commands.specs.declared.leg.ListedLeg.{ListedLeg}
 use Rattle.accepted_commands.specs.declared.leg.Rest.{Rest}
-use Rattle.accepted_commands.specs.Leg.{AreReady, stretch_of, stretches_in, stretches_ahead}
-use Rattle.accepted_commands.proofs.LegLaws.{ready_later}
+use Rattle.accepted_commands.specs.Leg.{AreReady, DoFollow, stretch_of, stretches_in, stretches_ahead}
+use Rattle.accepted_commands.proofs.LegLaws.{endless_while, ready_later}
 use Rattle.jumping.specs.declared.search.ListSearch.{ListSearch}
-use Rattle.jumping.specs.Search.{IsSearch, NoneFits}
+use Rattle.jumping.specs.Search.{Fits, IsSearch, NoneFits}
 use Rattle.jumping.proofs.RepeatLaws.{not_yet, shows_own, stretch_repeats}
 use Rattle.jumping.proofs.SearchLaws.{fits_flat}
 
@@ -105,4 +105,17 @@ search_later search leg next is same ready some = record {
   some = some;
   within = is.within;
   unended = subst (λ (t : Option ℕ). ForSome t (λ u. search.stop ≤ u)) (sym (ap (λ (g : ListedLeg). g.until) same)) is.unended;
+}
+
+-- a list that nothing follows shows what it shows by itself
+pub alone_while : (leg : ListedLeg) (rest : Rest) → AreReady (Listed leg) rest → rest.next ≡ None → (class n d : ℕ) → open_while (mask_in (stretches_ahead (Listed leg) rest)) class n d ≡ open_while (mask_since (Some leg.schedule.now) leg.start leg.held_from) class n d
+alone_while leg rest ready none class n d =
+    endless_while (stretch_of (Listed leg)) (stretches_in rest.next rest.last) class n d (subst (DoFollow (Listed leg)) none ready.follows)
+
+pub alone_fits : (leg : ListedLeg) (rest : Rest) → AreReady (Listed leg) rest → rest.next ≡ None → (needs : List (Option ℕ)) (u : ℕ) → Fits (mask_since (Some leg.schedule.now) leg.start leg.held_from) needs u → Fits (mask_in (stretches_ahead (Listed leg) rest)) needs u
+alone_fits leg rest ready none needs u at = record {
+  class = at.class;
+  need = at.need;
+  there = at.there;
+  through = alone_while leg rest ready none at.class u at.need ∙ at.through;
 }

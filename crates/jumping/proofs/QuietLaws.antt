@@ -55,17 +55,6 @@ some_choice h needs u eight at =
     greatest_below-some 8 (may_go h u needs) at.class (let l = slice_get_within needs at.class (Some at.need) at.there in omega arith)
     (ap (may_start h u at.class) (get_or_from_slice_get needs at.class (Some at.need) None at.there) ∙ at.through)
 
--- a class that stays open by the stretches to come stays open by the gates
-pub fits_gates : (c : Commands) → AreCommands c → (v : Clocked) → record { history = history_of c; moment = c.moment } ≡ v → (needs : List (Option ℕ)) → Fits (mask_in (stretches_from c.in_force (cons_some c.pending (cons_some c.announced [])))) needs c.moment → Fits (gates v.history) needs v.moment
-fits_gates c s v view needs at =
-    let ahead : List Stretch = stretches_from c.in_force (cons_some c.pending (cons_some c.announced [])) in
-    subst (λ (w : Clocked). Fits (gates w.history) needs w.moment) view (record {
-      class = at.class;
-      need = at.need;
-      there = at.there;
-      through = same_while (gates (history_of c)) (mask_in ahead) at.class c.moment at.need (λ n after before. gates_ahead c s n after) ∙ at.through;
-    })
-
 -- the list in force is at most so long
 pub most_in_force : (f p x : Option Accepted) → entry_count (plan_of f) ≤ longest (three f p x)
 most_in_force None p x = omega arith

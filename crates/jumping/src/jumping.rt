@@ -10,7 +10,7 @@ ghost use Rattle.accepted_commands.specs.Standing.{Stands};
 ghost use Rattle.accepted_commands.specs.Leg.{AreReady, from_of, stretches_ahead};
 ghost use Rattle.accepted_commands.specs.Resume.{Resumes};
 ghost use Rattle.jumping.specs.Edge.{IsEdge, NothingComes, OneEntryComes};
-ghost use Rattle.jumping.specs.Search.{Fits, Searched, most_in};
+ghost use Rattle.jumping.specs.Search.{Searched, most_in};
 
 use crate::search::search;
 use accepted_commands::{
@@ -66,30 +66,6 @@ fn next_edge(slots: &Slots) -> Option<u128>
     ensures { IsEdge slots.now.commands slots.now.position result }
 {
     edge_of(slots)
-}
-
-/// Whether some class with a need, in picoseconds, stays open through it from now on.
-fn fits_now(slots: &Slots, resumed: &Option<Position>, needs: &[Option<u128>; CLASSES]) -> bool
-    requires sound { AreCommands slots.now.commands }
-    requires stands { Stands slots.now.commands.in_force slots.now.commands.pending slots.now.commands.moment slots.now.position }
-    requires resumes { Resumes slots.now.commands resumed.now }
-    requires needs { All (λ need. ForSome need (λ d. d ≤ greatest_moment)) needs.now }
-    ensures { result ≡ true → Fits (mask_in (stretches_from slots.now.commands.in_force (cons_some slots.now.commands.pending (cons_some slots.now.commands.announced [])))) needs.now slots.now.commands.moment }
-{
-    let from = slots.moment();
-    for class in 0..CLASSES as u8 {
-        if let Some(length) = needs[class as usize] {
-            let need = Need {
-                class,
-                from,
-                length,
-            };
-            if stays_open(slots, resumed, need) {
-                return true;
-            }
-        }
-    }
-    false
 }
 
 /// The first moment from now on and before `before`, in picoseconds, at which some class with a need stays open through it. It
@@ -162,9 +138,6 @@ impl Gates for Jumping {
     }
 
     fn quiet(&self, needs: &[Option<u128>; CLASSES], before: u128, visits: &mut Visits) -> u128 {
-        if fits_now(&self.slots, &self.resumed, needs) {
-            return self.slots.moment();
-        }
         match search_from_now(&self.slots, &self.resumed, needs, before, visits) {
             Some(start) => start,
             None => before,

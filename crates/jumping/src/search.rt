@@ -2,11 +2,11 @@
 ghost use Rattle.std.specs.Prelude.{◌≡◌, ℕ, ◌+◌, ◌-◌, ◌*◌, ◌<◌, ◌≤◌, ◌∷◌, Some, None, true, false, All, length, min, slice_get};
 ghost use Rattle.std.specs.Option.{ForSome};
 ghost use Rattle.wire_time.specs.Moment.{greatest_moment};
-ghost use Rattle.gate_list.specs.Gate.{has_come, in_ps};
+ghost use Rattle.gate_list.specs.Gate.{IsSchedule, has_come, in_ps, mask_since};
 ghost use Rattle.gate_list.specs.Open.{open_while};
 ghost use Rattle.list_config.specs.Stretch.{mask_in, mask_of};
 ghost use Rattle.list_execute.specs.Walk.{end_of};
-ghost use Rattle.list_position.specs.Position.{IsFlat, boundary_in};
+ghost use Rattle.list_position.specs.Position.{IsFlat, IsPlaced, boundary_in};
 ghost use Rattle.accepted_commands.specs.declared.leg.Leg.TheVariants.{Listed};
 ghost use Rattle.accepted_commands.specs.Leg.{AreReady, DoFollow, IsReady, stretch_in, from_of, until_of, stretch_of, stretches_ahead};
 ghost use Rattle.jumping.specs.Search.{Fits, IsSearch, Searched, up_to, most_visits, most_in};
@@ -39,6 +39,35 @@ fn fits(leg: &Leg<'_>, rest: &Rest<'_>, needs: &[Option<u128>; CLASSES]) -> bool
     false
 }
 
+/// Whether some class with a need, in picoseconds, stays open through it in a list that nothing follows, from where it stands so.
+fn fits_alone(
+    leg: &ListedLeg<'_>,
+    from: u128,
+    position: &Position,
+    needs: &[Option<u128>; CLASSES],
+) -> bool
+    requires sound { IsSchedule leg.now.schedule.now }
+    requires stands { IsPlaced leg.now.schedule.now leg.now.start leg.now.held_from from position.now }
+    requires near { from ≤ 2 * greatest_moment }
+    requires needs { All (λ need. ForSome need (λ d. d ≤ greatest_moment)) needs.now }
+    ensures some { result ≡ true → Fits (mask_since (Some leg.now.schedule.now) leg.now.start leg.now.held_from) needs.now from }
+    ensures none { result ≡ false → (class d : ℕ) → slice_get needs.now class ≡ Some (Some d) → open_while (mask_since (Some leg.now.schedule.now) leg.now.start leg.now.held_from) class from d ≡ false }
+{
+    for class in 0..CLASSES as u8 {
+        if let Some(length) = needs[class as usize] {
+            let need = Need {
+                class,
+                from,
+                length,
+            };
+            if position.stays_open(leg.schedule, leg.held_from, need) {
+                return true;
+            }
+        }
+    }
+    false
+}
+
 /// The end of the entry that is shown, or of the cycle, in picoseconds.
 fn boundary(position: &Position) -> u128
     ensures { result ≡ boundary_in position.now.timer.next_start (end_of position.now.walk) }
@@ -60,6 +89,20 @@ struct ListSearch<'a> {
 }
 
 impl ListSearch<'_> {
+    /// Whether some class fits where a list stands so at a moment. Where nothing follows it, its position tells, and no leg is made:
+    /// a leg is as large as all that is looked at.
+    fn fits_at(&self, leg: &ListedLeg<'_>, from: u128, position: &Position) -> bool
+        requires ready { AreReady (Listed (record leg.now { from = from; position = position.now })) self.now.rest.now }
+        requires needs { All (λ need. ForSome need (λ d. d ≤ greatest_moment)) self.now.needs.now }
+        ensures some { result ≡ true → Fits (mask_in (stretches_ahead (Listed leg.now) self.now.rest.now)) self.now.needs.now from }
+        ensures none { result ≡ false → (class d : ℕ) → slice_get self.now.needs.now class ≡ Some (Some d) → open_while (mask_in (stretches_ahead (Listed leg.now) self.now.rest.now)) class from d ≡ false }
+    {
+        match &self.rest.next {
+            None => fits_alone(leg, from, position, self.needs),
+            Some(_) => fits(&Leg::Listed(leg.at(from, *position)), self.rest, self.needs),
+        }
+    }
+
     /// The first moment at which some class fits, from where a list stands and before the end of its cycle. Each further entry is
     /// a visit.
     fn in_cycle(&self, leg: &ListedLeg<'_>, visits: &mut Visits) -> Option<u128>
@@ -72,7 +115,7 @@ impl ListSearch<'_> {
         let limit = self.stop.min(leg.position.timer.next_start());
         let mut from = leg.from;
         let mut position = leg.position;
-        while !fits(&Leg::Listed(leg.at(from, position)), self.rest, self.needs) {
+        while !self.fits_at(leg, from, &position) {
             let end = boundary(&position);
             if limit <= end {
                 return None;

@@ -1,23 +1,9 @@
-use Rattle.std.proofs.Common.{inl, subst, sym, ap, refl, [], ◌∙◌, IsSome}
-use Rattle.list_config.specs.Choice.{first_choice}
-use Rattle.list_config.specs.Current.{Clocked}
+use Rattle.std.proofs.Common.{inl, subst, refl, []}
 use Rattle.list_config.specs.History.{cons_some, gates}
 use Rattle.list_config.specs.Stretch.{stretches_from}
 use Rattle.jumping.specs.Search.{Searched}
-use Rattle.jumping.proofs.QuietLaws.{few_visits, fits_gates, no_choice, searched_gates, some_choice}
+use Rattle.jumping.proofs.QuietLaws.{few_visits, no_choice, searched_gates, some_choice}
 use Rattle.jumping.proofs.jumping.JumpingGates.quiet.Goals as goal
-
-pub returns-then-fits_now-clause-onward : goal.returns-then-fits_now-clause-onward
-returns-then-fits_now-clause-onward c = λ below.
-    let now = c.args.self.now in
-    let fits = fits_gates c.self.inside.slots.commands c.self.invariant.0 now c.self.view_is c.args.needs.now (c.fits_now.ensures c.if-fits_now.true) in
-    inl (subst (λ m. IsSome (first_choice now.history m c.args.needs.now)) (sym (c.moment.ensures ∙ ap (λ (w : Clocked). w.moment) c.self.view_is)) (some_choice now.history c.args.needs.now now.moment c.told-needs fits))
-
-pub returns-then-fits_now-clause-first : goal.returns-then-fits_now-clause-first
-returns-then-fits_now-clause-first c = λ jumps below.
-    let now = c.args.self.now in
-    let fits = fits_gates c.self.inside.slots.commands c.self.invariant.0 now c.self.view_is c.args.needs.now (c.fits_now.ensures c.if-fits_now.true) in
-    subst (λ m. IsSome (first_choice now.history m c.args.needs.now)) (sym (c.moment.ensures ∙ ap (λ (w : Clocked). w.moment) c.self.view_is)) (some_choice now.history c.args.needs.now now.moment c.told-needs fits)
 
 pub returns-in-Some-clause-quiet : goal.returns-in-Some-clause-quiet
 returns-in-Some-clause-quiet c =

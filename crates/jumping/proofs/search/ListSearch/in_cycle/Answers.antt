@@ -1,4 +1,4 @@
-use Rattle.std.proofs.Common.{ℕ, ◌<◌, min, sym, ap, ◌∙◌, subst, arith}
+use Rattle.std.proofs.Common.{ℕ, ◌<◌, min, refl, sym, ap, ◌∙◌, subst, arith}
 use Rattle.cycle_timer.specs.Cycle.{Cycle}
 use Rattle.list_config.specs.Stretch.{mask_in}
 use Rattle.list_execute.specs.Walk.{end_of}
@@ -21,8 +21,8 @@ returns-then-limit-end-clause-searched c =
     let ends = c.boundary-end.ensures in
     let past = c.if-limit-end.true in
     fits_join (mask_in (stretches_ahead (Listed leg) rest)) c.args.self.now.needs.now leg.from from (min c.args.self.now.stop leg.position.timer.next_start) inv.4
-    (none_here leg rest c.requires.search.ready c.args.self.now.stop c.requires.search.within c.requires.unheld c.requires.search.unended from c.loop-position.position inv.2 (omega (arith, some, limit)) c.args.self.now.needs.now c.at.result c.at.ensures (min c.args.self.now.stop leg.position.timer.next_start)
-    (omega (arith, next_start, limit, ends, past)) (omega arith) (c.fits.ensures.none c.loop-position-test.true))
+    (none_here leg rest c.requires.search.ready c.args.self.now.stop c.requires.search.within c.requires.unheld c.requires.search.unended from c.loop-position.position inv.2 (omega (arith, some, limit)) c.args.self.now.needs.now (record leg { from = from; position = c.loop-position.position }) refl (min c.args.self.now.stop leg.position.timer.next_start)
+    (omega (arith, next_start, limit, ends, past)) (omega arith) (c.fits_at.ensures.none c.loop-position-test.true))
 
 pub loop-position-preserved : goal.loop-position-preserved
 loop-position-preserved c =
@@ -58,8 +58,8 @@ loop-position-preserved c =
       placed,
       c.next_entry.ensures.timer ∙ inv.3,
       fits_join (mask_in (stretches_ahead (Listed leg) rest)) c.args.self.now.needs.now leg.from from c.boundary-end.result inv.4
-          (none_here leg rest c.requires.search.ready c.args.self.now.stop c.requires.search.within c.requires.unheld c.requires.search.unended from position inv.2 soon c.args.self.now.needs.now c.at.result c.at.ensures c.boundary-end.result
-          (omega (arith, ends)) (omega (arith, before, limit)) (c.fits.ensures.none c.loop-position-test.true)),
+          (none_here leg rest c.requires.search.ready c.args.self.now.stop c.requires.search.within c.requires.unheld c.requires.search.unended from position inv.2 soon c.args.self.now.needs.now (record leg { from = from; position = position }) refl c.boundary-end.result
+          (omega (arith, ends)) (omega (arith, before, limit)) (c.fits_at.ensures.none c.loop-position-test.true)),
       omega (arith, old, counted),
       omega (arith, so_far, visit, index),
       listed,
