@@ -127,6 +127,9 @@ impl Schedule {
     ///
     /// Refused, in this order: an interval, then a cycle, that is shorter than the shortest frame, whose 60 octets are taken
     /// in whole nanoseconds; a cycle, then an extension, above 2^40; a base time above 2^63 - 1.
+    ///
+    /// It stays apart: within the body of a caller the compiler would copy a schedule part by part.
+    #[inline(never)]
     pub fn new(
         list: &GateList,
         base_ns: u64,

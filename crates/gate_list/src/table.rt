@@ -2,7 +2,7 @@
 //!
 //! It is made once, in time linear in the entries, by walks from the end of the cycle to its start. It has the slot that closes a
 //! class, which is an octet, in place of the time up to there: a schedule is copied whole wherever it is handed over.
-ghost use Rattle.std.specs.Prelude.{◌≡◌, ℕ, ◌<◌, ◌≤◌, ◌^◌, IfSome, None, Some, false, length, slice_get, true};
+ghost use Rattle.std.specs.Prelude.{◌≡◌, ℕ, ◌<◌, ◌≤◌, ◌^◌, IfSome, None, Some, [], false, length, slice_get, true};
 ghost use Rattle.gate_list.specs.Gate.{in_ps};
 ghost use Rattle.gate_list.specs.declared.TheConstants.{MAX_CYCLE_NS};
 ghost use Rattle.gate_list.specs.Stay.{slots, length_of, is_open_in_all};
@@ -27,46 +27,45 @@ pub(crate) struct Table {
     closing: [[u8; MAX_ENTRIES]; CLASSES],
 }
 
-/// What a cycle of so many nanoseconds shows, one slot after another.
-fn slots_of(entries: &[Entry], cycle_ns: u64) -> ArrayVec<Slot, MAX_ENTRIES>
+/// What a cycle of so many nanoseconds shows, one slot after another. They are written where they are kept: they take four
+/// kilobytes.
+fn put_slots(entries: &[Entry], cycle_ns: u64, shown: &mut ArrayVec<Slot, MAX_ENTRIES>)
     requires few { length entries.now ≤ MAX_ENTRIES }
     requires fits { cycle_ns ≤ MAX_CYCLE_NS }
-    ensures { result.items ≡ slots entries.now (in_ps cycle_ns) }
+    requires empty { shown.old.items ≡ [] }
+    ensures { shown.new.items ≡ slots entries.now (in_ps cycle_ns) }
 {
-    let mut slots = ArrayVec::new();
     let mut rest = 1000 * cycle_ns;
     for (i, entry) in entries.iter().enumerate() {
         let span = 1000 * u64::from(entry.interval);
         if i + 1 == entries.len() || rest <= span {
-            slots.push(Slot {
+            shown.push(Slot {
                 mask: entry.mask,
                 span: rest,
             });
-            return slots;
+            return;
         }
-        slots.push(Slot {
+        shown.push(Slot {
             mask: entry.mask,
             span,
         });
         rest -= span;
     }
-    slots
 }
 
-/// When each slot begins, in picoseconds from the start of the first, and how long they last together.
-fn starts_of(slots: &[Slot]) -> ([u64; MAX_ENTRIES], u64)
+/// When each slot begins, in picoseconds from the start of the first, is written; the answer is how long they last together.
+fn put_starts(slots: &[Slot], starts: &mut [u64; MAX_ENTRIES]) -> u64
     requires room { length slots.now ≤ MAX_ENTRIES }
     requires fits { length_of slots.now < 2 ^ 62 }
-    ensures starts { AreStarts slots.now result.0 }
-    ensures total { result.1 ≡ length_of slots.now }
+    ensures starts { AreStarts slots.now starts.new }
+    ensures total { result ≡ length_of slots.now }
 {
-    let mut starts = [0; MAX_ENTRIES];
     let mut end = 0;
     for (i, slot) in slots.iter().enumerate() {
         starts[i] = end;
         end += slot.span;
     }
-    (starts, end)
+    end
 }
 
 /// The first slot that closes a class.
@@ -85,16 +84,15 @@ fn first_closing(slots: &[Slot], class: u8) -> Option<u8>
     None
 }
 
-/// Whether all slots open a class, and else for each slot the first one from there on that closes the class.
-fn column_of(slots: &[Slot], class: u8) -> (bool, [u8; MAX_ENTRIES])
+/// Whether all slots open a class. Else for each slot the first one from there on that closes the class is written.
+fn put_column(slots: &[Slot], class: u8, closing: &mut [u8; MAX_ENTRIES]) -> bool
     requires room { length slots.now ≤ MAX_ENTRIES }
     requires low { class < CLASSES }
-    ensures all { result.0 ≡ is_open_in_all slots.now class }
-    ensures column { result.0 ≡ false → IsColumn slots.now class result.1 }
+    ensures all { result ≡ is_open_in_all slots.now class }
+    ensures column { result ≡ false → IsColumn slots.now class closing.new }
 {
-    let mut closing = [0; MAX_ENTRIES];
     let Some(first) = first_closing(slots, class) else {
-        return (true, closing);
+        return true;
     };
     let mut next = first;
     let mut left = slots.len();
@@ -105,25 +103,26 @@ fn column_of(slots: &[Slot], class: u8) -> (bool, [u8; MAX_ENTRIES])
         }
         closing[left] = next;
     }
-    (false, closing)
+    false
 }
 
-/// The table of a list whose cycle takes so many nanoseconds. It is written where it is kept: within the body of a caller the
-/// compiler would copy its parts one by one.
+/// The table of a list whose cycle takes so many nanoseconds. Its parts are written where they are kept, each cleared once: within
+/// the body of a caller the compiler would copy them one by one.
 #[inline(never)]
 pub(crate) fn table_of(entries: &[Entry], cycle_ns: u64) -> Table
     requires few { length entries.now ≤ MAX_ENTRIES }
     requires fits { cycle_ns ≤ MAX_CYCLE_NS }
     ensures { HasStays (slots entries.now (in_ps cycle_ns)) result }
 {
-    let slots = slots_of(entries, cycle_ns);
-    let (starts, cycle) = starts_of(slots.as_slice());
+    let mut slots = ArrayVec::new();
+    put_slots(entries, cycle_ns, &mut slots);
+    let mut starts = [0; MAX_ENTRIES];
+    let cycle = put_starts(slots.as_slice(), &mut starts);
     let mut always = [false; CLASSES];
     let mut closing = [[0; MAX_ENTRIES]; CLASSES];
     for class in 0..CLASSES as u8 {
-        let (all, column) = column_of(slots.as_slice(), class);
-        always[usize::from(class)] = all;
-        closing[usize::from(class)] = column;
+        let column = &mut closing[usize::from(class)];
+        always[usize::from(class)] = put_column(slots.as_slice(), class, column);
     }
     Table {
         shown: slots.len(),

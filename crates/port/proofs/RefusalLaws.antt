@@ -32,6 +32,14 @@ first_last None None last c e is = is
 first_last None (Some r) last c e is = absurd (cc)
 first_last (Some r) b last c e is = absurd (cc)
 
+early_first : (a b last : Option Refused) (r : Refused) → first_of a b ≡ Some r → first_of a (first_of b last) ≡ Some r
+early_first None None last r e = absurd (cc)
+early_first None (Some y) last r e = e
+early_first (Some x) b last r e = e
+
+pub own_early : (p : AbstractPort) (c : Change) (r : Refused) → first_of (map_refusal p c) (limit_refusal p c) ≡ Some r → own_refusal p c ≡ Some r
+own_early p c r early = early_first (map_refusal p c) (limit_refusal p c) _ r early
+
 pub own_none : (p : AbstractPort) (c : Change) → first_of (map_refusal p c) (limit_refusal p c) ≡ None → plan_fault p.ps (plan_asked c) ≡ None → own_refusal p c ≡ None
 own_none p c early is = first_last (map_refusal p c) (limit_refusal p c) _ None early (ap refused_for is)
 

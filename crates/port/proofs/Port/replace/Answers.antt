@@ -1,35 +1,34 @@
-use Rattle.std.proofs.Common.{Err, refl, sym, ap, ◌∙◌, subst}
-use Rattle.port.specs.View.{IsKept}
-use Rattle.port.proofs.RefusalLaws.{replace_taken, replace_busy}
-use Rattle.port.proofs.SoundLaws.{sound_by}
+use Rattle.std.proofs.Common.{rules, ap, sym, ◌∙◌}
+use Rattle.gate_list.specs.Gate.{plan_fault}
+use Rattle.abstract_port.specs.AbstractPort.{plan_asked}
+use Rattle.abstract_port.specs.declared.Refused.TheVariants.{Schedule}
+use Rattle.port.proofs.RefusalLaws.{made, refused, own_none, own_some, own_early, own_refused}
 use Rattle.port.proofs.Port.replace.Goals as goal
 
-pub returns-in-Ok-clause-answer : goal.returns-in-Ok-clause-answer
-returns-in-Ok-clause-answer g c =
-    (replace_taken _ c.args.self.now.port c.args.change.now c.args.e c.in_ok-schedule.schedule (ap (λ q. q.port) c.self.view_is) c.requires.lead (c.in_ok-schedule.ensures.ok).0
-    _ c.in-Ok.moment _ _ _ (c.in_ok-schedule.ensures.ok).1 (sym c.in-Ok.is ∙ c.install.ensures.answer) c.install.ensures.history c.install.ensures.moment c.classes_with-classes.ensures c.unwrap_or-self-inside.ensures).0
+pub returns-in-Some-clause-answer : goal.returns-in-Some-clause-answer
+returns-in-Some-clause-answer g c =
+    let own = own_early c.args.self.now.port c.args.change.now c.in-Some.refused (sym c.early_refusal.ensures ∙ c.in-Some.is) in
+    sym (ap (λ r. r.0) (own_refused c.args.self.now.port c.args.change.now c.in-Some.refused own))
 
-pub returns-in-Ok-clause-port : goal.returns-in-Ok-clause-port
-returns-in-Ok-clause-port g c =
-    (replace_taken _ c.args.self.now.port c.args.change.now c.args.e c.in_ok-schedule.schedule (ap (λ q. q.port) c.self.view_is) c.requires.lead (c.in_ok-schedule.ensures.ok).0
-    _ c.in-Ok.moment _ _ _ (c.in_ok-schedule.ensures.ok).1 (sym c.in-Ok.is ∙ c.install.ensures.answer) c.install.ensures.history c.install.ensures.moment c.classes_with-classes.ensures c.unwrap_or-self-inside.ensures).1
+pub returns-in-Some-clause-port : goal.returns-in-Some-clause-port
+returns-in-Some-clause-port g c =
+    let own = own_early c.args.self.now.port c.args.change.now c.in-Some.refused (sym c.early_refusal.ensures ∙ c.in-Some.is) in
+    sym (ap (λ r. r.1) (own_refused c.args.self.now.port c.args.change.now c.in-Some.refused own))
 
-pub returns-in-Ok-clause-sound : goal.returns-in-Ok-clause-sound
-returns-in-Ok-clause-sound g c =
-    sound_by _ _ c.install.ensures.current
-    (subst (λ m. IsKept c.self.inside.rate c.self.inside.mtu c.self.inside.room m c.self.inside.free c.self.inside.queues) (sym c.install.ensures.moment) c.self.invariant.1) c.self.invariant.2 refl
+pub put_schedule-requires : goal.put_schedule-requires
+put_schedule-requires g c =
+    let is = made _ _ _ (sym c.in-Ok.is ∙ c.new.ensures) in
+    let taken = own_none c.args.self.now.port c.args.change.now (sym c.early_refusal.ensures ∙ c.in-None.is) (ap (λ n. plan_fault n (plan_asked c.args.change.now)) (sym (ap (λ q. q.port.ps) c.self.view_is)) ∙ is.1) in
+    (search rules, (c.requires.lead, (c.requires.ahead, (c.requires.within, (c.requires.sound, (is.0, taken))))))
 
 pub returns-in-Err-clause-answer : goal.returns-in-Err-clause-answer
 returns-in-Err-clause-answer g c =
-    ap Err c.busy_of.ensures ∙ (replace_busy _ c.args.self.now.port c.args.change.now c.args.e c.in_ok-schedule.schedule (ap (λ q. q.port) c.self.view_is) c.requires.lead (c.in_ok-schedule.ensures.ok).0
-    _ c.in-Err.not_now _ (c.in_ok-schedule.ensures.ok).1 (sym c.in-Err.is ∙ c.install.ensures.answer) c.install.ensures.history c.install.ensures.moment).0
+    let is = refused _ _ _ (sym c.in-Err.is ∙ c.new.ensures) in
+    let own = own_some c.args.self.now.port c.args.change.now c.in-Err.fault (sym c.early_refusal.ensures ∙ c.in-None.is) (ap (λ n. plan_fault n (plan_asked c.args.change.now)) (sym (ap (λ q. q.port.ps) c.self.view_is)) ∙ is) in
+    sym (ap (λ r. r.0) (own_refused c.args.self.now.port c.args.change.now (Schedule c.in-Err.fault) own))
 
 pub returns-in-Err-clause-port : goal.returns-in-Err-clause-port
 returns-in-Err-clause-port g c =
-    (replace_busy _ c.args.self.now.port c.args.change.now c.args.e c.in_ok-schedule.schedule (ap (λ q. q.port) c.self.view_is) c.requires.lead (c.in_ok-schedule.ensures.ok).0
-    _ c.in-Err.not_now _ (c.in_ok-schedule.ensures.ok).1 (sym c.in-Err.is ∙ c.install.ensures.answer) c.install.ensures.history c.install.ensures.moment).1
-
-pub returns-in-Err-clause-sound : goal.returns-in-Err-clause-sound
-returns-in-Err-clause-sound g c =
-    sound_by _ _ c.install.ensures.current
-    (subst (λ m. IsKept c.self.inside.rate c.self.inside.mtu c.self.inside.room m c.self.inside.free c.self.inside.queues) (sym c.install.ensures.moment) c.self.invariant.1) c.self.invariant.2 refl
+    let is = refused _ _ _ (sym c.in-Err.is ∙ c.new.ensures) in
+    let own = own_some c.args.self.now.port c.args.change.now c.in-Err.fault (sym c.early_refusal.ensures ∙ c.in-None.is) (ap (λ n. plan_fault n (plan_asked c.args.change.now)) (sym (ap (λ q. q.port.ps) c.self.view_is)) ∙ is) in
+    sym (ap (λ r. r.1) (own_refused c.args.self.now.port c.args.change.now (Schedule c.in-Err.fault) own))

@@ -1,6 +1,6 @@
 use Rattle.std.proofs.Common.{◌≡◌, ◌<◌, ℕ, length, slice_index, take}
 use Rattle.gate_list.specs.Stay.{length_of}
-use Rattle.gate_list.proofs.table.starts_of.Given as goal
+use Rattle.gate_list.proofs.table.put_starts.Given as goal
 
 abbrev pub invariant-loop-i : goal.invariant-loop-i
 invariant-loop-i l = record {

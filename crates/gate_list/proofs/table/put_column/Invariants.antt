@@ -1,6 +1,6 @@
 use Rattle.std.proofs.Common.{◌≡◌, ◌<◌, ◌≤◌, ℕ, length, slice_index}
 use Rattle.gate_list.specs.Table.{Closes}
-use Rattle.gate_list.proofs.table.column_of.Given as goal
+use Rattle.gate_list.proofs.table.put_column.Given as goal
 
 abbrev pub invariant-loop-left : goal.invariant-loop-left
 invariant-loop-left l = record {

@@ -1,7 +1,7 @@
 use Rattle.std.proofs.Common.{◌≡◌, ◌+◌, suc, take, length-set, arith, ap, ◌∙◌}
 use Rattle.gate_list.specs.Stay.{length_of}
 use Rattle.gate_list.proofs.TableLaws.{none, start_written, take_most, take_step}
-use Rattle.gate_list.proofs.table.starts_of.Goals as goal
+use Rattle.gate_list.proofs.table.put_starts.Goals as goal
 
 pub overflow_add-end : goal.overflow_add-end
 overflow_add-end c =

@@ -1,8 +1,8 @@
 use Rattle.std.proofs.Common.{rules, ◌≡◌, ◌-◌, cond, length-set, arith}
 use Rattle.gate_list.specs.Table.{Closes}
 use Rattle.gate_list.proofs.TableLaws.{closes_left, column_more}
-use Rattle.gate_list.proofs.table.column_of.Goals as goal
-use Rattle.gate_list.proofs.table.column_of.Goals.{then-not-is_open, else-not-is_open}
+use Rattle.gate_list.proofs.table.put_column.Goals as goal
+use Rattle.gate_list.proofs.table.put_column.Goals.{then-not-is_open, else-not-is_open}
 
 pub loop-left-preserved : goal.loop-left-preserved
 loop-left-preserved c =
