@@ -1,6 +1,7 @@
 //! A port that runs, beside it the octets of the frames that wait, what is seen of it, and the capture of what leaves.
 
 ghost use Rattle.std.specs.Prelude.{◌≡◌, ◌≤◌, ◌<◌, ◌∷◌, ◌⊎◌, [], ℕ, List, None, Option, length, drop, IfErr, OnOk, slice_set};
+ghost use Rattle.abstract_port.specs.Answers.{arrival_answer};
 ghost use Rattle.abstract_port.specs.declared.Answer.TheVariants as Answered;
 ghost use Rattle.abstract_port.specs.declared.Event.TheVariants as Events;
 ghost use Rattle.answer_text.specs.Lines.{answer_lines};
@@ -16,14 +17,14 @@ ghost use Rattle.replay.specs.declared.faults.Stop.TheVariants as Stops;
 ghost use Rattle.summary.specs.Wanted.{noted};
 
 use crate::faults::Stop;
-use abstract_port::{Answer, Start};
+use abstract_port::{Answer, Dropped, Start};
 use answer_text::{WriteFault, put_answer};
 use capture::CaptureWriter;
 use octet_store::OctetStore;
 use script::RunningPort;
 use std::alloc::{Allocator, Global};
 use std::io::Write;
-use summary::{Summary, note};
+use summary::{Summary, note, note_start, note_verdict};
 use wire_time::Frame;
 
 /// A port that runs, with the octets of the frames that wait in it, and the capture that they leave for.
@@ -40,6 +41,8 @@ pub struct Sending<A: Allocator = Global> {
 }
 
 // Writes an answer to an event that is taken at this moment, noted where a summary is wanted. At a fault a front of it is written.
+// Apart, since an answer is large, and those to most events are written without one.
+#[inline(never)]
 fn put_noted<A: Allocator, V: Write>(
     summary: &mut Option<Summary<A>>,
     now: u128,
@@ -51,6 +54,35 @@ fn put_noted<A: Allocator, V: Write>(
 {
     note(summary, now, answer);
     put_answer(report, answer)
+}
+
+// The same of a frame that starts.
+fn put_noted_start<A: Allocator, V: Write>(
+    summary: &mut Option<Summary<A>>,
+    now: u128,
+    start: &Start,
+    report: &mut V,
+) -> Result<(), WriteFault>
+    ensures text { Writes result (V.contents report.old) (V.contents report.new) (answer_lines (Answered.Start start.now)) }
+    ensures seen { summary.new ≡ noted now (Answered.Start start.now) summary.old }
+{
+    note_start(summary, now, start);
+    answer_text::put_start(report, start)
+}
+
+// The same of a frame that arrives.
+fn put_noted_arrival<A: Allocator, V: Write>(
+    summary: &mut Option<Summary<A>>,
+    now: u128,
+    frame: &Frame,
+    verdict: Result<u8, Dropped>,
+    report: &mut V,
+) -> Result<(), WriteFault>
+    ensures text { Writes result (V.contents report.old) (V.contents report.new) (answer_lines (arrival_answer frame.now verdict)) }
+    ensures seen { summary.new ≡ noted now (arrival_answer frame.now verdict) summary.old }
+{
+    note_verdict(summary, now, frame, verdict);
+    answer_text::put_arrival(report, frame, verdict)
 }
 
 // Writes the first record that is kept of the class of a start, and gives it up.
@@ -96,7 +128,7 @@ fn put_start<A: Allocator, W: Write, V: Write>(
         (record { report = answer_lines (Answered.Start start); capture = start_record start.at (first_kept sending.old.store start.class) }) }
     ensures fault { IfErr result (λ fault. fault ≡ Stops.Write) }
 {
-    put_noted(&mut sending.summary, now, &Answer::Start(start), report)?;
+    put_noted_start(&mut sending.summary, now, &start, report)?;
     put_record(sending, start, capture)
 }
 
@@ -166,14 +198,10 @@ pub fn put_arrival<A: Allocator + Clone, V: Write>(
     match sending.port.arrive(frame) {
         Ok(class) => {
             sending.store.put(class, original, octets)?;
-            let id = frame.id;
-            let queued = Answer::Queued { id, class };
-            put_noted(&mut sending.summary, came, &queued, report)?;
+            put_noted_arrival(&mut sending.summary, came, &frame, Ok(class), report)?;
         }
         Err(why) => {
-            let id = frame.id;
-            let dropped = Answer::Dropped { id, why };
-            put_noted(&mut sending.summary, came, &dropped, report)?;
+            put_noted_arrival(&mut sending.summary, came, &frame, Err(why), report)?;
         }
     }
     Ok(())

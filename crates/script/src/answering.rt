@@ -2,9 +2,8 @@
 
 ghost use Rattle.std.specs.Prelude.{ℕ, List, Result, ◌≡◌, ◌<◌, ◌≤◌, length, OnOk};
 ghost use Rattle.abstract_port.specs.AbstractPort.{queue_of, settled};
-ghost use Rattle.abstract_port.specs.Answers.{answers_to, arrival_answer};
+ghost use Rattle.abstract_port.specs.Answers.{answers_to};
 ghost use Rattle.abstract_port.specs.Sound.{IsSoundPort};
-ghost use Rattle.abstract_port.specs.declared.Answer.TheVariants as Answers;
 ghost use Rattle.abstract_port.specs.declared.Command.{Command};
 ghost use Rattle.abstract_port.specs.declared.Event.TheVariants as Events;
 ghost use Rattle.octet_writer.specs.Writes.{Writes};
@@ -13,71 +12,22 @@ ghost use Rattle.words.specs.Words.{words_of};
 ghost use Rattle.script.specs.Requests.{Asks, tc_request};
 ghost use Rattle.tc_reader.specs.Reader.{IsReader};
 ghost use Rattle.script.specs.Responses.{left_lines, left_text, lines_of, noted_by, responses_to};
-ghost use Rattle.summary.specs.Observed.{seen};
-ghost use Rattle.summary.specs.Wanted.{noted, noted_at};
+ghost use Rattle.summary.specs.Wanted.{noted_at};
 ghost use Rattle.wire_time.specs.Moment.{greatest_moment};
 
 use crate::reading::read_tc;
-use abstract_port::{Answer, Command, Dropped, Event, Start};
+use abstract_port::{Command, Event};
 use answer_text::{WriteFault, put_answer, put_arrival, put_left, put_start, put_tc_fault};
 use jumping::Jumping;
 use port::Port;
 use std::alloc::Allocator;
 use std::io::Write;
-use summary::{Summary, note};
+use summary::{Summary, note, note_start, note_verdict};
 use tc_reader::TcFault;
 use wire_time::{Frame, MAX_MOMENT};
 
 /// The port that runs. Another implementation of the gates takes the place of this one here.
 pub type RunningPort<A> = Port<Jumping, A>;
-
-// Takes note of a frame that arrived now, in picoseconds. Apart, since mostly no summary is wanted.
-#[inline(never)]
-fn see_verdict<A: Allocator>(
-    summary: &mut Summary<A>,
-    now: u128,
-    frame: &Frame,
-    verdict: Result<u8, Dropped>,
-)
-    ensures { summary.new ≡ seen now (arrival_answer frame.now verdict) summary.old }
-{
-    let id = frame.id;
-    match verdict {
-        Ok(class) => summary.see(now, &Answer::Queued { id, class }),
-        Err(why) => summary.see(now, &Answer::Dropped { id, why }),
-    }
-}
-
-// The same where a summary is wanted.
-fn note_verdict<A: Allocator>(
-    summary: &mut Option<Summary<A>>,
-    now: u128,
-    frame: &Frame,
-    verdict: Result<u8, Dropped>,
-)
-    ensures { summary.new ≡ noted now (arrival_answer frame.now verdict) summary.old }
-{
-    if let Some(summary) = summary {
-        see_verdict(summary, now, frame, verdict);
-    }
-}
-
-// Takes note of a frame that starts, told at a moment in picoseconds. Apart, since mostly no summary is wanted.
-#[inline(never)]
-fn see_start<A: Allocator>(summary: &mut Summary<A>, now: u128, start: &Start)
-    ensures { summary.new ≡ seen now (Answers.Start start.now) summary.old }
-{
-    summary.see(now, &Answer::Start(*start));
-}
-
-// The same where a summary is wanted.
-fn note_start<A: Allocator>(summary: &mut Option<Summary<A>>, now: u128, start: &Start)
-    ensures { summary.new ≡ noted now (Answers.Start start.now) summary.old }
-{
-    if let Some(summary) = summary {
-        see_start(summary, now, start);
-    }
-}
 
 // Takes a frame that arrives, and writes the answer.
 fn put_frame<A: Allocator, W: Write>(

@@ -10,4 +10,4 @@ mod wanted;
 
 pub use seeing::Summary;
 pub use waiting::Waits;
-pub use wanted::{note, summary_wanted};
+pub use wanted::{note, note_start, note_verdict, summary_wanted};

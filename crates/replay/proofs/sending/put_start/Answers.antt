@@ -4,18 +4,18 @@ use Rattle.replay.specs.declared.faults.Stop.TheVariants as Stops
 use Rattle.replay.proofs.Sends.{always, of_error, report_and_record, report_short}
 use Rattle.replay.proofs.sending.put_start.Goals as goal
 
-pub returns-in_err-put_noted-clause-out : goal.returns-in_err-put_noted-clause-out
-returns-in_err-put_noted-clause-out g c =
+pub returns-in_err-put_noted_start-clause-out : goal.returns-in_err-put_noted_start-clause-out
+returns-in_err-put_noted_start-clause-out g c =
     let p = err_from_is_err_and c.from_residual.result c.from_residual.ensures.1 in
-    report_short c.from_residual.result _ _ p.1 c.in_err-put_noted.ensures.text
+    report_short c.from_residual.result _ _ p.1 c.in_err-put_noted_start.ensures.text
 
 pub returns-clause-out : goal.returns-clause-out
-returns-clause-out g c = report_and_record c.put_record.result _ c.in_ok-put_noted.ensures.text c.put_record.ensures.out
+returns-clause-out g c = report_and_record c.put_record.result _ c.in_ok-put_noted_start.ensures.text c.put_record.ensures.out
 
 pub returns-clause-store : goal.returns-clause-store
 returns-clause-store g c = always c.put_record.result c.put_record.ensures.store
 
-pub returns-in_err-put_noted-clause-fault : goal.returns-in_err-put_noted-clause-fault
-returns-in_err-put_noted-clause-fault g c =
+pub returns-in_err-put_noted_start-clause-fault : goal.returns-in_err-put_noted_start-clause-fault
+returns-in_err-put_noted_start-clause-fault g c =
     let p = err_from_is_err_and c.from_residual.result c.from_residual.ensures.1 in
     of_error c.from_residual.result Stops.Write (λ fault. fault ≡ Stops.Write) (p.1 ∙ ap Err p.2) refl
