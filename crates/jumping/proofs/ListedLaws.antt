@@ -18,7 +18,7 @@ use Rattle.accepted_commands.proofs.LegLaws.{endless_while, ready_later}
 use Rattle.jumping.specs.declared.search.ListSearch.{ListSearch}
 use Rattle.jumping.specs.Search.{Fits, IsSearch, NoneFits}
 use Rattle.jumping.proofs.RepeatLaws.{not_yet, shows_own, stretch_repeats}
-use Rattle.jumping.proofs.SearchLaws.{fits_flat, none_jump}
+use Rattle.jumping.proofs.SearchLaws.{fits_flat}
 
 -- an entry that ends before its cycle has an end
 pub end_there : (c : ℕ) (ends : Option ℕ) → boundary_in c ends < c → ends ≡ Some (boundary_in c ends)
@@ -96,15 +96,6 @@ leg_repeats leg rest ready stop unheld unended m from below =
     (le_trans (placed_after leg.schedule.now leg.start leg.held_from leg.from leg.position ((ready.first).stands).1) from)
     (not_yet leg.until (m + in_ps leg.schedule.now.cycle) stop below unended)
     (not_yet leg.held_from (m + in_ps leg.schedule.now.cycle) stop below unheld)
-
--- where what a list shows repeats for ever, and none is found in one cycle, there is none
-pub none_endless : (leg : ListedLeg) (rest : Rest) → AreReady (Listed leg) rest → leg.held_from ≡ None → leg.until ≡ None → (needs : List (Option ℕ)) (stop : ℕ) → 0 < in_ps leg.schedule.now.cycle → NoneFits (mask_in (stretches_ahead (Listed leg) rest)) needs leg.from (leg.from + in_ps leg.schedule.now.cycle) → NoneFits (mask_in (stretches_ahead (Listed leg) rest)) needs leg.from stop
-none_endless leg rest ready unheld unended needs stop above first =
-    none_jump (mask_in (stretches_ahead (Listed leg) rest)) needs (in_ps leg.schedule.now.cycle) leg.from (stop + in_ps leg.schedule.now.cycle) stop above
-    (leg_repeats leg rest ready (stop + in_ps leg.schedule.now.cycle)
-    (λ h is. let never : None ≡ Some h = sym unheld ∙ is in cc)
-    (λ u is. let never : None ≡ Some u = sym unended ∙ is in cc))
-    first (omega arith)
 
 -- a search goes on where the same list stands elsewhere
 pub search_later : (search : ListSearch) (leg next : ListedLeg) → IsSearch search leg → next ≡ record leg { from = next.from; position = next.position } → AreReady (Listed next) search.rest.now → next.from < search.stop → IsSearch search next

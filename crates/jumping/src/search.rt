@@ -79,14 +79,6 @@ fn boundary(position: &Position) -> u128
     }
 }
 
-/// Whether what a list shows repeats for ever: no end and no hold comes.
-fn is_endless(leg: &ListedLeg<'_>) -> bool
-    ensures held { result ≡ true → leg.now.held_from ≡ None }
-    ensures until { result ≡ true → leg.now.until ≡ None }
-{
-    leg.held_from.is_none() && leg.until.is_none()
-}
-
 /// A search in a list: what comes after it, what each class needs, and the moment before which it ends. All times are in
 /// picoseconds.
 #[derive(Drop)]
@@ -154,8 +146,8 @@ impl ListSearch<'_> {
         self.in_cycle(&next, visits)
     }
 
-    /// The first such moment from where a cycle begins. Where there is none in that cycle, there is none at all if what is shown
-    /// repeats for ever; else there is none up to a cycle before the end of the search, and what lies between is passed by division.
+    /// The first such moment from where a cycle begins. Where there is none in that cycle, there is none up to a cycle before
+    /// the end of the search, since what is shown repeats: what lies between is passed by division.
     fn in_cycles(&self, leg: &ListedLeg<'_>, visits: &mut Visits) -> Option<u128>
         requires search { IsSearch self.now leg.now }
         requires unheld { ForSome leg.now.held_from (λ h. self.now.stop ≤ h) }
@@ -169,9 +161,6 @@ impl ListSearch<'_> {
         }
         let cycle_end = leg.position.timer.next_start();
         if self.stop <= cycle_end {
-            return None;
-        }
-        if is_endless(leg) {
             return None;
         }
         let cycle = cycle_end - leg.position.timer.started();

@@ -1,9 +1,8 @@
 -- What the heads of the queues need, as a lookout keeps it.
-use Rattle.std.proofs.Common.{◌≡◌, ◌<◌, ℕ, List, [], ◌∷◌, ◌++◌, length, map, get_or, drop, Option, Some, None, refl, sym, ap, ◌∙◌, arith}
+use Rattle.std.proofs.Common.{◌≡◌, ◌<◌, ℕ, List, [], ◌∷◌, ◌++◌, length, map, drop, Option, Some, None, refl, sym, ap, ◌∙◌, arith}
 use Rattle.std.specs.Prelude.{slice_get, slice_index_or, slice_set}
 use Rattle.std.specs.Option.{option_or, IsSome}
 use Rattle.std.proofs.lemmas.List.{map-set, get_or-set_same}
-use Rattle.std.proofs.Math.ListN as n
 use Rattle.wire_time.specs.declared.Frame.{Frame}
 use Rattle.wire_time.specs.Wire.{occupancy_of}
 use Rattle.class_queue.specs.Queue.{Queue}

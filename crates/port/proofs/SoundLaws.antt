@@ -7,7 +7,6 @@ use Rattle.class_queue.specs.Queue.{IsRoom, Queue}
 use Rattle.list_config.specs.Current.{IsCurrent}
 use Rattle.abstract_port.specs.AbstractPort.{AbstractPort}
 use Rattle.abstract_port.specs.Counting.{AreCapped, AreCounted, add_capped, count_dropped}
-use Rattle.gate_list.specs.Visits.{greatest_count}
 use Rattle.abstract_port.specs.declared.Counts.{Counts}
 use Rattle.abstract_port.specs.declared.Dropped.{Dropped}
 use Rattle.abstract_port.specs.declared.Dropped.TheVariants.{NoClass, Runt, TooLong, OverSdu, Full}

@@ -47,8 +47,8 @@ fn put_frame<A: Allocator, W: Write>(
     put_arrival(writer, frame, verdict)
 }
 
-// Runs to a moment that is not refused, in picoseconds, and writes the starts before it.
-fn put_starts<A: Allocator, W: Write>(
+// Runs to a moment that is not refused, in picoseconds, and writes the starts before it as the port finds them.
+fn put_each_start<A: Allocator, W: Write>(
     port: &mut RunningPort<A>,
     summary: &mut Option<Summary<A>>,
     until: u128,
@@ -67,6 +67,27 @@ fn put_starts<A: Allocator, W: Write>(
         put_start(writer, &start)?;
     }
     Ok(())
+}
+
+// The same where it may be known that there are none.
+fn put_starts<A: Allocator, W: Write>(
+    port: &mut RunningPort<A>,
+    summary: &mut Option<Summary<A>>,
+    until: u128,
+    writer: &mut W,
+) -> Result<(), WriteFault>
+    requires later { port.old.port.now ≤ until }
+    requires within { until ≤ greatest_moment }
+    ensures text { Writes result (W.contents writer.old) (W.contents writer.new) (lines_of (responses_to (Asks (Events.Clock until)) port.old.port).0) }
+    ensures port { OnOk result (port.new.port ≡ settled (answers_to (Events.Clock until) port.old.port).1) }
+    ensures seen { OnOk result (summary.new ≡ noted_at (Events.Clock until) port.old.port summary.old) }
+    ensures sound { OnOk result (IsSoundPort port.new.port) }
+{
+    let _now = port.now();
+    if port.rest_until(until) {
+        return Ok(());
+    }
+    put_each_start(port, summary, until, writer)
 }
 
 // Takes an event of any kind, and writes the answers to it as the port gives them. Apart, since its locals are large.

@@ -1,5 +1,5 @@
 -- Gates that stand before a moment, and what they show from it on.
-use Rattle.std.proofs.Common.{◌≡◌, ◌≢◌, ◌<◌, ◌≤◌, ℕ, max, inl, inr, List, [], Option, Some, None, Bool, true, false, is_some, refl, sym, ap, ◌∙◌, subst, arith, le_refl, le_trans}
+use Rattle.std.proofs.Common.{◌≡◌, ◌≢◌, ◌<◌, ◌≤◌, ℕ, max, inl, inr, List, [], Option, Some, None, false, is_some, refl, sym, ap, ◌∙◌, subst, arith, le_refl, le_trans}
 use Rattle.std.specs.Prelude.{IsSome}
 use Rattle.std.proofs.lemmas.Bool.{cases_lt}
 use Rattle.wire_time.specs.Moment.{greatest_moment}

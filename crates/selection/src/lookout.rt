@@ -138,6 +138,28 @@ impl<G: Gates> Lookout<G> {
         }
     }
 
+    /// Moves on to `until`, in picoseconds, where it is known that no class may start from `free` on and before it, and no command is
+    /// to come; answers whether. Else nothing changes.
+    #[inline]
+    pub fn rest_until(&mut self, free: u128, until: u128) -> bool
+        requires later { self.old.moment ≤ until }
+        requires within { until ≤ greatest_moment }
+        ensures needs { self.new.needs ≡ self.old.needs }
+        ensures onward { self.old.moment ≤ self.new.moment }
+        ensures moment { result ≡ true → self.new.moment ≡ until }
+        ensures history { result ≡ true → self.new.history ≡ kept self.old.history self.new.moment }
+        ensures current { IsCurrent self.new.history self.new.moment }
+        ensures idle { result ≡ true → (m : ℕ) → self.old.moment ≤ m → free ≤ m → m < self.new.moment → first_choice self.old.history m self.old.needs ≡ None }
+        ensures kept { result ≡ false → self.new ≡ self.old }
+    {
+        if !self.still || free.max(self.moment).max(self.idle) < until {
+            return false;
+        }
+        self.still = catch_up(&mut self.gates, self.still, until, &mut Visits::zero());
+        self.moment = until;
+        true
+    }
+
     /// Moves on to the first moment from `free` on and before `until` at which some class may start, and answers the greatest that
     /// may; or to `until`, where there is none. All are in picoseconds.
     pub fn find_start(&mut self, free: u128, until: u128, visits: &mut Visits) -> Option<u8>

@@ -1,7 +1,6 @@
 use Rattle.std.proofs.Common.{refl}
 use Rattle.std.specs.Prelude.{slice_set}
-use Rattle.std.specs.Option.{ForSome}
-use Rattle.std.proofs.Common.{◌<◌, subst}
+use Rattle.std.proofs.Common.{◌<◌}
 use Rattle.abstract_port.specs.Counting.{AreCounted, no_counts}
 use Rattle.port.proofs.SoundLaws.{sound_by, counted_set, counted_unclassed, capped_dropped, counts_capped}
 use Rattle.port.proofs.Port.drop_in.Goals as goal

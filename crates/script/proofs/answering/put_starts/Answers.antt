@@ -1,73 +1,53 @@
-use Rattle.std.proofs.Common.{refl, sym, ap, ◌∙◌}
-use Rattle.std.proofs.lemmas.Result.{err_from_is_err_and}
+use Rattle.std.proofs.Common.{◌≡◌, ◌≤◌, None, Some, Ok, refl, sym, ap, subst, rules, ◌∙◌}
+use Rattle.std.specs.Prelude.{OnOk}
+use Rattle.abstract_port.specs.AbstractPort.{PortState, settled}
 use Rattle.abstract_port.specs.Answers.{answers_to}
-use Rattle.abstract_port.specs.declared.Answer.TheVariants as Answered
 use Rattle.abstract_port.specs.declared.Event.TheVariants.{Clock}
-use Rattle.octet_writer.proofs.Fronts.{sent_none, sent_more, sent_exit, sent_all}
+use Rattle.octet_writer.specs.Writes.{Writes}
+use Rattle.octet_writer.proofs.Fronts.{sent_none, sent_all}
+use Rattle.script.specs.Requests.{Asks}
+use Rattle.script.specs.Responses.{lines_of, responses_to}
 use Rattle.script.proofs.OutputLaws.{lines_of_answers}
-use Rattle.script.proofs.ClockLaws.{given_start, start_fewer, start_none, later_still}
-use Rattle.summary.proofs.WantedLaws.{noted_all-cons, noted_all-event, noted_all-nil}
-use Rattle.summary.specs.Wanted.{noted_all}
+use Rattle.script.proofs.ClockLaws.{start_none}
+use Rattle.summary.proofs.WantedLaws.{noted_all-event, noted_all-nil}
+use Rattle.summary.specs.Wanted.{noted_all, noted_at}
 use Rattle.script.proofs.answering.put_starts.Goals as goal
 
-pub loop-start-init : goal.loop-start-init
-loop-start-init g c = record {
-  sent = sent_none _ _;
-  same_seen = noted_all-event _ (Clock c.args.until) _ _ c.now-now.ensures.now;
-  same_end = refl;
-  later = c.requires.later;
-  sound = c.now-now.ensures.sound;
-}
+pub returns-then-rest_until-clause-text : goal.returns-then-rest_until-clause-text
+returns-then-rest_until-clause-text g c =
+    let e = c.if-rest_until.ensures in
+    let none = start_none c.args.until c.args.port.now.port c.rest_until.new.self.port c.now-now.ensures.sound c.requires.later c.requires.within None (sym (e.start refl)) (e.port refl) e.sound refl in
+    sent_all (sent_none _ _) (ap lines_of_answers none.0)
 
-pub loop-start-smaller : goal.loop-start-smaller
-loop-start-smaller g c =
-    let i = c.loop-start.invariant in
-    let s = c.step.ensures in
-    start_fewer c.args.until c.loop-start.port.port c.step.new.self.port i.sound i.later c.requires.within c.step.result s.start s.port c.in-Some.start c.in-Some.is
+pub returns-then-rest_until-clause-port : goal.returns-then-rest_until-clause-port
+returns-then-rest_until-clause-port g c =
+    let e = c.if-rest_until.ensures in
+    (start_none c.args.until c.args.port.now.port c.rest_until.new.self.port c.now-now.ensures.sound c.requires.later c.requires.within None (sym (e.start refl)) (e.port refl) e.sound refl).1
 
-pub loop-start-preserved : goal.loop-start-preserved
-loop-start-preserved g c =
-    let i = c.loop-start.invariant in
-    let s = c.step.ensures in
-    let q = c.step.new.self.port in
-    let given = given_start c.args.until c.loop-start.port.port q i.sound i.later c.requires.within c.step.result s.start s.port c.in-Some.start c.in-Some.is in
+pub returns-then-rest_until-clause-seen : goal.returns-then-rest_until-clause-seen
+returns-then-rest_until-clause-seen g c =
+    let e = c.if-rest_until.ensures in
+    let none = start_none c.args.until c.args.port.now.port c.rest_until.new.self.port c.now-now.ensures.sound c.requires.later c.requires.within None (sym (e.start refl)) (e.port refl) e.sound refl in
     let now = c.now-now.result in
-    let rest = (answers_to (Clock c.args.until) q).0 in
-    record {
-      sent = sent_more _ _ _ i.sent (ap lines_of_answers (sym given.answers)) c.in_ok-put_start.ensures;
-      same_seen = ap (noted_all now rest) c.note_start.ensures ∙ sym (noted_all-cons now (Answered.Start c.in-Some.start) rest _) ∙ ap (λ x. noted_all now x c.loop-start.summary) given.answers ∙ i.same_seen;
-      same_end = given.port ∙ i.same_end;
-      later = later_still c.args.until c.loop-start.port.port q i.sound i.later c.requires.within c.step.result s.start s.port;
-      sound = s.sound;
-    }
+    let summary = c.args.summary.now in
+    sym (noted_all-nil now summary) ∙ (ap (λ x. noted_all now x summary) (sym none.0) ∙ noted_all-event _ (Clock c.args.until) _ _ c.now-now.ensures.now)
 
-pub returns-in_err-put_start-clause-text : goal.returns-in_err-put_start-clause-text
-returns-in_err-put_start-clause-text g c =
-    let i = c.loop-start.invariant in
-    let s = c.step.ensures in
-    let p = err_from_is_err_and c.from_residual.result c.from_residual.ensures.1 in
-    let given = given_start c.args.until c.loop-start.port.port c.step.new.self.port i.sound i.later c.requires.within c.step.result s.start s.port c.in-Some.start c.in-Some.is in
-    sent_exit _ _ _ p.1 i.sent (ap lines_of_answers (sym given.answers)) c.in_err-put_start.ensures
+pub put_each_start-requires : goal.put_each_start-requires
+put_each_start-requires g c =
+    let later = subst (λ (q : PortState). q.port.now ≤ c.args.until) (sym (c.if-rest_until.ensures.kept refl)) c.requires.later in
+    (search rules, (search rules, (later, c.requires.within)))
 
 pub returns-clause-text : goal.returns-clause-text
 returns-clause-text g c =
-    let i = c.loop-start.invariant in
-    let s = c.step.ensures in
-    let none = start_none c.args.until c.loop-start.port.port c.step.new.self.port i.sound i.later c.requires.within c.step.result s.start s.port s.sound c.in_default.is in
-    sent_all i.sent (ap lines_of_answers none.0)
+    subst (λ (q : PortState). Writes c.put_each_start.result (g.W.Write.contents c.args.writer.now) (g.W.Write.contents c.put_each_start.new.writer) (lines_of (responses_to (Asks (Clock c.args.until)) q.port).0))
+    (c.if-rest_until.ensures.kept refl) c.put_each_start.ensures.text
 
 pub returns-clause-port : goal.returns-clause-port
 returns-clause-port g c =
-    let i = c.loop-start.invariant in
-    let s = c.step.ensures in
-    let none = start_none c.args.until c.loop-start.port.port c.step.new.self.port i.sound i.later c.requires.within c.step.result s.start s.port s.sound c.in_default.is in
-    none.1 ∙ i.same_end
+    subst (λ (q : PortState). OnOk c.put_each_start.result (c.put_each_start.new.port.port ≡ settled (answers_to (Clock c.args.until) q.port).1))
+    (c.if-rest_until.ensures.kept refl) c.put_each_start.ensures.port
 
 pub returns-clause-seen : goal.returns-clause-seen
 returns-clause-seen g c =
-    let i = c.loop-start.invariant in
-    let s = c.step.ensures in
-    let none = start_none c.args.until c.loop-start.port.port c.step.new.self.port i.sound i.later c.requires.within c.step.result s.start s.port s.sound c.in_default.is in
-    let now = c.now-now.result in
-    let summary = c.loop-start.summary in
-    sym (noted_all-nil now summary) ∙ (ap (λ x. noted_all now x summary) (sym none.0) ∙ i.same_seen)
+    subst (λ (q : PortState). OnOk c.put_each_start.result (c.put_each_start.new.summary ≡ noted_at (Clock c.args.until) q.port c.args.summary.now))
+    (c.if-rest_until.ensures.kept refl) c.put_each_start.ensures.seen

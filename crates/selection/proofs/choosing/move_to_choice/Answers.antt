@@ -1,7 +1,5 @@
-use Rattle.std.proofs.Common.{◌≡◌, ◌≤◌, ◌<◌, ◌⊎◌, inl, inr, false, Some, None, subst, sym, ap, ◌∙◌, arith, le_refl, IsTrue}
-use Rattle.std.specs.Prelude.{IsSome}
-use Rattle.list_config.specs.Choice.{first_choice, may_go, may_start}
-use Rattle.list_config.specs.History.{kept}
+use Rattle.std.proofs.Common.{inl, inr, sym, ap, ◌∙◌, arith, le_refl}
+use Rattle.list_config.specs.Choice.{may_go, may_start}
 use Rattle.list_config.proofs.ChoiceLaws.{greatest_below-none}
 use Rattle.list_config.proofs.IdleLaws.{idle_more, idle_choice, idle_longest}
 use Rattle.selection.proofs.WatchLaws.{idle_before, not_chosen, chosen_at}

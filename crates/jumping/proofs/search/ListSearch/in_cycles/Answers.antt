@@ -4,7 +4,7 @@ use Rattle.list_config.specs.Stretch.{Stretch, mask_in}
 use Rattle.accepted_commands.specs.declared.leg.Leg.TheVariants.{Listed}
 use Rattle.accepted_commands.specs.Leg.{stretches_ahead}
 use Rattle.jumping.specs.Search.{NoneFits, Searched}
-use Rattle.jumping.proofs.ListedLaws.{leg_repeats, none_endless, search_later}
+use Rattle.jumping.proofs.ListedLaws.{leg_repeats, search_later}
 use Rattle.jumping.proofs.SearchLaws.{none_jump, searched_join, searched_none}
 use Rattle.jumping.proofs.search.ListSearch.in_cycles.Goals as goal
 
@@ -43,21 +43,3 @@ returns-clause-searched c =
     (omega (arith, reached, target, end_is, started_is, whole, begins)) in
     searched_join f needs leg.from near.result.from stop c.in_two.result (omega (arith, onto, whole)) between
     (subst (λ (s : List Stretch). Searched (mask_in s) needs near.result.from stop c.in_two.result) (ap (λ g. stretches_ahead (Listed g) rest) c.cycle_at-near.ensures.same) c.in_two.ensures.searched)
-
-pub returns-then-is_endless-clause-searched : goal.returns-then-is_endless-clause-searched
-returns-then-is_endless-clause-searched c =
-    let leg = c.args.leg.now in
-    let rest = c.args.self.now.rest.now in
-    let needs = c.args.self.now.needs.now in
-    let stop = c.args.self.now.stop in
-    let f : ℕ → ℕ = mask_in (stretches_ahead (Listed leg) rest) in
-    let cycle : ℕ = in_ps leg.schedule.now.cycle in
-    let next_is = ((c.requires.search.ready.first).stands).1.next_is in
-    let above = (((c.requires.search.ready.first).stands).0.plan_is).cycle in
-    let begins = c.requires.begins in
-    let end_is = c.next_start-cycle_end.ensures.value in
-    let past = c.if-self-cycle_end.false in
-    let whole : leg.position.timer.next_start ≡ leg.from + cycle = omega (arith, next_is, begins) in
-    let first : NoneFits f needs leg.from (min stop leg.position.timer.next_start) = searched_none f needs leg.from (min stop leg.position.timer.next_start) c.in_cycle.result c.in_default.not-Some c.in_cycle.ensures.searched in
-    let in_first : NoneFits f needs leg.from (leg.from + cycle) = subst (NoneFits f needs leg.from) (omega (arith, whole, past, end_is)) first in
-    none_endless leg rest c.requires.search.ready (c.is_endless.ensures.held c.if-is_endless.true) (c.is_endless.ensures.until c.if-is_endless.true) needs stop (omega (arith, above)) in_first

@@ -1,4 +1,4 @@
-use Rattle.std.proofs.Common.{◌≡◌, ◌≤◌, ◌<◌, ℕ, max, true, None, sym, ap, ◌∙◌, subst, arith, le_trans, lt_of_lt_of_le}
+use Rattle.std.proofs.Common.{◌≤◌, ◌<◌, max, sym, ap, ◌∙◌, subst, arith, le_trans, lt_of_lt_of_le}
 use Rattle.list_config.specs.History.{kept}
 use Rattle.list_config.specs.Choice.{first_choice}
 use Rattle.list_config.specs.Current.{IsCurrent}

@@ -7,7 +7,7 @@ use Rattle.abstract_port.proofs.AskedLaws.{left_count}
 use Rattle.octet_writer.specs.Writes.{Sent}
 use Rattle.script.proofs.OutputLaws.{lines_of_answers}
 use Rattle.summary.specs.Wanted.{noted_all, noted_at}
-use Rattle.script.proofs.answering.put_starts.Given as goal
+use Rattle.script.proofs.answering.put_each_start.Given as goal
 
 -- What is written and the lines of the starts to come are those of all, and so is what is seen of them.
 abbrev pub invariant-loop-start : goal.invariant-loop-start
