@@ -1,5 +1,5 @@
 //! The gates, which pass whole cycles by division.
-ghost use Rattle.std.specs.Prelude.{All, ◌≡◌, ℕ, ◌+◌, ◌*◌, ◌<◌, ◌≤◌, ◌↔◌, IsTrue, [], Some, None, true, option_map};
+ghost use Rattle.std.specs.Prelude.{All, ◌≡◌, ℕ, ◌+◌, ◌*◌, ◌<◌, ◌≤◌, ◌↔◌, IfSome, IsTrue, [], Some, None, true, option_map};
 ghost use Rattle.std.specs.Option.{ForSome};
 ghost use Rattle.wire_time.specs.Moment.{greatest_moment, greatest_lead};
 ghost use Rattle.list_config.specs.History.{gates, kept, cons_some};
@@ -11,11 +11,13 @@ ghost use Rattle.accepted_commands.specs.Leg.{AreReady, from_of, stretches_ahead
 ghost use Rattle.accepted_commands.specs.Resume.{Resumes};
 ghost use Rattle.jumping.specs.Edge.{IsEdge, NothingComes, OneEntryComes};
 ghost use Rattle.jumping.specs.Search.{Searched, most_in};
+ghost use Rattle.jumping.specs.Alone.{IsLoneList};
 
+use crate::alone::search_alone;
 use crate::search::search;
 use accepted_commands::{
-    AcceptedCommand, Slots, edge_of, installed, lead_moment, legs_ahead, mask_under, resumed,
-    stays_open,
+    AcceptedCommand, AcceptedList, Slots, edge_of, installed, lead_moment, legs_ahead, list_in,
+    mask_under, resumed, stays_open,
 };
 use gate_list::{Schedule, Visits};
 use list_config::{Gates, Installed, NotNow};
@@ -68,11 +70,22 @@ fn next_edge(slots: &Slots) -> Option<u128>
     edge_of(slots)
 }
 
+/// The list in force, where no other command is to come.
+fn lone_list(slots: &Slots) -> Option<&AcceptedList>
+    ensures { IfSome result (λ list. IsLoneList slots.now list.now) }
+{
+    if slots.pending().is_none() && slots.announced().is_none() {
+        list_in(slots.in_force())
+    } else {
+        None
+    }
+}
+
 /// The first moment from now on and before `before`, in picoseconds, at which some class with a need stays open through it. It
 /// makes the legs that a search wants, in a place of its own: the compiler would clear that place at each call of a body that it is
 /// taken into, wanted or not.
 #[inline(never)]
-fn search_from_now(
+fn search_legs(
     slots: &Slots,
     resumed: &Option<Position>,
     needs: &[Option<u128>; CLASSES],
@@ -90,6 +103,30 @@ fn search_from_now(
 {
     let ahead = legs_ahead(slots, *resumed);
     search(&ahead.leg, &ahead.rest, needs, before, visits)
+}
+
+/// The first moment from now on and before `before`, in picoseconds, at which some class with a need stays open through it. Where no
+/// other command is to come, which is mostly so, no legs are made.
+fn search_from_now(
+    slots: &Slots,
+    resumed: &Option<Position>,
+    needs: &[Option<u128>; CLASSES],
+    before: u128,
+    visits: &mut Visits,
+) -> Option<u128>
+    requires sound { AreCommands slots.now.commands }
+    requires stands { Stands slots.now.commands.in_force slots.now.commands.pending slots.now.commands.moment slots.now.position }
+    requires resumes { Resumes slots.now.commands resumed.now }
+    requires needs { All (λ need. ForSome need (λ d. d ≤ greatest_moment)) needs.now }
+    requires within { before ≤ 2 * greatest_moment }
+    ensures searched { Searched (mask_in (stretches_from slots.now.commands.in_force (cons_some slots.now.commands.pending (cons_some slots.now.commands.announced [])))) needs.now slots.now.commands.moment before result }
+    ensures counted { visits.old ≤ visits.new }
+    ensures visits { visits.new ≤ visits.old + most_in (stretches_from slots.now.commands.in_force (cons_some slots.now.commands.pending (cons_some slots.now.commands.announced []))) }
+{
+    match lone_list(slots) {
+        Some(list) => search_alone(list, slots.moment(), needs, before, visits),
+        None => search_legs(slots, resumed, needs, before, visits),
+    }
 }
 
 impl Gates for Jumping {
