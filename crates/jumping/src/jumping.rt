@@ -2,10 +2,11 @@
 ghost use Rattle.std.specs.Prelude.{All, ◌≡◌, ℕ, ◌+◌, ◌*◌, ◌<◌, ◌≤◌, ◌↔◌, IfSome, IsTrue, [], Some, None, true, option_map};
 ghost use Rattle.std.specs.Option.{ForSome};
 ghost use Rattle.wire_time.specs.Moment.{greatest_moment, greatest_lead};
-ghost use Rattle.list_config.specs.History.{gates, kept, cons_some};
+ghost use Rattle.list_config.specs.History.{gates, kept, cons_some, plan_of, start_of};
+ghost use Rattle.list_position.specs.Position.{BeginsAtMost};
 ghost use Rattle.list_config.specs.Stretch.{mask_in, stretches_from};
-ghost use Rattle.list_config.specs.Current.{IsCurrent, longest};
-ghost use Rattle.accepted_commands.specs.Commands.{AreCommands, accepted_in, command_of, history_of};
+ghost use Rattle.list_config.specs.Current.{IsCurrent, entry_count, longest};
+ghost use Rattle.accepted_commands.specs.Commands.{AreCommands, NoneBy, accepted_in, command_of, history_of, settled_at};
 ghost use Rattle.accepted_commands.specs.Standing.{Stands};
 ghost use Rattle.accepted_commands.specs.Leg.{AreReady, from_of, stretches_ahead};
 ghost use Rattle.accepted_commands.specs.Resume.{Resumes};
@@ -79,6 +80,26 @@ fn lone_list(slots: &Slots) -> Option<&AcceptedList>
     } else {
         None
     }
+}
+
+/// Lets the commands and the list in force go on to a moment, in picoseconds, and looks for the next edge. It stays apart: the compiler
+/// would make room for two commands at each call of a body that it is taken into, and most moves come to no edge.
+#[inline(never)]
+fn move_on(slots: &mut Slots, edge: &mut Option<u128>, t: u128, visits: &mut Visits)
+    requires later { slots.old.commands.moment ≤ t }
+    requires within { t ≤ greatest_moment }
+    requires sound { AreCommands slots.old.commands }
+    requires stands { Stands slots.old.commands.in_force slots.old.commands.pending slots.old.commands.moment slots.old.position }
+    ensures value { slots.new.commands ≡ settled_at slots.old.commands t }
+    ensures stands { Stands slots.new.commands.in_force slots.new.commands.pending slots.new.commands.moment slots.new.position }
+    ensures sound { AreCommands slots.new.commands }
+    ensures edge { IsEdge slots.new.commands slots.new.position edge.new }
+    ensures counted { visits.old ≤ visits.new }
+    ensures visits { visits.new ≤ visits.old + (entry_count (plan_of slots.new.commands.in_force) + 1) }
+    ensures next { (e : ℕ) → NoneBy slots.old.commands.pending slots.old.commands.announced t → BeginsAtMost (plan_of slots.old.commands.in_force) (start_of slots.old.commands.in_force) slots.old.commands.moment t e → visits.new ≤ visits.old + 2 }
+{
+    slots.move_on(t, visits);
+    *edge = next_edge(slots);
 }
 
 /// The first moment from now on and before `before`, in picoseconds, at which some class with a need stays open through it. It
@@ -196,11 +217,10 @@ impl Gates for Jumping {
         ensures next { (e : ℕ) → OneEntryComes self.old.history self.old.moment t e → visits.new ≤ visits.old + 2 }
     {
         if is_before(t, self.edge) {
-            self.slots.settle(t);
-            return;
+            self.slots.pass(t);
+        } else {
+            move_on(&mut self.slots, &mut self.edge, t, visits);
         }
-        self.slots.move_on(t, visits);
-        self.edge = next_edge(&self.slots);
     }
 
     #[tactic(auto, using(accepted_commands::proofs::CommandLaws::current_of, list_config::proofs::HistoryLaws::settled_announced, list_config::proofs::HistoryLaws::cons_some_push))]
