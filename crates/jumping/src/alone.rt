@@ -39,6 +39,22 @@ struct Shown {
     at: u128,
 }
 
+/// Whether a class stays open for so long, in picoseconds, by the stay of the entry that is shown.
+fn entry_stays_open(list: &AcceptedList, class: u8, length: u128, shown: &Shown) -> bool
+    requires schedule { IsSchedule list.now.schedule }
+    requires shown { IsShown list.now shown.now }
+    requires near { shown.now.at ≤ 2 * greatest_moment }
+    requires class { class < CLASSES }
+    requires some { 0 < length }
+    requires within { length ≤ greatest_moment }
+    ensures { result ≡ open_while (shows_alone list.now) class shown.now.at length }
+{
+    match list.schedule.stay(shown.index, class) {
+        Stay::Always => true,
+        Stay::Lasts(t) => shown.at - shown.start + length <= t,
+    }
+}
+
 /// A search in a list that goes on for ever: the list, what each class needs, in picoseconds, and the classes with a need, none of
 /// which needs no time at all.
 #[derive(Drop)]
@@ -49,22 +65,6 @@ struct LoneSearch<'a> {
 }
 
 impl LoneSearch<'_> {
-    /// Whether a class stays open for so long, in picoseconds.
-    fn stays_open(&self, class: u8, length: u128, shown: &Shown) -> bool
-        requires alone { IsAlone self.now }
-        requires shown { IsShown self.now.list.now shown.now }
-        requires near { shown.now.at ≤ 2 * greatest_moment }
-        requires class { class < CLASSES }
-        requires some { 0 < length }
-        requires within { length ≤ greatest_moment }
-        ensures { result ≡ open_while (shows_alone self.now.list.now) class shown.now.at length }
-    {
-        match self.list.schedule.stay(shown.index, class) {
-            Stay::Always => true,
-            Stay::Lasts(t) => shown.at - shown.start + length <= t,
-        }
-    }
-
     /// Whether a class has a need and stays open through it.
     fn class_fits(&self, class: u8, shown: &Shown) -> bool
         requires alone { IsAlone self.now }
@@ -76,7 +76,7 @@ impl LoneSearch<'_> {
     {
         match self.needs[class as usize] {
             None => false,
-            Some(length) => self.stays_open(class, length, shown),
+            Some(length) => entry_stays_open(self.list, class, length, shown),
         }
     }
 
@@ -169,6 +169,30 @@ impl LoneSearch<'_> {
         let next = position.cycle_at(&self.list.schedule, None, cycle_end, visits);
         self.in_cycle(cycle_end, &next, stop, visits)
     }
+}
+
+/// Whether a class stays open from a moment on for so long, both in picoseconds, in a list that stands so then and that nothing follows.
+pub fn stays_open_alone(list: &AcceptedList, from: u128, class: u8, length: u128) -> bool
+    requires schedule { IsSchedule list.now.schedule }
+    requires stands { IsPlaced list.now.schedule list.now.change None from list.now.position }
+    requires near { from ≤ 2 * greatest_moment }
+    requires class { class < CLASSES }
+    requires within { length ≤ greatest_moment }
+    ensures { result ≡ open_while (shows_alone list.now) class from length }
+{
+    if length == 0 {
+        return true;
+    }
+    let walk = &list.position.walk;
+    if !is_open(walk.mask(), class) {
+        return false;
+    }
+    let shown = Shown {
+        index: walk.index(),
+        start: walk.entry_start(),
+        at: from,
+    };
+    entry_stays_open(list, class, length, &shown)
 }
 
 /// The first moment from `from` on and before `before`, in picoseconds, at which some class with a need stays open through it, in a

@@ -2,6 +2,7 @@
 ghost use Rattle.std.specs.Prelude.{All, ◌≡◌, ℕ, ◌+◌, ◌*◌, ◌<◌, ◌≤◌, ◌↔◌, IfSome, IsTrue, [], Some, None, true, option_map};
 ghost use Rattle.std.specs.Option.{ForSome};
 ghost use Rattle.wire_time.specs.Moment.{greatest_moment, greatest_lead};
+ghost use Rattle.gate_list.specs.Open.{open_while};
 ghost use Rattle.list_config.specs.History.{gates, kept, cons_some, plan_of, start_of};
 ghost use Rattle.list_position.specs.Position.{BeginsAtMost};
 ghost use Rattle.list_config.specs.Stretch.{mask_in, stretches_from};
@@ -14,7 +15,7 @@ ghost use Rattle.jumping.specs.Edge.{IsEdge, NothingComes, OneEntryComes};
 ghost use Rattle.jumping.specs.Search.{Searched, most_in};
 ghost use Rattle.jumping.specs.Alone.{IsLoneList};
 
-use crate::alone::search_alone;
+use crate::alone::{search_alone, stays_open_alone};
 use crate::search::search;
 use accepted_commands::{
     AcceptedCommand, AcceptedList, Slots, edge_of, installed, lead_moment, legs_ahead, list_in,
@@ -79,6 +80,23 @@ fn lone_list(slots: &Slots) -> Option<&AcceptedList>
         list_in(slots.in_force())
     } else {
         None
+    }
+}
+
+/// Whether a class stays open from now on, by the commands that count. Where no other command is to come, which is mostly so, the list
+/// in force tells it.
+fn stays_open_from_now(slots: &Slots, resumed: &Option<Position>, need: Need) -> bool
+    requires sound { AreCommands slots.now.commands }
+    requires stands { Stands slots.now.commands.in_force slots.now.commands.pending slots.now.commands.moment slots.now.position }
+    requires resumes { Resumes slots.now.commands resumed.now }
+    requires at { need.from ≡ slots.now.commands.moment }
+    requires class { need.class < CLASSES }
+    requires within { need.length ≤ greatest_moment }
+    ensures { result ≡ open_while (mask_in (stretches_from slots.now.commands.in_force (cons_some slots.now.commands.pending (cons_some slots.now.commands.announced [])))) need.class need.from need.length }
+{
+    match lone_list(slots) {
+        Some(list) => stays_open_alone(list, need.from, need.class, need.length),
+        None => stays_open(slots, resumed, need),
     }
 }
 
@@ -185,7 +203,7 @@ impl Gates for Jumping {
             from: self.slots.moment(),
             length: for_ps,
         };
-        stays_open(&self.slots, &self.resumed, need)
+        stays_open_from_now(&self.slots, &self.resumed, need)
     }
 
     fn next_boundary(&self, before: u128) -> Option<u128> {
