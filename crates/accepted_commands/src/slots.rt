@@ -141,6 +141,18 @@ impl Slots {
         }
     }
 
+    /// Goes on to a moment, in picoseconds, up to which no command comes: nothing but the moment changes.
+    pub fn pass(&mut self, moment: u128)
+        requires later { self.old.commands.moment ≤ moment }
+        requires within { moment ≤ greatest_moment }
+        requires none { NoneBy self.old.commands.pending self.old.commands.announced moment }
+        ensures value { self.new.commands ≡ record self.old.commands { moment = moment } }
+        ensures position { self.new.position ≡ self.old.position }
+        ensures sound { AreCommands self.new.commands }
+    {
+        self.moment = moment;
+    }
+
     /// Whether no command comes up to a moment, in picoseconds.
     pub fn is_alone_until(&self, t: u128) -> bool
         ensures { IsTrue result ↔ NoneBy self.now.commands.pending self.now.commands.announced t }

@@ -5,3 +5,4 @@ pub mod LegLaws
 pub mod ListedLaws
 pub mod QuietLaws
 pub mod NearLaws
+pub mod AloneLaws

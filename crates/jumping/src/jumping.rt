@@ -1,21 +1,25 @@
 //! The gates, which pass whole cycles by division.
-ghost use Rattle.std.specs.Prelude.{All, ◌≡◌, ℕ, ◌+◌, ◌*◌, ◌<◌, ◌≤◌, ◌↔◌, IsTrue, [], Some, None, true, option_map};
+ghost use Rattle.std.specs.Prelude.{All, ◌≡◌, ℕ, ◌+◌, ◌*◌, ◌<◌, ◌≤◌, ◌↔◌, IfSome, IsTrue, [], Some, None, true, option_map};
 ghost use Rattle.std.specs.Option.{ForSome};
 ghost use Rattle.wire_time.specs.Moment.{greatest_moment, greatest_lead};
-ghost use Rattle.list_config.specs.History.{gates, kept, cons_some};
+ghost use Rattle.gate_list.specs.Open.{open_while};
+ghost use Rattle.list_config.specs.History.{gates, kept, cons_some, plan_of, start_of};
+ghost use Rattle.list_position.specs.Position.{BeginsAtMost};
 ghost use Rattle.list_config.specs.Stretch.{mask_in, stretches_from};
-ghost use Rattle.list_config.specs.Current.{IsCurrent, longest};
-ghost use Rattle.accepted_commands.specs.Commands.{AreCommands, accepted_in, command_of, history_of};
+ghost use Rattle.list_config.specs.Current.{IsCurrent, entry_count, longest};
+ghost use Rattle.accepted_commands.specs.Commands.{AreCommands, NoneBy, accepted_in, command_of, history_of, settled_at};
 ghost use Rattle.accepted_commands.specs.Standing.{Stands};
 ghost use Rattle.accepted_commands.specs.Leg.{AreReady, from_of, stretches_ahead};
 ghost use Rattle.accepted_commands.specs.Resume.{Resumes};
 ghost use Rattle.jumping.specs.Edge.{IsEdge, NothingComes, OneEntryComes};
 ghost use Rattle.jumping.specs.Search.{Searched, most_in};
+ghost use Rattle.jumping.specs.Alone.{IsLoneList};
 
+use crate::alone::{search_alone, stays_open_alone};
 use crate::search::search;
 use accepted_commands::{
-    AcceptedCommand, Slots, edge_of, installed, lead_moment, legs_ahead, mask_under, resumed,
-    stays_open,
+    AcceptedCommand, AcceptedList, Slots, edge_of, installed, lead_moment, legs_ahead, list_in,
+    mask_under, resumed, stays_open,
 };
 use gate_list::{Schedule, Visits};
 use list_config::{Gates, Installed, NotNow};
@@ -68,11 +72,59 @@ fn next_edge(slots: &Slots) -> Option<u128>
     edge_of(slots)
 }
 
+/// The list in force, where no other command is to come.
+fn lone_list(slots: &Slots) -> Option<&AcceptedList>
+    ensures { IfSome result (λ list. IsLoneList slots.now list.now) }
+{
+    if slots.pending().is_none() && slots.announced().is_none() {
+        list_in(slots.in_force())
+    } else {
+        None
+    }
+}
+
+/// Whether a class stays open from now on, by the commands that count. Where no other command is to come, which is mostly so, the list
+/// in force tells it.
+fn stays_open_from_now(slots: &Slots, resumed: &Option<Position>, need: Need) -> bool
+    requires sound { AreCommands slots.now.commands }
+    requires stands { Stands slots.now.commands.in_force slots.now.commands.pending slots.now.commands.moment slots.now.position }
+    requires resumes { Resumes slots.now.commands resumed.now }
+    requires at { need.from ≡ slots.now.commands.moment }
+    requires class { need.class < CLASSES }
+    requires within { need.length ≤ greatest_moment }
+    ensures { result ≡ open_while (mask_in (stretches_from slots.now.commands.in_force (cons_some slots.now.commands.pending (cons_some slots.now.commands.announced [])))) need.class need.from need.length }
+{
+    match lone_list(slots) {
+        Some(list) => stays_open_alone(list, need.from, need.class, need.length),
+        None => stays_open(slots, resumed, need),
+    }
+}
+
+/// Lets the commands and the list in force go on to a moment, in picoseconds, and looks for the next edge. It stays apart: the compiler
+/// would make room for two commands at each call of a body that it is taken into, and most moves come to no edge.
+#[inline(never)]
+fn move_on(slots: &mut Slots, edge: &mut Option<u128>, t: u128, visits: &mut Visits)
+    requires later { slots.old.commands.moment ≤ t }
+    requires within { t ≤ greatest_moment }
+    requires sound { AreCommands slots.old.commands }
+    requires stands { Stands slots.old.commands.in_force slots.old.commands.pending slots.old.commands.moment slots.old.position }
+    ensures value { slots.new.commands ≡ settled_at slots.old.commands t }
+    ensures stands { Stands slots.new.commands.in_force slots.new.commands.pending slots.new.commands.moment slots.new.position }
+    ensures sound { AreCommands slots.new.commands }
+    ensures edge { IsEdge slots.new.commands slots.new.position edge.new }
+    ensures counted { visits.old ≤ visits.new }
+    ensures visits { visits.new ≤ visits.old + (entry_count (plan_of slots.new.commands.in_force) + 1) }
+    ensures next { (e : ℕ) → NoneBy slots.old.commands.pending slots.old.commands.announced t → BeginsAtMost (plan_of slots.old.commands.in_force) (start_of slots.old.commands.in_force) slots.old.commands.moment t e → visits.new ≤ visits.old + 2 }
+{
+    slots.move_on(t, visits);
+    *edge = next_edge(slots);
+}
+
 /// The first moment from now on and before `before`, in picoseconds, at which some class with a need stays open through it. It
 /// makes the legs that a search wants, in a place of its own: the compiler would clear that place at each call of a body that it is
 /// taken into, wanted or not.
 #[inline(never)]
-fn search_from_now(
+fn search_legs(
     slots: &Slots,
     resumed: &Option<Position>,
     needs: &[Option<u128>; CLASSES],
@@ -90,6 +142,30 @@ fn search_from_now(
 {
     let ahead = legs_ahead(slots, *resumed);
     search(&ahead.leg, &ahead.rest, needs, before, visits)
+}
+
+/// The first moment from now on and before `before`, in picoseconds, at which some class with a need stays open through it. Where no
+/// other command is to come, which is mostly so, no legs are made.
+fn search_from_now(
+    slots: &Slots,
+    resumed: &Option<Position>,
+    needs: &[Option<u128>; CLASSES],
+    before: u128,
+    visits: &mut Visits,
+) -> Option<u128>
+    requires sound { AreCommands slots.now.commands }
+    requires stands { Stands slots.now.commands.in_force slots.now.commands.pending slots.now.commands.moment slots.now.position }
+    requires resumes { Resumes slots.now.commands resumed.now }
+    requires needs { All (λ need. ForSome need (λ d. d ≤ greatest_moment)) needs.now }
+    requires within { before ≤ 2 * greatest_moment }
+    ensures searched { Searched (mask_in (stretches_from slots.now.commands.in_force (cons_some slots.now.commands.pending (cons_some slots.now.commands.announced [])))) needs.now slots.now.commands.moment before result }
+    ensures counted { visits.old ≤ visits.new }
+    ensures visits { visits.new ≤ visits.old + most_in (stretches_from slots.now.commands.in_force (cons_some slots.now.commands.pending (cons_some slots.now.commands.announced []))) }
+{
+    match lone_list(slots) {
+        Some(list) => search_alone(list, slots.moment(), needs, before, visits),
+        None => search_legs(slots, resumed, needs, before, visits),
+    }
 }
 
 impl Gates for Jumping {
@@ -127,7 +203,7 @@ impl Gates for Jumping {
             from: self.slots.moment(),
             length: for_ps,
         };
-        stays_open(&self.slots, &self.resumed, need)
+        stays_open_from_now(&self.slots, &self.resumed, need)
     }
 
     fn next_boundary(&self, before: u128) -> Option<u128> {
@@ -159,11 +235,10 @@ impl Gates for Jumping {
         ensures next { (e : ℕ) → OneEntryComes self.old.history self.old.moment t e → visits.new ≤ visits.old + 2 }
     {
         if is_before(t, self.edge) {
-            self.slots.settle(t);
-            return;
+            self.slots.pass(t);
+        } else {
+            move_on(&mut self.slots, &mut self.edge, t, visits);
         }
-        self.slots.move_on(t, visits);
-        self.edge = next_edge(&self.slots);
     }
 
     #[tactic(auto, using(accepted_commands::proofs::CommandLaws::current_of, list_config::proofs::HistoryLaws::settled_announced, list_config::proofs::HistoryLaws::cons_some_push))]

@@ -69,7 +69,7 @@ fn fits_alone(
 }
 
 /// The end of the entry that is shown, or of the cycle, in picoseconds.
-fn boundary(position: &Position) -> u128
+pub(crate) fn boundary(position: &Position) -> u128
     ensures { result ≡ boundary_in position.now.timer.next_start (end_of position.now.walk) }
 {
     let cycle_end = position.timer.next_start();

@@ -1,9 +1,10 @@
 //! How many entries each step of a port on jumping gates looks at, counted by hand: no more for a far clock than for a near one.
 //!
-//! A list of N entries that is searched without a find takes N - 1 entries up to the end of its cycle, as many and the first
-//! of the next cycle, as many and the first of the last whole cycle before the greatest moment, and those of the cycle that this one
-//! cuts. A list that goes on takes each entry that it comes to in its cycle, and in another cycle all from the first up to the one of
-//! the moment. The gates move only where they are asked, or while a command is to come.
+//! A list of N entries that no other command follows is searched for one cycle at most, since it repeats: from the start of a cycle that
+//! takes its N - 1 further entries. Before a change, a list that is searched without a find takes N - 1 entries up to the end of its
+//! cycle, as many and the first of the next cycle, as many and the first of the last whole cycle before the change, and those of the
+//! cycle that the change cuts. A list that goes on takes each entry that it comes to in its cycle, and in another cycle all from the
+//! first up to the one of the moment. The gates move only where they are asked, or while a command is to come.
 use super::ports::{command, frame, plain_map};
 use super::*;
 use abstract_port::{Answer, Command, Event, Start};
@@ -72,30 +73,26 @@ struct Waiting {
 }
 
 /// A frame waits through 5 * 10^12 cycles, 10^15 and 4 * 10^12: a step that took each of them would not end. It is searched for
-/// once, up to the greatest moment, and then it is known that it never starts.
+/// once, from the start of a cycle and through it, and then it is known that it never starts.
 #[test]
 fn a_frame_waits_through_far_clocks(rt: HostRuntime) -> Result<(), Fail> {
     for waiting in [
-        // The second entry of three cycles, the first of two cycles and of the last one, which the greatest moment cuts at 155.807 us,
-        // and the second of that one.
         Waiting {
             many: 2,
             interval: 100_000,
-            visits: 3 + 3 + 1,
+            visits: 1,
             mask: 0x04,
         },
-        // The greatest moment cuts the last cycle at 0.807 us.
         Waiting {
             many: 2,
             interval: 500,
-            visits: 3 + 3 + 1,
+            visits: 1,
             mask: 0x02,
         },
-        // The greatest moment cuts the last cycle at 227.807 us: in its entry of index 227.
         Waiting {
             many: 256,
             interval: 1000,
-            visits: 3 * 255 + 3 + 227,
+            visits: 255,
             mask: 0x02,
         },
     ] {

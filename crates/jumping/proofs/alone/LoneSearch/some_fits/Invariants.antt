@@ -1,0 +1,8 @@
+use Rattle.std.proofs.Common.{◌≡◌, ◌<◌, ℕ, Some, true, false, slice_get}
+use Rattle.gate_list.specs.Gate.{opens}
+use Rattle.gate_list.specs.Open.{open_while}
+use Rattle.jumping.specs.Alone.{shows_alone}
+use Rattle.jumping.proofs.alone.LoneSearch.some_fits.Given as goal
+
+abbrev pub invariant-loop-class : goal.invariant-loop-class
+invariant-loop-class l = (k d : ℕ) → k < l.class → opens l.mask k ≡ true → slice_get l.self.needs.now k ≡ Some (Some d) → open_while (shows_alone l.self.list.now) k l.shown.at d ≡ false
