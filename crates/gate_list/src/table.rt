@@ -135,7 +135,9 @@ pub(crate) fn closed_table() -> Table
     }
 }
 
-/// The table of a list whose cycle takes so many nanoseconds is written where it is kept.
+/// The table of a list whose cycle takes so many nanoseconds is written where it is kept. Apart, since its slots are cleared, which
+/// the compiler would do twice within the body of a caller.
+#[inline(never)]
 pub(crate) fn put_table(entries: &[Entry], cycle_ns: u64, table: &mut Table)
     requires few { length entries.now ≤ MAX_ENTRIES }
     requires fits { cycle_ns ≤ MAX_CYCLE_NS }
