@@ -1,9 +1,9 @@
 //! Gate control lists and schedules.
 #![tactic(auto)]
 
-ghost use Rattle.std.specs.Prelude.{◌≡◌, ◌<◌, ◌≤◌, ◌==◌, length};
+ghost use Rattle.std.specs.Prelude.{◌≡◌, ◌<◌, ◌≤◌, ◌==◌, OnErr, OnOk, length};
 ghost use Rattle.std.specs.List.{list_any};
-ghost use Rattle.gate_list.specs.Gate.{IsGateList, gate_fault, ok_unless, opens};
+ghost use Rattle.gate_list.specs.Gate.{IsGateList, closed_entries, gate_fault, ok_unless, opens};
 
 use arrayvec::ArrayVec;
 use std::marker::Model;
@@ -117,35 +117,79 @@ fn has_zero_interval(entries: &[Entry]) -> bool
     entries.iter().any(|entry| entry.interval == 0)
 }
 
-/// The entries in a list of their own.
-fn copy_of(entries: &[Entry]) -> ArrayVec<Entry, MAX_ENTRIES>
-    requires { length entries.now ≤ MAX_ENTRIES }
-    ensures { result.items ≡ entries.now }
+/// Why entries are no gate control list, if they are none.
+fn gate_fault(entries: &[Entry]) -> Option<GateFault>
+    ensures { result ≡ gate_fault entries.now }
 {
-    let mut copy = ArrayVec::new();
-    for entry in entries {
-        copy.push(*entry);
+    if entries.is_empty() {
+        Some(GateFault::NoEntries)
+    } else if entries.len() > MAX_ENTRIES {
+        Some(GateFault::TooManyEntries)
+    } else if has_zero_interval(entries) {
+        Some(GateFault::ZeroInterval)
+    } else {
+        None
     }
-    copy
+}
+
+/// The entries take the place of those that are kept.
+fn put_entries(entries: &[Entry], kept: &mut ArrayVec<Entry, MAX_ENTRIES>)
+    requires { length entries.now ≤ MAX_ENTRIES }
+    ensures { kept.new.items ≡ entries.now }
+{
+    kept.clear();
+    for entry in entries {
+        kept.push(*entry);
+    }
+}
+
+/// One entry, which closes all classes for a nanosecond.
+fn closed_entries() -> ArrayVec<Entry, MAX_ENTRIES>
+    ensures { result.items ≡ closed_entries }
+{
+    let mut entries = ArrayVec::new();
+    entries.push(Entry {
+        mask: 0,
+        interval: 1,
+    });
+    entries
 }
 
 impl GateList {
+    /// The list of one entry, which closes all classes for a nanosecond: a place for another list.
+    pub fn closed() -> GateList
+        ensures { result ≡ closed_entries }
+    {
+        GateList {
+            entries: closed_entries(),
+        }
+    }
+
     /// The list of these entries, in order. Refused, in this order: no entry, more than 256, an interval of 0.
     pub fn new(entries: &[Entry]) -> Result<GateList, GateFault>
         ensures { result ≡ ok_unless (gate_fault entries.now) entries.now }
     {
-        if entries.is_empty() {
-            return Err(GateFault::NoEntries);
+        let mut list = GateList::closed();
+        match list.set(entries) {
+            Ok(()) => Ok(list),
+            Err(fault) => Err(fault),
         }
-        if entries.len() > MAX_ENTRIES {
-            return Err(GateFault::TooManyEntries);
+    }
+
+    /// These entries take the place of its own, unless they are refused, as `new` refuses them. A list takes two kilobytes, which
+    /// are not moved so.
+    pub fn set(&mut self, entries: &[Entry]) -> Result<(), GateFault>
+        ensures answer { result ≡ ok_unless (gate_fault entries.now) tt }
+        ensures entries { OnOk result (self.new ≡ entries.now) }
+        ensures kept { OnErr result (self.new ≡ self.old) }
+    {
+        match gate_fault(entries) {
+            Some(fault) => Err(fault),
+            None => {
+                put_entries(entries, &mut self.entries);
+                Ok(())
+            }
         }
-        if has_zero_interval(entries) {
-            return Err(GateFault::ZeroInterval);
-        }
-        Ok(GateList {
-            entries: copy_of(entries),
-        })
     }
 
     /// The entries, in order.

@@ -1,14 +1,14 @@
 //! Schedules: a gate control list with its times, and what it tells of open time.
-ghost use Rattle.std.specs.Prelude.{◌≡◌, ◌<◌, ◌≤◌, ◌+◌, ◌^◌, Some, length, max, slice_get, sum_by};
-ghost use Rattle.gate_list.specs.Gate.{Plan, IsPlan, IsSchedule, in_ps, prefix, change_of, boundary_from, plan_with, plan_fault, ok_unless, least_interval, first_shorter, keeps_apart, is_apart_in};
+ghost use Rattle.std.specs.Prelude.{◌≡◌, ◌<◌, ◌≤◌, ◌+◌, ◌^◌, OnErr, OnOk, Some, length, max, slice_get, sum_by};
+ghost use Rattle.gate_list.specs.Gate.{Plan, closed_plan, IsPlan, IsSchedule, in_ps, prefix, change_of, boundary_from, plan_with, plan_fault, ok_unless, least_interval, first_shorter, keeps_apart, is_apart_in};
 ghost use Rattle.gate_list.specs.Stay.{AreStays, AreClosed, TellOpenTime, TellsOpenTime, stay_from};
 ghost use Rattle.gate_list.specs.Visits.{one_more};
 ghost use Rattle.gate_list.specs.declared.Stay.TheVariants.{Lasts};
 
-use crate::table::{Table, stay_at, stays_at, table_of};
+use crate::table::{Table, closed_table, put_table, stay_at, stays_at};
 use crate::{
-    Entry, GateList, MAX_BASE_NS, MAX_CYCLE_NS, MAX_ENTRIES, PlanFault, Row, Stay, Visits, copy_of,
-    is_open,
+    Entry, GateList, MAX_BASE_NS, MAX_CYCLE_NS, MAX_ENTRIES, PlanFault, Row, Stay, Visits,
+    closed_entries, is_open, put_entries,
 };
 use arrayvec::ArrayVec;
 use std::marker::Model;
@@ -122,14 +122,42 @@ fn is_apart(entry: Entry, class: u8) -> bool
     !is_open(entry.mask, class) || entry.mask == 1 << class
 }
 
+/// These entries with these times take the place of those of a schedule.
+fn put_plan(
+    entries: &[Entry],
+    base_ns: u64,
+    cycle_ns: u64,
+    extension_ns: u64,
+    schedule: &mut Schedule,
+)
+    requires { IsSchedule (record { entries = entries.now; base = base_ns; cycle = cycle_ns; extension = extension_ns }) }
+    ensures { schedule.new ≡ record { entries = entries.now; base = base_ns; cycle = cycle_ns; extension = extension_ns } }
+{
+    put_entries(entries, &mut schedule.entries);
+    schedule.base_ns = base_ns;
+    schedule.cycle_ns = cycle_ns;
+    schedule.extension_ns = extension_ns;
+    put_table(entries, cycle_ns, &mut schedule.stays);
+}
+
 impl Schedule {
+    /// The schedule of `GateList::closed` from moment 0 on, with a cycle of a nanosecond: a place for another schedule.
+    pub fn closed() -> Schedule
+        ensures { result ≡ closed_plan }
+    {
+        Schedule {
+            entries: closed_entries(),
+            base_ns: 0,
+            cycle_ns: 1,
+            extension_ns: 0,
+            stays: closed_table(),
+        }
+    }
+
     /// The schedule of a list with these times, in nanoseconds; a cycle of 0 means the sum of the intervals.
     ///
     /// Refused, in this order: an interval, then a cycle, that is shorter than the shortest frame, whose 60 octets are taken
     /// in whole nanoseconds; a cycle, then an extension, above 2^40; a base time above 2^63 - 1.
-    ///
-    /// It stays apart: within the body of a caller the compiler would copy a schedule part by part.
-    #[inline(never)]
     pub fn new(
         list: &GateList,
         base_ns: u64,
@@ -140,6 +168,28 @@ impl Schedule {
         ensures { let plan = plan_with list.now base_ns cycle_ns extension_ns in
             result ≡ ok_unless (plan_fault rate plan) plan }
     {
+        let mut schedule = Schedule::closed();
+        match schedule.set(list, base_ns, cycle_ns, extension_ns, rate) {
+            Ok(()) => Ok(schedule),
+            Err(fault) => Err(fault),
+        }
+    }
+
+    /// This list with these times takes the place of its own, unless they are refused, as `new` refuses them. A schedule takes six
+    /// kilobytes, which are not moved so.
+    pub fn set(
+        &mut self,
+        list: &GateList,
+        base_ns: u64,
+        cycle_ns: u64,
+        extension_ns: u64,
+        rate: Rate,
+    ) -> Result<(), PlanFault>
+        ensures answer { let plan = plan_with list.now base_ns cycle_ns extension_ns in
+            result ≡ ok_unless (plan_fault rate plan) tt }
+        ensures plan { OnOk result (self.new ≡ plan_with list.now base_ns cycle_ns extension_ns) }
+        ensures kept { OnErr result (self.new ≡ self.old) }
+    {
         let entries = list.entries();
         let cycle_ns = if cycle_ns == 0 {
             total_of(entries)
@@ -148,13 +198,10 @@ impl Schedule {
         };
         match fault_of(entries, base_ns, cycle_ns, extension_ns, rate) {
             Some(fault) => Err(fault),
-            None => Ok(Schedule {
-                entries: copy_of(entries),
-                base_ns,
-                cycle_ns,
-                extension_ns,
-                stays: table_of(entries, cycle_ns),
-            }),
+            None => {
+                put_plan(entries, base_ns, cycle_ns, extension_ns, self);
+                Ok(())
+            }
         }
     }
 

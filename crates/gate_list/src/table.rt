@@ -2,8 +2,8 @@
 //!
 //! It is made once, in time linear in the entries, by walks from the end of the cycle to its start. It has the slot that closes a
 //! class, which is an octet, in place of the time up to there: a schedule is copied whole wherever it is handed over.
-ghost use Rattle.std.specs.Prelude.{◌≡◌, ℕ, ◌<◌, ◌≤◌, ◌^◌, IfSome, None, Some, [], false, length, slice_get, true};
-ghost use Rattle.gate_list.specs.Gate.{in_ps};
+ghost use Rattle.std.specs.Prelude.{◌≡◌, ℕ, ◌<◌, ◌≤◌, ◌^◌, IfSome, None, Some, [], false, length, slice_get, slice_index_or, true};
+ghost use Rattle.gate_list.specs.Gate.{closed_entries, in_ps};
 ghost use Rattle.gate_list.specs.declared.TheConstants.{MAX_CYCLE_NS};
 ghost use Rattle.gate_list.specs.Stay.{slots, length_of, is_open_in_all};
 ghost use Rattle.gate_list.specs.Table.{AreStarts, Closes, HasStays, IsColumn, stay_at, time_to};
@@ -106,31 +106,48 @@ fn put_column(slots: &[Slot], class: u8, closing: &mut [u8; MAX_ENTRIES]) -> boo
     false
 }
 
-/// The table of a list whose cycle takes so many nanoseconds. Its parts are written where they are kept, each cleared once: within
-/// the body of a caller the compiler would copy them one by one.
+/// For each class, whether all slots open it, and its column, are written.
+fn put_columns(
+    slots: &[Slot],
+    always: &mut [bool; CLASSES],
+    closing: &mut [[u8; MAX_ENTRIES]; CLASSES],
+)
+    requires room { length slots.now ≤ MAX_ENTRIES }
+    ensures all { (class : ℕ) → class < CLASSES → slice_index_or always.new class false ≡ is_open_in_all slots.now class }
+    ensures columns { (class : ℕ) → class < CLASSES → is_open_in_all slots.now class ≡ false → IsColumn slots.now class (slice_index_or closing.new class []) }
+{
+    for class in 0..CLASSES as u8 {
+        let column = &mut closing[usize::from(class)];
+        always[usize::from(class)] = put_column(slots, class, column);
+    }
+}
+
+/// The table of one slot of a nanosecond, which closes all classes.
+pub(crate) fn closed_table() -> Table
+    ensures { HasStays (slots closed_entries (in_ps 1)) result }
+{
+    Table {
+        shown: 1,
+        cycle: 1000,
+        starts: [0; MAX_ENTRIES],
+        always: [false; CLASSES],
+        closing: [[0; MAX_ENTRIES]; CLASSES],
+    }
+}
+
+/// The table of a list whose cycle takes so many nanoseconds is written where it is kept. Apart, since its slots are cleared, which
+/// the compiler would do twice within the body of a caller.
 #[inline(never)]
-pub(crate) fn table_of(entries: &[Entry], cycle_ns: u64) -> Table
+pub(crate) fn put_table(entries: &[Entry], cycle_ns: u64, table: &mut Table)
     requires few { length entries.now ≤ MAX_ENTRIES }
     requires fits { cycle_ns ≤ MAX_CYCLE_NS }
-    ensures { HasStays (slots entries.now (in_ps cycle_ns)) result }
+    ensures { HasStays (slots entries.now (in_ps cycle_ns)) table.new }
 {
     let mut slots = ArrayVec::new();
     put_slots(entries, cycle_ns, &mut slots);
-    let mut starts = [0; MAX_ENTRIES];
-    let cycle = put_starts(slots.as_slice(), &mut starts);
-    let mut always = [false; CLASSES];
-    let mut closing = [[0; MAX_ENTRIES]; CLASSES];
-    for class in 0..CLASSES as u8 {
-        let column = &mut closing[usize::from(class)];
-        always[usize::from(class)] = put_column(slots.as_slice(), class, column);
-    }
-    Table {
-        shown: slots.len(),
-        cycle,
-        starts,
-        always,
-        closing,
-    }
+    table.shown = slots.len();
+    table.cycle = put_starts(slots.as_slice(), &mut table.starts);
+    put_columns(slots.as_slice(), &mut table.always, &mut table.closing);
 }
 
 /// For how long a class is open from the start of a slot to that of the one that closes it, in picoseconds.

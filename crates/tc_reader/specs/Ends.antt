@@ -4,7 +4,7 @@ use Rattle.class_map.specs.declared.ClassMap.{ClassMap}
 use Rattle.class_map.specs.declared.Queues.{Queues}
 use Rattle.class_map.specs.Map.{map_of}
 use Rattle.class_map.specs.Ranges.{queues_of}
-use Rattle.gate_list.specs.Gate.{gate_fault, ok_unless}
+use Rattle.gate_list.specs.Gate.{closed_entries, gate_fault, ok_unless}
 use Rattle.gate_list.specs.declared.Entry.{Entry}
 use Rattle.gate_list.specs.declared.GateList.{GateList}
 use Rattle.abstract_port.specs.declared.Change.{Change}
@@ -60,6 +60,10 @@ change_given g =
 -- the command that makes this change
 abbrev pub command_given : Options → Result Command TcFault
 command_given g = change_given g >>= λ change. Ok (commands.Replace change)
+
+-- a change to a list that closes all classes, with no times
+abbrev pub closed_change : Change
+closed_change = record { map = None; queues = None; max_sdu = None; list = closed_entries; base_ns = 0; cycle_ns = 0; extension_ns = 0 }
 
 -- the heads that every line has
 abbrev pub heads_missing : Bool → Bool → Result (Unit {0}) TcFault

@@ -1,8 +1,8 @@
 //! What is looked at in the end.
 
-ghost use Rattle.std.specs.Prelude.{◌≡◌, option_map};
+ghost use Rattle.std.specs.Prelude.{◌≡◌, Err, MatchResult, Ok, option_map};
 ghost use Rattle.tc_reader.specs.Capped.{view};
-ghost use Rattle.tc_reader.specs.Ends.{ranges_of, classes_of, eight_limits, command_given, heads_missing};
+ghost use Rattle.tc_reader.specs.Ends.{ranges_of, classes_of, closed_change, eight_limits, command_given, heads_missing};
 
 use crate::capped::CappedOptions;
 use crate::fault::{Opt, TcFault};
@@ -80,29 +80,97 @@ fn limits_of(given: &CappedOptions) -> Option<[u32; CLASSES]>
     }
 }
 
-/// Answers with the command that the options give. It is written where it is kept, since a list of entries takes two kilobytes.
+// A change to a list that closes all classes, with no times.
+fn closed_change() -> Change
+    ensures { result ≡ closed_change }
+{
+    Change {
+        map: None,
+        queues: None,
+        max_sdu: None,
+        list: GateList::closed(),
+        base_ns: 0,
+        cycle_ns: 0,
+        extension_ns: 0,
+    }
+}
+
+/// A command with a list that closes all classes: a place to read another command into.
+pub fn closed_command() -> Command
+    ensures { result ≡ Command.Replace closed_change }
+{
+    Command::Replace(closed_change())
+}
+
+// The change that the options give, with their map and ranges, takes the place of another one.
+fn put_change(
+    given: &CappedOptions,
+    map: Option<ClassMap>,
+    queues: Option<Queues>,
+    change: &mut Change,
+) -> Result<(), TcFault>
+    requires { let g = view given.now in classes_of g.num_tc g.priorities g.ranges ≡ Ok (map, queues) }
+    ensures { MatchResult result
+        (λ _. command_given (view given.now) ≡ Ok (Command.Replace change.new))
+        (λ f. command_given (view given.now) ≡ Err f) }
+{
+    match change.list.set(&given.entries) {
+        Ok(()) => {}
+        Err(fault) => return Err(TcFault::Gates(fault)),
+    }
+    change.map = map;
+    change.queues = queues;
+    change.max_sdu = limits_of(given);
+    change.base_ns = given.base_time.unwrap_or(0);
+    change.cycle_ns = given.cycle_time.unwrap_or(0);
+    change.extension_ns = given.extension.unwrap_or(0);
+    Ok(())
+}
+
+// The command that the options give, with their map and ranges, where no list is written over. Apart, since it is seldom, and a
+// command is large.
+#[inline(never)]
+fn put_command(
+    given: &CappedOptions,
+    map: Option<ClassMap>,
+    queues: Option<Queues>,
+    answer: &mut Result<Command, TcFault>,
+)
+    requires { let g = view given.now in classes_of g.num_tc g.priorities g.ranges ≡ Ok (map, queues) }
+    ensures { answer.new ≡ command_given (view given.now) }
+{
+    let mut change = closed_change();
+    *answer = match put_change(given, map, queues, &mut change) {
+        Ok(()) => Ok(Command::Replace(change)),
+        Err(fault) => Err(fault),
+    };
+}
+
+/// Answers with a fault. Apart, since it is seldom: the compiler would clear two kilobytes for it in the body of each caller.
+#[inline(never)]
+pub fn put_fault(fault: TcFault, answer: &mut Result<Command, TcFault>)
+    ensures { answer.new ≡ Err fault }
+{
+    *answer = Err(fault);
+}
+
+/// Answers with the command that the options give. Where there is a change already, it is written over, since a list of entries takes
+/// two kilobytes.
 pub fn give_command(given: &CappedOptions, answer: &mut Result<Command, TcFault>)
     ensures { answer.new ≡ command_given (view given.now) }
 {
     let (map, queues) = match classes_of(given) {
         Ok(classes) => classes,
         Err(fault) => {
-            *answer = Err(fault);
+            put_fault(fault, answer);
             return;
         }
     };
-    match GateList::new(&given.entries) {
-        Ok(list) => {
-            *answer = Ok(Command::Replace(Change {
-                map,
-                queues,
-                max_sdu: limits_of(given),
-                list,
-                base_ns: given.base_time.unwrap_or(0),
-                cycle_ns: given.cycle_time.unwrap_or(0),
-                extension_ns: given.extension.unwrap_or(0),
-            }));
-        }
-        Err(fault) => *answer = Err(TcFault::Gates(fault)),
+    match answer {
+        Ok(Command::Replace(change)) => match put_change(given, map, queues, change) {
+            Ok(()) => {}
+            Err(fault) => put_fault(fault, answer),
+        },
+        _ => put_command(given, map, queues, answer),
     }
 }

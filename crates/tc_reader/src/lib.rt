@@ -12,5 +12,6 @@ mod options;
 mod reading;
 mod values;
 
+pub use end::closed_command;
 pub use fault::{Opt, TcFault};
-pub use line::read_command;
+pub use line::{read_command, read_command_into};

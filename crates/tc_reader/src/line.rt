@@ -9,7 +9,7 @@ ghost use Rattle.tc_reader.specs.Lines.{verb_of, verb_at, ReadsOptions, deletion
 ghost use Rattle.tc_reader.specs.Grammar.{IsCommand};
 
 use crate::capped::CappedOptions;
-use crate::end::{check_heads, give_command};
+use crate::end::{check_heads, give_command, put_fault};
 use crate::fault::TcFault;
 use crate::heads::{Seen, read_heads};
 use crate::reading::read_options;
@@ -59,13 +59,13 @@ fn read_replacement(words: Words<'_>, seen: Seen, answer: &mut Result<Command, T
 {
     let mut given = CappedOptions::new();
     if let Err(fault) = read_options(words, &mut given) {
-        *answer = Err(fault);
+        put_fault(fault, answer);
         return;
     }
     match check_heads(seen) {
         Ok(()) => {}
         Err(fault) => {
-            *answer = Err(fault);
+            put_fault(fault, answer);
             return;
         }
     }
@@ -79,12 +79,12 @@ fn read_deletion(words: Words<'_>, seen: Seen, named: bool, answer: &mut Result<
     let mut rest = words;
     let place = rest.place();
     if named && rest.next_word().is_some() {
-        *answer = Err(TcFault::UnknownOption(place));
+        put_fault(TcFault::UnknownOption(place), answer);
         return;
     }
     match check_heads(seen) {
         Ok(()) => *answer = Ok(Command::Delete),
-        Err(fault) => *answer = Err(fault),
+        Err(fault) => put_fault(fault, answer),
     }
 }
 
@@ -94,32 +94,41 @@ fn read_line(line: &[u8], answer: &mut Result<Command, TcFault>)
 {
     let mut words = Words::new(line);
     let Some(verb) = take_verb(&mut words) else {
-        *answer = Err(TcFault::NotTaprio);
+        put_fault(TcFault::NotTaprio, answer);
         return;
     };
     let (seen, named) = match read_heads(&mut words) {
         Ok(heads) => heads,
         Err(fault) => {
-            *answer = Err(fault);
+            put_fault(fault, answer);
             return;
         }
     };
     match verb {
         Verb::Delete => read_deletion(words, seen, named, answer),
         Verb::Replace if named => read_replacement(words, seen, answer),
-        Verb::Replace => *answer = Err(TcFault::NotTaprio),
+        Verb::Replace => put_fault(TcFault::NotTaprio, answer),
     }
 }
 
-/// The command that a line says, exactly where the grammar of tc-taprio(8) has one; else the line's first fault.
+/// The command that a line says, exactly where the grammar of tc-taprio(8) has one; else the line's first fault. It takes the place
+/// of another answer, and is not moved: where that one has a list (`closed_command`), the list is written over.
 ///
 /// Blanks are those of `Words`. Words are read from the left, and when all are read, what is missing is found, and then
 /// what the map, the ranges and the entries are refused for. A fault's place counts the words from 0.
+pub fn read_command_into(line: &[u8], answer: &mut Result<Command, TcFault>)
+    ensures command { (command : Command) → (answer.new ≡ Ok command) ↔ IsCommand (words_of line.now) command }
+    ensures fault { IfErr answer.new (HasFault (words_of line.now)) }
+{
+    read_line(line, answer);
+}
+
+/// The command that a line says, or its first fault, as `read_command_into` answers.
 pub fn read_command(line: &[u8]) -> Result<Command, TcFault>
     ensures command { (command : Command) → (result ≡ Ok command) ↔ IsCommand (words_of line.now) command }
     ensures fault { IfErr result (HasFault (words_of line.now)) }
 {
     let mut answer = Err(TcFault::NotTaprio);
-    read_line(line, &mut answer);
+    read_command_into(line, &mut answer);
     answer
 }

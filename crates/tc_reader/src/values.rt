@@ -1,8 +1,8 @@
 //! One value of an option.
 
-ghost use Rattle.std.specs.Prelude.{◌≡◌, ◌≤◌, ◌<◌, ◌+◌, ◌^◌, ◌-◌, Ok, Err, MatchResult, MatchOption, IfOk, IfSome};
+ghost use Rattle.std.specs.Prelude.{◌≡◌, ◌≤◌, ◌<◌, ◌+◌, ◌^◌, ◌-◌, ◌∷◌, [], Ok, Err, Some, MatchResult, MatchOption, IfOk, IfSome};
 ghost use Rattle.std.specs.List.{position, before_first, after_first};
-ghost use Rattle.words.specs.Numbers.{number_in};
+ghost use Rattle.words.specs.Numbers.{digit_in, number_in};
 ghost use Rattle.words.specs.WordsLeft.{words_left, words_taken};
 ghost use Rattle.tc_reader.specs.Cursor.{Moves};
 ghost use Rattle.tc_reader.specs.Values.{after_0x, hex_in, is_sign, is_range, range_of, is_clock, limit_in};
@@ -92,7 +92,56 @@ pub fn take_entry(words: &mut Words<'_>) -> Result<Entry, TcFault>
     Ok(Entry { mask, interval })
 }
 
-/// An entry whose words stand as in most lines, with a space before each. None where they don't, and then no word is taken.
+fn hex_digit(octet: u8) -> Option<u8>
+    ensures digit { IfSome result (λ d. digit_in 16 octet ≡ Some d) }
+    ensures bound { IfSome result (λ d. d < 16) }
+{
+    match octet {
+        b'0'..=b'9' => Some(octet - b'0'),
+        b'a'..=b'f' => Some(octet - b'a' + 10),
+        b'A'..=b'F' => Some(octet - b'A' + 10),
+        _ => None,
+    }
+}
+
+// The number that two hexadecimal digits are.
+fn two_digits(high: u8, low: u8) -> Option<u8>
+    ensures { IfSome result (λ n. hex_in 255 (high ∷ low ∷ []) ≡ Some n) }
+{
+    let front = hex_digit(high)?;
+    let behind = hex_digit(low)?;
+    Some(front * 16 + behind)
+}
+
+// The next word as a mask, where it has two hexadecimal digits. Else None, and some words are taken or none.
+#[inline]
+fn take_plain_mask(words: &mut Words<'_>) -> Option<u8>
+    ensures value { IfSome result (λ n. value_at Opt.SchedEntry (hex_in 255) (words_taken words.old) (words_left words.old) ≡ Ok (n, words_left words.new)) }
+    ensures place { IfSome result (λ _. words_taken words.new ≡ words_taken words.old + 1) }
+    ensures moves { Moves words.old words.new }
+{
+    match words.next_word() {
+        Some([high, low]) => two_digits(*high, *low),
+        _ => None,
+    }
+}
+
+// The next word as an interval, where it can be told at once. Else None.
+#[inline]
+fn take_plain_interval(words: &mut Words<'_>) -> Option<u32>
+    ensures value { IfSome result (λ n. value_at Opt.SchedEntry (number_in 10 (2 ^ 32 - 1)) (words_taken words.old) (words_left words.old) ≡ Ok (n, words_left words.new)) }
+    ensures place { IfSome result (λ _. words_taken words.new ≡ words_taken words.old + 1) }
+    ensures moves { IfSome result (λ _. Moves words.old words.new) }
+{
+    let interval = words.next_short()?;
+    if interval > 0xffff_ffff {
+        return None;
+    }
+    Some(interval as u32)
+}
+
+/// An entry whose words stand as in most lines, with a space before each, and its mask in two digits. None where they don't, and then
+/// no word is taken.
 pub fn take_plain_entry(words: &mut Words<'_>) -> Option<Entry>
     ensures entry { MatchOption result (words.new ≡ words.old)
         (λ e. StandsPlainly (words_taken words.old) (words_left words.old) e (words_left words.new)) }
@@ -103,17 +152,10 @@ pub fn take_plain_entry(words: &mut Words<'_>) -> Option<Entry>
     if !after.skip_text(b" sched-entry S ", 2) {
         return None;
     }
-    let Ok(mask) = take_hex(&mut after, Opt::SchedEntry, 255) else {
-        return None;
-    };
-    let Ok(interval) = take_number(&mut after, Opt::SchedEntry, 0xffff_ffff) else {
-        return None;
-    };
+    let mask = take_plain_mask(&mut after)?;
+    let interval = take_plain_interval(&mut after)?;
     *words = after;
-    Some(Entry {
-        mask: mask as u8,
-        interval: interval as u32,
-    })
+    Some(Entry { mask, interval })
 }
 
 /// Flags that change nothing: 0 or 2.

@@ -16,8 +16,8 @@ returns-clause-entry c =
     let skips : c.skip_text.result ≡ true = search rules in
     let skipped = c.skip_text.ensures.left skips in
     let second : words_taken c.skip_text.new.self ≡ place + 2 = c.skip_text.ensures.taken skips in
-    let third : words_taken c.take_hex.new.words ≡ place + 3 = omega (arith, c.in-Ok.ensures.place, second) in
+    let third : words_taken c.take_plain_mask.new.words ≡ place + 3 = omega (arith, c.in_ok-mask.ensures.place, second) in
     let stands : words_left c.args.words.now ≡ codes "sched-entry" ∷ codes "S" ∷ behind = skipped.1 ∙ ap (λ (ws : List Word). codes "sched-entry" ∷ codes "S" ∷ ws) (sym skipped.2) in
-    let masked = subst (λ n. value_at SchedEntry (hex_in 255) n behind ≡ Ok (c.in-Ok.mask, words_left c.take_hex.new.words)) second c.in-Ok.ensures.value in
-    let timed = subst (λ n. value_at SchedEntry (number_in 10 (2 ^ 32 - 1)) n (words_left c.take_hex.new.words) ≡ Ok (c.in-Ok-take_number.interval, words_left c.take_number.new.words)) third c.in-Ok-take_number.ensures.value in
-    (codes "sched-entry", codes "S" ∷ behind, stands, plain_entry place behind (words_left c.take_hex.new.words) (words_left c.take_number.new.words) c.in-Ok.mask c.in-Ok-take_number.interval masked timed)
+    let masked = subst (λ n. value_at SchedEntry (hex_in 255) n behind ≡ Ok (c.in_ok-mask.mask, words_left c.take_plain_mask.new.words)) second c.in_ok-mask.ensures.value in
+    let timed = subst (λ n. value_at SchedEntry (number_in 10 (2 ^ 32 - 1)) n (words_left c.take_plain_mask.new.words) ≡ Ok (c.in_ok-interval.interval, words_left c.take_plain_interval.new.words)) third c.in_ok-interval.ensures.value in
+    (codes "sched-entry", codes "S" ∷ behind, stands, plain_entry place behind (words_left c.take_plain_mask.new.words) (words_left c.take_plain_interval.new.words) c.in_ok-mask.mask c.in_ok-interval.interval masked timed)

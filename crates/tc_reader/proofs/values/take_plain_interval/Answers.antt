@@ -1,0 +1,15 @@
+use Rattle.std.proofs.Common.{arith}
+use Rattle.words.specs.WordsLeft.{words_left, words_taken}
+use Rattle.tc_reader.proofs.PlainLemmas.{behind_one, told_at_once}
+use Rattle.tc_reader.proofs.values.take_plain_interval.Goals as goal
+
+pub returns-clause-value : goal.returns-clause-value
+returns-clause-value c =
+    let small = c.if-interval-gt4294967295.false in
+    told_at_once (words_taken c.args.words.now) (words_left c.args.words.now) (words_left c.next_short.new.self) c.in_ok-interval.interval (omega (arith, small)) c.in_ok-interval.ensures.number c.in_ok-interval.ensures.left
+
+pub returns-clause-moves : goal.returns-clause-moves
+returns-clause-moves c =
+    let one = behind_one (words_left c.args.words.now) (words_left c.next_short.new.self) c.in_ok-interval.interval c.in_ok-interval.ensures.number c.in_ok-interval.ensures.left in
+    let taken = c.in_ok-interval.ensures.taken in
+    (omega (arith, one, taken), omega (arith, taken))
