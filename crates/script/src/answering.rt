@@ -17,7 +17,7 @@ ghost use Rattle.summary.specs.Observed.{seen};
 ghost use Rattle.summary.specs.Wanted.{noted, noted_at};
 ghost use Rattle.wire_time.specs.Moment.{greatest_moment};
 
-use crate::reading::read_tc;
+use crate::reading::read_tc_into;
 use abstract_port::{Answer, Command, Dropped, Event, Start};
 use answer_text::{WriteFault, put_answer, put_arrival, put_left, put_start, put_tc_fault};
 use jumping::Jumping;
@@ -25,7 +25,7 @@ use port::Port;
 use std::alloc::Allocator;
 use std::io::Write;
 use summary::{Summary, note};
-use tc_reader::TcFault;
+use tc_reader::{TcFault, closed_command};
 use wire_time::{Frame, MAX_MOMENT};
 
 /// The port that runs. Another implementation of the gates takes the place of this one here.
@@ -216,7 +216,9 @@ pub fn put_tc<A: Allocator, W: Write>(
         OnOk result (summary.new ≡ noted_by (tc_request (read (words_of line.now))) port.old.port summary.old) }
     ensures sound { OnOk result (IsSoundPort port.new.port) }
 {
-    put_command(port, summary, &read_tc(line), writer)
+    let mut answer = Ok(closed_command());
+    read_tc_into(line, &mut answer);
+    put_command(port, summary, &answer, writer)
 }
 
 // Writes how many frames a class still has, where it has some.
