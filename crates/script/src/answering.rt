@@ -15,7 +15,7 @@ ghost use Rattle.script.specs.Responses.{left_lines, left_text, lines_of, noted_
 ghost use Rattle.summary.specs.Wanted.{noted_at};
 ghost use Rattle.wire_time.specs.Moment.{greatest_moment};
 
-use crate::reading::read_tc;
+use crate::reading::read_tc_into;
 use abstract_port::{Command, Event};
 use answer_text::{WriteFault, put_answer, put_arrival, put_left, put_start, put_tc_fault};
 use jumping::Jumping;
@@ -23,7 +23,7 @@ use port::Port;
 use std::alloc::Allocator;
 use std::io::Write;
 use summary::{Summary, note, note_start, note_verdict};
-use tc_reader::TcFault;
+use tc_reader::{TcFault, closed_command};
 use wire_time::{Frame, MAX_MOMENT};
 
 /// The port that runs. Another implementation of the gates takes the place of this one here.
@@ -187,7 +187,9 @@ pub fn put_tc<A: Allocator, W: Write>(
         OnOk result (summary.new ≡ noted_by (tc_request (read (words_of line.now))) port.old.port summary.old) }
     ensures sound { OnOk result (IsSoundPort port.new.port) }
 {
-    put_command(port, summary, &read_tc(line), writer)
+    let mut answer = Ok(closed_command());
+    read_tc_into(line, &mut answer);
+    put_command(port, summary, &answer, writer)
 }
 
 // Writes how many frames a class still has, where it has some.

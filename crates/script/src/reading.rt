@@ -12,7 +12,7 @@ ghost use Rattle.tc_reader.specs.Reader.{IsReader};
 use crate::faults::ScriptFault;
 use abstract_port::{Command, Event};
 use tc_reader::laws::one_reading;
-use tc_reader::{TcFault, read_command};
+use tc_reader::{TcFault, read_command, read_command_into};
 use wire_time::{Frame, MAX_MOMENT};
 use words::Words;
 
@@ -191,6 +191,14 @@ pub fn read_tc(line: &[u8]) -> Result<Command, TcFault>
 {
     one_reading();
     read_command(line)
+}
+
+// The same in place of another answer: where that one has a list (`closed_command`), the list is written over.
+pub(crate) fn read_tc_into(line: &[u8], answer: &mut Result<Command, TcFault>)
+    ensures { (read : List (List ℕ) → Result Command TcFault) → IsReader read → answer.new ≡ read (words_of line.now) }
+{
+    one_reading();
+    read_command_into(line, answer);
 }
 
 // What a line says, whatever its first words and blanks are.
