@@ -1,11 +1,13 @@
 -- A run of octets that are no line feed.
-use Rattle.std.proofs.Common.{◌≡◌, ◌≤◌, ◌<◌, ◌+◌, ◌++◌, ℕ, zero, suc, Bool, true, false, eqb, List, [], ◌∷◌, Option, Some, None, length, take, refl, sym, ap, ◌∙◌, append_assoc, arith}
+use Rattle.std.proofs.Common.{◌≡◌, ◌≤◌, ◌<◌, ◌+◌, ◌++◌, ℕ, zero, suc, Bool, true, false, eqb, List, [], ◌∷◌, Option, Some, None, length, take, refl, sym, ap, ◌∙◌, append_assoc, drop, Ok, arith}
+use Rattle.std.proofs.lemmas.List.{at_drop_more, length-take-le, take-append-drop}
 use Rattle.std.specs.Prelude.{not, ◌&&◌, ◌==◌, option_map}
 use Rattle.std.specs.List.{list_all}
 use Rattle.memchr.specs.Find.{Nowhere, Passes, is_byte}
-use Rattle.line_reader.specs.Script.{script_from}
+use Rattle.line_reader.specs.Script.{fresh, script_from}
+use Rattle.line_reader.specs.LineReader.{Advances, EndsLine}
 use Rattle.line_reader.specs.declared.lines.TheConstants.{MAX_LINE_OCTETS, MAX_LINES}
-use Rattle.line_reader.proofs.SpellingLaws.{run_within}
+use Rattle.line_reader.proofs.SpellingLaws.{line_end, run_within}
 
 both_tests : (t u : Bool) → (t ≡ true → ⊥) → u ≡ true → (not t && u) ≡ true
 both_tests true u h e = absurd (h refl)
@@ -31,3 +33,26 @@ after_run (Some xs) tail octets run back front first breaks parts unbroken short
     ap Some (sym (ap (λ f. script_from (record { octets = octets; first = first; breaks = breaks }) (f ++ tail xs)) parts
     ∙ ap (script_from (record { octets = octets; first = first; breaks = breaks })) (append_assoc run back (tail xs))
     ∙ run_within octets run (back ++ tail xs) first breaks unbroken short few))
+
+-- the line and what stands behind its line feed
+line_parts : (n : ℕ) (octets : List ℕ) → EndsLine octets n → octets ≡ take n octets ++ (10 ∷ drop (n + 1) octets)
+line_parts n octets is =
+    sym (take-append-drop n octets)
+    ∙ ap (λ t. take n octets ++ t) (at_drop_more (λ (l : List ℕ). l) octets n 0 is.within ∙ ap (λ b. b ∷ drop (n + 1) octets) is.ended)
+
+-- a line that stands whole in hand is the next one
+pub whole_line : (known : Option (List ℕ)) (tail : List ℕ → List ℕ) (n breaks : ℕ) (octets : List ℕ) → EndsLine octets n → n ≤ MAX_LINE_OCTETS → breaks < MAX_LINES
+    → Advances (option_map (script_from (fresh breaks)) (option_map (λ xs. octets ++ tail xs) known)) (Ok true) (breaks + 1) (take n octets)
+    (option_map (script_from (fresh (breaks + 1))) (option_map (λ xs. drop (n + 1) octets ++ tail xs) known))
+whole_line None tail n breaks octets is short few = tt
+whole_line (Some xs) tail n breaks octets is short few =
+    let line = take n octets in
+    let rest = drop (n + 1) octets ++ tail xs in
+    let long : length line ≡ n = length-take-le n octets (omega (arith, is.within)) in (
+      script_from (fresh (breaks + 1)) rest,
+      refl,
+      ap (λ f. script_from (fresh breaks) (f ++ tail xs)) (line_parts n octets is)
+          ∙ ap (script_from (fresh breaks)) (append_assoc line (10 ∷ drop (n + 1) octets) (tail xs))
+          ∙ run_within [] line (10 ∷ rest) (breaks + 1) breaks is.unbroken (omega arith) few
+          ∙ line_end line rest (breaks + 1) breaks is.unjoined few,
+    )

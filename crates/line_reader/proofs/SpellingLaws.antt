@@ -39,7 +39,7 @@ no_line_feed false e = refl
 
 -- ---- octets of a line
 
-line_end : (octets rest : List ℕ) (first breaks : ℕ) → joins octets ≡ false → breaks < MAX_LINES
+pub line_end : (octets rest : List ℕ) (first breaks : ℕ) → joins octets ≡ false → breaks < MAX_LINES
     → script_from (record { octets = octets; first = first; breaks = breaks }) (10 ∷ rest) ≡ Line first octets (script_from (fresh (breaks + 1)) rest)
 line_end octets rest first breaks unjoined few =
     case_ends (eqb (length octets) MAX_LINE_OCTETS) (eqb breaks MAX_LINES) (joins octets) _ _ _ _ (ne_eqb breaks MAX_LINES (λ e. omega arith)) unjoined

@@ -1,7 +1,8 @@
 -- What a line reader has left.
-use Rattle.std.specs.Prelude.{◌≡◌, ◌+◌, ◌-◌, List, ℕ, [], Option, Some, None, Result, Ok, Err, ⊤, Bool, true, false, option_map, if◌then◌else◌}
+use Rattle.std.specs.Prelude.{◌≡◌, ◌<◌, ◌+◌, ◌-◌, List, ℕ, [], Option, Some, None, Result, Ok, Err, ⊤, Bool, true, false, option_map, length, get_or, take, if◌then◌else◌}
 use Rattle.line_reader.specs.Source.{octets_left, ahead}
-use Rattle.line_reader.specs.Script.{Script, Progress, End, Broken, Line, fresh, script_from}
+use Rattle.line_reader.specs.Script.{Script, Progress, End, Broken, Line, fresh, joins, script_from}
+use Rattle.line_reader.specs.Spelling.{is_unbroken}
 use Rattle.line_reader.specs.Endings.{answer_of}
 use Rattle.line_reader.specs.declared.lines.LineReader.{LineReader}
 use Rattle.line_reader.specs.declared.lines.LineFault.{LineFault}
@@ -23,6 +24,17 @@ how_ended r = r.ended
 -- what was read and is in no line yet
 abbrev pub in_hand : {R A : Type 0} → LineReader R A → List ℕ
 in_hand r = ahead r.source
+
+-- the number of the first physical line of the line behind
+abbrev pub next_number : {R A : Type 0} → LineReader R A → ℕ
+next_number r = r.breaks + 1
+
+-- so many octets are a whole line, and the line feed behind them ends it
+pub record EndsLine (octets : List ℕ) (n : ℕ) : Type 0 where
+  pub within : n < length octets
+  pub ended : get_or octets n 0 ≡ 10
+  pub unbroken : is_unbroken (take n octets) ≡ true
+  pub unjoined : joins (take n octets) ≡ false
 
 -- the input has ended, and there is no line
 abbrev pub IsAtEnd : {R A : Type 0} → LineReader R A → Type 0

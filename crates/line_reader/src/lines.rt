@@ -1,7 +1,7 @@
 //! The lines of a script.
 
 ghost use Rattle.std.specs.List.{list_all};
-ghost use Rattle.std.specs.Prelude.{take, not, ◌≡◌, ◌≤◌, ◌<◌, ◌+◌, ◌^◌, ◌==◌, [], IsSome, IfSome, IfOk, IsOkUnless, length, None, Ok, Err, true, false, vec_len, vec_capacity, option_map};
+ghost use Rattle.std.specs.Prelude.{take, drop, not, ◌≡◌, ◌≤◌, ◌<◌, ◌+◌, ◌^◌, ◌==◌, [], IsSome, IfSome, IfOk, IsOkUnless, length, None, Ok, Err, true, false, vec_len, vec_capacity, option_map};
 ghost use Rattle.line_reader.specs.Script.{joins, script_of};
 ghost use Rattle.line_reader.specs.Endings.{answer_of, ended_by};
 ghost use Rattle.line_reader.specs.declared.lines.TheConstants.{MAX_LINE_OCTETS, MAX_LINES};
@@ -111,7 +111,7 @@ pub struct LineReader<R, A: Allocator = Global> {
 }
 
 impl<R: Read + Drop, A: Allocator> LineReader<R, A> {
-    ghost use Rattle.line_reader.specs.LineReader.{script_ahead, script_behind, script_within, script_left, Advances, most_lines, current_line, current_number, in_hand, how_ended, IsAtEnd};
+    ghost use Rattle.line_reader.specs.LineReader.{script_ahead, script_behind, script_within, script_left, Advances, most_lines, current_line, current_number, in_hand, how_ended, next_number, EndsLine, IsAtEnd};
 
     /// Makes both buffers, and reads nothing.
     pub fn new(alloc: A, reader: R) -> Result<LineReader<R, A>, AllocError>
@@ -143,6 +143,36 @@ impl<R: Read + Drop, A: Allocator> LineReader<R, A> {
         ensures { result ≡ current_number self.now }
     {
         self.first
+    }
+
+    /// The octets in hand: what was read and is in no line yet.
+    #[inline(always)]
+    pub fn in_hand(&self) -> &[u8]
+        ensures { result.now ≡ in_hand self.now }
+    {
+        self.source.buffer()
+    }
+
+    /// Goes past a line of so many octets that stands whole in hand, with the LF behind it, without taking it: what the reader stands
+    /// at stays. Where the lines have ended or the line passes a limit, it is refused, and nothing changes.
+    #[inline(always)]
+    pub fn pass_line(&mut self, length: usize) -> bool
+        requires { EndsLine (in_hand self.old) length }
+        ensures line { result ≡ true → Advances (script_left R.remaining self.old) (Ok true)
+            (next_number self.old) (take length (in_hand self.old)) (script_left R.remaining self.new) }
+        ensures fewer { result ≡ true → most_lines self.new < most_lines self.old }
+        ensures hand { result ≡ true → in_hand self.new ≡ drop (length + 1) (in_hand self.old) }
+        ensures stays { (current_line self.new ≡ current_line self.old) × (current_number self.new ≡ current_number self.old) }
+        ensures over { how_ended self.new ≡ how_ended self.old }
+        ensures refused { result ≡ false → self.new ≡ self.old }
+        ensures taken { how_ended self.old ≡ None → length ≤ MAX_LINE_OCTETS → 1 < most_lines self.old → result ≡ true }
+    {
+        if self.ended.is_some() || length > MAX_LINE_OCTETS || self.breaks == MAX_LINES {
+            return false;
+        }
+        self.breaks += 1;
+        self.source.consume(length + 1);
+        true
     }
 
     // Takes the octets in hand up to a line feed or to the longest line. One by one they would do the same.

@@ -1,4 +1,5 @@
 pub mod OutputLaws
+pub mod FrontLaws
 pub mod StartsLaws
 pub mod LeftLaws
 pub mod ReaderLaws

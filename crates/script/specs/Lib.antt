@@ -1,6 +1,7 @@
 pub mod Setup
 pub mod Settings
 pub mod Requests
+pub mod Plain
 pub mod Responses
 pub mod Outcome
 pub mod Separated

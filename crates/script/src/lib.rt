@@ -5,6 +5,7 @@ mod answering;
 mod ending;
 mod faults;
 pub mod laws;
+mod plain;
 mod program;
 mod reading;
 mod running;

@@ -13,6 +13,7 @@ use crate::answering::{RunningPort, put_answers, put_tc};
 use crate::ending::put_end;
 use crate::faults::RunFault;
 use crate::laws::faithful;
+use crate::plain::pass_plain;
 use crate::reading::{Said, read_line};
 use crate::settings::Settings;
 use abstract_port::Event;
@@ -55,7 +56,14 @@ fn run_lines<A: Allocator, B: Allocator, R: Read + Drop, W: Write>(
 {
     settling();
     let _now = port.now();
-    'lines: while lines.advance()? {
+    'lines: loop {
+        if let Some(event) = pass_plain(lines) {
+            put_answers(port, summary, &event, writer)?;
+            continue;
+        }
+        if !lines.advance()? {
+            break;
+        }
         let line = lines.line();
         match read_line(line) {
             Ok(None) => {}

@@ -1,5 +1,5 @@
 -- Words that are numbers.
-use Rattle.std.specs.Prelude.{ℕ, List, [], ◌∷◌, ◌+◌, ◌-◌, ◌*◌, ◌&&◌, ◌==◌, nat_lt, nat_le, length, Bool, Option, Some, None, option_and_then, if◌then◌else◌}
+use Rattle.std.specs.Prelude.{◌≡◌, ℕ, List, [], ◌∷◌, ◌++◌, true, ◌+◌, ◌-◌, ◌*◌, ◌&&◌, ◌==◌, nat_lt, nat_le, length, Bool, Option, Some, None, option_and_then, if◌then◌else◌}
 use Rattle.std.specs.List.{list_all}
 
 -- what a digit of either case stands for
@@ -34,6 +34,17 @@ is_digit octet = nat_le 48 octet && nat_le octet 57
 -- one decimal digit or more
 abbrev pub is_digits : List ℕ → Bool
 is_digits word = nat_lt 0 (length word) && list_all is_digit word
+
+-- one decimal digit or more, which stand for a number
+pub record IsNumber (word : List ℕ) (n : ℕ) : Type 0 where
+  pub digits : is_digits word ≡ true
+  pub number : (most : ℕ) → number_in 10 most word ≡ at_most most (Some n)
+
+-- octets that begin with a number, and what comes behind its digits
+pub record BeginsWithNumber (octets : List ℕ) (n : ℕ) (rest : List ℕ) : Type 0 where
+  pub word : List ℕ
+  pub parts : octets ≡ word ++ rest
+  pub is_number : IsNumber word n
 
 -- the first of words as a decimal number up to a greatest one, if there is a word
 abbrev pub first_number : ℕ → List (List ℕ) → Option (Option ℕ)

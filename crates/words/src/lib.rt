@@ -5,5 +5,5 @@ pub mod laws;
 mod numbers;
 mod words;
 
-pub use numbers::{hex_number, is_digits, number};
+pub use numbers::{front_number, front_short, hex_number, is_digits, number};
 pub use words::Words;

@@ -3,7 +3,7 @@
 ghost use Rattle.std.specs.Prelude.{◌≡◌, ◌<◌, ◌≤◌, ◌^◌, Some, IfSome, length, take};
 ghost use Rattle.std.specs.List.{list_all};
 ghost use Rattle.words.specs.declared.numbers.TheConstants.{SHORT_DIGITS, LONG_DIGITS, HEX_DIGITS};
-ghost use Rattle.words.specs.Numbers.{digit_in, number_in, value_behind, is_digit, is_digits};
+ghost use Rattle.words.specs.Numbers.{BeginsWithNumber, digit_in, number_in, value_behind, is_digit, is_digits};
 
 fn digit_in(base: u8, octet: u8) -> Option<u8>
     ensures digit { result ≡ digit_in base octet }
@@ -35,17 +35,35 @@ fn decimal_digit(octet: u8) -> Option<u8>
     }
 }
 
-// The number that the decimal digits at the front of octets are, as far as they surely fit 64 bits, and how many these are.
-pub(crate) fn short_run(octets: &[u8]) -> (u64, usize)
-    ensures within { result.1 ≤ length octets.now }
+// The number that the decimal digits at the front of an array are, and how many these are. The compiler lays this loop out digit
+// by digit.
+fn array_run(octets: &[u8; SHORT_DIGITS]) -> (u64, usize)
     ensures few { result.1 ≤ SHORT_DIGITS }
     ensures value { value_behind 10 0 (take result.1 octets.now) ≡ Some result.0 }
     ensures bound { result.0 < 10 ^ result.1 }
 {
-    let stop = octets.len().min(SHORT_DIGITS);
+    let mut value = 0u64;
+    let mut end = 0;
+    while end < SHORT_DIGITS {
+        let Some(digit) = decimal_digit(octets[end]) else {
+            return (value, end);
+        };
+        value = value * 10 + u64::from(digit);
+        end += 1;
+    }
+    (value, end)
+}
+
+// The same of fewer octets than an array has.
+fn few_run(octets: &[u8]) -> (u64, usize)
+    requires { length octets.now < SHORT_DIGITS }
+    ensures within { result.1 ≤ length octets.now }
+    ensures value { value_behind 10 0 (take result.1 octets.now) ≡ Some result.0 }
+    ensures bound { result.0 < 10 ^ result.1 }
+{
     let mut number = 0u64;
     let mut end = 0;
-    while end < stop {
+    while end < octets.len() {
         let Some(digit) = decimal_digit(octets[end]) else {
             return (number, end);
         };
@@ -53,6 +71,46 @@ pub(crate) fn short_run(octets: &[u8]) -> (u64, usize)
         end += 1;
     }
     (number, end)
+}
+
+// The number that the decimal digits at the front of octets are, as far as they surely fit 64 bits, and how many these are.
+pub(crate) fn short_run(octets: &[u8]) -> (u64, usize)
+    ensures within { result.1 ≤ length octets.now }
+    ensures few { result.1 ≤ SHORT_DIGITS }
+    ensures value { value_behind 10 0 (take result.1 octets.now) ≡ Some result.0 }
+    ensures bound { result.0 < 10 ^ result.1 }
+{
+    match octets.first_chunk::<SHORT_DIGITS>() {
+        Some(front) => array_run(front),
+        None => few_run(octets),
+    }
+}
+
+/// The number that the decimal digits at the front of octets are, one digit or more and at most 19, and what comes behind them. None
+/// where there is no digit.
+#[inline(always)]
+pub fn front_short(octets: &[u8]) -> Option<(u64, &[u8])>
+    ensures { IfSome result (λ x. BeginsWithNumber octets.now x.0 x.1.now) }
+{
+    let (number, end) = short_run(octets);
+    if end == 0 {
+        return None;
+    }
+    let (_, rest) = octets.split_at(end);
+    Some((number, rest))
+}
+
+/// The same of at most 38 digits.
+#[inline(always)]
+pub fn front_number(octets: &[u8]) -> Option<(u128, &[u8])>
+    ensures { IfSome result (λ x. BeginsWithNumber octets.now x.0 x.1.now) }
+{
+    let (number, end) = decimal_run(octets);
+    if end == 0 {
+        return None;
+    }
+    let (_, rest) = octets.split_at(end);
+    Some((number, rest))
 }
 
 // The same as far as they surely fit 128 bits, from the number that the first of them are.

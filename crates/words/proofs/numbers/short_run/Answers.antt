@@ -1,32 +1,11 @@
-use Rattle.std.proofs.Common.{◌≡◌, ◌<◌, ◌+◌, get_or, length, Some, rules, arith}
-use Rattle.words.specs.Numbers.{digit_in}
-use Rattle.words.proofs.Digits.{no_digits, run_more, digit_fits}
+use Rattle.std.proofs.Common.{◌≡◌, ap, ◌∙◌, sym, take, rules}
+use Rattle.std.proofs.lemmas.List.{take-take}
+use Rattle.words.specs.Numbers.{value_behind}
 use Rattle.words.proofs.numbers.short_run.Goals as goal
 
-pub overflow_mul-number : goal.overflow_mul-number
-overflow_mul-number c =
-    let few : c.loop-end.end < 19 = omega (arith, c.loop-end.invariant.within, c.min-stop.ensures) in
-    let all = digit_fits c.loop-end.number 0 c.loop-end.end 19 c.loop-end.invariant.bound (omega arith) few in
-    omega (arith, all)
-
-pub overflow_add-number : goal.overflow_add-number
-overflow_add-number c =
-    let few : c.loop-end.end < 19 = omega (arith, c.loop-end.invariant.within, c.min-stop.ensures) in
-    let small : c.from.result < 10 = search rules in
-    let all = digit_fits c.loop-end.number c.from.result c.loop-end.end 19 c.loop-end.invariant.bound small few in
-    omega (arith, all)
-
-pub loop-end-preserved : goal.loop-end-preserved
-loop-end-preserved c =
+pub returns-in-Some-clause-value : goal.returns-in-Some-clause-value
+returns-in-Some-clause-value c =
+    let n = c.array_run.result.1 in
     let octets = c.args.octets.now in
-    let few : c.loop-end.end < length octets = omega (arith, c.min-stop.ensures) in
-    let small : c.from.result < 10 = search rules in
-    let is : digit_in 10 (get_or octets c.loop-end.end 0) ≡ Some c.from.result = search rules in
-    record {
-      within = omega arith;
-      value = run_more c.loop-end.number c.from.result c.loop-end.end octets few c.loop-end.invariant.value is;
-      bound = digit_fits c.loop-end.number c.from.result c.loop-end.end (c.loop-end.end + 1) c.loop-end.invariant.bound small (omega arith);
-    }
-
-pub loop-end-init : goal.loop-end-init
-loop-end-init c = record { within = omega arith; value = no_digits 0; bound = omega arith }
+    let front : c.in-Some.front.now ≡ take 19 octets = search rules in
+    ap (value_behind 10 0) (sym (ap (take n) front ∙ take-take n 19 octets c.array_run.ensures.few)) ∙ c.array_run.ensures.value

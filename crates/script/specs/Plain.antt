@@ -1,0 +1,42 @@
+-- Lines as most are written, at the front of octets.
+use Rattle.std.specs.Prelude.{◌≡◌, ◌∷◌, ◌++◌, [], ℕ, List, Bool, true, false, Option, Some, Ok, Result, codes, not, ◌&&◌, ◌==◌}
+use Rattle.std.specs.List.{list_all}
+use Rattle.abstract_port.specs.declared.Event.{Event}
+use Rattle.line_reader.specs.LineReader.{Advances, next_number, script_left}
+use Rattle.line_reader.specs.Script.{joins}
+use Rattle.line_reader.specs.Spelling.{is_unbroken}
+use Rattle.line_reader.specs.declared.lines.LineReader.{LineReader}
+use Rattle.words.specs.Words.{words_of}
+use Rattle.script.specs.Requests.{said_in}
+use Rattle.script.specs.declared.faults.ScriptFault.{ScriptFault}
+use Rattle.script.specs.declared.reading.Said.TheVariants as Says
+
+-- what stands behind the numbers of a frame
+abbrev pub tag_text : Bool → List ℕ
+tag_text true = codes " tagged"
+tag_text false = []
+
+-- octets that no line is broken or joined at: no LF, no CR and no backslash
+abbrev pub is_plain : ℕ → Bool
+is_plain octet = not (octet == 10) && not (octet == 13) && not (octet == 92)
+
+-- octets that begin with words that ask an event, and a line feed behind them
+pub record BeginsWithEvent (event_of : List (List ℕ) → Result Event ScriptFault) (octets : List ℕ) (event : Event) (rest : List ℕ) : Type 0 where
+  pub line : List ℕ
+  pub parts : octets ≡ line ++ (10 ∷ rest)
+  pub plain : list_all is_plain line ≡ true
+  pub asks : event_of (words_of line) ≡ Ok event
+
+-- octets that begin with a line that asks an event, and a line feed that ends it
+pub record BeginsWithLine (octets : List ℕ) (event : Event) (rest : List ℕ) : Type 0 where
+  pub line : List ℕ
+  pub parts : octets ≡ line ++ (10 ∷ rest)
+  pub unbroken : is_unbroken line ≡ true
+  pub unjoined : joins line ≡ false
+  pub says : said_in line ≡ Ok (Some (Says.Asked event))
+
+-- a reader that goes past a line which asks an event
+pub record GoesPast {R A : Type 0} (remaining : R → Option (List ℕ)) (old : LineReader R A) (event : Event) (new : LineReader R A) : Type 0 where
+  pub line : List ℕ
+  pub says : said_in line ≡ Ok (Some (Says.Asked event))
+  pub past : Advances (script_left remaining old) (Ok true) (next_number old) line (script_left remaining new)

@@ -1,0 +1,136 @@
+//! Lines as most are written, read where they stand in hand.
+
+ghost use Rattle.std.specs.Prelude.{◌≡◌, ◌<◌, ◌∷◌, ◌++◌, ℕ, List, IfSome, MatchOption, Ok, codes};
+ghost use Rattle.abstract_port.specs.declared.Event.TheVariants.{Arrive, Clock};
+ghost use Rattle.line_reader.specs.LineReader.{most_lines};
+ghost use Rattle.script.specs.Plain.{BeginsWithEvent, BeginsWithLine, GoesPast, tag_text};
+ghost use Rattle.script.specs.Requests.{clock_event, frame_event};
+
+use abstract_port::Event;
+use line_reader::LineReader;
+use std::alloc::Allocator;
+use std::io::Read;
+use wire_time::{Frame, MAX_MOMENT};
+use words::{front_number, front_short};
+
+// What comes after a space, where octets begin with it.
+#[inline(always)]
+fn behind_space(octets: &[u8]) -> Option<&[u8]>
+    ensures { IfSome result (λ rest. octets.now ≡ 32 ∷ rest.now) }
+{
+    match octets {
+        [b' ', rest @ ..] => Some(rest),
+        _ => None,
+    }
+}
+
+// What comes after an LF, where octets begin with it.
+#[inline(always)]
+fn behind_feed(octets: &[u8]) -> Option<&[u8]>
+    ensures { IfSome result (λ rest. octets.now ≡ 10 ∷ rest.now) }
+{
+    match octets {
+        [b'\n', rest @ ..] => Some(rest),
+        _ => None,
+    }
+}
+
+// Whether a frame is tagged, and what comes behind that.
+#[inline(always)]
+fn behind_tag(octets: &[u8]) -> (bool, &[u8])
+    ensures { octets.now ≡ tag_text result.0 ++ result.1.now }
+{
+    match octets {
+        [b' ', b't', b'a', b'g', b'g', b'e', b'd', rest @ ..] => (true, rest),
+        _ => (false, octets),
+    }
+}
+
+// What comes after `frame` and a space, where octets begin with them.
+#[inline(always)]
+fn behind_frame(octets: &[u8]) -> Option<&[u8]>
+    ensures { IfSome result (λ rest. octets.now ≡ codes "frame " ++ rest.now) }
+{
+    match octets {
+        [b'f', b'r', b'a', b'm', b'e', b' ', rest @ ..] => Some(rest),
+        _ => None,
+    }
+}
+
+// The same of `clock`.
+#[inline(always)]
+fn behind_clock(octets: &[u8]) -> Option<&[u8]>
+    ensures { IfSome result (λ rest. octets.now ≡ codes "clock " ++ rest.now) }
+{
+    match octets {
+        [b'c', b'l', b'o', b'c', b'k', b' ', rest @ ..] => Some(rest),
+        _ => None,
+    }
+}
+
+// The frame that a line is, behind its first word, and what comes behind the line.
+#[inline(always)]
+fn front_frame(octets: &[u8]) -> Option<(Frame, &[u8])>
+    ensures { IfSome result (λ x. BeginsWithEvent frame_event octets.now (Arrive x.0) x.1.now) }
+{
+    let (id, rest) = front_short(octets)?;
+    let (priority, rest) = front_short(behind_space(rest)?)?;
+    let (len, rest) = front_short(behind_space(rest)?)?;
+    let (tagged, rest) = behind_tag(rest);
+    let rest = behind_feed(rest)?;
+    if priority > u64::from(u8::MAX) || len > u64::from(u32::MAX) {
+        return None;
+    }
+    let frame = Frame {
+        id,
+        priority: priority as u8,
+        len: len as u32,
+        tagged,
+    };
+    Some((frame, rest))
+}
+
+// The moment that a line is, behind its first word, and what comes behind the line.
+#[inline(always)]
+fn front_clock(octets: &[u8]) -> Option<(u128, &[u8])>
+    ensures { IfSome result (λ x. BeginsWithEvent clock_event octets.now (Clock x.0) x.1.now) }
+{
+    let (moment, rest) = front_number(octets)?;
+    let rest = behind_feed(rest)?;
+    if moment > MAX_MOMENT {
+        return None;
+    }
+    Some((moment, rest))
+}
+
+// The event that the first line asks, where it is a frame or a moment as most are written, and what comes behind the line.
+#[inline(always)]
+fn front_event(octets: &[u8]) -> Option<(Event<'static>, &[u8])>
+    ensures { IfSome result (λ x. BeginsWithLine octets.now x.0 x.1.now) }
+{
+    if let Some(rest) = behind_frame(octets) {
+        let (frame, rest) = front_frame(rest)?;
+        return Some((Event::Arrive(frame), rest));
+    }
+    let (moment, rest) = front_clock(behind_clock(octets)?)?;
+    Some((Event::Clock(moment), rest))
+}
+
+/// Goes past the next line, where it is a frame or a moment as most are written and stands whole in hand, and answers the event
+/// that it asks. Else nothing changes.
+#[inline(always)]
+pub fn pass_plain<R: Read + Drop, B: Allocator>(
+    lines: &mut LineReader<R, B>,
+) -> Option<Event<'static>>
+    ensures event { MatchOption result (lines.new ≡ lines.old) (λ event. GoesPast R.remaining lines.old event lines.new) }
+    ensures fewer { IfSome result (λ _. most_lines lines.new < most_lines lines.old) }
+{
+    let octets = lines.in_hand();
+    let (event, rest) = front_event(octets)?;
+    let length = octets.len() - rest.len() - 1;
+    if lines.pass_line(length) {
+        Some(event)
+    } else {
+        None
+    }
+}
