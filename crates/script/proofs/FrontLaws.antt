@@ -1,8 +1,8 @@
 -- Lines as most are written, at the front of octets.
-use Rattle.std.proofs.Common.{◌≡◌, ◌<◌, ◌≤◌, ◌^◌, ◌+◌, ◌-◌, ℕ, zero, suc, Bool, true, false, eqb, List, [], ◌∷◌, ◌++◌, Option, Some, None, Result, Ok, Err, codes, length, take, get_or, refl, sym, ap, ◌∙◌, append_assoc, length-append, arith}
+use Rattle.std.proofs.Common.{◌≡◌, ◌≤◌, ◌^◌, ◌+◌, ◌-◌, ℕ, zero, suc, Bool, true, false, eqb, List, [], ◌∷◌, ◌++◌, Some, Result, codes, length, take, get_or, refl, sym, ap, ◌∙◌, append_assoc, length-append, arith}
 use Rattle.std.specs.Prelude.{not, ◌&&◌, ◌||◌, ◌==◌}
 use Rattle.std.specs.List.{list_all}
-use Rattle.std.proofs.lemmas.List.{append-nil, take-append-le, take_all}
+use Rattle.std.proofs.lemmas.List.{append-nil}
 use Rattle.std.proofs.Math.Seq.{get_or-append_seam}
 use Rattle.wire_time.specs.Moment.{greatest_moment}
 use Rattle.abstract_port.specs.declared.Event.{Event}
@@ -16,7 +16,6 @@ use Rattle.line_reader.specs.LineReader.{EndsLine}
 use Rattle.script.specs.Requests.{said, said_in, clock_event, frame_event, tag_in}
 use Rattle.script.specs.Plain.{BeginsWithEvent, BeginsWithLine, is_plain, tag_text}
 use Rattle.script.specs.declared.faults.ScriptFault.{ScriptFault}
-use Rattle.script.specs.declared.reading.Said.TheVariants as Says
 use Rattle.script.proofs.PlainLaws.{plain_clock, plain_frame}
 
 both : (t u : Bool) → t ≡ true → u ≡ true → (t && u) ≡ true
