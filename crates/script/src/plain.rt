@@ -1,11 +1,12 @@
 //! Lines as most are written, read where they stand in hand.
 
-ghost use Rattle.std.specs.Prelude.{◌≡◌, ◌<◌, ◌∷◌, ◌++◌, ℕ, List, IfSome, MatchOption, Ok, codes};
+ghost use Rattle.std.specs.Prelude.{◌≡◌, ◌<◌, ◌∷◌, ◌++◌, ℕ, List, IfSome, MatchOption, Ok};
 ghost use Rattle.abstract_port.specs.declared.Event.TheVariants.{Arrive, Clock};
 ghost use Rattle.line_reader.specs.LineReader.{most_lines};
 ghost use Rattle.script.specs.Plain.{BeginsWithEvent, BeginsWithLine, GoesPast, tag_text};
 ghost use Rattle.script.specs.Requests.{clock_event, frame_event};
 
+use crate::reading::{behind_clock, behind_frame};
 use abstract_port::Event;
 use line_reader::LineReader;
 use std::alloc::Allocator;
@@ -43,28 +44,6 @@ fn behind_tag(octets: &[u8]) -> (bool, &[u8])
     match octets {
         [b' ', b't', b'a', b'g', b'g', b'e', b'd', rest @ ..] => (true, rest),
         _ => (false, octets),
-    }
-}
-
-// What comes after `frame` and a space, where octets begin with them.
-#[inline(always)]
-fn behind_frame(octets: &[u8]) -> Option<&[u8]>
-    ensures { IfSome result (λ rest. octets.now ≡ codes "frame " ++ rest.now) }
-{
-    match octets {
-        [b'f', b'r', b'a', b'm', b'e', b' ', rest @ ..] => Some(rest),
-        _ => None,
-    }
-}
-
-// The same of `clock`.
-#[inline(always)]
-fn behind_clock(octets: &[u8]) -> Option<&[u8]>
-    ensures { IfSome result (λ rest. octets.now ≡ codes "clock " ++ rest.now) }
-{
-    match octets {
-        [b'c', b'l', b'o', b'c', b'k', b' ', rest @ ..] => Some(rest),
-        _ => None,
     }
 }
 

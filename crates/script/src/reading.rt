@@ -229,8 +229,8 @@ fn read_any_line(line: &[u8]) -> Result<Option<Said>, ScriptFault>
 }
 
 // What comes after `frame` and a space, where a line begins with them.
-#[inline]
-fn behind_frame(line: &[u8]) -> Option<&[u8]>
+#[inline(always)]
+pub(crate) fn behind_frame(line: &[u8]) -> Option<&[u8]>
     ensures { IfSome result (λ rest. line.now ≡ codes "frame " ++ rest.now) }
 {
     match line {
@@ -240,8 +240,8 @@ fn behind_frame(line: &[u8]) -> Option<&[u8]>
 }
 
 // The same of `clock`.
-#[inline]
-fn behind_clock(line: &[u8]) -> Option<&[u8]>
+#[inline(always)]
+pub(crate) fn behind_clock(line: &[u8]) -> Option<&[u8]>
     ensures { IfSome result (λ rest. line.now ≡ codes "clock " ++ rest.now) }
 {
     match line {
