@@ -30,6 +30,7 @@ use wire_time::{Frame, MAX_MOMENT};
 pub type RunningPort<A> = Port<Jumping, A>;
 
 // Takes a frame that arrives, and writes the answer.
+#[inline(always)]
 fn put_frame<A: Allocator, W: Write>(
     port: &mut RunningPort<A>,
     summary: &mut Option<Summary<A>>,
@@ -70,6 +71,7 @@ fn put_each_start<A: Allocator, W: Write>(
 }
 
 // The same where it may be known that there are none.
+#[inline(always)]
 fn put_starts<A: Allocator, W: Write>(
     port: &mut RunningPort<A>,
     summary: &mut Option<Summary<A>>,
@@ -113,6 +115,7 @@ fn put_each<A: Allocator, W: Write>(
 }
 
 // Takes a clock event, with its moment in picoseconds, and writes the answers to it.
+#[inline(always)]
 fn put_clock<A: Allocator, W: Write>(
     port: &mut RunningPort<A>,
     summary: &mut Option<Summary<A>>,
@@ -133,6 +136,7 @@ fn put_clock<A: Allocator, W: Write>(
 
 /// Takes an event, and writes the answers to it as they come, each noted where a summary is wanted. At a fault a front of them is
 /// written.
+#[inline(always)]
 pub fn put_answers<A: Allocator, W: Write>(
     port: &mut RunningPort<A>,
     summary: &mut Option<Summary<A>>,
