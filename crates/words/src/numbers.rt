@@ -86,6 +86,105 @@ pub(crate) fn short_run(octets: &[u8]) -> (u64, usize)
     }
 }
 
+// How many octets are looked at together where digits are read eight at a time: more than any digits that are.
+const FRONT: usize = 24;
+
+// Whether eight octets are decimal digits, all looked at.
+#[inline(always)]
+fn are_digits(octets: &[u8; 8]) -> bool
+    ensures { result ≡ list_all is_digit octets.now }
+{
+    let mut other = false;
+    for octet in octets {
+        other |= *octet < b'0' || b'9' < *octet;
+    }
+    !other
+}
+
+// The number that eight decimal digits are. They stand in one word, the first in its lowest octet; there each is put together with the
+// next one, and of the pairs every second one counts.
+#[inline(always)]
+fn eight_digits(octets: &[u8; 8]) -> Option<u64>
+    ensures value { IfSome result (λ n. value_behind 10 0 octets.now ≡ Some n) }
+    ensures bound { IfSome result (λ n. n < 10 ^ 8) }
+{
+    if !are_digits(octets) {
+        return None;
+    }
+    let ones = u64::from_le_bytes(*octets) - 0x3030_3030_3030_3030;
+    let pairs = ones * 10 + ones / 256;
+    let first = pairs % 256;
+    let second = pairs / 65_536 % 256;
+    let third = pairs / 4_294_967_296 % 256;
+    let fourth = pairs / 281_474_976_710_656 % 256;
+    Some(first * 1_000_000 + second * 10_000 + third * 100 + fourth)
+}
+
+// The number that the first eight of octets are, where they are digits.
+#[inline(always)]
+fn eight_in(octets: &[u8]) -> Option<u64>
+    ensures value { IfSome result (λ n. value_behind 10 0 (take 8 octets.now) ≡ Some n) }
+    ensures bound { IfSome result (λ n. n < 10 ^ 8) }
+{
+    match octets.first_chunk::<8>() {
+        Some(front) => eight_digits(front),
+        None => None,
+    }
+}
+
+// The number that the digits at the front of an array are, at most 19 of them, where those up to a place are known.
+#[inline(always)]
+fn run_on(octets: &[u8; FRONT], front: u64, from: usize) -> (u64, usize)
+    requires few { from ≤ SHORT_DIGITS }
+    requires value { value_behind 10 0 (take from octets.now) ≡ Some front }
+    requires bound { front < 10 ^ from }
+    ensures few { result.1 ≤ SHORT_DIGITS }
+    ensures value { value_behind 10 0 (take result.1 octets.now) ≡ Some result.0 }
+    ensures bound { result.0 < 10 ^ result.1 }
+{
+    let mut total = front;
+    let mut end = from;
+    while end < SHORT_DIGITS {
+        let Some(digit) = decimal_digit(octets[end]) else {
+            return (total, end);
+        };
+        total = total * 10 + u64::from(digit);
+        end += 1;
+    }
+    (total, end)
+}
+
+// The same from its front, read eight digits at a time.
+#[inline(always)]
+fn eights_run(octets: &[u8; FRONT]) -> (u64, usize)
+    ensures few { result.1 ≤ SHORT_DIGITS }
+    ensures value { value_behind 10 0 (take result.1 octets.now) ≡ Some result.0 }
+    ensures bound { result.0 < 10 ^ result.1 }
+{
+    let (front, rest) = octets.split_at(8);
+    let Some(first) = eight_in(front) else {
+        return run_on(octets, 0, 0);
+    };
+    let Some(second) = eight_in(rest) else {
+        return run_on(octets, first, 8);
+    };
+    run_on(octets, first * 100_000_000 + second, 16)
+}
+
+// The same as `short_run`, where most numbers are long.
+#[inline(always)]
+fn front_run(octets: &[u8]) -> (u64, usize)
+    ensures within { result.1 ≤ length octets.now }
+    ensures few { result.1 ≤ SHORT_DIGITS }
+    ensures value { value_behind 10 0 (take result.1 octets.now) ≡ Some result.0 }
+    ensures bound { result.0 < 10 ^ result.1 }
+{
+    match octets.first_chunk::<FRONT>() {
+        Some(front) => eights_run(front),
+        None => short_run(octets),
+    }
+}
+
 /// The number that the decimal digits at the front of octets are, one digit or more and at most 19, and what comes behind them. None
 /// where there is no digit.
 #[inline(always)]
@@ -114,7 +213,7 @@ pub fn front_number(octets: &[u8]) -> Option<(u128, &[u8])>
 }
 
 // The same as far as they surely fit 128 bits, from the number that the first of them are.
-#[inline(never)]
+#[inline(always)]
 fn long_run(front: u64, octets: &[u8]) -> (u128, usize)
     requires within { SHORT_DIGITS ≤ length octets.now }
     requires value { value_behind 10 0 (take SHORT_DIGITS octets.now) ≡ Some front }
@@ -136,11 +235,12 @@ fn long_run(front: u64, octets: &[u8]) -> (u128, usize)
 }
 
 // The number that the decimal digits at the front of octets are, but for those past 38, and how many these are.
+#[inline(always)]
 pub(crate) fn decimal_run(octets: &[u8]) -> (u128, usize)
     ensures within { result.1 ≤ length octets.now }
     ensures value { value_behind 10 0 (take result.1 octets.now) ≡ Some result.0 }
 {
-    let (front, end) = short_run(octets);
+    let (front, end) = front_run(octets);
     if end == SHORT_DIGITS {
         return long_run(front, octets);
     }

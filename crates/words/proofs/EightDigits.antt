@@ -1,0 +1,205 @@
+-- Eight digits in a word.
+use Rattle.std.proofs.Common.{◌≡◌, ◌<◌, ◌≤◌, ℕ, ◌+◌, ◌-◌, ◌*◌, ◌/◌, ◌%◌, ◌^◌, suc, true, List, [], ◌∷◌, ◌++◌, length, take, drop, None, Some, Option, rules, refl, sym, ap, ◌∙◌, arith}
+use Rattle.std.specs.Prelude.{option_and_then}
+use Rattle.std.specs.List.{list_all}
+use Rattle.std.specs.Int.{from_le_bytes, w64}
+use Rattle.words.specs.Numbers.{digit_in, is_digit, value_behind}
+use Rattle.std.proofs.lemmas.List.{take-append-drop, take-take, drop-take}
+use Rattle.std.proofs.lemmas.Grind.{pow_more}
+use Rattle.words.proofs.Digits.{value_append}
+use Rattle.words.proofs.JoinedLaws.{and_first, and_second}
+
+-- so many octets one after another, as a word has them
+abbrev pub word_of : ℕ → ℕ → ℕ → ℕ → ℕ → ℕ → ℕ → ℕ → ℕ
+word_of a b c d e f g h = a + 256 * (b + 256 * (c + 256 * (d + 256 * (e + 256 * (f + 256 * (g + 256 * h))))))
+
+-- what digits stand for, the first of them counting most
+abbrev pub decimal_of : ℕ → ℕ → ℕ → ℕ → ℕ → ℕ → ℕ → ℕ → ℕ
+decimal_of a b c d e f g h = ((((((a * 10 + b) * 10 + c) * 10 + d) * 10 + e) * 10 + f) * 10 + g) * 10 + h
+
+-- eight digits, and the word of their octets
+pub record Eight (octets : List ℕ) (word : ℕ) : Type 0 where
+  pub a : ℕ
+  pub b : ℕ
+  pub c : ℕ
+  pub d : ℕ
+  pub e : ℕ
+  pub f : ℕ
+  pub g : ℕ
+  pub h : ℕ
+  pub small_a : a < 10
+  pub small_b : b < 10
+  pub small_c : c < 10
+  pub small_d : d < 10
+  pub small_e : e < 10
+  pub small_f : f < 10
+  pub small_g : g < 10
+  pub small_h : h < 10
+  pub word_is : word ≡ 3472328296227680304 + word_of a b c d e f g h
+  pub value : value_behind 10 0 octets ≡ Some (decimal_of a b c d e f g h)
+
+-- a digit by its octet
+digit_is : (x : ℕ) → is_digit x ≡ true → digit_in 10 x ≡ Some (x - 48)
+digit_is x e = grind arith
+
+digit_small : (x : ℕ) → is_digit x ≡ true → x - 48 < 10
+digit_small x e = grind arith
+
+digit_above : (x : ℕ) → is_digit x ≡ true → x ≡ 48 + (x - 48)
+digit_above x e = let above : 48 ≤ x = grind arith in omega (arith, above)
+
+word_above : (a b c d e f g h s t u v w x y z : ℕ) → a ≡ 48 + s → b ≡ 48 + t → c ≡ 48 + u → d ≡ 48 + v → e ≡ 48 + w → f ≡ 48 + x → g ≡ 48 + y → h ≡ 48 + z
+    → from_le_bytes w64 (a ∷ b ∷ c ∷ d ∷ e ∷ f ∷ g ∷ h ∷ []) ≡ 3472328296227680304 + word_of s t u v w x y z
+word_above a b c d e f g h s t u v w x y z ia ib ic id ie if_ ig ih = omega arith
+
+digit_on : (n x : ℕ) (xs : List ℕ) → is_digit x ≡ true → value_behind 10 n (x ∷ xs) ≡ value_behind 10 (n * 10 + (x - 48)) xs
+unfolding value_behind
+digit_on n x xs e = ap (option_and_then (λ d. value_behind 10 (n * 10 + d) xs)) (digit_is x e)
+
+digit_first : (x : ℕ) (xs : List ℕ) → is_digit x ≡ true → value_behind 10 0 (x ∷ xs) ≡ value_behind 10 (x - 48) xs
+digit_first x xs e = digit_on 0 x xs e ∙ ap (λ n. value_behind 10 n xs) (omega arith)
+
+no_more : (n : ℕ) → value_behind 10 n [] ≡ Some n
+unfolding value_behind
+no_more n = refl
+
+pub eight : (octets : List ℕ) → length octets ≡ 8 → list_all is_digit octets ≡ true → Eight octets (from_le_bytes w64 octets)
+eight (a ∷ b ∷ c ∷ d ∷ e ∷ f ∷ g ∷ h ∷ []) long all =
+    let all_b = and_second _ _ all in
+    let all_c = and_second _ _ all_b in
+    let all_d = and_second _ _ all_c in
+    let all_e = and_second _ _ all_d in
+    let all_f = and_second _ _ all_e in
+    let all_g = and_second _ _ all_f in
+    let all_h = and_second _ _ all_g in
+    let ia = and_first _ _ all in
+    let ib = and_first _ _ all_b in
+    let ic = and_first _ _ all_c in
+    let id = and_first _ _ all_d in
+    let ie = and_first _ _ all_e in
+    let if_ = and_first _ _ all_f in
+    let ig = and_first _ _ all_g in
+    let ih = and_first _ _ all_h in
+    record {
+      a = a - 48;
+      b = b - 48;
+      c = c - 48;
+      d = d - 48;
+      e = e - 48;
+      f = f - 48;
+      g = g - 48;
+      h = h - 48;
+      small_a = digit_small a ia;
+      small_b = digit_small b ib;
+      small_c = digit_small c ic;
+      small_d = digit_small d id;
+      small_e = digit_small e ie;
+      small_f = digit_small f if_;
+      small_g = digit_small g ig;
+      small_h = digit_small h ih;
+      word_is = word_above _ _ _ _ _ _ _ _ _ _ _ _ _ _ _ _ (digit_above a ia) (digit_above b ib) (digit_above c ic) (digit_above d id) (digit_above e ie) (digit_above f if_) (digit_above g ig) (digit_above h ih);
+      value = digit_first a _ ia ∙ digit_on _ b _ ib ∙ digit_on _ c _ ic ∙ digit_on _ d _ id ∙ digit_on _ e _ ie ∙ digit_on _ f _ if_ ∙ digit_on _ g _ ig ∙ digit_on _ h _ ih ∙ no_more _;
+    }
+eight [] long all = absurd (omega arith)
+eight (a ∷ []) long all = absurd (omega arith)
+eight (a ∷ b ∷ []) long all = absurd (omega arith)
+eight (a ∷ b ∷ c ∷ []) long all = absurd (omega arith)
+eight (a ∷ b ∷ c ∷ d ∷ []) long all = absurd (omega arith)
+eight (a ∷ b ∷ c ∷ d ∷ e ∷ []) long all = absurd (omega arith)
+eight (a ∷ b ∷ c ∷ d ∷ e ∷ f ∷ []) long all = absurd (omega arith)
+eight (a ∷ b ∷ c ∷ d ∷ e ∷ f ∷ g ∷ []) long all = absurd (omega arith)
+eight (a ∷ b ∷ c ∷ d ∷ e ∷ f ∷ g ∷ h ∷ i ∷ is) long all = absurd (omega arith)
+
+low : (x r n : ℕ) → x < 256 → n ≡ x + 256 * r → n % 256 ≡ x
+low x r n small is = omega arith
+
+high : (x r n : ℕ) → x < 65536 → n ≡ x + 65536 * r → n / 65536 ≡ r
+high x r n small is = omega arith
+
+higher : (x r n : ℕ) → x < 4294967296 → n ≡ x + 4294967296 * r → n / 4294967296 ≡ r
+higher x r n small is = omega arith
+
+highest : (x r n : ℕ) → x < 281474976710656 → n ≡ x + 281474976710656 * r → n / 281474976710656 ≡ r
+highest x r n small is = omega arith
+
+-- neighbours put together two by two, of which every second pair counts
+module _ (a b c d e f g h ones : ℕ) (sa : a < 10) (sb : b < 10) (sc : c < 10) (sd : d < 10) (se : e < 10) (sf : f < 10) (sg : g < 10) (sh : h < 10) (is : ones ≡ word_of a b c d e f g h) where
+  abbrev pairs : ℕ
+  pairs = ones * 10 + ones / 256
+
+  abbrev fourth_on : ℕ
+  fourth_on = (10 * g + h) + 256 * (10 * h)
+
+  abbrev third_on : ℕ
+  third_on = ((10 * e + f) + 256 * (10 * f + g)) + 65536 * fourth_on
+
+  abbrev second_on : ℕ
+  second_on = ((10 * c + d) + 256 * (10 * d + e)) + 65536 * third_on
+
+  tail : ones / 256 ≡ b + 256 * (c + 256 * (d + 256 * (e + 256 * (f + 256 * (g + 256 * h)))))
+  tail = omega arith
+
+  pairs_is : pairs ≡ ((10 * a + b) + 256 * (10 * b + c)) + 65536 * second_on
+  pairs_is = omega (arith, tail)
+
+  third_is : pairs ≡ ((10 * a + b) + 256 * (10 * b + c) + 65536 * ((10 * c + d) + 256 * (10 * d + e))) + 4294967296 * third_on
+  third_is = omega (arith, pairs_is)
+
+  pub first_pair : pairs % 256 ≡ 10 * a + b
+  first_pair = low (10 * a + b) (10 * b + c + 256 * second_on) pairs (omega arith) (omega (arith, pairs_is))
+
+  second_rest : pairs / 65536 ≡ second_on
+  second_rest = high ((10 * a + b) + 256 * (10 * b + c)) second_on pairs (omega arith) pairs_is
+
+  pub second_pair : pairs / 65536 % 256 ≡ 10 * c + d
+  second_pair = low (10 * c + d) (10 * d + e + 256 * third_on) (pairs / 65536) (omega arith) (omega (arith, second_rest))
+
+  third_rest : pairs / 4294967296 ≡ third_on
+  third_rest = higher ((10 * a + b) + 256 * (10 * b + c) + 65536 * ((10 * c + d) + 256 * (10 * d + e))) third_on pairs (omega arith) third_is
+
+  pub third_pair : pairs / 4294967296 % 256 ≡ 10 * e + f
+  third_pair = low (10 * e + f) (10 * f + g + 256 * fourth_on) (pairs / 4294967296) (omega arith) (omega (arith, third_rest))
+
+  fourth_is : pairs ≡ ((10 * a + b) + 256 * (10 * b + c) + 65536 * ((10 * c + d) + 256 * (10 * d + e)) + 4294967296 * ((10 * e + f) + 256 * (10 * f + g))) + 281474976710656 * fourth_on
+  fourth_is = omega (arith, third_is)
+
+  fourth_rest : pairs / 281474976710656 ≡ fourth_on
+  fourth_rest = highest ((10 * a + b) + 256 * (10 * b + c) + 65536 * ((10 * c + d) + 256 * (10 * d + e)) + 4294967296 * ((10 * e + f) + 256 * (10 * f + g))) fourth_on pairs (omega arith) fourth_is
+
+  pub fourth_pair : pairs / 281474976710656 % 256 ≡ 10 * g + h
+  fourth_pair = low (10 * g + h) (10 * h) (pairs / 281474976710656) (omega arith) (omega (arith, fourth_rest))
+
+  pub all_pairs : pairs % 256 * 1000000 + pairs / 65536 % 256 * 10000 + pairs / 4294967296 % 256 * 100 + pairs / 281474976710656 % 256 ≡ decimal_of a b c d e f g h
+  all_pairs = omega (arith, first_pair, second_pair, third_pair, fourth_pair)
+
+ten_times : (n p : ℕ) → n * 10 * p ≡ n * (p * 10)
+ten_times n p = grind arith
+
+further_on : (n k m b : ℕ) (bs : List ℕ) → ((i j : ℕ) → value_behind 10 j bs ≡ Some m → value_behind 10 (i + j) bs ≡ Some (i * 10 ^ length bs + m)) → (o : Option ℕ) → digit_in 10 b ≡ o → option_and_then (λ d. value_behind 10 (k * 10 + d) bs) o ≡ Some m
+    → option_and_then (λ d. value_behind 10 ((n + k) * 10 + d) bs) (digit_in 10 b) ≡ Some (n * 10 ^ suc (length bs) + m)
+further_on n k m b bs after None is e = absurd cc
+further_on n k m b bs after (Some d) is e =
+    let more = pow_more 10 (length bs) in
+    let is_suc : length bs + 1 ≡ suc (length bs) = omega arith in
+    ap (option_and_then (λ d. value_behind 10 ((n + k) * 10 + d) bs)) is
+    ∙ ap (λ j. value_behind 10 j bs) (omega arith)
+    ∙ after (n * 10) (k * 10 + d) e
+    ∙ ap (λ j. Some (j + m)) (ten_times n (10 ^ length bs) ∙ ap (λ j. n * j) (sym more ∙ ap (λ i. 10 ^ i) is_suc))
+
+-- what digits stand for behind others, by what they stand for alone
+value_further : (n k m : ℕ) (xs : List ℕ) → value_behind 10 k xs ≡ Some m → value_behind 10 (n + k) xs ≡ Some (n * 10 ^ length xs + m)
+unfolding value_behind
+value_further n k m [] e = (let same : k ≡ m = cc in ap Some (omega (arith, same)))
+value_further n k m (b ∷ bs) e = further_on n k m b bs (λ i j. value_further i j m bs) (digit_in 10 b) refl e
+
+-- eight digits and eight behind them
+pub sixteen : (n m : ℕ) (octets : List ℕ) → 16 ≤ length octets → value_behind 10 0 (take 8 octets) ≡ Some n → value_behind 10 0 (take 8 (drop 8 octets)) ≡ Some m → value_behind 10 0 (take 16 octets) ≡ Some (n * 100000000 + m)
+sixteen n m octets long first second =
+    let rest = take 8 (drop 8 octets) in
+    let split : take 16 octets ≡ take 8 octets ++ rest = sym (take-append-drop 8 (take 16 octets)) ∙ ap (λ xs. xs ++ drop 8 (take 16 octets)) (take-take 8 16 octets (omega arith)) ∙ ap (λ xs. take 8 octets ++ xs) (drop-take 8 8 octets) in
+    let eight_long : length rest ≡ 8 = search (rules, arith) in
+    ap (value_behind 10 0) split
+    ∙ value_append 10 0 n (take 8 octets) rest first
+    ∙ ap (λ j. value_behind 10 j rest) (omega arith)
+    ∙ value_further n 0 m rest second
+    ∙ ap (λ i. Some (n * 10 ^ i + m)) eight_long
