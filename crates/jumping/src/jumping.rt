@@ -1,7 +1,8 @@
 //! The gates, which pass whole cycles by division.
-ghost use Rattle.std.specs.Prelude.{All, ◌≡◌, ℕ, ◌+◌, ◌*◌, ◌<◌, ◌≤◌, ◌↔◌, IfSome, IsTrue, [], Some, None, true, option_map};
+ghost use Rattle.std.specs.Prelude.{All, ◌≡◌, ℕ, ◌+◌, ◌*◌, ◌<◌, ◌≤◌, ◌↔◌, IfSome, IsTrue, [], Some, None, true, false, option_map};
 ghost use Rattle.std.specs.Option.{ForSome};
 ghost use Rattle.wire_time.specs.Moment.{greatest_moment, greatest_lead};
+ghost use Rattle.gate_list.specs.Gate.{opens};
 ghost use Rattle.gate_list.specs.Open.{open_while};
 ghost use Rattle.list_config.specs.History.{gates, kept, cons_some, plan_of, start_of};
 ghost use Rattle.list_position.specs.Position.{BeginsAtMost};
@@ -21,14 +22,14 @@ use accepted_commands::{
     AcceptedCommand, AcceptedList, Slots, edge_of, installed, lead_moment, legs_ahead, list_in,
     mask_under, resumed, stays_open,
 };
-use gate_list::{Schedule, Visits};
+use gate_list::{Schedule, Visits, is_open};
 use list_config::{Gates, Installed, NotNow};
 use list_position::{Need, Position};
 use std::marker::Model;
 use wire_time::CLASSES;
 
 /// The gates of a port: its commands, each list with where it stands, where the list in force goes on once a pending command
-/// is replaced, and the next moment at which a boundary of the list or a command comes.
+/// is replaced, the next moment at which a boundary of the list or a command comes, and the mask that shows until then.
 ///
 /// What a move and an answer look at doesn't grow with how far the moments are apart.
 #[derive(Drop)]
@@ -36,12 +37,14 @@ pub struct Jumping {
     slots: Slots,
     resumed: Option<Position>,
     edge: Option<u128>,
+    mask: u8,
 }
 
 /// A contract sees the history that the commands make, and the moment.
 impl Model for Jumping {
     ghost use Rattle.accepted_commands.specs.Commands.{AreCommands};
-    ghost use Rattle.accepted_commands.specs.Standing.{Stands, clocked};
+    ghost use Rattle.std.specs.Prelude.{◌≡◌};
+    ghost use Rattle.accepted_commands.specs.Standing.{Stands, clocked, shown_by};
     ghost use Rattle.list_config.specs.Current.{Clocked};
     ghost use Rattle.accepted_commands.specs.Resume.{Resumes};
     ghost use Rattle.jumping.specs.Edge.{IsEdge};
@@ -50,7 +53,7 @@ impl Model for Jumping {
 
     ghost view = { λ g. clocked g.slots };
 
-    ghost invariant = { λ g. AreCommands g.slots.commands × Stands g.slots.commands.in_force g.slots.commands.pending g.slots.commands.moment g.slots.position × Resumes g.slots.commands g.resumed × IsEdge g.slots.commands g.slots.position g.edge };
+    ghost invariant = { λ g. AreCommands g.slots.commands × Stands g.slots.commands.in_force g.slots.commands.pending g.slots.commands.moment g.slots.position × Resumes g.slots.commands g.resumed × IsEdge g.slots.commands g.slots.position g.edge × (g.mask ≡ shown_by g.slots.position) };
 }
 
 /// Whether a moment is before another, if there is one; both are in picoseconds.
@@ -70,6 +73,14 @@ fn next_edge(slots: &Slots) -> Option<u128>
     ensures { IsEdge slots.now.commands slots.now.position result }
 {
     edge_of(slots)
+}
+
+/// Whether a mask shuts a class that needs some time, in picoseconds.
+fn is_shut(mask: u8, class: u8, length: u128) -> bool
+    requires class { class < CLASSES }
+    ensures { result ≡ true → (0 < length) × (opens mask class ≡ false) }
+{
+    length != 0 && !is_open(mask, class)
 }
 
 /// The list in force, where no other command is to come.
@@ -185,6 +196,7 @@ impl Gates for Jumping {
             slots: Slots::begin(),
             resumed: None,
             edge: None,
+            mask: u8::MAX,
         }
     }
 
@@ -194,10 +206,13 @@ impl Gates for Jumping {
 
     #[tactic(auto, using(accepted_commands::proofs::CommandLaws::position_shows))]
     fn mask(&self) -> u8 {
-        mask_under(self.slots.in_force())
+        self.mask
     }
 
     fn stays_open(&self, class: u8, for_ps: u128, _visits: &mut Visits) -> bool {
+        if is_shut(self.mask, class, for_ps) {
+            return false;
+        }
         let need = Need {
             class,
             from: self.slots.moment(),
@@ -238,6 +253,7 @@ impl Gates for Jumping {
             self.slots.pass(t);
         } else {
             move_on(&mut self.slots, &mut self.edge, t, visits);
+            self.mask = mask_under(self.slots.in_force());
         }
     }
 

@@ -5,7 +5,7 @@ use Rattle.list_config.specs.History.{kept, plan_of}
 use Rattle.list_config.specs.Current.{Clocked, entry_count}
 use Rattle.list_config.specs.Event.{IsGateEvent}
 use Rattle.accepted_commands.specs.Commands.{Commands, history_of}
-use Rattle.accepted_commands.specs.Standing.{Stands, edge_at}
+use Rattle.accepted_commands.specs.Standing.{Stands, edge_at, shown_by}
 use Rattle.accepted_commands.proofs.CommandLaws.{current_of, same_commands, settled_history}
 use Rattle.accepted_commands.specs.Resume.{Resumes}
 use Rattle.jumping.specs.Edge.{NothingComes, OneEntryComes}
@@ -40,6 +40,7 @@ invariant_of-self-else-is_before c =
       c.move_on.ensures.stands,
       subst (λ k. Resumes k resumed) (sym c.move_on.ensures.value) (resumes_settled slots c.self.invariant.0 resumed c.args.t later c.self.invariant.2),
       c.move_on.ensures.edge,
+      c.mask_under-self-inside.ensures ∙ ap shown_by c.in_force.ensures.position,
     )
 
 pub invariant_of-self : goal.invariant_of-self
@@ -64,6 +65,7 @@ invariant_of-self c =
         later = subst (λ (k : Commands). ForSome c.self.inside.edge (λ u. k.moment < u)) (sym same) near;
         event = subst (λ (k : Commands). IfSome c.self.inside.edge (IsGateEvent (history_of k))) (sym same) edge.event;
       },
+      c.self.invariant.4 ∙ ap shown_by (sym stood),
     )
 
 pub returns-else-is_before-clause-sound : goal.returns-else-is_before-clause-sound
@@ -87,3 +89,11 @@ returns-else-is_before-clause-visits c =
     let later : slots.moment ≤ c.args.t = subst (λ (v : Clocked). v.moment ≤ c.args.t) (sym c.self.view_is) c.requires.later in
     few_placed slots c.self.invariant.0 c.args.self.now c.self.view_is c.args.t later c.args.visits.now c.move_on.new.visits
     (subst (λ (k : Commands). c.move_on.new.visits ≤ c.args.visits.now + (entry_count (plan_of k.in_force) + 1)) c.move_on.ensures.value c.move_on.ensures.visits)
+
+pub pass-requires-clause-none : goal.pass-requires-clause-none
+pass-requires-clause-none c =
+    let slots = c.self.inside.slots.commands in
+    let t = c.args.t in
+    let later : slots.moment ≤ t = subst (λ (v : Clocked). v.moment ≤ t) (sym c.self.view_is) c.requires.later in
+    let soon = subst (λ (e : Option ℕ). ForSome e (λ u. t < u)) (c.self.invariant.3).is (c.is_before.ensures.0 c.if-is_before.true) in
+    none_by slots c.self.invariant.0 c.self.inside.slots.position t later soon
