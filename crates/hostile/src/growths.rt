@@ -239,7 +239,7 @@ pub fn of_replay(given: &Given, alloc: Global, replaying: &Replaying) -> Runs {
 fn a_replay_of_two_frames(rt: HostRuntime) -> Result<(), Fail> {
     let replaying = Replaying::two_frames(rt.alloc())?;
     let runs = of_replay(&make_given(&rt), rt.alloc(), &replaying);
-    assert_eq!(rt; runs, Runs::right(60, 40));
+    assert_eq!(rt; runs, Runs::right(42, 58));
     Ok(())
 }
 
@@ -247,6 +247,6 @@ fn a_replay_of_two_frames(rt: HostRuntime) -> Result<(), Fail> {
 fn a_replay_of_a_hundred_frames(rt: HostRuntime) -> Result<(), Fail> {
     let replaying = Replaying::hundred_frames(rt.alloc())?;
     let runs = of_replay(&make_given(&rt), rt.alloc(), &replaying);
-    assert_eq!(rt; runs, Runs::right(58, 42));
+    assert_eq!(rt; runs, Runs::right(40, 60));
     Ok(())
 }

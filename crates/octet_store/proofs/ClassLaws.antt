@@ -20,8 +20,8 @@ new_room room =
     let each : AllByRecursion P (empty_classes room) = (refl, (refl, (refl, (refl, (refl, (refl, (refl, (refl, tt)))))))) in
     record { eight = refl; rooms = All-from_recursion P (empty_classes room) each }
 
-abbrev stored : List (List Kept) → ℕ → List ℕ → Stored
-stored kept room taken = record { kept = kept; room = room; taken = taken }
+abbrev stored : List (List Kept) → ℕ → Stored
+stored kept room = record { kept = kept; room = room }
 
 module _ (old new : List Waiting) (class : ℕ) (change : List Kept → List Kept) (within : class < 8) (have : HaveRoom (class_at old 0).room old)
     (is : new ≡ set old class (with_frames (class_at old class) (change (class_at old class).frames))) where
@@ -39,16 +39,11 @@ module _ (old new : List Waiting) (class : ℕ) (change : List Kept → List Kep
   pub still_room : HaveRoom (class_at new 0).room new
   still_room = subst (λ r. HaveRoom r new) (sym (first_room (class_at old 0).room new same_room)) same_room
 
-  -- the view after a class has changed, and other octets are taken
-  pub taken_view : (s : Stored) (before taken : List ℕ) → stored (frames_of old) (class_at old 0).room before ≡ s
-      → stored (frames_of new) (class_at new 0).room taken ≡ record s { kept = set s.kept class (change (kept_at s.kept class)); taken = taken }
-  taken_view s before taken e =
-      let frames : frames_of new ≡ set (frames_of old) class (change (kept_at (frames_of old) class)) = ap frames_of is ∙ map-set (λ (c : Waiting). c.frames) old class changed ∙ ap (λ ks. set (frames_of old) class (change ks)) (frames_at old class) in
-      ap (λ ks. stored ks (class_at new 0).room taken) frames
-      ∙ ap (λ r. stored (set (frames_of old) class (change (kept_at (frames_of old) class))) r taken) (first_room (class_at old 0).room new same_room)
-      ∙ ap (λ (x : Stored). stored (set x.kept class (change (kept_at x.kept class))) x.room taken) e
-
   -- the view after a class has changed
-  pub changed_view : (s : Stored) (taken : List ℕ) → stored (frames_of old) (class_at old 0).room taken ≡ s
-      → stored (frames_of new) (class_at new 0).room taken ≡ record s { kept = set s.kept class (change (kept_at s.kept class)) }
-  changed_view s taken e = taken_view s taken taken e ∙ ap (λ (x : Stored). stored (set s.kept class (change (kept_at s.kept class))) s.room x.taken) e
+  pub changed_view : (s : Stored) → stored (frames_of old) (class_at old 0).room ≡ s
+      → stored (frames_of new) (class_at new 0).room ≡ record s { kept = set s.kept class (change (kept_at s.kept class)) }
+  changed_view s e =
+      let frames : frames_of new ≡ set (frames_of old) class (change (kept_at (frames_of old) class)) = ap frames_of is ∙ map-set (λ (c : Waiting). c.frames) old class changed ∙ ap (λ ks. set (frames_of old) class (change ks)) (frames_at old class) in
+      ap (λ ks. stored ks (class_at new 0).room) frames
+      ∙ ap (λ r. stored (set (frames_of old) class (change (kept_at (frames_of old) class))) r) (first_room (class_at old 0).room new same_room)
+      ∙ ap (λ (x : Stored). stored (set x.kept class (change (kept_at x.kept class))) x.room) e

@@ -1,5 +1,6 @@
 -- One frame more in a class's rings.
-use Rattle.std.proofs.Common.{◌≡◌, ◌≤◌, ℕ, List, [], ◌∷◌, ◌++◌, length, take, drop, suc, refl, sym, ap, ◌∙◌, subst, arith}
+use Rattle.std.proofs.Common.{◌≡◌, ◌≤◌, ◌<◌, ℕ, List, [], ◌∷◌, ◌++◌, length, take, drop, suc, Some, refl, sym, ap, ◌∙◌, subst, arith, rules}
+use Rattle.std.specs.Prelude.{IsSome, slice_get}
 use Rattle.std.proofs.lemmas.List.{take-append-le, drop-append-le, length-append}
 use Rattle.std.proofs.Math.Seq.{take-length, drop-length}
 use Rattle.octet_store.specs.Stored.{Kept, kept}
@@ -42,6 +43,23 @@ module _ (ls ls' : List Lengths) (l : Lengths) (octets octets' new : List ℕ) (
 
   pub put_kept : kept_of ls' octets' ≡ kept_of ls octets ++ kept l.original new ∷ []
   put_kept = ap (λ x. kept_of x octets') lengths_are ∙ ap (λ x. kept_of (ls ++ l ∷ []) x) octets_are ∙ kept_of-append ls octets new l are fits
+
+-- the first frame
+pub has_first : (ls : List Lengths) (octets : List ℕ) → 0 < length (kept_of ls octets) → IsSome (slice_get ls 0)
+has_first [] octets less = absurd (omega arith)
+has_first (l ∷ ls) octets less = search rules
+
+pub first_fits : (ls : List Lengths) (octets : List ℕ) (l : Lengths) → AreLaid ls octets → slice_get ls 0 ≡ Some l → (l.captured ≤ length octets) × (l.captured ≤ MAX_OCTETS)
+first_fits [] octets l are e = absurd (cc)
+first_fits (x ∷ ls) octets l are e =
+    let same : x ≡ l = (cc) in
+    subst (λ (y : Lengths). (y.captured ≤ length octets) × (y.captured ≤ MAX_OCTETS)) same (are.0, are.1)
+
+pub first_kept : (ls : List Lengths) (octets : List ℕ) (l : Lengths) → slice_get ls 0 ≡ Some l → slice_get (kept_of ls octets) 0 ≡ Some (kept l.original (take l.captured octets))
+first_kept [] octets l e = absurd (cc)
+first_kept (x ∷ ls) octets l e =
+    let same : x ≡ l = (cc) in
+    ap (λ (y : Lengths). Some (kept y.original (take y.captured octets))) same
 
 abbrev waiting : List Kept → ℕ → Waiting
 waiting frames room = record { frames = frames; room = room }

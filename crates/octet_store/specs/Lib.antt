@@ -1,3 +1,4 @@
 pub mod Stored
 pub mod ClassOctets
 pub mod Laid
+pub mod OctetQueue

@@ -10,20 +10,18 @@ pub record Kept : Type 0 where
 abbrev pub kept : ℕ → List ℕ → Kept
 kept original octets = record { original = original; octets = octets }
 
--- the frames of each class, the first to go first; for how many frames of a class there is room; and the octets that were taken last
+-- the frames of each class, the first to go first, and for how many frames of a class there is room
 pub record Stored : Type 0 where
   pub kept : List (List Kept)
   pub room : ℕ
-  pub taken : List ℕ
 
 -- the frames of a class
 abbrev pub kept_at : List (List Kept) → ℕ → List Kept
 kept_at kept class = slice_index_or kept class []
 
--- eight classes without frames, and nothing taken
+-- eight classes without frames
 abbrev pub new_store : ℕ → Stored
 new_store room = record {
   kept = [] ∷ [] ∷ [] ∷ [] ∷ [] ∷ [] ∷ [] ∷ [] ∷ [];
   room = room;
-  taken = [];
 }

@@ -1,9 +1,10 @@
-//! The octets of the frames of one class: a ring of lengths, and a ring of octets.
+//! The octets of the frames of one class: a ring of lengths, and a queue of octets.
 
-ghost use Rattle.std.specs.Prelude.{◌≡◌, ◌≤◌, ◌<◌, ◌+◌, ◌++◌, ◌∷◌, ◌↔◌, [], Some, IsTrue, IfOk, OnOk, OnErr, length, take, drop, slice_get};
+ghost use Rattle.std.specs.Prelude.{◌≡◌, ◌≤◌, ◌<◌, ◌++◌, ◌∷◌, ◌↔◌, [], Some, IsTrue, IfOk, OnOk, OnErr, length, drop, slice_get};
 ghost use Rattle.octet_store.specs.declared.TheConstants.{MAX_OCTETS};
 
 use crate::MAX_OCTETS;
+use crate::queue::OctetQueue;
 use circular_buffer::HeapCircularBuffer;
 use std::alloc::{AllocError, Allocator, Global};
 use std::marker::Model;
@@ -17,46 +18,22 @@ pub struct Lengths {
     pub original: u32,
 }
 
-/// Makes room in a ring for so many octets more. Where they don't fit, the ring grows to twice its size, or to what is needed where
-/// that is more; a ring that can't grow is left as it was.
-fn make_room<A: Allocator + Clone>(
-    ring: &mut HeapCircularBuffer<u8, A>,
-    more: usize,
-) -> Result<(), AllocError>
-    requires { more ≤ MAX_OCTETS }
-    ensures items { ring.new.items ≡ ring.old.items }
-    ensures room { OnOk result (length ring.old.items + more ≤ ring.new.capacity) }
-    ensures err { OnErr result (ring.new ≡ ring.old) }
-{
-    let need = ring.len() + more;
-    let capacity = ring.capacity();
-    if need <= capacity {
-        return Ok(());
-    }
-    ring.resize(need.max(2 * capacity))
-}
-
-/// Puts octets at the end of a ring, and makes room for them first.
-fn append<A: Allocator + Clone>(
-    ring: &mut HeapCircularBuffer<u8, A>,
-    octets: &[u8],
-) -> Result<(), AllocError>
-    requires { length octets.now ≤ MAX_OCTETS }
-    ensures ok { OnOk result (ring.new.items ≡ ring.old.items ++ octets.now) }
-    ensures err { OnErr result (ring.new ≡ ring.old) }
-{
-    make_room(ring, octets.len())?;
-    ring.fill_from_slice(octets);
-    Ok(())
+/// What is kept of a frame, which lends its octets from the buffer of its class.
+#[derive(Clone, Copy, Debug)]
+pub struct First<'a> {
+    /// How many octets the frame had.
+    pub original: u32,
+    /// Those of its octets that are kept.
+    pub octets: &'a [u8],
 }
 
 /// What is kept of the frames of one class, first in, first out.
 ///
-/// Their octets lie one after another in one ring, so that no frame takes memory of its own. That ring never shrinks.
+/// Their octets lie one after another in one buffer, so that no frame takes memory of its own. That buffer never shrinks.
 #[derive(Drop)]
 pub struct ClassOctets<A: Allocator = Global> {
     lengths: HeapCircularBuffer<Lengths, A>,
-    octets: HeapCircularBuffer<u8, A>,
+    octets: OctetQueue<A>,
 }
 
 /// A contract sees a list and a room.
@@ -66,10 +43,11 @@ impl<A: Allocator> Model for ClassOctets<A> {
     ghost Value = { Waiting };
 
     ghost use Rattle.octet_store.specs.Laid.{AreLaid, kept_of};
+    ghost use Rattle.octet_store.specs.OctetQueue.{held};
 
-    ghost view = { λ c. record { frames = kept_of c.lengths.items c.octets.items; room = c.lengths.capacity } };
+    ghost view = { λ c. record { frames = kept_of c.lengths.items (held c.octets); room = c.lengths.capacity } };
 
-    ghost invariant = { λ c. AreLaid c.lengths.items c.octets.items };
+    ghost invariant = { λ c. AreLaid c.lengths.items (held c.octets) };
 }
 
 impl<A: Allocator> ClassOctets<A> {
@@ -83,7 +61,7 @@ impl<A: Allocator> ClassOctets<A> {
         ensures { IfOk result (λ c. c ≡ empty_class room) }
     {
         let lengths = HeapCircularBuffer::with_capacity(alloc.clone()?, room)?;
-        let octets = HeapCircularBuffer::with_capacity(alloc.clone()?, 0)?;
+        let octets = OctetQueue::new(alloc.clone()?);
         Ok(ClassOctets { lengths, octets })
     }
 
@@ -110,7 +88,7 @@ impl<A: Allocator> ClassOctets<A> {
         ensures ok { OnOk result (self.new ≡ with_frames self.old (self.old.frames ++ kept original octets.now ∷ [])) }
         ensures err { OnErr result (self.new ≡ self.old) }
     {
-        append(&mut self.octets, octets)?;
+        self.octets.put(octets)?;
         let captured = octets.len() as u32;
         self.lengths
             .try_push_back(Lengths { captured, original })
@@ -118,17 +96,25 @@ impl<A: Allocator> ClassOctets<A> {
         Ok(())
     }
 
-    /// Gives up the first frame: its lengths, and its octets at the front of `into`.
-    pub fn take(&mut self, into: &mut [u8]) -> Lengths
-        requires waits { 0 < length self.old.frames }
-        requires room { MAX_OCTETS ≤ length into.old }
-        ensures first { slice_get self.old.frames 0 ≡ Some (kept result.original (take result.captured into.new)) }
-        ensures within { result.captured ≤ MAX_OCTETS }
-        ensures rest { self.new ≡ with_frames self.old (drop 1 self.old.frames) }
+    /// The first frame.
+    pub fn first(&self) -> First<'_>
+        requires { 0 < length self.now.frames }
+        ensures first { slice_get self.now.frames 0 ≡ Some (kept result.original result.octets.now) }
+        ensures within { length result.octets.now ≤ MAX_OCTETS }
+    {
+        let lengths = self.lengths.front().copied().unwrap();
+        First {
+            original: lengths.original,
+            octets: self.octets.front(lengths.captured as usize),
+        }
+    }
+
+    /// Gives up the first frame.
+    pub fn give_up(&mut self)
+        requires { 0 < length self.old.frames }
+        ensures { self.new ≡ with_frames self.old (drop 1 self.old.frames) }
     {
         let lengths = self.lengths.pop_front().unwrap();
-        let captured = lengths.captured as usize;
-        self.octets.read_into(&mut into[..captured]);
-        lengths
+        self.octets.give_up(lengths.captured as usize);
     }
 }

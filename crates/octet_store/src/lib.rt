@@ -2,8 +2,10 @@
 #![tactic(auto)]
 
 mod class_octets;
+mod queue;
 mod store;
 
+pub use class_octets::First;
 pub use store::OctetStore;
 
 /// The most octets that are kept of one frame: those of the longest record of a capture.

@@ -1,12 +1,12 @@
 //! The octets of the frames of all classes.
 
-ghost use Rattle.std.specs.Prelude.{◌≡◌, ◌≤◌, ◌<◌, ◌++◌, ◌∷◌, ◌↔◌, [], Some, IsTrue, IfOk, OnOk, OnErr, length, take, drop, slice_get, slice_set};
+ghost use Rattle.std.specs.Prelude.{◌≡◌, ◌≤◌, ◌<◌, ◌++◌, ◌∷◌, ◌↔◌, [], Some, IsTrue, IfOk, OnOk, OnErr, length, drop, slice_get, slice_set};
 ghost use Rattle.octet_store.specs.declared.TheConstants.{MAX_OCTETS};
 ghost use Rattle.octet_store.specs.Stored.{kept, kept_at, new_store};
 ghost use Rattle.octet_store.specs.ClassOctets.{class_at, empty_classes, with_frames};
 
 use crate::MAX_OCTETS;
-use crate::class_octets::{ClassOctets, Lengths};
+use crate::class_octets::{ClassOctets, First};
 use std::alloc::{AllocError, Allocator, Global};
 use std::marker::Model;
 
@@ -61,60 +61,57 @@ fn put_in<A: Allocator + Clone>(
     classes[class as usize].put(original, octets)
 }
 
+/// The first frame of a class.
+fn first_in<A: Allocator>(classes: &[ClassOctets<A>; 8], class: u8) -> First<'_>
+    requires class { class < 8 }
+    requires waits { 0 < length (class_at classes.now class).frames }
+    ensures first { slice_get (class_at classes.now class).frames 0 ≡ Some (kept result.original result.octets.now) }
+    ensures within { length result.octets.now ≤ MAX_OCTETS }
+{
+    classes[class as usize].first()
+}
+
 /// Gives up the first frame of a class.
-fn take_from<A: Allocator>(classes: &mut [ClassOctets<A>; 8], class: u8, into: &mut [u8]) -> Lengths
+fn give_up_in<A: Allocator>(classes: &mut [ClassOctets<A>; 8], class: u8)
     requires class { class < 8 }
     requires waits { 0 < length (class_at classes.old class).frames }
-    requires room { MAX_OCTETS ≤ length into.old }
-    ensures first { slice_get (class_at classes.old class).frames 0 ≡ Some (kept result.original (take result.captured into.new)) }
-    ensures within { result.captured ≤ MAX_OCTETS }
-    ensures rest { classes.new ≡ slice_set classes.old class (with_frames (class_at classes.old class) (drop 1 (class_at classes.old class).frames)) }
+    ensures { classes.new ≡ slice_set classes.old class (with_frames (class_at classes.old class) (drop 1 (class_at classes.old class).frames)) }
 {
-    classes[class as usize].take(into)
+    classes[class as usize].give_up();
 }
 
 /// For each class, first in, first out: the octets of frames that wait, and the original length of each.
 ///
-/// A class's octets lie in one ring, which grows where a frame doesn't fit and never shrinks, and is used again for what comes after:
-/// once it is large enough, a frame takes no memory. The octets that are given up are moved into one buffer, so that they lie in one
-/// piece.
+/// A class's octets lie in one buffer, which grows where a frame doesn't fit and never shrinks, and is used again for what comes after:
+/// once it is large enough, a frame takes no memory. The octets of a frame lie in one piece, and are lent from there.
 #[derive(Drop)]
 pub struct OctetStore<A: Allocator = Global> {
     classes: [ClassOctets<A>; 8],
-    buffer: Vec<u8, A>,
-    count: usize,
 }
 
-/// A contract sees eight lists, a room, and the octets that were taken last.
+/// A contract sees eight lists and a room.
 impl<A: Allocator> Model for OctetStore<A> {
     ghost use Rattle.octet_store.specs.Stored.{Stored};
 
     ghost Value = { Stored };
 
-    ghost use Rattle.std.specs.Prelude.{take};
-    ghost use Rattle.octet_store.specs.ClassOctets.{class_at, frames_of};
-    ghost use Rattle.octet_store.specs.Laid.{IsStore};
+    ghost use Rattle.octet_store.specs.ClassOctets.{HaveRoom, class_at, frames_of};
 
-    ghost view = { λ s. record { kept = frames_of s.classes; room = (class_at s.classes 0).room; taken = take s.count s.buffer.items } };
+    ghost view = { λ s. record { kept = frames_of s.classes; room = (class_at s.classes 0).room } };
 
-    ghost invariant = { λ s. IsStore s.classes s.buffer.items s.count };
+    ghost invariant = { λ s. HaveRoom (class_at s.classes 0).room s.classes };
 }
 
 impl<A: Allocator> OctetStore<A> {
-    /// Eight classes without frames, with room for so many frames each. The room for all lengths that are ever kept and for the
-    /// octets of one frame, once it is taken, is got here; the room for the octets of frames that wait is got by `put`.
+    /// Eight classes without frames, with room for so many frames each. The room for all lengths that are ever kept is got here, and the
+    /// room for the octets of frames that wait by `put`.
     pub fn new(alloc: &A, room: u32) -> Result<OctetStore<A>, AllocError>
     where
         A: Clone,
         ensures { IfOk result (λ s. s ≡ new_store room) }
     {
         let classes = classes_of(alloc, room as usize)?;
-        let buffer = vec![in alloc.clone()?; 0u8; MAX_OCTETS]?;
-        Ok(OctetStore {
-            classes,
-            buffer,
-            count: 0,
-        })
+        Ok(OctetStore { classes })
     }
 
     /// How many frames of a class, 0 to 7, are kept.
@@ -148,27 +145,22 @@ impl<A: Allocator> OctetStore<A> {
         Ok(())
     }
 
-    /// Gives up the first frame of a class, 0 to 7, in which one is kept: answers how many octets it had, and has its octets as those
-    /// that were `taken`. It wants no memory.
-    pub fn take(&mut self, class: u8) -> u32
+    /// The first frame of a class, 0 to 7, in which one is kept.
+    pub fn first(&self, class: u8) -> First<'_>
         requires class { class < 8 }
-        requires waits { 0 < length (kept_at self.old.kept class) }
-        ensures first { slice_get (kept_at self.old.kept class) 0 ≡ Some (kept result self.new.taken) }
-        ensures rest { self.new ≡ record self.old { kept = slice_set self.old.kept class (drop 1 (kept_at self.old.kept class)); taken = self.new.taken } }
-        ensures within { length self.new.taken ≤ MAX_OCTETS }
+        requires waits { 0 < length (kept_at self.now.kept class) }
+        ensures first { slice_get (kept_at self.now.kept class) 0 ≡ Some (kept result.original result.octets.now) }
+        ensures within { length result.octets.now ≤ MAX_OCTETS }
     {
-        let lengths = take_from(&mut self.classes, class, &mut self.buffer);
-        self.count = lengths.captured as usize;
-        lengths.original
+        first_in(&self.classes, class)
     }
 
-    /// The octets that were taken last; none before.
-    pub fn taken(&self) -> &[u8]
-        ensures octets { result.now ≡ self.now.taken }
-        ensures within { length result.now ≤ MAX_OCTETS }
+    /// Gives up the first frame of a class, 0 to 7, in which one is kept. It wants no memory.
+    pub fn give_up(&mut self, class: u8)
+        requires class { class < 8 }
+        requires waits { 0 < length (kept_at self.old.kept class) }
+        ensures { self.new ≡ record self.old { kept = slice_set self.old.kept class (drop 1 (kept_at self.old.kept class)) } }
     {
-        let count = self.count;
-        let all = self.buffer.as_slice();
-        &all[..count]
+        give_up_in(&mut self.classes, class);
     }
 }

@@ -34,10 +34,13 @@ pub fn put<A: Allocator + Clone>(
     store.put(class, original_of(seed), octets).is_ok()
 }
 
-/// Takes the first frame of a class. Whether there was one, and it is that of the seed, with these octets.
+/// Looks at the first frame of a class, and gives it up. Whether there was one, and it is that of the seed, with these octets.
 pub fn takes<A: Allocator>(store: &mut OctetStore<A>, class: u8, seed: u32, octets: &[u8]) -> bool {
     if class >= 8 || store.len(class) == 0 {
         return false;
     }
-    store.take(class) == original_of(seed) && store.taken() == octets
+    let first = store.first(class);
+    let same = first.original == original_of(seed) && first.octets == octets;
+    store.give_up(class);
+    same
 }

@@ -157,7 +157,7 @@ module _ (s : State) (q : AbstractPort) (x : Start) (is : Leaves s.port x q) whe
   first-kept : (es : List Entry) → Keeps es s → first_kept s.store x.class ≡ kept_in es x.id
   first-kept es keeps = ap (λ ks. get_or ks 0 (kept 0 [])) (at-class es keeps) ∙ ap (λ n. kept_in es n) (sym is.name)
 
-module _ (s t : State) (x : Start) (is : Leaves s.port x t.port) (given : t.store ≡ record s.store { kept = set s.store.kept x.class (drop 1 (kept_at s.store.kept x.class)); taken = t.store.taken }) where
+module _ (s t : State) (x : Start) (is : Leaves s.port x t.port) (given : t.store ≡ record s.store { kept = set s.store.kept x.class (drop 1 (kept_at s.store.kept x.class)) }) where
   pub together-after : IsSoundPort t.port → IsTogether s → IsTogether t
   together-after sound i = record {
     lengths = ap (λ (w : Stored). map length w.kept) given ∙ map-set length s.store.kept x.class (drop 1 (kept_at s.store.kept x.class))

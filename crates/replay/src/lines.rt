@@ -22,6 +22,7 @@ use std::io::Write;
 use tc_reader::laws::one_reader;
 
 // Answers a line of the script.
+#[inline(never)]
 fn put_line<A: Allocator, B: Allocator, W: Write, V: Write>(
     sending: &mut Sending<A>,
     script: &KeptScript<B>,
@@ -74,6 +75,7 @@ fn kept_clock(clock: u128, line: KeptLine) -> u128
 }
 
 /// Answers the lines up to a moment that are to come.
+#[inline(always)]
 pub fn run_lines<A: Allocator, B: Allocator, W: Write, V: Write>(
     sending: &mut Sending<A>,
     script: &KeptScript<B>,

@@ -30,6 +30,7 @@ use std::alloc::Allocator;
 use std::io::{Read, Write};
 
 // Takes a record: a clock event at this moment, and the arrival of its frame.
+#[inline(always)]
 fn take_record<A: Allocator + Clone, W: Write, V: Write>(
     sending: &mut Sending<A>,
     moment: u128,

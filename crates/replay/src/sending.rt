@@ -86,6 +86,7 @@ fn put_noted_arrival<A: Allocator, V: Write>(
 }
 
 // Writes the first record that is kept of the class of a start, and gives it up.
+#[inline(always)]
 fn put_record<A: Allocator, W: Write>(
     sending: &mut Sending<A>,
     start: Start,
@@ -96,21 +97,23 @@ fn put_record<A: Allocator, W: Write>(
     requires early { start.at < CAPTURE_END }
     ensures port { sending.new.port ≡ sending.old.port }
     ensures seen { sending.new.summary ≡ sending.old.summary }
-    ensures store { sending.new.store ≡ record sending.old.store { kept = slice_set sending.old.store.kept start.class (drop 1 (kept_at sending.old.store.kept start.class)); taken = sending.new.store.taken } }
+    ensures store { sending.new.store ≡ record sending.old.store { kept = slice_set sending.old.store.kept start.class (drop 1 (kept_at sending.old.store.kept start.class)) } }
     ensures out { Writes result (W.contents capture.old) (W.contents capture.new) (start_record start.at (first_kept sending.old.store start.class)) }
     ensures fault { IfErr result (λ fault. fault ≡ Stops.Write) }
 {
-    let original = sending.store.take(start.class);
-    match sending
+    let first = sending.store.first(start.class);
+    let put = sending
         .writer
-        .put(capture, start.at, original, sending.store.taken())
-    {
+        .put(capture, start.at, first.original, first.octets);
+    sending.store.give_up(start.class);
+    match put {
         Ok(()) => Ok(()),
         Err(_) => Err(Stop::Write),
     }
 }
 
 // Tells a start, as an answer to an event that is taken at this moment, writes the first record that is kept of its class, and gives it up.
+#[inline(always)]
 fn put_start<A: Allocator, W: Write, V: Write>(
     sending: &mut Sending<A>,
     now: u128,
@@ -123,7 +126,7 @@ fn put_start<A: Allocator, W: Write, V: Write>(
     requires early { start.at < CAPTURE_END }
     ensures port { sending.new.port ≡ sending.old.port }
     ensures seen { sending.new.summary ≡ noted now (Answered.Start start) sending.old.summary }
-    ensures store { OnOk result (sending.new.store ≡ record sending.old.store { kept = slice_set sending.old.store.kept start.class (drop 1 (kept_at sending.old.store.kept start.class)); taken = sending.new.store.taken }) }
+    ensures store { OnOk result (sending.new.store ≡ record sending.old.store { kept = slice_set sending.old.store.kept start.class (drop 1 (kept_at sending.old.store.kept start.class)) }) }
     ensures out { PutsBoth result (record { report = V.contents report.old; capture = W.contents capture.old }) (record { report = V.contents report.new; capture = W.contents capture.new })
         (record { report = answer_lines (Answered.Start start); capture = start_record start.at (first_kept sending.old.store start.class) }) }
     ensures fault { IfErr result (λ fault. fault ≡ Stops.Write) }
@@ -179,6 +182,7 @@ pub fn put_clock<A: Allocator, W: Write, V: Write>(
 }
 
 /// A frame arrives, and where it is queued its octets are kept.
+#[inline(always)]
 pub fn put_arrival<A: Allocator + Clone, V: Write>(
     sending: &mut Sending<A>,
     frame: Frame,

@@ -11,7 +11,6 @@ const LENGTHS: [usize; 3] = [0, 1, MAX_OCTETS];
 #[test]
 fn first_in_first_out_in_each_class(rt: HostRuntime) -> Result<(), Fail> {
     let mut store = OctetStore::new(&rt.alloc(), 3)?;
-    assert!(rt; store.taken().is_empty());
     for number in 0..3u32 {
         for class in 0..8u8 {
             let seed = number * 8 + class as u32;
@@ -38,14 +37,14 @@ fn length_of(seed: u32) -> usize {
 
 #[test]
 fn room_is_used_again(rt: HostRuntime) -> Result<(), Fail> {
-    let heap = LocalHeap::new(rt.alloc(), 280_000)?;
+    let heap = LocalHeap::new(rt.alloc(), 18_000)?;
     let alloc = &heap;
     let mut store = OctetStore::new(&alloc, 3)?;
     for seed in 0..3u32 {
         let octets = octets_of(rt.alloc(), seed, length_of(seed))?;
         assert!(rt; put(&mut store, 6, seed, &octets));
     }
-    // The three longest frames are there, so no other want more. They go round the ring some hundred times.
+    // The three longest frames are there, so no other want more. They go through the buffer some hundred times.
     let used = heap.used();
     for seed in 0..600u32 {
         let first = octets_of(rt.alloc(), seed, length_of(seed))?;

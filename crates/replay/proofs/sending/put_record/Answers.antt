@@ -9,12 +9,12 @@ use Rattle.replay.proofs.sending.put_record.Goals as goal
 
 pub returns-in-Ok-clause-out : goal.returns-in-Ok-clause-out
 returns-in-Ok-clause-out g c =
-    let first = first-of (kept_at c.args.sending.now.store.kept c.args.start.class) _ (kept 0 []) c.take-original.ensures.first in
-    let P : List ℕ → Type 0 = λ text. Appends (g.W.Write.contents c.args.capture.now) (g.W.Write.contents c.put.new.writer) text in
-    subst P (ap (λ octets. written_record c.args.start.at c.take-original.result octets) c.taken.ensures.octets ∙ ap (λ k. start_record c.args.start.at k) (sym first)) c.in-Ok.ensures.octets
+    let first = first-of (kept_at c.args.sending.now.store.kept c.args.start.class) _ (kept 0 []) c.first-first.ensures.first in
+    let P : List ℕ → Type 0 = λ text. Appends (g.W.Write.contents c.args.capture.now) (g.W.Write.contents c.put-put.new.writer) text in
+    subst P (ap (λ k. start_record c.args.start.at k) (sym first)) c.in-Ok.ensures.octets
 
 pub returns-in-Err-clause-out : goal.returns-in-Err-clause-out
 returns-in-Err-clause-out g c =
-    let first = first-of (kept_at c.args.sending.now.store.kept c.args.start.class) _ (kept 0 []) c.take-original.ensures.first in
-    let P : List ℕ → Type 0 = λ text. FallsShort (g.W.Write.contents c.args.capture.now) (g.W.Write.contents c.put.new.writer) text in
-    subst P (ap (λ octets. written_record c.args.start.at c.take-original.result octets) c.taken.ensures.octets ∙ ap (λ k. start_record c.args.start.at k) (sym first)) c.in-Err.ensures.octets
+    let first = first-of (kept_at c.args.sending.now.store.kept c.args.start.class) _ (kept 0 []) c.first-first.ensures.first in
+    let P : List ℕ → Type 0 = λ text. FallsShort (g.W.Write.contents c.args.capture.now) (g.W.Write.contents c.put-put.new.writer) text in
+    subst P (ap (λ k. start_record c.args.start.at k) (sym first)) c.in-Err.ensures.octets

@@ -12,10 +12,10 @@ unwrap-requires g c =
 pub invariant_of-self-2 : goal.invariant_of-self-2
 invariant_of-self-2 g c =
     let pushed = rw c.unwrap.ensures at c.try_push_back.ensures.ok in
-    put_laid _ _ _ _ _ _ (ap (λ b. b.items) pushed) c.in_ok-append.ensures.ok c.self.invariant refl c.requires.size
+    put_laid _ _ _ _ _ _ (ap (λ b. b.items) pushed) c.in_ok-put.ensures.ok c.self.invariant refl c.requires.size
 
 pub returns-clause-ok : goal.returns-clause-ok
 returns-clause-ok g c =
     let pushed = rw c.unwrap.ensures at c.try_push_back.ensures.ok in
-    let frames = put_kept _ _ _ _ _ _ (ap (λ b. b.items) pushed) c.in_ok-append.ensures.ok c.self.invariant refl in
+    let frames = put_kept _ _ _ _ _ _ (ap (λ b. b.items) pushed) c.in_ok-put.ensures.ok c.self.invariant refl in
     put_view _ _ _ _ _ _ c.self.view_is frames (ap (λ b. b.capacity) pushed)

@@ -1,10 +1,5 @@
-use Rattle.std.proofs.Common.{arith, rules}
 use Rattle.octet_store.proofs.ClassLaws.{new_room}
 use Rattle.octet_store.proofs.store.OctetStore.new.Goals as goal
 
 pub invariant_of-result : goal.invariant_of-result
-invariant_of-result g c = record {
-  rooms = rw c.in_ok-classes.ensures (new_room c.args.room);
-  long = search rules;
-  within = omega arith;
-}
+invariant_of-result g c = rw c.in_ok-classes.ensures (new_room c.args.room)

@@ -4,11 +4,7 @@ use Rattle.octet_store.proofs.ClassLaws.{still_room, changed_view}
 use Rattle.octet_store.proofs.store.OctetStore.put.Goals as goal
 
 pub invariant_of-self-2 : goal.invariant_of-self-2
-invariant_of-self-2 g c = record {
-  rooms = still_room _ _ c.args.class (λ ks. ks ++ kept c.args.original c.args.octets.now ∷ []) c.requires.class c.self.invariant.rooms c.in_ok-put_in.ensures.ok;
-  long = c.self.invariant.long;
-  within = c.self.invariant.within;
-}
+invariant_of-self-2 g c = still_room _ _ c.args.class (λ ks. ks ++ kept c.args.original c.args.octets.now ∷ []) c.requires.class c.self.invariant c.in_ok-put_in.ensures.ok
 
 pub returns-clause-ok : goal.returns-clause-ok
-returns-clause-ok g c = changed_view _ _ c.args.class (λ ks. ks ++ kept c.args.original c.args.octets.now ∷ []) c.requires.class c.self.invariant.rooms c.in_ok-put_in.ensures.ok c.args.self.now _ c.self.view_is
+returns-clause-ok g c = changed_view _ _ c.args.class (λ ks. ks ++ kept c.args.original c.args.octets.now ∷ []) c.requires.class c.self.invariant c.in_ok-put_in.ensures.ok c.args.self.now c.self.view_is
