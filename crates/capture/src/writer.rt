@@ -1,6 +1,6 @@
 //! Writing a capture record by record.
 
-ghost use Rattle.std.specs.Prelude.{◌≡◌, ◌≤◌, ◌<◌, length, IsTrue, OnOk, OnErr, IfOk, IfErr, true, false, Err};
+ghost use Rattle.std.specs.Prelude.{◌≡◌, ◌≤◌, ◌<◌, ◌/◌, ◌%◌, length, IsTrue, OnOk, OnErr, IfOk, IfErr, true, false, Err};
 ghost use Rattle.std.specs.Io.KnownBytes.{Keeps};
 ghost use Rattle.octet_writer.specs.Writes.{Writes};
 ghost use Rattle.capture.specs.Spelling.{spelled_record_header};
@@ -27,6 +27,7 @@ pub struct CaptureWriter {
 }
 
 // Writes all of the octets, by as many writes as it takes.
+#[inline(always)]
 fn put_whole<W: Write>(writer: &mut W, octets: &[u8]) -> Result<(), CapFault>
     ensures octets { Writes result (W.contents writer.old) (W.contents writer.new) octets.now }
     ensures fault { IfErr result (λ f. f ≡ CapFault.Write) }
@@ -50,17 +51,27 @@ fn file_header() -> [u8; FILE_HEADER]
     header
 }
 
+// Whole seconds of a moment, and the picoseconds behind them. A second has 4096 times 244,140,625 picoseconds.
+#[inline(always)]
+fn split(moment: u128) -> (u32, u64)
+    requires { moment < CAPTURE_END }
+    ensures seconds { result.0 ≡ moment / 1000000000000 }
+    ensures rest { result.1 ≡ moment % 1000000000000 }
+{
+    let seconds = (moment / 4_096) as u64 / 244_140_625;
+    let rest = moment - u128::from(seconds) * 1_000_000_000_000;
+    (seconds as u32, rest as u64)
+}
+
 #[tactic(auto, unfolding(crate::specs::Spelling::spelled_record_header))]
 fn record_header(moment: u128, captured: u32, original: u32) -> [u8; RECORD_HEADER]
     requires { moment < CAPTURE_END }
     ensures { result ≡ spelled_record_header written_format moment captured original }
 {
     let mut header = [0u8; RECORD_HEADER];
-    LittleEndian::write_u32(&mut header, (moment / 1_000_000_000_000) as u32);
-    LittleEndian::write_u32(
-        &mut header[4..],
-        (moment % 1_000_000_000_000 / 1_000) as u32,
-    );
+    let (seconds, rest) = split(moment);
+    LittleEndian::write_u32(&mut header, seconds);
+    LittleEndian::write_u32(&mut header[4..], (rest / 1_000) as u32);
     LittleEndian::write_u32(&mut header[8..], captured);
     LittleEndian::write_u32(&mut header[12..], original);
     header

@@ -48,13 +48,10 @@ impl<'a, C: Clock, E: Write + Drop> Progress<'a, C, E> {
         )?;
         self.writer.flush()
     }
-}
 
-impl<C: Clock, E: Write + Drop> Watch for Progress<'_, C, E> {
-    fn records_taken(&mut self, records: u32, moment: u128) {
-        let Some(begun) = self.begun else {
-            return;
-        };
+    /// Writes a line, where it is time for one. Apart, since mostly none is wanted.
+    #[inline(never)]
+    fn put_in_time(&mut self, begun: Instant, records: u32, moment: u128) {
         let Ok(now) = Instant::now(self.clock) else {
             self.begun = None;
             return;
@@ -66,6 +63,15 @@ impl<C: Clock, E: Write + Drop> Watch for Progress<'_, C, E> {
         self.told = after;
         if self.put_line(records, moment, after).is_err() {
             self.begun = None;
+        }
+    }
+}
+
+impl<C: Clock, E: Write + Drop> Watch for Progress<'_, C, E> {
+    #[inline(always)]
+    fn records_taken(&mut self, records: u32, moment: u128) {
+        if let Some(begun) = self.begun {
+            self.put_in_time(begun, records, moment);
         }
     }
 }
