@@ -132,14 +132,18 @@ module _ (c : Commands) (s : AreCommands c) where
       by None u is = cc
       by (Some a) u is = (u a refl).planned plan is
 
-  -- the position shows the mask of now
-  pub position_shows : (position : Option Position) → Stands c.in_force c.pending c.moment position → shown_by position ≡ gates (history_of c) c.moment
-  position_shows position stands = by (plan_of c.in_force) refl position stands ∙ sym gates_now
+  -- a position shows the mask of the moment at which the list stands there
+  pub shows_at : (m : ℕ) (position : Option Position) → Stands c.in_force c.pending m position → shown_by position ≡ shows_under c.in_force c.pending m
+  shows_at m position stands = by (plan_of c.in_force) refl position stands
     where
-      by : (p : Option Plan) → plan_of c.in_force ≡ p → (position : Option Position) → StandsUnder p (start_of c.in_force) c.pending c.moment position → shown_by position ≡ mask_since p (start_of c.in_force) (hold_for p (start_of c.in_force) c.pending) c.moment
+      by : (p : Option Plan) → plan_of c.in_force ≡ p → (position : Option Position) → StandsUnder p (start_of c.in_force) c.pending m position → shown_by position ≡ mask_since p (start_of c.in_force) (hold_for p (start_of c.in_force) c.pending) m
       by None is position stands = ap shown_by stands
       by (Some plan) is None stands = absurd stands
-      by (Some plan) is (Some position) stands = placed_mask plan (plan_usable plan is) (start_of c.in_force) (hold_for (Some plan) (start_of c.in_force) c.pending) c.moment position stands
+      by (Some plan) is (Some position) stands = placed_mask plan (plan_usable plan is) (start_of c.in_force) (hold_for (Some plan) (start_of c.in_force) c.pending) m position stands
+
+  -- the position shows the mask of now
+  pub position_shows : (position : Option Position) → Stands c.in_force c.pending c.moment position → shown_by position ≡ gates (history_of c) c.moment
+  position_shows position stands = shows_at c.moment position stands ∙ sym gates_now
 
   -- one mask shows up to a boundary of the list or the next command
   pub flat_now : (until : Option ℕ) → IsFlat (shows_under c.in_force c.pending) c.moment until → IsFlat (gates (history_of c)) c.moment (earlier until (earlier (option_map (λ a. a.change) c.pending) (option_map (λ a. a.lead) c.announced)))

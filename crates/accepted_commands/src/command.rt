@@ -1,15 +1,14 @@
 //! A command as it is kept.
-ghost use Rattle.std.specs.Prelude.{◌≡◌, ◌*◌, ◌+◌, ◌≤◌, Some, None, option_map};
-ghost use Rattle.wire_time.specs.Moment.{greatest_moment, greatest_lead};
+ghost use Rattle.std.specs.Prelude.{◌≡◌, ◌*◌, ◌≤◌, Some, None, option_map};
+ghost use Rattle.wire_time.specs.Moment.{greatest_moment};
 ghost use Rattle.gate_list.specs.Gate.{IsSchedule};
-ghost use Rattle.list_config.specs.Current.{accepted_at, deletion_at, installed_of};
+ghost use Rattle.list_config.specs.Current.{installed_of};
 ghost use Rattle.list_config.specs.Stretch.{hold_of};
-ghost use Rattle.list_execute.specs.Walk.{more};
 ghost use Rattle.accepted_commands.specs.Commands.{IsUsable, accepted_in, command_of};
-ghost use Rattle.accepted_commands.specs.Standing.{IsFirst};
+ghost use Rattle.accepted_commands.specs.declared.command.AcceptedCommand.TheVariants.{Install};
 
 use cycle_timer::CycleTimer;
-use gate_list::{Schedule, Visits};
+use gate_list::Schedule;
 use list_config::Installed;
 use list_position::Position;
 
@@ -36,25 +35,34 @@ pub enum AcceptedCommand {
 }
 
 impl AcceptedCommand {
-    /// The command of a schedule that is accepted for a lead moment, in picoseconds. It looks at the last entry of the list and
-    /// at the first.
-    pub fn install(schedule: Schedule, lead: u128, visits: &mut Visits) -> AcceptedCommand
-        requires { lead ≤ greatest_moment + greatest_lead }
-        ensures value { accepted_in result ≡ accepted_at lead schedule }
-        ensures usable { IsUsable (accepted_in result) }
-        ensures first { IsFirst result }
-        ensures sound { IsSchedule schedule }
-        ensures visits { visits.new ≡ more visits.old 2 }
+    /// This schedule, with this lead moment, this change moment and where it stands then, takes the place of the command. The
+    /// moments are in picoseconds.
+    pub fn put_list(&mut self, schedule: &Schedule, lead: u128, change: u128, position: Position)
+        ensures { self.new ≡ Install (record { lead = lead; change = change; schedule = schedule.now; position = position }) }
     {
-        let _ = schedule.len();
-        let change = schedule.change_moment(lead);
-        let position = Position::first(&schedule, change, visits);
-        AcceptedCommand::Install(AcceptedList {
-            lead,
-            change,
-            schedule,
-            position,
-        })
+        match self {
+            AcceptedCommand::Install(list) => list.put(schedule, lead, change, position),
+            AcceptedCommand::Delete(_) => {
+                *self = AcceptedCommand::Install(AcceptedList::new(
+                    schedule, lead, change, position,
+                ));
+            }
+        }
+    }
+
+    /// Another command takes the place of this one.
+    pub fn copy_from(&mut self, other: &AcceptedCommand)
+        ensures { self.new ≡ other.now }
+    {
+        match other {
+            AcceptedCommand::Install(list) => self.put_list(
+                &list.schedule,
+                list.lead,
+                list.change,
+                list.position,
+            ),
+            AcceptedCommand::Delete(lead) => *self = AcceptedCommand::Delete(*lead),
+        }
     }
 
     /// The moment before which the command changes no gate, in picoseconds.
@@ -111,6 +119,28 @@ pub fn installed(command: Option<&AcceptedCommand>) -> Option<Installed>
 }
 
 impl AcceptedList {
+    /// A list of these. The moments are in picoseconds.
+    fn new(schedule: &Schedule, lead: u128, change: u128, position: Position) -> AcceptedList
+        ensures { result ≡ record { lead = lead; change = change; schedule = schedule.now; position = position } }
+    {
+        AcceptedList {
+            lead,
+            change,
+            schedule: schedule.copied(),
+            position,
+        }
+    }
+
+    /// These take the place of what the list has. Of the schedule what it uses is copied. The moments are in picoseconds.
+    fn put(&mut self, schedule: &Schedule, lead: u128, change: u128, position: Position)
+        ensures { self.new ≡ record { lead = lead; change = change; schedule = schedule.now; position = position } }
+    {
+        self.lead = lead;
+        self.change = change;
+        self.schedule.copy_from(schedule);
+        self.position = position;
+    }
+
     /// The first boundary from which the last state is held for a change, in picoseconds.
     #[tactic(auto, using(crate::proofs::HoldLaws::boundary_not_before))]
     pub fn hold_moment(&self, command: &AcceptedCommand) -> u128

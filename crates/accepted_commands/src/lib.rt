@@ -6,6 +6,7 @@ mod ahead;
 mod command;
 mod edge;
 mod leg;
+mod slot;
 mod slots;
 mod staying;
 mod under;

@@ -1,24 +1,26 @@
 //! The commands that count, in three slots.
-ghost use Rattle.std.specs.Prelude.{◌≡◌, ℕ, ◌+◌, ◌<◌, ◌≤◌, ◌↔◌, IsTrue, None, Some, option_map};
+ghost use Rattle.std.specs.Prelude.{◌≡◌, ℕ, ◌*◌, ◌+◌, ◌<◌, ◌≤◌, ◌↔◌, IsTrue, None, Some};
 ghost use Rattle.std.specs.Option.{ForSome};
-ghost use Rattle.wire_time.specs.Moment.{greatest_moment};
-ghost use Rattle.list_config.specs.History.{IsSound, plan_of, start_of};
-ghost use Rattle.list_config.specs.Current.{entry_count};
+ghost use Rattle.wire_time.specs.Moment.{greatest_lead, greatest_moment};
+ghost use Rattle.list_config.specs.History.{plan_of, start_of};
+ghost use Rattle.list_config.specs.Current.{accepted_at, deletion_at, entry_count};
+ghost use Rattle.list_execute.specs.Walk.{more};
 ghost use Rattle.list_position.specs.Position.{BeginsAtMost};
-ghost use Rattle.accepted_commands.specs.Commands.{AreCommands, IsUsable, NoneBy, accepted_in, command_of, no_commands, settled_at};
-ghost use Rattle.accepted_commands.specs.Standing.{EndsSo, IsFirst, Stands, position_lent, option_position};
+ghost use Rattle.accepted_commands.specs.Commands.{AreCommands, IsUsable, NoneBy, command_of, no_commands, settled_at};
+ghost use Rattle.accepted_commands.specs.Standing.{EndsSo, IsFirst, Stands, position_lent};
 
 use crate::command::AcceptedCommand;
-use gate_list::Visits;
+use crate::slot::Slot;
+use gate_list::{Schedule, Visits};
 use std::marker::Model;
 
 /// The moment now, and the commands in force, pending and announced then.
 #[derive(Drop)]
 pub struct Slots {
     moment: u128,
-    in_force: Option<AcceptedCommand>,
-    pending: Option<AcceptedCommand>,
-    announced: Option<AcceptedCommand>,
+    in_force: Slot,
+    pending: Slot,
+    announced: Slot,
 }
 
 /// A contract sees the commands with the moment, and where the list in force stands.
@@ -33,18 +35,6 @@ impl Model for Slots {
     ghost view = { λ s. record { commands = record { moment = s.moment; in_force = option_map accepted_in s.in_force; pending = option_map accepted_in s.pending; announced = option_map accepted_in s.announced }; position = option_position s.in_force } };
 
     ghost invariant = { λ s. AreCommands (record { moment = s.moment; in_force = option_map accepted_in s.in_force; pending = option_map accepted_in s.pending; announced = option_map accepted_in s.announced }) × EndsSo (option_map accepted_in s.in_force) (option_position s.in_force) × ForSome s.pending IsFirst × ForSome s.announced IsFirst };
-}
-
-/// The slot as a reference.
-fn lent(slot: &Option<AcceptedCommand>) -> Option<&AcceptedCommand>
-    ensures command { command_of result ≡ option_map accepted_in slot.now }
-    ensures position { position_lent result ≡ option_position slot.now }
-    ensures first { ForSome slot.now IsFirst → ForSome result (λ c. IsFirst c.now) }
-{
-    match slot {
-        Some(command) => Some(command),
-        None => None,
-    }
 }
 
 /// Whether a command, if there is one, changes the gates after a moment, in picoseconds.
@@ -76,9 +66,9 @@ impl Slots {
     {
         Slots {
             moment: 0,
-            in_force: None,
-            pending: None,
-            announced: None,
+            in_force: Slot::empty(),
+            pending: Slot::empty(),
+            announced: Slot::empty(),
         }
     }
 
@@ -95,7 +85,7 @@ impl Slots {
         ensures position { position_lent result ≡ self.now.position }
         ensures ends { EndsSo self.now.commands.in_force self.now.position }
     {
-        lent(&self.in_force)
+        self.in_force.lent()
     }
 
     /// The command that is pending.
@@ -103,7 +93,7 @@ impl Slots {
         ensures command { command_of result ≡ self.now.commands.pending }
         ensures first { ForSome result (λ c. IsFirst c.now) }
     {
-        lent(&self.pending)
+        self.pending.lent()
     }
 
     /// The command that is announced.
@@ -111,7 +101,7 @@ impl Slots {
         ensures command { command_of result ≡ self.now.commands.announced }
         ensures first { ForSome result (λ c. IsFirst c.now) }
     {
-        lent(&self.announced)
+        self.announced.lent()
     }
 
     /// Goes on to a moment, in picoseconds: a command that is replaced before its change, or that another follows in force,
@@ -124,19 +114,19 @@ impl Slots {
         ensures sound { AreCommands self.new.commands }
     {
         self.moment = t;
-        if let Some(announced) = &self.announced {
+        if let Some(announced) = self.announced.lent() {
             if announced.lead() <= t {
-                if let Some(pending) = &self.pending {
+                if let Some(pending) = self.pending.lent() {
                     if pending.change() <= announced.lead() {
-                        self.in_force = self.pending.take();
+                        self.in_force.take_from(&mut self.pending);
                     }
                 }
-                self.pending = self.announced.take();
+                self.pending.take_from(&mut self.announced);
             }
         }
-        if let Some(pending) = &self.pending {
+        if let Some(pending) = self.pending.lent() {
             if pending.change() <= t {
-                self.in_force = self.pending.take();
+                self.in_force.take_from(&mut self.pending);
             }
         }
     }
@@ -169,9 +159,8 @@ impl Slots {
         ensures visits { visits.new ≤ visits.old + (entry_count (plan_of self.old.commands.in_force) + 1) }
         ensures next { (n e : ℕ) → Stands self.old.commands.in_force self.old.commands.pending n self.old.position → BeginsAtMost (plan_of self.old.commands.in_force) (start_of self.old.commands.in_force) n self.old.commands.moment e → visits.new ≤ visits.old + 2 }
     {
-        if let Some(command) = &mut self.in_force {
-            command.go_on(lent(&self.pending), self.moment, visits);
-        }
+        self.in_force
+            .go_on(self.pending.lent(), self.moment, visits);
     }
 
     /// Lets the list in force stand where it stands now, wherever it stood.
@@ -181,9 +170,8 @@ impl Slots {
         ensures counted { visits.old ≤ visits.new }
         ensures visits { visits.new ≤ visits.old + (entry_count (plan_of self.old.commands.in_force) + 1) }
     {
-        if let Some(command) = &mut self.in_force {
-            command.place_at(lent(&self.pending), self.moment, visits);
-        }
+        self.in_force
+            .place_at(self.pending.lent(), self.moment, visits);
     }
 
     /// Goes on to a moment, in picoseconds, and lets the list in force stand where it stands then. Where no command comes up to
@@ -210,17 +198,33 @@ impl Slots {
         }
     }
 
-    /// Announces a command whose lead moment is to come.
-    pub fn announce(&mut self, command: AcceptedCommand)
+    /// Announces the command of a schedule whose lead moment is to come; the change moment of that command. Both are in
+    /// picoseconds. It looks at the last entry of the list and at the first.
+    pub fn announce_list(&mut self, schedule: &Schedule, lead: u128, visits: &mut Visits) -> u128
         requires free { self.old.commands.announced ≡ None }
-        requires ahead { self.old.commands.moment < (accepted_in command).lead }
-        requires sound { IsSound (accepted_in command) }
-        requires usable { IsUsable (accepted_in command) }
-        requires first { IsFirst command }
-        ensures value { self.new.commands ≡ record self.old.commands { announced = Some (accepted_in command) } }
+        requires ahead { self.old.commands.moment < lead }
+        requires within { lead ≤ greatest_moment + greatest_lead }
+        ensures change { result ≡ (accepted_at lead schedule.now).change }
+        ensures value { self.new.commands ≡ record self.old.commands { announced = Some (accepted_at lead schedule.now) } }
+        ensures position { self.new.position ≡ self.old.position }
+        ensures usable { IsUsable (accepted_at lead schedule.now) }
+        ensures sound { AreCommands self.new.commands }
+        ensures visits { visits.new ≡ more visits.old 2 }
+    {
+        // What holds of the slots is used below.
+        let _ = &self.moment;
+        self.announced.put_list(schedule, lead, visits)
+    }
+
+    /// Announces a deletion whose lead moment, in picoseconds, is to come.
+    pub fn announce_deletion(&mut self, lead: u128)
+        requires free { self.old.commands.announced ≡ None }
+        requires ahead { self.old.commands.moment < lead }
+        requires within { lead ≤ greatest_moment + greatest_lead }
+        ensures value { self.new.commands ≡ record self.old.commands { announced = Some (deletion_at lead) } }
         ensures position { self.new.position ≡ self.old.position }
         ensures sound { AreCommands self.new.commands }
     {
-        self.announced = Some(command);
+        self.announced.put_deletion(lead);
     }
 }

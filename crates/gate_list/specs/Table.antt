@@ -1,5 +1,7 @@
 -- How a schedule keeps its table of open time.
-use Rattle.std.specs.Prelude.{◌≡◌, ◌<◌, ◌+◌, ◌-◌, ℕ, false, if◌then◌else◌, List, [], length, nat_lt, slice_index, slice_index_or, take, drop, ◌++◌}
+use Rattle.std.specs.Prelude.{◌≡◌, ◌<◌, ◌≤◌, ◌+◌, ◌-◌, ◌*◌, ◌^◌, ℕ, Bool, true, false, ◌&&◌, if◌then◌else◌, List, [], ◌∷◌, length, nat_lt, slice_index, slice_index_or, take, drop, ◌++◌}
+use Rattle.gate_list.specs.declared.Entry.{Entry}
+use Rattle.gate_list.specs.declared.TheConstants.{MAX_ENTRIES}
 use Rattle.gate_list.specs.declared.Slot.{Slot}
 use Rattle.gate_list.specs.declared.Stay.{Stay}
 use Rattle.gate_list.specs.declared.Stay.TheVariants.{Lasts, Always}
@@ -24,9 +26,28 @@ pub record Closes (cycle : List Slot) (class i c : ℕ) : Type 0 where
   pub shut : opens (slice_index_or cycle c (record { mask = 0; span = 0 })).mask class ≡ false
   pub run : run_of (drop i cycle ++ cycle) class ≡ time_between cycle i c
 
--- A column has for each slot the one that closes the class.
-abbrev pub IsColumn : List Slot → ℕ → List ℕ → Type 0
-IsColumn cycle class column = (i : ℕ) → i < length cycle → Closes cycle class i (slice_index column i)
+-- what closes a class at a slot, as rows of eight have it
+abbrev pub closing_at : List ℕ → ℕ → ℕ → ℕ
+closing_at rows i class = slice_index rows (8 * i + class)
+
+-- the bit of each class in a mask
+abbrev pub AreBits : List ℕ → Type 0
+AreBits bits = (class : ℕ) → class < CLASSES → slice_index bits class ≡ 2 ^ class
+
+-- every entry opens the class
+abbrev pub all_open : List Entry → ℕ → Bool
+all_open [] class = true
+all_open (e ∷ es) class = opens e.mask class && all_open es class
+
+-- the place of the first of the entries from place i on that closes the class, or another place where they all open it
+abbrev pub next_shut : List Entry → ℕ → ℕ → ℕ → ℕ
+next_shut [] class i last = last
+next_shut (e ∷ es) class i last = if opens e.mask class then next_shut es class (i + 1) last else i
+
+-- Rows have for each entry the one that closes the class next; past the last one the first one comes again.
+abbrev pub GoesRound : List Entry → ℕ → List ℕ → Type 0
+GoesRound entries class rows =
+    (i : ℕ) → i < length entries → closing_at rows i class ≡ next_shut (drop i entries) class i (next_shut entries class 0 0)
 
 -- the same by a list of when the slots begin
 abbrev pub time_to : ℕ → List ℕ → ℕ → ℕ → ℕ
@@ -38,8 +59,8 @@ time_to cycle starts i c =
 abbrev pub stay_at : Table → ℕ → ℕ → Stay
 stay_at table class i =
     if nat_lt i table.shown
-    then if slice_index_or table.always class false then Always
-    else Lasts (time_to table.cycle table.starts i (slice_index (slice_index_or table.closing class []) i))
+    then if opens table.always class then Always
+    else Lasts (time_to table.cycle table.starts i (closing_at table.closing i class))
     else Lasts 0
 
 -- what it has to have there: 0 where no slot is
@@ -50,7 +71,13 @@ stay_told cycle i class = if nat_lt i (length cycle) then told_stay (stay cycle 
 abbrev pub HasStays : List Slot → Table → Type 0
 HasStays cycle table = (class i : ℕ) → class < CLASSES → stay_at table class i ≡ stay_told cycle i class
 
+-- what a table tells stands in the places of its slots
+pub record IsWithin (table : Table) : Type 0 where
+  pub few : table.shown ≤ MAX_ENTRIES
+  pub listed : (class i : ℕ) → class < CLASSES → i < table.shown → opens table.always class ≡ false → closing_at table.closing i class < table.shown
+
 -- a schedule with its table
 pub record IsTabled (plan : Plan) (table : Table) : Type 0 where
   pub sound : IsSchedule plan
   pub stays : HasStays (slots plan.entries (in_ps plan.cycle)) table
+  pub within : IsWithin table

@@ -3,7 +3,8 @@
 
 ghost use Rattle.std.specs.Prelude.{◌≡◌, ◌<◌, ◌≤◌, ◌==◌, OnErr, OnOk, length};
 ghost use Rattle.std.specs.List.{list_any};
-ghost use Rattle.gate_list.specs.Gate.{IsGateList, closed_entries, gate_fault, ok_unless, opens};
+ghost use Rattle.gate_list.specs.Closed.{closed_entries};
+ghost use Rattle.gate_list.specs.Gate.{IsGateList, gate_fault, ok_unless, opens};
 
 use arrayvec::ArrayVec;
 use std::marker::Model;
@@ -138,9 +139,7 @@ fn put_entries(entries: &[Entry], kept: &mut ArrayVec<Entry, MAX_ENTRIES>)
     ensures { kept.new.items ≡ entries.now }
 {
     kept.clear();
-    for entry in entries {
-        kept.push(*entry);
-    }
+    let _ = kept.try_extend_from_slice(entries);
 }
 
 /// One entry, which closes all classes for a nanosecond.

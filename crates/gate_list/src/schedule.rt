@@ -1,11 +1,12 @@
 //! Schedules: a gate control list with its times, and what it tells of open time.
 ghost use Rattle.std.specs.Prelude.{◌≡◌, ◌<◌, ◌≤◌, ◌+◌, ◌^◌, OnErr, OnOk, Some, length, max, slice_get, sum_by};
-ghost use Rattle.gate_list.specs.Gate.{Plan, closed_plan, IsPlan, IsSchedule, in_ps, prefix, change_of, boundary_from, plan_with, plan_fault, ok_unless, least_interval, first_shorter, keeps_apart, is_apart_in};
+ghost use Rattle.gate_list.specs.Closed.{closed_plan};
+ghost use Rattle.gate_list.specs.Gate.{Plan, IsPlan, IsSchedule, in_ps, prefix, change_of, boundary_from, plan_with, plan_fault, ok_unless, least_interval, first_shorter, keeps_apart, is_apart_in};
 ghost use Rattle.gate_list.specs.Stay.{AreStays, AreClosed, TellOpenTime, TellsOpenTime, stay_from};
 ghost use Rattle.gate_list.specs.Visits.{one_more};
 ghost use Rattle.gate_list.specs.declared.Stay.TheVariants.{Lasts};
 
-use crate::table::{Table, closed_table, put_table, stay_at, stays_at};
+use crate::table::{Table, closed_table, copy_table, put_table, stay_at, stays_at};
 use crate::{
     Entry, GateList, MAX_BASE_NS, MAX_CYCLE_NS, MAX_ENTRIES, PlanFault, Row, Stay, Visits,
     closed_entries, is_open, put_entries,
@@ -140,6 +141,17 @@ fn put_plan(
     put_table(entries, cycle_ns, &mut schedule.stays);
 }
 
+/// What is in one schedule takes the place of what is in another.
+fn copy_plan(from: &Schedule, schedule: &mut Schedule)
+    ensures { schedule.new ≡ from.now }
+{
+    put_entries(from.entries.as_slice(), &mut schedule.entries);
+    schedule.base_ns = from.base_ns;
+    schedule.cycle_ns = from.cycle_ns;
+    schedule.extension_ns = from.extension_ns;
+    copy_table(&from.stays, &mut schedule.stays);
+}
+
 impl Schedule {
     /// The schedule of `GateList::closed` from moment 0 on, with a cycle of a nanosecond: a place for another schedule.
     pub fn closed() -> Schedule
@@ -203,6 +215,22 @@ impl Schedule {
                 Ok(())
             }
         }
+    }
+
+    /// Another schedule takes the place of this one. Of its six kilobytes those are copied that it uses.
+    pub fn copy_from(&mut self, other: &Schedule)
+        ensures { self.new ≡ other.now }
+    {
+        copy_plan(other, self);
+    }
+
+    /// The same schedule in a place of its own.
+    pub fn copied(&self) -> Schedule
+        ensures { result ≡ self.now }
+    {
+        let mut copy = Schedule::closed();
+        copy.copy_from(self);
+        copy
     }
 
     /// How many entries there are: 1 to 256.

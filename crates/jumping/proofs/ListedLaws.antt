@@ -3,13 +3,13 @@ use Rattle.std.proofs.Common.{◌≡◌, ◌<◌, ◌≤◌, ℕ, ◌+◌, ◌*�
 use Rattle.std.proofs.lemmas.Bool.{false≢true}
 use Rattle.std.specs.Option.{ForSome}
 use Rattle.wire_time.specs.Moment.{greatest_moment}
-use Rattle.gate_list.specs.Gate.{Plan, has_come, in_ps, mask_since}
+use Rattle.gate_list.specs.Gate.{Plan, has_come, in_ps, mask_since, opens}
 use Rattle.gate_list.specs.Open.{open_while}
 use Rattle.list_config.specs.Stretch.{mask_in}
-use Rattle.list_execute.specs.Walk.{end_of}
+use Rattle.list_execute.specs.Walk.{end_of, walk_mask}
 use Rattle.list_position.specs.declared.Position.{Position}
 use Rattle.list_position.specs.Position.{IsPlaced, IsFlat, Shows, boundary_in}
-use Rattle.list_position.proofs.PositionLaws.{placed_hold, flat_min, flat_cycle}
+use Rattle.list_position.proofs.PositionLaws.{placed_hold, placed_mask, flat_min, flat_cycle, shut_now}
 use Rattle.accepted_commands.specs.declared.leg.Leg.TheVariants.{Listed}
 use Rattle.accepted_commands.specs.declared.leg.ListedLeg.{ListedLeg}
 use Rattle.accepted_commands.specs.declared.leg.Rest.{Rest}
@@ -60,6 +60,14 @@ module _ (leg : ListedLeg) (rest : Rest) (ready : AreReady (Listed leg) rest) (s
   pub none_on : (needs : List (Option ℕ)) (u : ℕ) → u ≤ boundary → u ≤ stop → ((class d : ℕ) → slice_get needs class ≡ Some (Some d) → open_while (mask_in (stretches_ahead (Listed leg) rest)) class leg.from d ≡ false) → NoneFits (mask_in (stretches_ahead (Listed leg) rest)) needs leg.from u
   none_on needs u l m fails =
       fits_flat (mask_in (stretches_ahead (Listed leg) rest)) needs leg.from u (λ n from below. flat_ahead n from (omega arith) (omega arith)) fails
+
+-- a class that the mask of a list shuts does not stay open from there on
+pub shut_here : (leg : ListedLeg) (rest : Rest) → AreReady (Listed leg) rest → ForSome leg.until (λ u. leg.from < u) → (class d : ℕ) → 0 < d → opens (walk_mask leg.position.walk) class ≡ false → open_while (mask_in (stretches_ahead (Listed leg) rest)) class leg.from d ≡ false
+shut_here leg rest ready unended class d some shut =
+    shut_now (mask_in (stretches_ahead (Listed leg) rest)) class leg.from d some
+    (ap (λ mask. opens mask class) (shows_own (stretch_of (Listed leg)) (stretches_in rest.next rest.last) leg.from (not_yet leg.until leg.from (leg.from + 1) (omega arith) (λ u is. (let late = unended u is in omega arith)))
+    ∙ sym (placed_mask leg.schedule.now ((ready.first).stands).0 leg.start leg.held_from leg.from leg.position ((ready.first).stands).1))
+    ∙ shut)
 
 -- an entry that is shown is one of the list
 pub entry_listed : (plan : Plan) (start : ℕ) (held : Option ℕ) (n : ℕ) (position : Position) → IsPlaced plan start held n position → has_come held position.timer.started ≡ false → position.walk.index < length plan.entries

@@ -1,10 +1,11 @@
 -- What stays the same up to the next edge.
-use Rattle.std.proofs.Common.{◌≡◌, ◌<◌, ◌≤◌, ℕ, min, cond, ltb, Bool, true, IsTrue, ◌⊎◌, inl, inr, [], Any, Option, Some, None, option_map, refl, sym, ap, ◌∙◌, subst, arith}
+use Rattle.std.proofs.Common.{◌≡◌, ◌<◌, ◌≤◌, ◌+◌, ℕ, min, cond, ltb, Bool, true, IsTrue, ◌⊎◌, inl, inr, [], Any, Option, Some, None, option_map, refl, sym, ap, ◌∙◌, subst, arith}
 use Rattle.std.proofs.lemmas.Bool.{cases_lt, lt-leb, le-ltb}
 use Rattle.std.proofs.lemmas.Option.{same_Some}
 use Rattle.std.specs.Option.{ForSome, option_or}
-use Rattle.gate_list.specs.Gate.{Plan, IsSchedule}
-use Rattle.list_config.specs.History.{Accepted, cons_some, only_if, plan_of, start_of, three}
+use Rattle.gate_list.specs.Gate.{Plan, IsSchedule, opens}
+use Rattle.gate_list.proofs.OpenLaws.{open_from}
+use Rattle.list_config.specs.History.{Accepted, cons_some, gates, only_if, open_through, plan_of, start_of, three}
 use Rattle.list_config.specs.Event.{BeginsEntry, ComesAt}
 use Rattle.list_config.proofs.EventLaws.{any_after, any_here}
 use Rattle.list_config.proofs.HistoryLaws.{three_force}
@@ -12,10 +13,10 @@ use Rattle.list_position.specs.declared.Position.{Position}
 use Rattle.list_position.specs.Position.{BeginsAtMost}
 use Rattle.list_position.proofs.PositionLaws.{placed_later}
 use Rattle.accepted_commands.specs.Commands.{Commands, AreCommands, IsUsable, NoneBy, history_of, settled_at, announced_by, pending_by}
-use Rattle.accepted_commands.specs.Standing.{Stands, StandsUnder, boundary_in_force, boundary_under, earlier, edge_at, hold_for}
+use Rattle.accepted_commands.specs.Standing.{Stands, StandsUnder, boundary_in_force, boundary_under, earlier, edge_at, hold_for, shown_by}
 use Rattle.accepted_commands.specs.Resume.{Resumes, ResumesBy}
 use Rattle.jumping.specs.Edge.{IsEdge, NothingComes, OneEntryComes}
-use Rattle.accepted_commands.proofs.CommandLaws.{force_still, none_now, same_commands}
+use Rattle.accepted_commands.proofs.CommandLaws.{force_still, gates_ahead, none_now, same_commands, shows_at}
 
 -- what is before the earlier of two moments is before both
 parts : (m : ℕ) (a b : Option ℕ) → ForSome (earlier a b) (λ u. m < u) → ForSome a (λ u. m < u) × ForSome b (λ u. m < u)
@@ -63,6 +64,16 @@ module _ (c : Commands) (s : AreCommands c) (position : Option Position) (m : �
   -- and the list in force stands as it stood
   pub still_stands : Stands c.in_force c.pending c.moment position → Stands c.in_force c.pending m position
   still_stands stands = stands_later c.in_force c.pending c.moment m position s.in_force_usable stands l both.0
+
+  -- and shows the mask that it showed
+  pub still_shows : Stands c.in_force c.pending c.moment position → gates (history_of c) m ≡ shown_by position
+  still_shows stands = gates_ahead c s m l none_by ∙ sym (shows_at c s m position (still_stands stands))
+
+-- a class that the mask of now opens stays open up to the edge
+pub open_still : (c : Commands) → AreCommands c → (position : Option Position) → Stands c.in_force c.pending c.moment position → (class d : ℕ) → ForSome (edge_at c position) (λ u. c.moment + d ≤ u) → (0 < d → opens (shown_by position) class ≡ true) → open_through (history_of c) class c.moment d ≡ true
+open_still c s position stands class d far shows =
+    open_from (gates (history_of c)) class c.moment d (λ m from below.
+    ap (λ mask. opens mask class) (still_shows c s position m from (λ u is. (let past = far u is in omega arith)) stands) ∙ shows (omega arith))
 
 -- ---- where the list in force goes on, after any move
 

@@ -19,8 +19,8 @@ ghost use Rattle.jumping.specs.Alone.{IsLoneList};
 use crate::alone::{search_alone, stays_open_alone};
 use crate::search::search;
 use accepted_commands::{
-    AcceptedCommand, AcceptedList, Slots, edge_of, installed, lead_moment, legs_ahead, list_in,
-    mask_under, resumed, stays_open,
+    AcceptedList, Slots, edge_of, installed, lead_moment, legs_ahead, list_in, mask_under, resumed,
+    stays_open,
 };
 use gate_list::{Schedule, Visits, is_open};
 use list_config::{Gates, Installed, NotNow};
@@ -78,9 +78,22 @@ fn next_edge(slots: &Slots) -> Option<u128>
 /// Whether a mask shuts a class that needs some time, in picoseconds.
 fn is_shut(mask: u8, class: u8, length: u128) -> bool
     requires class { class < CLASSES }
-    ensures { result ≡ true → (0 < length) × (opens mask class ≡ false) }
+    ensures shut { result ≡ true → (0 < length) × (opens mask class ≡ false) }
+    ensures open { result ≡ false → 0 < length → opens mask class ≡ true }
 {
     length != 0 && !is_open(mask, class)
+}
+
+/// Whether a time from a moment on is over by another moment, if there is one; all are in picoseconds.
+fn is_over_by(edge: Option<u128>, from: u128, length: u128) -> bool
+    requires from { from ≤ greatest_moment }
+    requires within { length ≤ greatest_moment }
+    ensures { result ≡ true → ForSome edge (λ u. from + length ≤ u) }
+{
+    match edge {
+        None => true,
+        Some(edge) => from + length <= edge,
+    }
 }
 
 /// The list in force, where no other command is to come.
@@ -95,7 +108,9 @@ fn lone_list(slots: &Slots) -> Option<&AcceptedList>
 }
 
 /// Whether a class stays open from now on, by the commands that count. Where no other command is to come, which is mostly so, the list
-/// in force tells it.
+/// in force tells it. Apart, so that the loop over the classes stays small: mostly a class is shut now, or needs less than what is left
+/// up to the next edge.
+#[inline(never)]
 fn stays_open_from_now(slots: &Slots, resumed: &Option<Position>, need: Need) -> bool
     requires sound { AreCommands slots.now.commands }
     requires stands { Stands slots.now.commands.in_force slots.now.commands.pending slots.now.commands.moment slots.now.position }
@@ -213,9 +228,13 @@ impl Gates for Jumping {
         if is_shut(self.mask, class, for_ps) {
             return false;
         }
+        let from = self.slots.moment();
+        if is_over_by(self.edge, from, for_ps) {
+            return true;
+        }
         let need = Need {
             class,
-            from: self.slots.moment(),
+            from,
             length: for_ps,
         };
         stays_open_from_now(&self.slots, &self.resumed, need)
@@ -258,14 +277,12 @@ impl Gates for Jumping {
     }
 
     #[tactic(auto, using(accepted_commands::proofs::CommandLaws::current_of, list_config::proofs::HistoryLaws::settled_announced, list_config::proofs::HistoryLaws::cons_some_push))]
-    fn install(&mut self, schedule: Schedule, lead: u128) -> Result<u128, NotNow> {
+    fn install(&mut self, schedule: &Schedule, lead: u128) -> Result<u128, NotNow> {
         if let Some(waited) = lead_moment(self.slots.announced()) {
             return Err(NotNow::Busy(waited));
         }
         let mut visits = Visits::zero();
-        let command = AcceptedCommand::install(schedule, lead, &mut visits);
-        let change = command.change();
-        self.slots.announce(command);
+        let change = self.slots.announce_list(schedule, lead, &mut visits);
         self.resumed = resumed(&self.slots, &mut visits);
         self.edge = next_edge(&self.slots);
         Ok(change)
@@ -276,7 +293,7 @@ impl Gates for Jumping {
         if let Some(waited) = lead_moment(self.slots.announced()) {
             return Err(NotNow::Busy(waited));
         }
-        self.slots.announce(AcceptedCommand::Delete(lead));
+        self.slots.announce_deletion(lead);
         self.resumed = resumed(&self.slots, &mut Visits::zero());
         self.edge = next_edge(&self.slots);
         Ok(lead)

@@ -2,7 +2,7 @@
 ghost use Rattle.std.specs.Prelude.{◌≡◌, ℕ, ◌+◌, ◌-◌, ◌*◌, ◌<◌, ◌≤◌, ◌∷◌, Some, None, true, false, All, length, min, slice_get};
 ghost use Rattle.std.specs.Option.{ForSome};
 ghost use Rattle.wire_time.specs.Moment.{greatest_moment};
-ghost use Rattle.gate_list.specs.Gate.{IsSchedule, has_come, in_ps, mask_since};
+ghost use Rattle.gate_list.specs.Gate.{IsSchedule, has_come, in_ps, mask_since, opens};
 ghost use Rattle.gate_list.specs.Open.{open_while};
 ghost use Rattle.list_config.specs.Stretch.{mask_in, mask_of};
 ghost use Rattle.list_execute.specs.Walk.{end_of};
@@ -12,7 +12,7 @@ ghost use Rattle.accepted_commands.specs.Leg.{AreReady, DoFollow, IsReady, stret
 ghost use Rattle.jumping.specs.Search.{Fits, IsSearch, Searched, up_to, most_visits, most_in};
 
 use accepted_commands::{Leg, ListedLeg, Rest, copied};
-use gate_list::Visits;
+use gate_list::{Visits, is_open};
 use list_position::{Need, Position};
 use wire_time::CLASSES;
 
@@ -32,6 +32,20 @@ fn fits(leg: &Leg<'_>, rest: &Rest<'_>, needs: &[Option<u128>; CLASSES]) -> bool
                 length,
             };
             if leg.stays_open_ahead(rest, need) {
+                return true;
+            }
+        }
+    }
+    false
+}
+
+/// Whether a mask opens some class with a need, or a class needs no time.
+fn opens_some(mask: u8, needs: &[Option<u128>; CLASSES]) -> bool
+    ensures { result ≡ false → (class d : ℕ) → slice_get needs.now class ≡ Some (Some d) → (0 < d) × (opens mask class ≡ false) }
+{
+    for class in 0..CLASSES as u8 {
+        if let Some(length) = needs[class as usize] {
+            if length == 0 || is_open(mask, class) {
                 return true;
             }
         }
@@ -90,16 +104,20 @@ struct ListSearch<'a> {
 
 impl ListSearch<'_> {
     /// Whether some class fits where a list stands so at a moment. Where nothing follows it, its position tells, and no leg is made:
-    /// a leg is as large as all that is looked at.
+    /// a leg is as large as all that is looked at. Else the mask tells first whether one is worth making.
     fn fits_at(&self, leg: &ListedLeg<'_>, from: u128, position: &Position) -> bool
         requires ready { AreReady (Listed (record leg.now { from = from; position = position.now })) self.now.rest.now }
+        requires unended { ForSome leg.now.until (λ u. from < u) }
         requires needs { All (λ need. ForSome need (λ d. d ≤ greatest_moment)) self.now.needs.now }
         ensures some { result ≡ true → Fits (mask_in (stretches_ahead (Listed leg.now) self.now.rest.now)) self.now.needs.now from }
         ensures none { result ≡ false → (class d : ℕ) → slice_get self.now.needs.now class ≡ Some (Some d) → open_while (mask_in (stretches_ahead (Listed leg.now) self.now.rest.now)) class from d ≡ false }
     {
         match &self.rest.next {
             None => fits_alone(leg, from, position, self.needs),
-            Some(_) => fits(&Leg::Listed(leg.at(from, *position)), self.rest, self.needs),
+            Some(_) => {
+                opens_some(position.walk.mask(), self.needs)
+                    && fits(&Leg::Listed(leg.at(from, *position)), self.rest, self.needs)
+            }
         }
     }
 

@@ -38,7 +38,7 @@ fn gates(rt: &impl Abort) -> Jumping
     ensures moment { result.moment ≡ 15000000 }
 {
     let mut gates = Jumping::begin();
-    assert_eq!(rt; gates.install(three_entries(rt), 12336000), Ok(15000000));
+    assert_eq!(rt; gates.install(&three_entries(rt), 12336000), Ok(15000000));
     gates.move_to(15000000, &mut Visits::zero());
     gates
 }

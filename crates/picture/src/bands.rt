@@ -187,7 +187,7 @@ impl<A: Allocator> Bands<A> {
         ) {
             Err(_) => {}
             Ok(schedule) => {
-                let _ = self.gates.install(schedule, lead);
+                let _ = self.gates.install(&schedule, lead);
             }
         }
     }

@@ -89,7 +89,7 @@ pub fn commands<G: Gates>(held: &mut G, schedule: Schedule, lead: u128) -> Resul
     further_law();
     let _ = schedule.len();
     let _ = schedule.change_moment(lead);
-    held.install(schedule, lead)
+    held.install(&schedule, lead)
 }
 
 /// No frame that a port accepts outlasts the lead; every run of it is open in hindsight, and settles.

@@ -134,7 +134,7 @@ impl Gates for Plain {
         self.history = kept(mem::take(&mut self.history), t);
     }
 
-    fn install(&mut self, schedule: Schedule, lead: u128) -> Result<u128, NotNow> {
+    fn install(&mut self, schedule: &Schedule, lead: u128) -> Result<u128, NotNow> {
         if let Some(command) = announced(self.history.as_slice(), self.moment) {
             return Err(NotNow::Busy(command.lead));
         }
@@ -142,7 +142,7 @@ impl Gates for Plain {
         self.announce(RecordedCommand {
             lead,
             change,
-            schedule: Some(schedule),
+            schedule: Some(schedule.copied()),
         });
         Ok(change)
     }

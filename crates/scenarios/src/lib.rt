@@ -65,7 +65,7 @@ fn holds<G: Gates>(gates: &mut G, step: &Step<'_>) -> bool
         Step::Install(given, want) => match given.schedule() {
             Some(schedule) => {
                 let e = gates.now() + LEAD;
-                gates.install(schedule, e) == *want
+                gates.install(&schedule, e) == *want
             }
             None => false,
         },

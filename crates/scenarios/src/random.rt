@@ -135,7 +135,7 @@ pub fn rows_tell_open_time<G: Gates + Drop>(seed: u64) -> bool {
     let Some(given) = schedule(&mut again) else {
         return false;
     };
-    let Ok(change) = gates.install(given, 1) else {
+    let Ok(change) = gates.install(&given, 1) else {
         return false;
     };
     if change > 1_000_000_000 {
@@ -181,7 +181,7 @@ fn commanded_alike<G: Gates, H: Gates>(first: &mut G, second: &mut H, numbers: &
     let Some(other) = schedule(&mut again) else {
         return true;
     };
-    first.install(one, e) == second.install(other, e)
+    first.install(&one, e) == second.install(&other, e)
 }
 
 /// Whether both show the same mask and the same commands.

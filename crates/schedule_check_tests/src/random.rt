@@ -141,7 +141,7 @@ fn seen_of<G: Gates + Drop>(schedule: Schedule) -> [Seen; CLASSES] {
     let last = 4 * cycle;
     let mut visits = Visits::zero();
     let mut gates = G::begin();
-    let _change = gates.install(schedule, 1);
+    let _change = gates.install(&schedule, 1);
     gates.move_to(cycle, &mut visits);
     let mut seen = [Seen::nothing(); CLASSES];
     for _step in 0..100 {

@@ -160,8 +160,42 @@ impl<G: Gates> Lookout<G> {
         true
     }
 
+    /// Moves on to the first moment from `from` on, which is not before now, and before `until` at which some class may start, and answers
+    /// the greatest that may; or to `until`, where there is none. All are in picoseconds. Apart, since `find_start` mostly knows more.
+    #[inline(never)]
+    fn find_from(&mut self, from: u128, until: u128, visits: &mut Visits) -> Option<u8>
+        requires onward { self.old.moment ≤ from }
+        requires before { from < until }
+        requires within { until ≤ greatest_moment }
+        ensures needs { self.new.needs ≡ self.old.needs }
+        ensures onward { self.old.moment ≤ self.new.moment }
+        ensures history { self.new.history ≡ kept self.old.history self.new.moment }
+        ensures current { IsCurrent self.new.history self.new.moment }
+        ensures idle { (m : ℕ) → self.old.moment ≤ m → from ≤ m → m < self.new.moment → first_choice self.old.history m self.old.needs ≡ None }
+        ensures none { IfNone result (self.new.moment ≡ until) }
+        ensures before { OnSome result ((from ≤ self.new.moment) × (self.new.moment < until)) }
+        ensures choice { IfSome result (λ class. first_choice self.old.history self.new.moment self.old.needs ≡ Some class) }
+        ensures counted { visits.old ≤ visits.new }
+        ensures visits { IsTrue G.JUMPS → visits.new ≤ visits.old + 16 * (longest self.old.history + 1) }
+    {
+        self.gates.move_to(from, visits);
+        match move_to_choice(&self.heads, &mut self.gates, until, visits) {
+            Ok(class) => {
+                self.moment = self.gates.now();
+                Some(class)
+            }
+            Err(idle) => {
+                self.idle = idle;
+                self.still = catch_up(&mut self.gates, self.still, until, visits);
+                self.moment = until;
+                None
+            }
+        }
+    }
+
     /// Moves on to the first moment from `free` on and before `until` at which some class may start, and answers the greatest that
     /// may; or to `until`, where there is none. All are in picoseconds.
+    #[inline(always)]
     pub fn find_start(&mut self, free: u128, until: u128, visits: &mut Visits) -> Option<u8>
         requires later { self.old.moment ≤ until }
         requires within { until ≤ greatest_moment }
@@ -182,19 +216,7 @@ impl<G: Gates> Lookout<G> {
             self.moment = until;
             return None;
         }
-        self.gates.move_to(from, visits);
-        match move_to_choice(&self.heads, &mut self.gates, until, visits) {
-            Ok(class) => {
-                self.moment = self.gates.now();
-                Some(class)
-            }
-            Err(idle) => {
-                self.idle = idle;
-                self.still = catch_up(&mut self.gates, self.still, until, visits);
-                self.moment = until;
-                None
-            }
-        }
+        self.find_from(from, until, visits)
     }
 
     /// What the gates show now.
@@ -215,14 +237,14 @@ impl<G: Gates> Lookout<G> {
     }
 
     /// A command with the lead moment `lead`, in picoseconds; its change moment, or why it is not accepted.
-    pub fn install(&mut self, schedule: Schedule, lead: u128) -> Result<u128, NotNow>
+    pub fn install(&mut self, schedule: &Schedule, lead: u128) -> Result<u128, NotNow>
         requires ahead { self.old.moment < lead }
         requires within { lead ≤ greatest_moment + greatest_lead }
         ensures current { IsCurrent self.new.history self.new.moment }
         ensures moment { self.new.moment ≡ self.old.moment }
         ensures needs { self.new.needs ≡ self.old.needs }
-        ensures answer { result ≡ answer_to self.old.history self.old.moment (accepted_at lead schedule) }
-        ensures history { self.new.history ≡ with_command self.old.history self.old.moment (accepted_at lead schedule) }
+        ensures answer { result ≡ answer_to self.old.history self.old.moment (accepted_at lead schedule.now) }
+        ensures history { self.new.history ≡ with_command self.old.history self.old.moment (accepted_at lead schedule.now) }
         ensures hindsight { (n : ℕ) → n < lead → gates self.new.history n ≡ gates self.old.history n }
     {
         self.gates.move_to(self.moment, &mut Visits::zero());

@@ -7,9 +7,7 @@ ghost use Rattle.list_position.specs.Position.{IsFlat};
 ghost use Rattle.accepted_commands.specs.Commands.{AreCommands, accepted_in, command_of, history_of};
 ghost use Rattle.accepted_commands.specs.Standing.{Stands, earlier, edge_at};
 
-use accepted_commands::{
-    AcceptedCommand, Slots, edge_of, installed, lead_moment, legs_ahead, mask_under, resumed,
-};
+use accepted_commands::{Slots, edge_of, installed, lead_moment, legs_ahead, mask_under, resumed};
 use gate_list::{Schedule, Visits};
 use list_config::{Gates, Installed, NotNow};
 use list_position::Need;
@@ -121,13 +119,13 @@ impl Gates for Stepped {
         }
     }
 
-    fn install(&mut self, schedule: Schedule, lead: u128) -> Result<u128, NotNow> {
+    fn install(&mut self, schedule: &Schedule, lead: u128) -> Result<u128, NotNow> {
         if let Some(waited) = lead_moment(self.slots.announced()) {
             return Err(NotNow::Busy(waited));
         }
-        let command = AcceptedCommand::install(schedule, lead, &mut Visits::zero());
-        let change = command.change();
-        self.slots.announce(command);
+        let change = self
+            .slots
+            .announce_list(schedule, lead, &mut Visits::zero());
         Ok(change)
     }
 
@@ -135,7 +133,7 @@ impl Gates for Stepped {
         if let Some(waited) = lead_moment(self.slots.announced()) {
             return Err(NotNow::Busy(waited));
         }
-        self.slots.announce(AcceptedCommand::Delete(lead));
+        self.slots.announce_deletion(lead);
         Ok(lead)
     }
 

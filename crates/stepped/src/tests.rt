@@ -44,7 +44,7 @@ fn two_masks(rt: &impl Abort, extension_ns: u64) -> Stepped
         1000000,
         extension_ns,
     );
-    assert_eq!(rt; gates.install(list, 12336000), Ok(1000000000));
+    assert_eq!(rt; gates.install(&list, 12336000), Ok(1000000000));
     gates
 }
 

@@ -6,12 +6,12 @@ use Rattle.port.proofs.Port.put_schedule.Goals as goal
 
 pub returns-in-Ok-clause-answer : goal.returns-in-Ok-clause-answer
 returns-in-Ok-clause-answer g c =
-    (replace_taken _ c.args.self.now.port c.args.change.now c.args.e c.args.schedule (ap (λ q. q.port) c.self.view_is) c.requires.lead c.requires.schedule
+    (replace_taken _ c.args.self.now.port c.args.change.now c.args.e c.args.schedule.now (ap (λ q. q.port) c.self.view_is) c.requires.lead c.requires.schedule
     _ c.in-Ok.moment _ _ _ c.requires.taken (sym c.in-Ok.is ∙ c.install.ensures.answer) c.install.ensures.history c.install.ensures.moment c.classes_with-classes.ensures c.unwrap_or-self-inside.ensures).0
 
 pub returns-in-Ok-clause-port : goal.returns-in-Ok-clause-port
 returns-in-Ok-clause-port g c =
-    (replace_taken _ c.args.self.now.port c.args.change.now c.args.e c.args.schedule (ap (λ q. q.port) c.self.view_is) c.requires.lead c.requires.schedule
+    (replace_taken _ c.args.self.now.port c.args.change.now c.args.e c.args.schedule.now (ap (λ q. q.port) c.self.view_is) c.requires.lead c.requires.schedule
     _ c.in-Ok.moment _ _ _ c.requires.taken (sym c.in-Ok.is ∙ c.install.ensures.answer) c.install.ensures.history c.install.ensures.moment c.classes_with-classes.ensures c.unwrap_or-self-inside.ensures).1
 
 pub returns-in-Ok-clause-sound : goal.returns-in-Ok-clause-sound
@@ -21,12 +21,12 @@ returns-in-Ok-clause-sound g c =
 
 pub returns-in-Err-clause-answer : goal.returns-in-Err-clause-answer
 returns-in-Err-clause-answer g c =
-    ap Err c.busy_of.ensures ∙ (replace_busy _ c.args.self.now.port c.args.change.now c.args.e c.args.schedule (ap (λ q. q.port) c.self.view_is) c.requires.lead c.requires.schedule
+    ap Err c.busy_of.ensures ∙ (replace_busy _ c.args.self.now.port c.args.change.now c.args.e c.args.schedule.now (ap (λ q. q.port) c.self.view_is) c.requires.lead c.requires.schedule
     _ c.in-Err.not_now _ c.requires.taken (sym c.in-Err.is ∙ c.install.ensures.answer) c.install.ensures.history c.install.ensures.moment).0
 
 pub returns-in-Err-clause-port : goal.returns-in-Err-clause-port
 returns-in-Err-clause-port g c =
-    (replace_busy _ c.args.self.now.port c.args.change.now c.args.e c.args.schedule (ap (λ q. q.port) c.self.view_is) c.requires.lead c.requires.schedule
+    (replace_busy _ c.args.self.now.port c.args.change.now c.args.e c.args.schedule.now (ap (λ q. q.port) c.self.view_is) c.requires.lead c.requires.schedule
     _ c.in-Err.not_now _ c.requires.taken (sym c.in-Err.is ∙ c.install.ensures.answer) c.install.ensures.history c.install.ensures.moment).1
 
 pub returns-in-Err-clause-sound : goal.returns-in-Err-clause-sound

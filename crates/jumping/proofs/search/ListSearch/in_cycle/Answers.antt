@@ -1,4 +1,4 @@
-use Rattle.std.proofs.Common.{ℕ, ◌<◌, min, refl, sym, ap, ◌∙◌, subst, arith}
+use Rattle.std.proofs.Common.{ℕ, ◌<◌, ◌≤◌, min, refl, sym, ap, ◌∙◌, subst, arith}
 use Rattle.cycle_timer.specs.Cycle.{Cycle}
 use Rattle.list_config.specs.Stretch.{mask_in}
 use Rattle.list_execute.specs.Walk.{end_of}
@@ -64,3 +64,10 @@ loop-position-preserved c =
       omega (arith, so_far, visit, index),
       listed,
     )
+
+pub fits_at-requires-clause-unended : goal.fits_at-requires-clause-unended
+fits_at-requires-clause-unended c = λ u is.
+    let late : c.args.self.now.stop ≤ u = c.requires.search.unended u is in
+    let some = c.loop-position.invariant.0 in
+    let limit = c.min-limit.ensures in
+    omega (arith, some, limit)

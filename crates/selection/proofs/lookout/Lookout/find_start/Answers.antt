@@ -1,31 +1,8 @@
-use Rattle.std.proofs.Common.{◌≤◌, ◌<◌, max, sym, ap, ◌∙◌, subst, arith, le_trans, lt_of_lt_of_le}
-use Rattle.list_config.specs.History.{kept}
-use Rattle.list_config.specs.Choice.{first_choice}
-use Rattle.list_config.specs.Current.{IsCurrent}
+use Rattle.std.proofs.Common.{inl, inr, sym, subst, arith, le_trans}
+use Rattle.std.proofs.lemmas.Bool.{cases_lt}
 use Rattle.selection.specs.Watched.{IsIdle}
-use Rattle.selection.proofs.WatchLaws.{HaveLooked, have_looked, idle_at, still_moved}
+use Rattle.selection.proofs.WatchLaws.{idle_at}
 use Rattle.selection.proofs.lookout.Lookout.find_start.Goals as goal
-
-looked-in-Ok : (g : _) (c : goal.After-self-in-Ok-1 g)
-    → HaveLooked (g.G.Gates.history c.self.inside.gates) (g.G.Gates.moment c.self.inside.gates) c.self.inside.moment c.args.free c.self.inside.idle c.max-from.result c.self.inside.heads.need
-    (g.G.Gates.history c.move_to.new.self) (g.G.Gates.history c.move_to_choice.new.gates) (g.G.Gates.moment c.move_to.new.self) (g.G.Gates.moment c.move_to_choice.new.gates)
-looked-in-Ok g c =
-    have_looked _ _ _ (g.met.G.Gates.is_current c.self.inside.gates c.self.invariant.0) c.self.invariant.1 _ _ c.self.invariant.4 _ _ (c.max-from.ensures ∙ ap (λ x. max x c.self.inside.idle) c.max.ensures)
-    _ _ _ _ c.move_to.ensures.moment c.move_to.ensures.history c.move_to_choice.ensures.idle
-
-looked-in-Err : (g : _) (c : goal.After-catch_up-arg-in-Err-2-1 g)
-    → HaveLooked (g.G.Gates.history c.self.inside.gates) (g.G.Gates.moment c.self.inside.gates) c.self.inside.moment c.args.free c.self.inside.idle c.max-from.result c.self.inside.heads.need
-    (g.G.Gates.history c.move_to.new.self) (g.G.Gates.history c.move_to_choice.new.gates) (g.G.Gates.moment c.move_to.new.self) (g.G.Gates.moment c.move_to_choice.new.gates)
-looked-in-Err g c =
-    have_looked _ _ _ (g.met.G.Gates.is_current c.self.inside.gates c.self.invariant.0) c.self.invariant.1 _ _ c.self.invariant.4 _ _ (c.max-from.ensures ∙ ap (λ x. max x c.self.inside.idle) c.max.ensures)
-    _ _ _ _ c.move_to.ensures.moment c.move_to.ensures.history c.move_to_choice.ensures.idle
-
-caught-in-Err : (g : _) (c : goal.After-self-in-Err-3-1 g)
-    → HaveLooked (g.G.Gates.history c.self.inside.gates) (g.G.Gates.moment c.self.inside.gates) c.self.inside.moment c.args.free c.self.inside.idle c.max-from.result c.self.inside.heads.need
-    (g.G.Gates.history c.move_to.new.self) (g.G.Gates.history c.move_to_choice.new.gates) (g.G.Gates.moment c.move_to.new.self) (g.G.Gates.moment c.move_to_choice.new.gates)
-caught-in-Err g c =
-    have_looked _ _ _ (g.met.G.Gates.is_current c.self.inside.gates c.self.invariant.0) c.self.invariant.1 _ _ c.self.invariant.4 _ _ (c.max-from.ensures ∙ ap (λ x. max x c.self.inside.idle) c.max.ensures)
-    _ _ _ _ c.move_to.ensures.moment c.move_to.ensures.history c.move_to_choice.ensures.idle
 
 pub invariant_of-self : goal.invariant_of-self
 invariant_of-self g c =
@@ -41,68 +18,13 @@ invariant_of-self g c =
       e.there,
     )
 
-pub invariant_of-self-in-Ok : goal.invariant_of-self-in-Ok
-invariant_of-self-in-Ok g c =
-    let current = g.met.G.Gates.is_current c.self.inside.gates c.self.invariant.0 in
-    let s = looked-in-Ok g c in
-    let at = c.now-self-inside.ensures in (
-      c.move_to_choice.ensures.sound,
-      omega (arith, at),
-      subst (λ t. IsCurrent (g.G.Gates.history c.move_to_choice.new.gates) t) (sym at) (g.met.G.Gates.is_current c.move_to_choice.new.gates c.move_to_choice.ensures.sound),
-      c.self.invariant.3,
-      λ m after below. absurd (omega (arith, at, s.after, s.beyond, after, below)),
-      λ still. still_moved _ _ current (c.self.invariant.5 still) _ _ s.onward s.history,
-      λ _. sym at,
-    )
-
-pub catch_up-self-inside-requires-in-Err-clause-still : goal.catch_up-self-inside-requires-in-Err-clause-still
-catch_up-self-inside-requires-in-Err-clause-still g c =
-    let current = g.met.G.Gates.is_current c.self.inside.gates c.self.invariant.0 in
-    let s = looked-in-Err g c in
-    λ still. still_moved _ _ current (c.self.invariant.5 still) _ _ s.onward s.history
-
-pub invariant_of-self-in-Err : goal.invariant_of-self-in-Err
-invariant_of-self-in-Err g c =
-    let e = c.catch_up-self-inside-in-Err.ensures in (
-      e.sound,
-      e.upto,
-      e.current,
-      c.self.invariant.3,
-      (caught-in-Err g c).later c.args.until c.in-Err.idle _ c.move_to_choice.ensures.upto e.history c.in-Err.ensures.none.1,
-      e.still,
-      e.there,
-    )
-
-pub returns-in-Ok-clause-history : goal.returns-in-Ok-clause-history
-returns-in-Ok-clause-history g c = rw (← c.self.view_is) ((looked-in-Ok g c).history ∙ ap (kept (g.G.Gates.history c.self.inside.gates)) (sym c.now-self-inside.ensures))
-
-pub returns-in-Ok-clause-idle : goal.returns-in-Ok-clause-idle
-returns-in-Ok-clause-idle g c =
-    let at = c.now-self-inside.ensures in
-    rw (← c.self.view_is) ((looked-in-Ok g c).idle c.now-self-inside.result (λ i from below. c.move_to_choice.ensures.idle.idle i from (subst (λ t. i < t) at below)))
-
-pub returns-in-Ok-clause-choice : goal.returns-in-Ok-clause-choice
-returns-in-Ok-clause-choice g c =
-    let at = c.now-self-inside.ensures in
-    let s = looked-in-Ok g c in
-    rw (← c.self.view_is)
-    (sym (s.choice c.now-self-inside.result (subst (λ t. c.max-from.result ≤ t) (sym at) s.after))
-    ∙ (ap (λ i. first_choice (g.G.Gates.history c.move_to.new.self) i c.self.inside.heads.need) at ∙ c.in-Ok.ensures.choice))
-
-pub returns-in-Ok-clause-visits : goal.returns-in-Ok-clause-visits
-returns-in-Ok-clause-visits g c =
-    let s = looked-in-Ok g c in
-    rw (← c.self.view_is) (λ jumps. omega (arith, c.move_to.ensures.visits jumps, c.move_to_choice.ensures.visits jumps, s.longest_from))
-
-pub returns-in-Err-clause-history : goal.returns-in-Err-clause-history
-returns-in-Err-clause-history g c = rw (← c.self.view_is) ((caught-in-Err g c).last_history c.args.until _ c.move_to_choice.ensures.upto c.catch_up-self-inside-in-Err.ensures.history)
-
-pub returns-in-Err-clause-idle : goal.returns-in-Err-clause-idle
-returns-in-Err-clause-idle g c =
-    let none = c.in-Err.ensures.none in
-    rw (← c.self.view_is) ((caught-in-Err g c).idle c.args.until (λ i from below. none.1 i from (lt_of_lt_of_le below none.0)))
-
-pub returns-in-Err-clause-visits : goal.returns-in-Err-clause-visits
-returns-in-Err-clause-visits g c =
-    let s = caught-in-Err g c in
-    rw (← c.self.view_is) (λ jumps. omega (arith, c.move_to.ensures.visits jumps, c.in-Err.ensures.fewer jumps, c.catch_up-self-inside-in-Err.ensures.visits jumps, s.longest_from, s.longest_there))
+pub returns-clause-idle : goal.returns-clause-idle
+returns-clause-idle g c =
+    let then = rw (← c.self.view_is) at c.find_from.ensures.idle in
+    let from = c.max-from.ensures in
+    let free = c.max.ensures in
+    rw (← c.self.view_is) (λ m after late below.
+    elim (cases_lt m c.max-from.result) [
+      | inl early ↦ c.self.invariant.4 m after (omega (arith, early, after, late, from, free))
+      | inr past ↦ then m after past below
+    ])

@@ -1,0 +1,11 @@
+use Rattle.std.proofs.Common.{◌≡◌, ◌≢◌, ◌<◌, ◌+◌, ℕ, cond, length}
+use Rattle.gate_list.specs.Gate.{opens}
+use Rattle.gate_list.specs.Table.{closing_at}
+use Rattle.gate_list.proofs.table.put_row.Given as goal
+
+abbrev pub invariant-loop-class : goal.invariant-loop-class
+invariant-loop-class l = record {
+  size : length l.rows ≡ 2056;
+  row : (k : ℕ) → k < l.class → closing_at l.rows l.slot k ≡ cond (opens l.mask k) (closing_at l.fn.rows (l.slot + 1) k) l.slot;
+  others : (i k : ℕ) → k < 8 → i ≢ l.slot → closing_at l.rows i k ≡ closing_at l.fn.rows i k;
+}
