@@ -9,6 +9,6 @@ mod reports;
 mod span;
 mod writing;
 
-pub use lines::{put_answer, put_arrival, put_left, put_start, put_tc_fault};
+pub use lines::{put_answer, put_arrival, put_installation, put_left, put_start, put_tc_fault};
 pub use octet_writer::{WriteFault, put};
 pub use writing::{Part, put_parts};

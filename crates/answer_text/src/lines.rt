@@ -1,7 +1,7 @@
 //! The lines of answers.
 
 ghost use Rattle.std.specs.Prelude.{◌≡◌};
-ghost use Rattle.abstract_port.specs.Answers.{arrival_answer};
+ghost use Rattle.abstract_port.specs.Answers.{arrival_answer, command_answer};
 ghost use Rattle.answer_text.specs.Lines.{queued_line, dropped_line, installed_line, refused_line, start_line, count_line, left_line, answer_lines, number_text, tc_fault_line};
 ghost use Rattle.octet_writer.specs.Writes.{Writes};
 
@@ -89,6 +89,20 @@ fn put_refused<W: Write>(writer: &mut W, why: Refused) -> Result<(), WriteFault>
             writer,
             &[Part::Text(b"refused "), Part::Text(name), Part::Text(b"\n")],
         ),
+    }
+}
+
+/// Writes the line of a command: the moment at which it comes into force, in picoseconds, or why it is refused. At a fault a front of
+/// it is written.
+pub fn put_installation<W: Write>(
+    writer: &mut W,
+    answer: Result<u128, Refused>,
+) -> Result<(), WriteFault>
+    ensures { Writes result (W.contents writer.old) (W.contents writer.new) (answer_lines (command_answer answer)) }
+{
+    match answer {
+        Ok(change) => put_installed(writer, change),
+        Err(why) => put_refused(writer, why),
     }
 }
 

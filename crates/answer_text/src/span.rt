@@ -13,6 +13,7 @@ use itoa::write_digits;
 pub const SPAN_CAPACITY: usize = 85;
 
 // Two numbers, each by itself.
+#[inline(never)]
 fn apart_before(first: u128, second: u128, line: &mut Line, end: usize) -> usize
     requires room { SPAN_CAPACITY ≤ end }
     requires within { end ≤ LINE_CAPACITY }
@@ -58,13 +59,14 @@ fn near_before(front: u64, first: u64, second: u64, line: &mut Line, end: usize)
     copy_before(&digits, from, line, middle)
 }
 
-// All but the last eight digits of a number.
+// All but the last eight digits of a number. A hundred million is 256 times 390,625.
 #[inline]
 fn front_of(number: u128) -> u128
     ensures { result ≡ number / EIGHT_DIGITS }
 {
-    if number <= u128::from(u64::MAX) {
-        u128::from(number as u64 / EIGHT_DIGITS)
+    let high = number / 256;
+    if high <= u128::from(u64::MAX) {
+        u128::from(high as u64 / 390_625)
     } else {
         number / u128::from(EIGHT_DIGITS)
     }
@@ -72,6 +74,7 @@ fn front_of(number: u128) -> u128
 
 /// Puts the moment of a start, ` end ` and the moment of its end before what ends a line from `end` on, and answers where the line begins
 /// then. Both are in picoseconds.
+#[inline(always)]
 pub fn span_before(first: u128, second: u128, line: &mut Line, end: usize) -> usize
     requires room { SPAN_CAPACITY ≤ end }
     requires within { end ≤ LINE_CAPACITY }

@@ -17,7 +17,9 @@ ghost use Rattle.wire_time.specs.Moment.{greatest_moment};
 
 use crate::reading::read_tc_into;
 use abstract_port::{Command, Event};
-use answer_text::{WriteFault, put_answer, put_arrival, put_left, put_start, put_tc_fault};
+use answer_text::{
+    WriteFault, put_answer, put_arrival, put_installation, put_left, put_start, put_tc_fault,
+};
 use jumping::Jumping;
 use port::Port;
 use std::alloc::Allocator;
@@ -114,6 +116,23 @@ fn put_each<A: Allocator, W: Write>(
     Ok(())
 }
 
+// Gives a command to the port, and writes the answer.
+fn put_install<A: Allocator, W: Write>(
+    port: &mut RunningPort<A>,
+    summary: &mut Option<Summary<A>>,
+    command: &Command,
+    writer: &mut W,
+) -> Result<(), WriteFault>
+    ensures text { Writes result (W.contents writer.old) (W.contents writer.new) (lines_of (responses_to (Asks (Events.Install command.entry)) port.old.port).0) }
+    ensures port { OnOk result (port.new.port ≡ settled (answers_to (Events.Install command.entry) port.old.port).1) }
+    ensures seen { OnOk result (summary.new ≡ noted_at (Events.Install command.entry) port.old.port summary.old) }
+    ensures sound { OnOk result (IsSoundPort port.new.port) }
+{
+    let _now = port.now();
+    let answer = port.install(command);
+    put_installation(writer, answer)
+}
+
 // Takes a clock event, with its moment in picoseconds, and writes the answers to it.
 #[inline(always)]
 fn put_clock<A: Allocator, W: Write>(
@@ -151,6 +170,7 @@ pub fn put_answers<A: Allocator, W: Write>(
     match event {
         Event::Arrive(frame) => put_frame(port, summary, frame, writer),
         Event::Clock(until) => put_clock(port, summary, *until, writer),
+        Event::Install(command) => put_install(port, summary, command, writer),
         _ => put_each(port, summary, event, writer),
     }
 }

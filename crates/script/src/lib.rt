@@ -4,6 +4,7 @@
 mod answering;
 mod ending;
 mod faults;
+mod fronts;
 pub mod laws;
 mod plain;
 mod program;

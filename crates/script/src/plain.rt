@@ -3,10 +3,10 @@
 ghost use Rattle.std.specs.Prelude.{◌≡◌, ◌<◌, ◌∷◌, ◌++◌, ℕ, List, IfSome, MatchOption, Ok};
 ghost use Rattle.abstract_port.specs.declared.Event.TheVariants.{Arrive, Clock};
 ghost use Rattle.line_reader.specs.LineReader.{most_lines};
-ghost use Rattle.script.specs.Plain.{BeginsWithEvent, BeginsWithLine, GoesPast, tag_text};
+ghost use Rattle.script.specs.Plain.{BeginsWithEvent, BeginsWithLine, GoesPast};
 ghost use Rattle.script.specs.Requests.{clock_event, frame_event};
 
-use crate::reading::{behind_clock, behind_frame};
+use crate::fronts::{behind_clock, behind_frame, behind_tag};
 use abstract_port::Event;
 use line_reader::LineReader;
 use std::alloc::Allocator;
@@ -33,17 +33,6 @@ fn behind_feed(octets: &[u8]) -> Option<&[u8]>
     match octets {
         [b'\n', rest @ ..] => Some(rest),
         _ => None,
-    }
-}
-
-// Whether a frame is tagged, and what comes behind that.
-#[inline(always)]
-fn behind_tag(octets: &[u8]) -> (bool, &[u8])
-    ensures { octets.now ≡ tag_text result.0 ++ result.1.now }
-{
-    match octets {
-        [b' ', b't', b'a', b'g', b'g', b'e', b'd', rest @ ..] => (true, rest),
-        _ => (false, octets),
     }
 }
 

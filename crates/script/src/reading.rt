@@ -10,6 +10,7 @@ ghost use Rattle.script.specs.Requests.{clock_event, count_event, frame_event, f
 ghost use Rattle.tc_reader.specs.Reader.{IsReader};
 
 use crate::faults::ScriptFault;
+use crate::fronts::{behind_clock, behind_frame};
 use abstract_port::{Command, Event};
 use tc_reader::laws::one_reading;
 use tc_reader::{TcFault, read_command, read_command_into};
@@ -226,28 +227,6 @@ fn read_any_line(line: &[u8]) -> Result<Option<Said>, ScriptFault>
         return Err(ScriptFault::UnknownLine);
     };
     Ok(Some(Said::Asked(event)))
-}
-
-// What comes after `frame` and a space, where a line begins with them.
-#[inline(always)]
-pub(crate) fn behind_frame(line: &[u8]) -> Option<&[u8]>
-    ensures { IfSome result (λ rest. line.now ≡ codes "frame " ++ rest.now) }
-{
-    match line {
-        [b'f', b'r', b'a', b'm', b'e', b' ', rest @ ..] => Some(rest),
-        _ => None,
-    }
-}
-
-// The same of `clock`.
-#[inline(always)]
-pub(crate) fn behind_clock(line: &[u8]) -> Option<&[u8]>
-    ensures { IfSome result (λ rest. line.now ≡ codes "clock " ++ rest.now) }
-{
-    match line {
-        [b'c', b'l', b'o', b'c', b'k', b' ', rest @ ..] => Some(rest),
-        _ => None,
-    }
 }
 
 /// What a line says, or None where it is skipped: it has no words, or is a comment.

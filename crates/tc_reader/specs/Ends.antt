@@ -4,7 +4,8 @@ use Rattle.class_map.specs.declared.ClassMap.{ClassMap}
 use Rattle.class_map.specs.declared.Queues.{Queues}
 use Rattle.class_map.specs.Map.{map_of}
 use Rattle.class_map.specs.Ranges.{queues_of}
-use Rattle.gate_list.specs.Gate.{closed_entries, gate_fault, ok_unless}
+use Rattle.gate_list.specs.Closed.{closed_entries}
+use Rattle.gate_list.specs.Gate.{gate_fault, ok_unless}
 use Rattle.gate_list.specs.declared.Entry.{Entry}
 use Rattle.gate_list.specs.declared.GateList.{GateList}
 use Rattle.abstract_port.specs.declared.Change.{Change}

@@ -120,10 +120,8 @@ fn take_plain_mask(words: &mut Words<'_>) -> Option<u8>
     ensures place { IfSome result (λ _. words_taken words.new ≡ words_taken words.old + 1) }
     ensures moves { Moves words.old words.new }
 {
-    match words.next_word() {
-        Some([high, low]) => two_digits(*high, *low),
-        _ => None,
-    }
+    let [high, low] = words.next_pair()?;
+    two_digits(high, low)
 }
 
 // The next word as an interval, where it can be told at once. Else None.

@@ -86,16 +86,42 @@ fn split_word(octets: &[u8]) -> Option<(&[u8], &[u8])>
     Some(rest.split_at(end))
 }
 
+// Whether eight octets are the same, by one comparison.
+#[inline(always)]
+fn are_eight(octets: [u8; 8], text: [u8; 8]) -> bool
+    ensures { result ≡ true → octets ≡ text }
+{
+    u64::from_le_bytes(octets) == u64::from_le_bytes(text)
+}
+
+// Whether two texts of 8 to 16 octets are the same: their first eight and their last eight are. Longer and shorter ones are not compared.
+#[inline(always)]
+fn are_same<const N: usize>(octets: &[u8; N], text: &[u8; N]) -> bool
+    ensures { result ≡ true → octets.now ≡ text.now }
+{
+    let (Some(front), Some(begin)) = (octets.first_chunk::<8>(), text.first_chunk::<8>()) else {
+        return false;
+    };
+    let (Some(back), Some(end)) = (octets.last_chunk::<8>(), text.last_chunk::<8>()) else {
+        return false;
+    };
+    if N > 16 || !are_eight(*front, *begin) {
+        return false;
+    }
+    are_eight(*back, *end)
+}
+
 // What comes after a text, where octets begin with it.
 #[inline(always)]
-fn past_text<'a>(octets: &'a [u8], text: &[u8]) -> Option<&'a [u8]>
+fn past_text<'a, const N: usize>(octets: &'a [u8], text: &[u8; N]) -> Option<&'a [u8]>
     ensures { IfSome result (λ rest. octets.now ≡ text.now ++ rest.now) }
 {
-    if octets.len() < text.len() {
-        return None;
+    let (front, rest) = octets.split_first_chunk::<N>()?;
+    if are_same(front, text) {
+        Some(rest)
+    } else {
+        None
     }
-    let (front, rest) = octets.split_at(text.len());
-    if front == text { Some(rest) } else { None }
 }
 
 // Whether octets end at this place, or go on with a space.
@@ -249,7 +275,7 @@ impl<'a> Words<'a> {
     /// Goes on behind a text, which is counted as so many words, where the octets that no word was taken of begin with it; else
     /// nothing changes.
     #[inline(always)]
-    pub fn skip_text(&mut self, text: &[u8], count: usize) -> bool
+    pub fn skip_text<const N: usize>(&mut self, text: &[u8; N], count: usize) -> bool
         requires { count ≤ length text.now }
         ensures left { result ≡ true → (rest : List ℕ) × (words_left self.old ≡ words_of (text.now ++ rest)) × (words_left self.new ≡ words_of rest) }
         ensures taken { result ≡ true → words_taken self.new ≡ words_taken self.old + count }
@@ -260,6 +286,22 @@ impl<'a> Words<'a> {
         };
         self.go_on(rest, count);
         true
+    }
+
+    /// The next word, where it has two octets, no blank before it and a space behind it. Else None, and nothing changes.
+    #[inline(always)]
+    pub fn next_pair(&mut self) -> Option<[u8; 2]>
+        ensures word { IfSome result (λ pair. words_left self.old ≡ pair ∷ words_left self.new) }
+        ensures taken { IfSome result (λ _. words_taken self.new ≡ words_taken self.old + 1) }
+        ensures kept { result ≡ None → self.new ≡ self.old }
+    {
+        match self.rest {
+            [first, second, b' ', rest @ ..] if *first > b' ' && *second > b' ' => {
+                self.go_on(rest, 1);
+                Some([*first, *second])
+            }
+            _ => None,
+        }
     }
 
     /// The octets that no word was taken of. Its words are those that are still to come.
