@@ -122,6 +122,21 @@ higher x r n small is = omega arith
 highest : (x r n : ℕ) → x < 281474976710656 → n ≡ x + 281474976710656 * r → n / 281474976710656 ≡ r
 highest x r n small is = omega arith
 
+low_half : (x r n : ℕ) → x < 65536 → n ≡ x + 65536 * r → n % 65536 ≡ x
+low_half x r n small is = omega arith
+
+-- four pairs of digits put together two by two, of which the first and the third count
+two_fours : (p q r s n : ℕ) → p < 100 → q < 100 → r < 100 → s < 100 → n ≡ p + q * 65536 + r * 4294967296 + s * 281474976710656
+    → (n * 100 + n / 65536) % 65536 * 10000 + (n * 100 + n / 65536) / 4294967296 % 65536 ≡ p * 1000000 + q * 10000 + r * 100 + s
+two_fours p q r s n sp sq sr ss is =
+    let fours : ℕ = n * 100 + n / 65536 in
+    let tail : n / 65536 ≡ q + 65536 * (r + 65536 * s) = high p (q + 65536 * (r + 65536 * s)) n (omega arith) (omega (arith, is)) in
+    let both : fours ≡ (100 * p + q) + 65536 * ((100 * q + r) + 65536 * ((100 * r + s) + 65536 * (100 * s))) = omega (arith, is, tail) in
+    let front : fours % 65536 ≡ 100 * p + q = low_half (100 * p + q) ((100 * q + r) + 65536 * ((100 * r + s) + 65536 * (100 * s))) fours (omega arith) both in
+    let rest : fours / 4294967296 ≡ (100 * r + s) + 65536 * (100 * s) = higher ((100 * p + q) + 65536 * (100 * q + r)) ((100 * r + s) + 65536 * (100 * s)) fours (omega arith) (omega (arith, both)) in
+    let back : fours / 4294967296 % 65536 ≡ 100 * r + s = low_half (100 * r + s) (100 * s) (fours / 4294967296) (omega arith) rest in
+    omega (arith, front, back)
+
 -- neighbours put together two by two, of which every second pair counts
 module _ (a b c d e f g h ones : ℕ) (sa : a < 10) (sb : b < 10) (sc : c < 10) (sd : d < 10) (se : e < 10) (sf : f < 10) (sg : g < 10) (sh : h < 10) (is : ones ≡ word_of a b c d e f g h) where
   abbrev pairs : ℕ
@@ -169,8 +184,14 @@ module _ (a b c d e f g h ones : ℕ) (sa : a < 10) (sb : b < 10) (sc : c < 10) 
   pub fourth_pair : pairs / 281474976710656 % 256 ≡ 10 * g + h
   fourth_pair = low (10 * g + h) (10 * h) (pairs / 281474976710656) (omega arith) (omega (arith, fourth_rest))
 
-  pub all_pairs : pairs % 256 * 1000000 + pairs / 65536 % 256 * 10000 + pairs / 4294967296 % 256 * 100 + pairs / 281474976710656 % 256 ≡ decimal_of a b c d e f g h
-  all_pairs = omega (arith, first_pair, second_pair, third_pair, fourth_pair)
+  abbrev apart : ℕ
+  apart = pairs % 256 + pairs / 65536 % 256 * 65536 + pairs / 4294967296 % 256 * 4294967296 + pairs / 281474976710656 % 256 * 281474976710656
+
+  apart_is : apart ≡ (10 * a + b) + (10 * c + d) * 65536 + (10 * e + f) * 4294967296 + (10 * g + h) * 281474976710656
+  apart_is = omega (arith, first_pair, second_pair, third_pair, fourth_pair)
+
+  pub all_fours : (apart * 100 + apart / 65536) % 65536 * 10000 + (apart * 100 + apart / 65536) / 4294967296 % 65536 ≡ decimal_of a b c d e f g h
+  all_fours = two_fours (10 * a + b) (10 * c + d) (10 * e + f) (10 * g + h) apart (omega arith) (omega arith) (omega arith) (omega arith) apart_is ∙ omega arith
 
 ten_times : (n p : ℕ) → n * 10 * p ≡ n * (p * 10)
 ten_times n p = grind arith

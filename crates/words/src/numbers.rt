@@ -24,15 +24,14 @@ const SHORT_DIGITS: usize = 19;
 // How many decimal digits surely make a number of 128 bits.
 const LONG_DIGITS: usize = 38;
 
-fn decimal_digit(octet: u8) -> Option<u8>
+// The decimal digit that an octet is. In a word of the machine, where it is counted, one comparison tells.
+#[inline(always)]
+fn decimal_digit(octet: u8) -> Option<u64>
     ensures digit { result ≡ digit_in 10 octet }
     ensures bound { IfSome result (λ d. d < 10) }
 {
-    if b'0' <= octet && octet <= b'9' {
-        Some(octet - b'0')
-    } else {
-        None
-    }
+    let digit = u64::from(octet).wrapping_sub(48);
+    if digit < 10 { Some(digit) } else { None }
 }
 
 // The number that the decimal digits at the front of an array are, and how many these are. The compiler lays this loop out digit
@@ -48,7 +47,7 @@ fn array_run(octets: &[u8; SHORT_DIGITS]) -> (u64, usize)
         let Some(digit) = decimal_digit(octets[end]) else {
             return (value, end);
         };
-        value = value * 10 + u64::from(digit);
+        value = value * 10 + digit;
         end += 1;
     }
     (value, end)
@@ -67,7 +66,7 @@ fn few_run(octets: &[u8]) -> (u64, usize)
         let Some(digit) = decimal_digit(octets[end]) else {
             return (number, end);
         };
-        number = number * 10 + u64::from(digit);
+        number = number * 10 + digit;
         end += 1;
     }
     (number, end)
@@ -102,7 +101,7 @@ fn are_digits(octets: &[u8; 8]) -> bool
 }
 
 // The number that eight decimal digits are. They stand in one word, the first in its lowest octet; there each is put together with the
-// next one, and of the pairs every second one counts.
+// next one, of the pairs every second one counts, and these are put together in the same way.
 #[inline(always)]
 fn eight_digits(octets: &[u8; 8]) -> Option<u64>
     ensures value { IfSome result (λ n. value_behind 10 0 octets.now ≡ Some n) }
@@ -113,11 +112,12 @@ fn eight_digits(octets: &[u8; 8]) -> Option<u64>
     }
     let ones = u64::from_le_bytes(*octets) - 0x3030_3030_3030_3030;
     let pairs = ones * 10 + ones / 256;
-    let first = pairs % 256;
-    let second = pairs / 65_536 % 256;
-    let third = pairs / 4_294_967_296 % 256;
-    let fourth = pairs / 281_474_976_710_656 % 256;
-    Some(first * 1_000_000 + second * 10_000 + third * 100 + fourth)
+    let apart = pairs % 256
+        + pairs / 65_536 % 256 * 65_536
+        + pairs / 4_294_967_296 % 256 * 4_294_967_296
+        + pairs / 281_474_976_710_656 % 256 * 281_474_976_710_656;
+    let fours = apart * 100 + apart / 65_536;
+    Some(fours % 65_536 * 10_000 + fours / 4_294_967_296 % 65_536)
 }
 
 // The number that the first eight of octets are, where they are digits.
@@ -148,7 +148,7 @@ fn run_on(octets: &[u8; FRONT], front: u64, from: usize) -> (u64, usize)
         let Some(digit) = decimal_digit(octets[end]) else {
             return (total, end);
         };
-        total = total * 10 + u64::from(digit);
+        total = total * 10 + digit;
         end += 1;
     }
     (total, end)

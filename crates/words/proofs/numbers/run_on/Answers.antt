@@ -12,20 +12,20 @@ overflow_mul-total c =
 pub overflow_add-total : goal.overflow_add-total
 overflow_add-total c =
     let few : c.loop-end.end < 19 = search (rules, arith) in
-    let small : c.from.result < 10 = search rules in
-    let all = digit_fits c.loop-end.total c.from.result c.loop-end.end 19 c.loop-end.invariant.bound small few in
+    let small : c.in-Some.digit < 10 = search rules in
+    let all = digit_fits c.loop-end.total c.in-Some.digit c.loop-end.end 19 c.loop-end.invariant.bound small few in
     omega (arith, all)
 
 pub loop-end-preserved : goal.loop-end-preserved
 loop-end-preserved c =
     let octets = c.args.octets.now in
     let few : c.loop-end.end < length octets = search (rules, arith) in
-    let small : c.from.result < 10 = search rules in
-    let is : digit_in 10 (get_or octets c.loop-end.end 0) ≡ Some c.from.result = search rules in
+    let small : c.in-Some.digit < 10 = search rules in
+    let is : digit_in 10 (get_or octets c.loop-end.end 0) ≡ Some c.in-Some.digit = search rules in
     record {
       within = omega arith;
-      value = run_more c.loop-end.total c.from.result c.loop-end.end octets few c.loop-end.invariant.value is;
-      bound = digit_fits c.loop-end.total c.from.result c.loop-end.end (c.loop-end.end + 1) c.loop-end.invariant.bound small (omega arith);
+      value = run_more c.loop-end.total c.in-Some.digit c.loop-end.end octets few c.loop-end.invariant.value is;
+      bound = digit_fits c.loop-end.total c.in-Some.digit c.loop-end.end (c.loop-end.end + 1) c.loop-end.invariant.bound small (omega arith);
     }
 
 pub loop-end-init : goal.loop-end-init
