@@ -1,6 +1,6 @@
 //! Two moments of a line. Where the second comes soon after the first, all but their last eight digits are mostly the same.
 
-ghost use Rattle.std.specs.Prelude.{◌≡◌, ◌<◌, ◌≤◌, ◌+◌, ◌*◌, ◌/◌, ◌++◌, codes, drop, decimal};
+ghost use Rattle.std.specs.Prelude.{◌≡◌, ◌<◌, ◌≤◌, ◌+◌, ◌*◌, ◌/◌, ◌++◌, IfSome, codes, drop, decimal};
 ghost use Rattle.answer_text.specs.declared.digits.TheConstants.{EIGHT_DIGITS, SHORT_CAPACITY};
 ghost use Rattle.answer_text.specs.declared.ending.TheConstants.{LINE_CAPACITY};
 ghost use Rattle.answer_text.specs.declared.span.TheConstants.{SPAN_CAPACITY};
@@ -72,6 +72,59 @@ fn front_of(number: u128) -> u128
     }
 }
 
+// All but the last eight digits of two numbers where these are the same, and the last eight of each.
+#[inline(always)]
+fn short_near(first: u64, second: u64) -> Option<(u64, u64, u64)>
+    requires ordered { first ≤ second }
+    ensures front { IfSome result (λ near. 0 < near.0) }
+    ensures small { IfSome result (λ near. (near.1 < EIGHT_DIGITS) × (near.2 < EIGHT_DIGITS)) }
+    ensures first { IfSome result (λ near. first ≡ near.0 * EIGHT_DIGITS + near.1) }
+    ensures second { IfSome result (λ near. second ≡ near.0 * EIGHT_DIGITS + near.2) }
+{
+    let front = first / EIGHT_DIGITS;
+    let eight = first % EIGHT_DIGITS;
+    let other = second - first + eight;
+    if front == 0 || other >= EIGHT_DIGITS {
+        return None;
+    }
+    Some((front, eight, other))
+}
+
+// The same of numbers of more than 64 bits.
+#[inline(always)]
+fn wide_near(first: u128, second: u128) -> Option<(u64, u64, u64)>
+    ensures front { IfSome result (λ near. 0 < near.0) }
+    ensures small { IfSome result (λ near. (near.1 < EIGHT_DIGITS) × (near.2 < EIGHT_DIGITS)) }
+    ensures first { IfSome result (λ near. first ≡ near.0 * EIGHT_DIGITS + near.1) }
+    ensures second { IfSome result (λ near. second ≡ near.0 * EIGHT_DIGITS + near.2) }
+{
+    let front = front_of(first);
+    if front == 0 || front > u128::from(u64::MAX) || second < first {
+        return None;
+    }
+    let eight = first - front * u128::from(EIGHT_DIGITS);
+    let other = second - first + eight;
+    if other >= u128::from(EIGHT_DIGITS) {
+        return None;
+    }
+    Some((front as u64, eight as u64, other as u64))
+}
+
+// The same of any two numbers.
+#[inline(always)]
+fn near(first: u128, second: u128) -> Option<(u64, u64, u64)>
+    ensures front { IfSome result (λ near. 0 < near.0) }
+    ensures small { IfSome result (λ near. (near.1 < EIGHT_DIGITS) × (near.2 < EIGHT_DIGITS)) }
+    ensures first { IfSome result (λ near. first ≡ near.0 * EIGHT_DIGITS + near.1) }
+    ensures second { IfSome result (λ near. second ≡ near.0 * EIGHT_DIGITS + near.2) }
+{
+    if first <= second && second <= u128::from(u64::MAX) {
+        short_near(first as u64, second as u64)
+    } else {
+        wide_near(first, second)
+    }
+}
+
 /// Puts the moment of a start, ` end ` and the moment of its end before what ends a line from `end` on, and answers where the line begins
 /// then. Both are in picoseconds.
 #[inline(always)]
@@ -82,14 +135,8 @@ pub fn span_before(first: u128, second: u128, line: &mut Line, end: usize) -> us
     ensures before { result ≤ end }
     ensures line { drop result line.new ≡ decimal first ++ (codes " end " ++ (decimal second ++ drop end line.old)) }
 {
-    let front = front_of(first);
-    if front == 0 || front > u128::from(u64::MAX) || second < first {
-        return apart_before(first, second, line, end);
+    match near(first, second) {
+        Some((front, eight, other)) => near_before(front, eight, other, line, end),
+        None => apart_before(first, second, line, end),
     }
-    let eight = first - front * u128::from(EIGHT_DIGITS);
-    let other = second - first + eight;
-    if other >= u128::from(EIGHT_DIGITS) {
-        return apart_before(first, second, line, end);
-    }
-    near_before(front as u64, eight as u64, other as u64, line, end)
 }
