@@ -54,7 +54,7 @@ fn last_state_is_held_within_the_extension(rt: HostRuntime) {
         let mut gates = two_masks(&rt, extension_ns);
         assert_eq!(rt; mask_at(&rt, &mut gates, 2000000000), 0x01);
         let next = schedule_of(&rt, [entry(0x04, 500000), entry(0x04, 500000)], 5150000, 0);
-        assert_eq!(rt; gates.install(next, 2012336000), Ok(5150000000));
+        assert_eq!(rt; gates.install(&next, 2012336000), Ok(5150000000));
         assert_eq!(rt; mask_at(&rt, &mut gates, 4999999999), 0x02);
         assert_eq!(rt; mask_at(&rt, &mut gates, 5000000000), held);
         assert_eq!(rt; mask_at(&rt, &mut gates, 5149999999), held);
@@ -67,7 +67,7 @@ fn nothing_is_held_for_a_command_in_the_short_cycle(rt: HostRuntime) {
     let mut gates = two_masks(&rt, 200000);
     assert_eq!(rt; mask_at(&rt, &mut gates, 5050000000), 0x01);
     let next = schedule_of(&rt, [entry(0x04, 500000), entry(0x04, 500000)], 5150000, 0);
-    assert_eq!(rt; gates.install(next, 5062336000), Ok(5150000000));
+    assert_eq!(rt; gates.install(&next, 5062336000), Ok(5150000000));
     assert!(rt; gates.stays_open(0, 99999999, &mut Visits::zero()));
     assert!(rt; !gates.stays_open(0, 100000001, &mut Visits::zero()));
     assert_eq!(rt; mask_at(&rt, &mut gates, 5149999999), 0x01);
@@ -78,10 +78,13 @@ fn nothing_is_held_for_a_command_in_the_short_cycle(rt: HostRuntime) {
 fn commands_are_refused_replaced_and_deleted(rt: HostRuntime) {
     let mut gates = two_masks(&rt, 0);
     let early = schedule_of(&rt, [entry(0x01, 300000), entry(0x01, 300000)], 0, 0);
-    assert_eq!(rt; gates.install(early, 12336001), Err(NotNow::Busy(12336000)));
+    assert_eq!(rt;
+        gates.install(&early, 12336001),
+        Err(NotNow::Busy(12336000))
+    );
     assert_eq!(rt; mask_at(&rt, &mut gates, 12336000), 0xff);
     let next = schedule_of(&rt, [entry(0x01, 150000), entry(0x01, 150000)], 0, 0);
-    assert_eq!(rt; gates.install(next, 24672000), Ok(300000000));
+    assert_eq!(rt; gates.install(&next, 24672000), Ok(300000000));
     assert_eq!(rt; mask_at(&rt, &mut gates, 1300000000), 0x01);
     assert_eq!(rt; gates.delete(1312336000), Ok(1312336000));
     assert_eq!(rt; mask_at(&rt, &mut gates, 1312335999), 0x01);
@@ -113,7 +116,7 @@ fn a_move_counts_each_entry_that_it_looks_at(rt: HostRuntime) {
     assert_eq!(rt; visits_to(&rt, &mut gates, 1600000000), 1);
     assert_eq!(rt; visits_to(&rt, &mut gates, 2000000000), 1);
     let next = schedule_of(&rt, [entry(0x04, 500000), entry(0x04, 500000)], 5150000, 0);
-    assert_eq!(rt; gates.install(next, 2012336000), Ok(5150000000));
+    assert_eq!(rt; gates.install(&next, 2012336000), Ok(5150000000));
     assert_eq!(rt; visits_to(&rt, &mut gates, 2012336000), 1);
     // Entries begin at 2.6, 3, 3.6, 4 and 4.6 ms.
     assert_eq!(rt; visits_to(&rt, &mut gates, 4999999999), 5);
@@ -131,7 +134,7 @@ fn a_list_is_placed_ahead_for_two_commands_alone(rt: HostRuntime) {
     let _ = mask_at(&rt, &mut gates, 2000000000);
     assert!(rt; gates.stays_open(0, 600000000, &mut visits));
     let next = schedule_of(&rt, [entry(0x04, 500000), entry(0x04, 500000)], 5150000, 0);
-    assert_eq!(rt; gates.install(next, 2012336000), Ok(5150000000));
+    assert_eq!(rt; gates.install(&next, 2012336000), Ok(5150000000));
     let _ = mask_at(&rt, &mut gates, 2050000000);
     assert!(rt; gates.stays_open(0, 550000000, &mut visits));
     assert_eq!(rt; gates.delete(2062336000), Ok(2062336000));
