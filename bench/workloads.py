@@ -1,6 +1,8 @@
-"""The inputs of bench/instructions: six workloads, each determined by its name and a seed. All moments are in picoseconds."""
+"""The inputs of bench/instructions: six workloads, and those that show how the work grows, each determined by its name and a seed. All
+moments are in picoseconds."""
 import random
 import struct
+from functools import partial
 
 REPLACE = "tc qdisc replace dev eth0 root taprio"
 MAPPED = f"{REPLACE} num_tc 8 map 0 1 2 3 4 5 6 7"
@@ -130,6 +132,31 @@ def write_capture(chance, count, path):
     return (FIRST_SECOND + now // 10**9 + 10) * SECOND
 
 
+def frames_over(many, chance, count):
+    """Frames over a schedule of so many entries, whose cycle is as long whatever their number."""
+    masks = [chance.randrange(1, 256) for _ in range(many)]
+    length = 2_560_000 // many
+    yield f"{MAPPED} base-time 100000 {entries(chance, masks, length, length)}"
+    now = 100_000_000
+    yield f"clock {now}"
+    for number in range(count):
+        yield f"frame {number} {chance.randrange(8)} {chance.randint(46, 594)}"
+        if chance.random() < 0.25:
+            now += chance.randrange(2 * 26_000_000)
+            yield f"clock {now}"
+
+
+def clocks_apart(cycles, _chance, count):
+    """Clock events so many cycles apart over 16 entries, while a frame waits that fits into no window of its class."""
+    yield f"{MAPPED} base-time 100000 " + " ".join(["sched-entry S 02 9000", "sched-entry S 04 11000"] * 8)
+    now = 100_000_000
+    yield f"clock {now}"
+    yield "frame 0 1 1514"
+    for _ in range(count):
+        now += cycles * 160_000_000
+        yield f"clock {now}"
+
+
 WORKLOADS = {
     "open": open_gates,
     "sched16": sixteen_entries,
@@ -139,12 +166,16 @@ WORKLOADS = {
     "replay": eight_entries,
 }
 
+GROWTH = {f"entries: {many}": partial(frames_over, many) for many in (1, 16, 64, 256)} | {
+    f"cycles apart: {cycles}": partial(clocks_apart, cycles) for cycles in (1, 1000, 10**6, 10**8)
+}
+
 
 def write_script(name, seed, count, path):
     """Writes the script of a workload, and answers how many lines it has."""
     lines = 0
     with open(path, "w") as file:
-        for line in WORKLOADS[name](random.Random(f"{seed} {name}"), count):
+        for line in (WORKLOADS | GROWTH)[name](random.Random(f"{seed} {name}"), count):
             file.write(line + "\n")
             lines += 1
     return lines
