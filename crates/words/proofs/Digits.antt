@@ -95,6 +95,11 @@ run_more_in base n d i octets within is digit =
 pub run_more : (n d i : ℕ) (octets : List ℕ) → i < length octets → value_behind 10 0 (take i octets) ≡ Some n → digit_in 10 (get_or octets i 0) ≡ Some d → value_behind 10 0 (take (i + 1) octets) ≡ Some (n * 10 + d)
 run_more = run_more_in 10
 
+-- a run of decimal digits, one digit on, with the bound that so many digits have
+pub next_digit : (n i : ℕ) (octets : List ℕ) (d : ℕ) → i < length octets → value_behind 10 0 (take i octets) ≡ Some n → n < 10 ^ i → digit_in 10 (get_or octets i 0) ≡ Some d → d < 10 → (value_behind 10 0 (take (i + 1) octets) ≡ Some (n * 10 + d)) × (n * 10 + d < 10 ^ (i + 1))
+next_digit n i octets d within is short digit small =
+    (run_more n d i octets within is digit, digit_fits n d i (i + 1) short small (omega arith))
+
 pub no_digits_in : (base n : ℕ) → value_behind base n [] ≡ Some n
 unfolding value_behind
 no_digits_in base n = refl

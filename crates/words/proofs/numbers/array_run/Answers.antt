@@ -1,6 +1,5 @@
-use Rattle.std.proofs.Common.{◌≡◌, ◌<◌, ◌+◌, get_or, length, Some, rules, arith}
-use Rattle.words.specs.Numbers.{digit_in}
-use Rattle.words.proofs.Digits.{no_digits, run_more, digit_fits}
+use Rattle.std.proofs.Common.{◌<◌, rules, arith}
+use Rattle.words.proofs.Digits.{digit_fits, next_digit, no_digits}
 use Rattle.words.proofs.numbers.array_run.Goals as goal
 
 pub overflow_mul-value : goal.overflow_mul-value
@@ -18,15 +17,8 @@ overflow_add-value c =
 
 pub loop-end-preserved : goal.loop-end-preserved
 loop-end-preserved c =
-    let octets = c.args.octets.now in
-    let few : c.loop-end.end < length octets = search (rules, arith) in
-    let small : c.in-Some.digit < 10 = search rules in
-    let is : digit_in 10 (get_or octets c.loop-end.end 0) ≡ Some c.in-Some.digit = search rules in
-    record {
-      within = omega arith;
-      value = run_more c.loop-end.value c.in-Some.digit c.loop-end.end octets few c.loop-end.invariant.value is;
-      bound = digit_fits c.loop-end.value c.in-Some.digit c.loop-end.end (c.loop-end.end + 1) c.loop-end.invariant.bound small (omega arith);
-    }
+    let next = next_digit c.loop-end.value c.loop-end.end c.args.octets.now c.in-Some.digit (search (rules, arith)) c.loop-end.invariant.value c.loop-end.invariant.bound (search rules) (search rules) in
+    record { within = omega arith; value = next.0; bound = next.1 }
 
 pub loop-end-init : goal.loop-end-init
 loop-end-init c = record { within = omega arith; value = no_digits 0; bound = omega arith }
