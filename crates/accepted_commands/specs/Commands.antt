@@ -6,6 +6,7 @@ use Rattle.wire_time.specs.Moment.{greatest_moment}
 use Rattle.gate_list.specs.Gate.{IsSchedule}
 use Rattle.list_config.specs.History.{Accepted, cons_some, only_if, is_in_time, three, IsSettled, IsRising}
 use Rattle.list_config.specs.Current.{deletion_at}
+use Rattle.list_config.specs.Stretch.{Stretch, mask_in, stretches_from}
 use Rattle.accepted_commands.specs.declared.command.AcceptedCommand.{AcceptedCommand}
 use Rattle.accepted_commands.specs.declared.command.AcceptedCommand.TheVariants.{Install, Delete}
 
@@ -32,6 +33,14 @@ no_commands = record { moment = 0; in_force = None; pending = None; announced = 
 -- the history that the three slots stand for, oldest first
 abbrev pub history_of : Commands → List Accepted
 history_of c = three c.in_force c.pending c.announced
+
+-- what the gates show from their moment on
+abbrev pub stretches_of : Commands → List Stretch
+stretches_of c = stretches_from c.in_force (cons_some c.pending (cons_some c.announced []))
+
+-- the mask that they show at a moment from theirs on
+abbrev pub mask_ahead : Commands → ℕ → ℕ
+mask_ahead c = mask_in (stretches_of c)
 
 -- a command whose schedule, if it has one, can be walked
 pub record IsUsable (a : Accepted) : Type 0 where

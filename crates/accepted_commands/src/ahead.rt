@@ -2,10 +2,10 @@
 ghost use Rattle.std.specs.Prelude.{◌≡◌, ◌+◌, ◌*◌, ◌<◌, ◌≤◌, ◌∷◌, [], Some, None, false};
 ghost use Rattle.std.specs.Option.{ForSome};
 ghost use Rattle.wire_time.specs.Moment.{greatest_moment};
-ghost use Rattle.list_config.specs.History.{cons_some, is_in_time, plan_of, start_of};
+ghost use Rattle.list_config.specs.History.{is_in_time, plan_of, start_of};
 ghost use Rattle.list_config.specs.Stretch.{stretches_from};
 ghost use Rattle.list_config.specs.Current.{entry_count};
-ghost use Rattle.accepted_commands.specs.Commands.{AreCommands, IsUsable, accepted_in, command_of};
+ghost use Rattle.accepted_commands.specs.Commands.{AreCommands, IsUsable, accepted_in, command_of, stretches_of};
 ghost use Rattle.accepted_commands.specs.Standing.{IsFirst, Stands, position_in, position_lent};
 ghost use Rattle.accepted_commands.specs.Leg.{AreReady, IsReady, from_of, until_of, stretch_of, stretch_under, stretches_ahead};
 ghost use Rattle.accepted_commands.specs.Resume.{Resumes};
@@ -238,7 +238,7 @@ pub fn legs_ahead<'a>(slots: &'a Slots, resumed: Option<Position>) -> Ahead<'a>
     requires sound { AreCommands slots.now.commands }
     requires stands { Stands slots.now.commands.in_force slots.now.commands.pending slots.now.commands.moment slots.now.position }
     requires resumes { Resumes slots.now.commands resumed }
-    ensures shows { stretches_ahead result.leg result.rest ≡ stretches_from slots.now.commands.in_force (cons_some slots.now.commands.pending (cons_some slots.now.commands.announced [])) }
+    ensures shows { stretches_ahead result.leg result.rest ≡ stretches_of slots.now.commands }
     ensures from { from_of result.leg ≡ slots.now.commands.moment }
     ensures ready { AreReady result.leg result.rest }
 {

@@ -1,12 +1,10 @@
 //! Whether a class stays open from now on.
-ghost use Rattle.std.specs.Prelude.{◌≡◌, ◌*◌, ◌<◌, ◌≤◌, [], true, false};
+ghost use Rattle.std.specs.Prelude.{◌≡◌, ◌*◌, ◌<◌, ◌≤◌, true, false};
 ghost use Rattle.std.specs.Option.{ForSome};
 ghost use Rattle.wire_time.specs.Moment.{greatest_moment};
 ghost use Rattle.gate_list.specs.Gate.{opens};
 ghost use Rattle.gate_list.specs.Open.{open_while};
-ghost use Rattle.list_config.specs.History.{cons_some};
-ghost use Rattle.list_config.specs.Stretch.{mask_in, stretches_from};
-ghost use Rattle.accepted_commands.specs.Commands.{AreCommands, IsUsable, command_of};
+ghost use Rattle.accepted_commands.specs.Commands.{AreCommands, IsUsable, command_of, mask_ahead};
 ghost use Rattle.accepted_commands.specs.Standing.{Stands, position_lent, shown_by, shows_under};
 ghost use Rattle.accepted_commands.specs.Resume.{Resumes};
 
@@ -49,7 +47,7 @@ fn stays_open_through(slots: &Slots, resumed: &Option<Position>, need: Need) -> 
     requires at { need.from ≡ slots.now.commands.moment }
     requires class { need.class < CLASSES }
     requires within { need.length ≤ greatest_moment }
-    ensures { result ≡ open_while (mask_in (stretches_from slots.now.commands.in_force (cons_some slots.now.commands.pending (cons_some slots.now.commands.announced [])))) need.class need.from need.length }
+    ensures { result ≡ open_while (mask_ahead slots.now.commands) need.class need.from need.length }
 {
     let ahead = legs_ahead(slots, *resumed);
     ahead.leg.stays_open_ahead(&ahead.rest, need)
@@ -73,7 +71,7 @@ pub fn stays_open(slots: &Slots, resumed: &Option<Position>, need: Need) -> bool
     requires at { need.from ≡ slots.now.commands.moment }
     requires class { need.class < CLASSES }
     requires within { need.length ≤ greatest_moment }
-    ensures { result ≡ open_while (mask_in (stretches_from slots.now.commands.in_force (cons_some slots.now.commands.pending (cons_some slots.now.commands.announced [])))) need.class need.from need.length }
+    ensures { result ≡ open_while (mask_ahead slots.now.commands) need.class need.from need.length }
 {
     if is_shut_now(slots, need) {
         return false;

@@ -1,14 +1,13 @@
 //! The gates, which pass whole cycles by division.
-ghost use Rattle.std.specs.Prelude.{All, ◌≡◌, ℕ, ◌+◌, ◌*◌, ◌<◌, ◌≤◌, ◌↔◌, IfSome, IsTrue, [], Some, None, true, false, option_map};
+ghost use Rattle.std.specs.Prelude.{All, ◌≡◌, ℕ, ◌+◌, ◌*◌, ◌<◌, ◌≤◌, ◌↔◌, IfSome, IsTrue, Some, None, true, false, option_map};
 ghost use Rattle.std.specs.Option.{ForSome};
 ghost use Rattle.wire_time.specs.Moment.{greatest_moment, greatest_lead};
 ghost use Rattle.gate_list.specs.Gate.{opens};
 ghost use Rattle.gate_list.specs.Open.{open_while};
-ghost use Rattle.list_config.specs.History.{gates, kept, cons_some, plan_of, start_of};
+ghost use Rattle.list_config.specs.History.{gates, kept, plan_of, start_of};
 ghost use Rattle.list_position.specs.Position.{BeginsAtMost};
-ghost use Rattle.list_config.specs.Stretch.{mask_in, stretches_from};
 ghost use Rattle.list_config.specs.Current.{IsCurrent, entry_count, longest};
-ghost use Rattle.accepted_commands.specs.Commands.{AreCommands, NoneBy, accepted_in, command_of, history_of, settled_at};
+ghost use Rattle.accepted_commands.specs.Commands.{AreCommands, NoneBy, accepted_in, command_of, history_of, mask_ahead, settled_at, stretches_of};
 ghost use Rattle.accepted_commands.specs.Standing.{Stands};
 ghost use Rattle.accepted_commands.specs.Leg.{AreReady, from_of, stretches_ahead};
 ghost use Rattle.accepted_commands.specs.Resume.{Resumes};
@@ -118,7 +117,7 @@ fn stays_open_from_now(slots: &Slots, resumed: &Option<Position>, need: Need) ->
     requires at { need.from ≡ slots.now.commands.moment }
     requires class { need.class < CLASSES }
     requires within { need.length ≤ greatest_moment }
-    ensures { result ≡ open_while (mask_in (stretches_from slots.now.commands.in_force (cons_some slots.now.commands.pending (cons_some slots.now.commands.announced [])))) need.class need.from need.length }
+    ensures { result ≡ open_while (mask_ahead slots.now.commands) need.class need.from need.length }
 {
     match lone_list(slots) {
         Some(list) => stays_open_alone(list, need.from, need.class, need.length),
@@ -162,9 +161,9 @@ fn search_legs(
     requires resumes { Resumes slots.now.commands resumed.now }
     requires needs { All (λ need. ForSome need (λ d. d ≤ greatest_moment)) needs.now }
     requires within { before ≤ 2 * greatest_moment }
-    ensures searched { Searched (mask_in (stretches_from slots.now.commands.in_force (cons_some slots.now.commands.pending (cons_some slots.now.commands.announced [])))) needs.now slots.now.commands.moment before result }
+    ensures searched { Searched (mask_ahead slots.now.commands) needs.now slots.now.commands.moment before result }
     ensures counted { visits.old ≤ visits.new }
-    ensures visits { visits.new ≤ visits.old + most_in (stretches_from slots.now.commands.in_force (cons_some slots.now.commands.pending (cons_some slots.now.commands.announced []))) }
+    ensures visits { visits.new ≤ visits.old + most_in (stretches_of slots.now.commands) }
 {
     let ahead = legs_ahead(slots, *resumed);
     search(&ahead.leg, &ahead.rest, needs, before, visits)
@@ -184,9 +183,9 @@ fn search_from_now(
     requires resumes { Resumes slots.now.commands resumed.now }
     requires needs { All (λ need. ForSome need (λ d. d ≤ greatest_moment)) needs.now }
     requires within { before ≤ 2 * greatest_moment }
-    ensures searched { Searched (mask_in (stretches_from slots.now.commands.in_force (cons_some slots.now.commands.pending (cons_some slots.now.commands.announced [])))) needs.now slots.now.commands.moment before result }
+    ensures searched { Searched (mask_ahead slots.now.commands) needs.now slots.now.commands.moment before result }
     ensures counted { visits.old ≤ visits.new }
-    ensures visits { visits.new ≤ visits.old + most_in (stretches_from slots.now.commands.in_force (cons_some slots.now.commands.pending (cons_some slots.now.commands.announced []))) }
+    ensures visits { visits.new ≤ visits.old + most_in (stretches_of slots.now.commands) }
 {
     match lone_list(slots) {
         Some(list) => search_alone(list, slots.moment(), needs, before, visits),
