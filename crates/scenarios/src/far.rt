@@ -1,12 +1,13 @@
 //! Random lists of events that lie far apart, on two implementations of the gates: long lists and short ones, cycles that cut them
 //! or outlast them, holds, commands that replace one another, deletions, and moments up to the greatest.
+
 use crate::ports::plain_map;
-use crate::random::Numbers;
 use abstract_port::{Answer, Change, Command, Event};
 use gate_list::{Entry, GateList};
 use jumping::Jumping;
 use list_config::Gates;
 use port::Port;
+use random_lists::Numbers;
 use std::alloc::{AllocError, Global};
 use std::process::Abort;
 use std::test::Fail;

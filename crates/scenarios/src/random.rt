@@ -1,79 +1,27 @@
 //! Small random histories and lists of events, on two implementations of the gates at once.
 
-ghost use Rattle.std.specs.Prelude.{◌≡◌, ◌≤◌, ◌<◌, ◌+◌};
+ghost use Rattle.std.specs.Prelude.{◌≡◌, ◌≤◌, ◌<◌};
 
 use crate::ports::plain_map;
 use abstract_port::{Answer, Change, Command, Event};
-use gate_list::{Entry, GateList, Row, Schedule, Stay, Visits};
+use gate_list::{Row, Schedule, Stay, Visits};
 use list_config::Gates;
 use port::Port;
+use random_lists::Numbers;
 use std::alloc::{AllocError, Global};
 use wire_time::{Frame, Rate};
 
-/// Numbers that look random, from a seed.
-#[derive(Clone, Copy)]
-pub struct Numbers {
-    state: u64,
-}
-
-impl Numbers {
-    pub fn new(seed: u64) -> Numbers {
-        Numbers { state: seed }
-    }
-
-    /// The next number below 2^31.
-    pub fn draw(&mut self) -> u32
-        ensures { result < 2147483648 }
-    {
-        self.state = self
-            .state
-            .wrapping_mul(6364136223846793005)
-            .wrapping_add(1442695040888963407);
-        (self.state >> 33) as u32
-    }
-
-    /// The next number from `least` on, one of so many.
-    pub fn between(&mut self, least: u32, many: u32) -> u32
-        requires some { 0 < many }
-        requires low { least ≤ 1000000 }
-        requires few { many ≤ 1000000 }
-        ensures least { least ≤ result }
-        ensures below { result < least + many }
-    {
-        least + self.draw() % many
-    }
-
-    /// One to three entries of 4 to 12 nanoseconds.
-    fn list(&mut self) -> Option<GateList> {
-        let mut entries = [Entry {
-            mask: 0,
-            interval: 4,
-        }; 3];
-        for entry in entries.iter_mut() {
-            *entry = Entry {
-                mask: self.between(0, 256) as u8,
-                interval: self.between(4, 9),
-            };
-        }
-        let many = self.between(1, 3) as usize;
-        match GateList::new(&entries[..many]) {
-            Ok(list) => Some(list),
-            Err(_) => None,
-        }
-    }
-
-    /// A base time, a cycle and an extension, in nanoseconds.
-    fn times(&mut self) -> (u64, u64, u64) {
-        let cycle = match self.between(0, 3) {
-            0 => self.between(4, 17),
-            _ => 0,
-        };
-        (
-            u64::from(self.between(0, 100)),
-            u64::from(cycle),
-            u64::from(self.between(0, 30)),
-        )
-    }
+/// A base time, a cycle and an extension, in nanoseconds.
+fn times(numbers: &mut Numbers) -> (u64, u64, u64) {
+    let cycle = match numbers.between(0, 3) {
+        0 => numbers.between(4, 17),
+        _ => 0,
+    };
+    (
+        u64::from(numbers.between(0, 100)),
+        u64::from(cycle),
+        u64::from(numbers.between(0, 30)),
+    )
 }
 
 /// The fastest rate, at which the shortest interval is 4 nanoseconds.
@@ -87,7 +35,7 @@ fn fastest() -> Option<Rate> {
 /// A random schedule, if it is one.
 fn schedule(numbers: &mut Numbers) -> Option<Schedule> {
     let list = numbers.list()?;
-    let (base, cycle, extension) = numbers.times();
+    let (base, cycle, extension) = times(numbers);
     match Schedule::new(&list, base, cycle, extension, fastest()?) {
         Ok(schedule) => Some(schedule),
         Err(_) => None,
@@ -241,7 +189,7 @@ fn command(numbers: &mut Numbers) -> Command {
     let Some(list) = numbers.list() else {
         return Command::Delete;
     };
-    let (base_ns, cycle_ns, extension_ns) = numbers.times();
+    let (base_ns, cycle_ns, extension_ns) = times(numbers);
     if numbers.between(0, 6) == 0 {
         return Command::Delete;
     }

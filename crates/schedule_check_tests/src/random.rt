@@ -1,58 +1,18 @@
 //! What random schedules give each class, by the gates of `reference`, which asks at every picosecond, through three cycles.
 
-ghost use Rattle.std.specs.Prelude.{◌≤◌, ◌<◌, ◌+◌};
-
-use gate_list::{Entry, GateList, Schedule, Stay, Visits};
+use gate_list::{Schedule, Stay, Visits};
 use list_config::Gates;
+use random_lists::Numbers;
 use reference::Plain;
 use schedule_check::{Longest, Window, Windows};
 use wire_time::{CLASSES, Rate};
 
-/// Numbers that look random, from a seed.
-#[derive(Drop)]
-struct Numbers {
-    state: u64,
-}
-
-impl Numbers {
-    /// The next number from `least` on, one of so many.
-    fn between(&mut self, least: u32, many: u32) -> u32
-        requires some { 0 < many }
-        requires low { least ≤ 1000 }
-        requires few { many ≤ 1000 }
-        ensures least { least ≤ result }
-        ensures below { result < least + many }
-    {
-        self.state = self
-            .state
-            .wrapping_mul(6364136223846793005)
-            .wrapping_add(1442695040888963407);
-        least + (self.state >> 33) as u32 % many
-    }
-
-    /// One to three entries of 4 to 12 nanoseconds.
-    fn list(&mut self) -> Option<GateList> {
-        let mut entries = [Entry {
-            mask: 0,
-            interval: 4,
-        }; 3];
-        for entry in entries.iter_mut() {
-            *entry = Entry {
-                mask: self.between(0, 256) as u8,
-                interval: self.between(4, 9),
-            };
-        }
-        let many = self.between(1, 3) as usize;
-        GateList::new(&entries[..many]).ok()
-    }
-
-    /// A cycle in nanoseconds: that of the list, or one that may cut it, or one that is longer than most.
-    fn cycle(&mut self) -> u64 {
-        match self.between(0, 3) {
-            0 => u64::from(self.between(4, 17)),
-            1 => u64::from(self.between(20, 20)),
-            _ => 0,
-        }
+/// A cycle in nanoseconds: that of the list, or one that may cut it, or one that is longer than most.
+fn cycle(numbers: &mut Numbers) -> u64 {
+    match numbers.between(0, 3) {
+        0 => u64::from(numbers.between(4, 17)),
+        1 => u64::from(numbers.between(20, 20)),
+        _ => 0,
     }
 }
 
@@ -161,9 +121,9 @@ fn seen_of<G: Gates + Drop>(schedule: Schedule) -> [Seen; CLASSES] {
 fn windows_are_what_the_reference_shows(rt: HostRuntime) {
     let rate = Rate::from_mbps(100000).expect(&rt, "a rate");
     for seed in 0..60 {
-        let mut numbers = Numbers { state: seed };
+        let mut numbers = Numbers::new(seed);
         let list = numbers.list().expect(&rt, "a list");
-        let cycle = numbers.cycle();
+        let cycle = cycle(&mut numbers);
         let windows = Windows::new(&list, 0, cycle, 0, rate).expect(&rt, "windows");
         let schedule = Schedule::new(&list, 0, cycle, 0, rate).expect(&rt, "a schedule");
         let cycle = u128::from(schedule.cycle_ns()).saturating_mul(1000);
