@@ -1,10 +1,10 @@
 -- The header is read of the first 24 octets.
-use Rattle.std.proofs.Common.{◌≡◌, ℕ, ◌+◌, ◌≤◌, false, ltb, List, ◌++◌, length, take, drop, None, Some, Result, refl, sym, ap, ◌∙◌, arith}
-use Rattle.std.specs.Prelude.{IfSome, IsTrue, Err}
+use Rattle.std.proofs.Common.{◌≡◌, ℕ, ◌+◌, ◌≤◌, ◌<◌, false, ltb, List, ◌++◌, length, take, drop, None, Some, Result, refl, sym, ap, ◌∙◌, arith}
+use Rattle.std.specs.Prelude.{IfSome, IsTrue, Ok, Err}
 use Rattle.std.specs.declared.option.Option.{Option}
-use Rattle.std.specs.Io.KnownBytes.{Consumes}
-use Rattle.std.proofs.lemmas.List.{drop-append-le, take_all, length-append, length-drop}
-use Rattle.std.proofs.lemmas.Bool.{le-ltb}
+use Rattle.std.specs.Io.KnownBytes.{Consumes, IsAtEnd}
+use Rattle.std.proofs.lemmas.List.{drop-append-le, drop_all, take_all, length-append, length-drop, length-take}
+use Rattle.std.proofs.lemmas.Bool.{le-ltb, lt-ltb}
 use Rattle.byteorder.specs.Numbers.{big_from-append, little_from-append}
 use Rattle.capture.specs.declared.fault.CapFault.{CapFault}
 use Rattle.capture.specs.declared.format.Endian.{Endian}
@@ -61,3 +61,26 @@ header_fault_is known TooManyRecords kind p = absurd cc
 header_fault_is known Read kind p = tt
 header_fault_is known Write kind p = absurd cc
 header_fault_is known Memory kind p = absurd cc
+
+-- a format that a header tells, and what is left behind it
+pub header_read : (known after : Option (List ℕ)) (header : List ℕ) (n : ℕ) (format : Format) → Consumes known after (take n header) → 24 ≤ n → length header ≡ 24 → Ok format ≡ header_format header
+    → IfSome known (λ octets. (format_of octets ≡ Ok format) × (after ≡ Some (drop 24 octets)))
+header_read None after header n format took long len is = tt
+header_read (Some octets) None header n format took long len is = absurd took
+header_read (Some octets) (Some rest) header n format took long len is =
+    let whole : take n header ≡ header = take_all n header (omega arith) in
+    let split : octets ≡ header ++ rest = took ∙ ap (λ (l : List ℕ). l ++ rest) whole in
+    let left : drop 24 octets ≡ rest = ap (drop 24) split ∙ drop-append-le 24 header rest (omega arith) ∙ ap (λ (l : List ℕ). l ++ rest) (drop_all 24 header (omega arith)) in
+    (ap format_of split ∙ format_of-front header rest (omega arith) ∙ sym is, ap Some (sym left))
+
+-- too few octets for a header
+pub header_short : (known after : Option (List ℕ)) (header : List ℕ) (n : ℕ) → Consumes known after (take n header) → n < 24 → IsAtEnd after → IfSome known (λ octets. format_of octets ≡ Err ShortHeader)
+header_short None after header n took short end = tt
+header_short (Some octets) None header n took short end = absurd took
+header_short (Some octets) (Some rest) header n took short end =
+    let few : length octets < 24 = omega (arith, short, ap length took, length-append (take n header) rest, length-take n header, ap length end) in
+    rw (lt-ltb _ _ few) refl
+
+-- a fault of a header is no wanting memory
+pub not_memory : (f : CapFault) → IsTrue (is_header_fault f) → f ≡ Memory → ⊥
+not_memory f kind is = let memory : IsTrue (is_header_fault Memory) = rw is at kind in cc

@@ -1,5 +1,6 @@
 pub mod Slices
 pub mod RecordLemmas
+pub mod NextLemmas
 pub mod HeaderLemmas
 pub mod WriterLemmas
 pub mod CaptureLaws

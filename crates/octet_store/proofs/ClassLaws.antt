@@ -1,8 +1,8 @@
 -- One class changes its frames, and no other class does.
-use Rattle.std.proofs.Common.{◌≡◌, ◌<◌, ℕ, List, length, refl, sym, ap, ◌∙◌, subst, arith}
+use Rattle.std.proofs.Common.{◌≡◌, ◌<◌, ℕ, List, length, get_or, refl, sym, ap, ◌∙◌, subst, arith}
 use Rattle.std.specs.List.{AllByRecursion}
 use Rattle.std.proofs.Math.ListN.{set, get_or-map}
-use Rattle.std.proofs.lemmas.List.{map-set, length-set}
+use Rattle.std.proofs.lemmas.List.{map-set, length-set, get_or_default}
 use Rattle.std.proofs.lemmas.List.Elements.{All-from_recursion, All-set}
 use Rattle.octet_store.specs.Stored.{Kept, Stored, kept_at}
 use Rattle.octet_store.specs.ClassOctets.{Waiting, HaveRoom, class_at, empty_class, empty_classes, frames_of, with_frames}
@@ -11,8 +11,12 @@ use Rattle.octet_store.specs.ClassOctets.{Waiting, HaveRoom, class_at, empty_cla
 first_room : (room : ℕ) (classes : List Waiting) → HaveRoom room classes → (class_at classes 0).room ≡ room
 first_room room classes have = have.rooms 0 (empty_class 0) (let e = have.eight in omega arith)
 
-frames_at : (classes : List Waiting) (class : ℕ) → (class_at classes class).frames ≡ kept_at (frames_of classes) class
+pub frames_at : (classes : List Waiting) (class : ℕ) → (class_at classes class).frames ≡ kept_at (frames_of classes) class
 frames_at classes class = sym (get_or-map (λ (c : Waiting). c.frames) classes class (empty_class 0))
+
+-- a class that the code read
+pub at_index : (classes : List Waiting) (class : ℕ) (w : Waiting) → length classes ≡ 8 → class < 8 → class_at classes class ≡ get_or classes class w
+at_index classes class w eight within = get_or_default classes class (empty_class 0) w (omega arith)
 
 pub new_room : (room : ℕ) → HaveRoom room (empty_classes room)
 new_room room =

@@ -8,3 +8,4 @@ pub mod EndingLaws
 pub mod SeparatedLaws
 pub mod ClockLaws
 pub mod PlainLaws
+pub mod GivenLaws

@@ -1,4 +1,5 @@
-use Rattle.std.proofs.Common.{length, ap, sym, arith, le_refl}
+use Rattle.std.proofs.Common.{◌≡◌, length, ap, sym, ◌∙◌, arith, rules, le_refl}
+use Rattle.drawing.specs.Shapes.{bands_to}
 use Rattle.drawing.proofs.CountLaws.{next_bands, no_bands_yet}
 use Rattle.drawing.proofs.fitting.count_bands.Goals as goal
 
@@ -11,3 +12,17 @@ loop-class-preserved g c =
     let more = next_bands c.loop-class.class c.args.bands.now.classes in
     let here = ap length c.row.ensures.value in
     record { value = omega (arith, i.value, more, here); within = omega (arith, i.within, c.row.ensures.few) }
+
+pub row-requires : goal.row-requires
+row-requires g c = (search rules, c.loop-class-test.true)
+
+pub overflow_add-count : goal.overflow_add-count
+overflow_add-count g c = omega (arith, c.loop-class.invariant.within, c.row.ensures.few, c.loop-class-test.true)
+
+pub returns-clause-value : goal.returns-clause-value
+returns-clause-value g c =
+    let all : c.loop-class.class ≡ 8 = omega (arith, c.loop-class-test.false, c.loop-class.auto.class-end) in
+    c.loop-class.invariant.value ∙ ap (λ n. bands_to n c.args.bands.now.classes) all
+
+pub returns-clause-within : goal.returns-clause-within
+returns-clause-within g c = omega (arith, c.loop-class.invariant.within, c.loop-class.auto.class-end)

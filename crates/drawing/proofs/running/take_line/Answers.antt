@@ -1,7 +1,7 @@
-use Rattle.std.proofs.Common.{◌≡◌, Option, Some, Result, Ok, refl, sym, ap, ◌∙◌, subst}
+use Rattle.std.proofs.Common.{◌≡◌, Option, Some, None, Result, Ok, refl, sym, ap, ◌∙◌, subst}
 use Rattle.abstract_port.specs.AbstractPort.{settled}
 use Rattle.words.specs.Words.{words_of}
-use Rattle.script.specs.Requests.{Request, request_of, request_said, said_in, tc_request}
+use Rattle.script.specs.Requests.{Request, Asks, request_of, request_said, said_in, tc_request}
 use Rattle.script.specs.declared.reading.Said.TheVariants as Says
 use Rattle.script.specs.declared.faults.ScriptFault.{ScriptFault}
 use Rattle.script.proofs.StartsLaws.{settled-sound}
@@ -22,3 +22,20 @@ returns-in-Err-read_tc-clause-taken g c = λ read is.
     let asked : request_of read c.args.line.now ≡ Ok (Some (tc_request (read (words_of c.args.line.now)))) = ap (request_said (read (words_of c.args.line.now))) said in
     let P : Result (Option Request) ScriptFault → Type 0 = λ a. TakesLine {T = Unit {0}} (Ok tt) a c.args.port.now.port c.args.course.now c.args.port.now.port c.args.course.now in
     subst P (sym (asked ∙ ap (λ k. Ok (Some (tc_request k))) (sym (c.in-Err-read_tc.ensures read is)))) (sym (settled-sound c.args.port.now.port c.now-now.ensures.sound), refl)
+
+pub returns-in-Err-clause-taken : goal.returns-in-Err-clause-taken
+returns-in-Err-clause-taken g c = λ read is. ap (request_said (read (words_of c.args.line.now))) (sym c.read_line.ensures ∙ c.in-Err.is)
+
+pub returns-in-Ok-None-clause-taken : goal.returns-in-Ok-None-clause-taken
+returns-in-Ok-None-clause-taken g c = λ read is.
+    let said : said_in c.args.line.now ≡ Ok None = cc in
+    let asked : request_of read c.args.line.now ≡ Ok None = ap (request_said (read (words_of c.args.line.now))) said in
+    let P : Result (Option Request) ScriptFault → Type 0 = λ a. TakesLine {T = Unit {0}} (Ok tt) a c.args.port.now.port c.args.course.now c.args.port.now.port c.args.course.now in
+    subst P (sym asked) (refl, refl)
+
+pub returns-in-Ok-Some-Asked-clause-taken : goal.returns-in-Ok-Some-Asked-clause-taken
+returns-in-Ok-Some-Asked-clause-taken g c = λ read is.
+    let said : said_in c.args.line.now ≡ Ok (Some (Says.Asked c.in-Ok-Some-Asked.event)) = cc in
+    let asked : request_of read c.args.line.now ≡ Ok (Some (Asks c.in-Ok-Some-Asked.event)) = ap (request_said (read (words_of c.args.line.now))) said in
+    let P : Result (Option Request) ScriptFault → Type 0 = λ a. TakesLine {T = Unit {0}} (Ok tt) a c.args.port.now.port c.args.course.now c.take.new.port.port c.take.new.course in
+    subst P (sym asked) (c.take.ensures.port, c.take.ensures.course)

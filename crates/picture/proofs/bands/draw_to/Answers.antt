@@ -1,4 +1,4 @@
-use Rattle.std.proofs.Common.{◌≡◌, ◌<◌, ◌≤◌, ◌-◌, max, ap, sym, ◌∙◌, subst, arith}
+use Rattle.std.proofs.Common.{◌≡◌, ◌<◌, ◌≤◌, ◌-◌, max, ap, sym, ◌∙◌, subst, rules, arith}
 use Rattle.list_config.specs.History.{gates, kept}
 use Rattle.list_config.specs.Current.{IsSteady}
 use Rattle.picture.specs.Drawn.{class_at, drawn}
@@ -52,3 +52,26 @@ returns g c =
       history = i.history ∙ ap (kept c.args.own.now.history) there;
       classes = λ class below. i.classes class below ∙ ap (λ n. drawn (gates c.args.own.now.history) class c.args.own.now.moment n (class_at c.args.classes.now class)) long;
     }
+
+pub next_boundary-requires : goal.next_boundary-requires
+next_boundary-requires g c =
+    let i = c.loop-now.invariant in
+    record { sound = i.sound; later = omega (arith, i.here, c.loop-now-test.true); within = c.requires.within }
+
+pub step_all-requires : goal.step_all-requires
+step_all-requires g c = (search rules, omega (arith, c.loop-now-test.true, c.requires.within))
+
+pub move_to-requires : goal.move_to-requires
+move_to-requires g c =
+    let i = c.loop-now.invariant in
+    let between = rw i.here at c.next_boundary.ensures.between in
+    let later = later_to c.loop-now.now c.args.upto c.next_boundary.result c.loop-now-test.true between in
+    let within = within_to c.loop-now.now c.args.upto c.next_boundary.result between in
+    record { sound = i.sound; later = omega (arith, i.here, c.unwrap_or-next.ensures, later); within = omega (arith, c.unwrap_or-next.ensures, within, c.requires.within) }
+
+pub loop-now-smaller : goal.loop-now-smaller
+loop-now-smaller g c =
+    let i = c.loop-now.invariant in
+    let between = rw i.here at c.next_boundary.ensures.between in
+    let later = later_to c.loop-now.now c.args.upto c.next_boundary.result c.loop-now-test.true between in
+    omega (arith, c.unwrap_or-next.ensures, later, c.loop-now-test.true)

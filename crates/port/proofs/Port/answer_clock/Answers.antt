@@ -1,4 +1,4 @@
-use Rattle.std.proofs.Common.{sym, ◌∙◌}
+use Rattle.std.proofs.Common.{sym, ◌∙◌, rules}
 use Rattle.abstract_port.proofs.AskedLaws.{gives_start, gives_end}
 use Rattle.port.proofs.Port.answer_clock.Goals as goal
 
@@ -9,3 +9,9 @@ returns-in-Some-clause-gives g c =
 pub returns-in-None-clause-gives : goal.returns-in-None-clause-gives
 returns-in-None-clause-gives g c =
     gives_end c.args.until _ _ c.now-now.ensures.sound (sym c.is_backward.ensures ∙ c.if-is_backward.false) c.step.ensures.port c.step.ensures.sound (sym c.step.ensures.start ∙ c.in-None.is)
+
+pub now-now-requires : goal.now-now-requires
+now-now-requires g c = search rules
+
+pub is_backward-requires : goal.is_backward-requires
+is_backward-requires g c = search rules

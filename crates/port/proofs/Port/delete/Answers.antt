@@ -25,3 +25,15 @@ pub returns-in-Err-clause-sound : goal.returns-in-Err-clause-sound
 returns-in-Err-clause-sound g c =
     sound_by _ _ c.delete.ensures.current
     (subst (λ m. IsKept c.self.inside.rate c.self.inside.mtu c.self.inside.room m c.self.inside.free c.self.inside.queues) (sym c.delete.ensures.moment) c.self.invariant.1) c.self.invariant.2 refl
+
+pub returns-clause-hindsight : goal.returns-clause-hindsight
+returns-clause-hindsight g c = rw (← c.self.view_is) c.delete.ensures.hindsight
+
+pub returns-in-Err-clause-hindsight : goal.returns-in-Err-clause-hindsight
+returns-in-Err-clause-hindsight g c = rw (← c.self.view_is) c.delete.ensures.hindsight
+
+pub returns-clause-visits : goal.returns-clause-visits
+returns-clause-visits g c = ap (λ q. q.visits) c.self.view_is
+
+pub returns-in-Err-clause-visits : goal.returns-in-Err-clause-visits
+returns-in-Err-clause-visits g c = ap (λ q. q.visits) c.self.view_is

@@ -1,4 +1,4 @@
-use Rattle.std.proofs.Common.{refl}
+use Rattle.std.proofs.Common.{refl, ap, rules}
 use Rattle.std.specs.Prelude.{slice_set}
 use Rattle.std.proofs.Common.{◌<◌}
 use Rattle.abstract_port.specs.Counting.{AreCounted, no_counts}
@@ -22,3 +22,18 @@ invariant_of-self-in-None g c = (c.self.invariant.0, c.self.invariant.1, counted
 pub returns-in-None-clause-sound : goal.returns-in-None-clause-sound
 returns-in-None-clause-sound g c =
     sound_by _ _ c.self.invariant.0 c.self.invariant.1 (counted_unclassed _ _ _ c.self.invariant.2 c.saturating_add-self-inside.ensures) refl
+
+pub returns-in-Some-clause-port : goal.returns-in-Some-clause-port
+returns-in-Some-clause-port g c = rw (← c.self.view_is) (rw (c.in-Some.is, c.count_dropped.ensures) refl)
+
+pub returns-in-None-clause-port : goal.returns-in-None-clause-port
+returns-in-None-clause-port g c = rw (← c.self.view_is) (rw (c.in-None.is, c.saturating_add-self-inside.ensures) refl)
+
+pub count_dropped-requires : goal.count_dropped-requires
+count_dropped-requires g c = search rules
+
+pub returns-in-Some-clause-visits : goal.returns-in-Some-clause-visits
+returns-in-Some-clause-visits g c = ap (λ q. q.visits) c.self.view_is
+
+pub returns-in-None-clause-visits : goal.returns-in-None-clause-visits
+returns-in-None-clause-visits g c = ap (λ q. q.visits) c.self.view_is

@@ -1,4 +1,5 @@
-use Rattle.std.proofs.Common.{◌≤◌, map, sym, ap, ◌∙◌, arith}
+use Rattle.std.proofs.Common.{◌≤◌, map, refl, sym, ap, ◌∙◌, arith}
+use Rattle.std.proofs.lemmas.Bool.{iff_false}
 use Rattle.abstract_port.specs.Counting.{AreCapped}
 use Rattle.abstract_port.specs.AbstractPort.{head_need}
 use Rattle.abstract_port.specs.Sound.{IsMtu}
@@ -24,3 +25,36 @@ returns-in-Ok-clause-within g c = (c.is_mtu.ensures.within.0 c.if-not-is_mtu.fal
 
 pub returns-in-Err-clause-memory : goal.returns-in-Err-clause-memory
 returns-in-Err-clause-memory g c = λ _. (c.is_mtu.ensures.within.0 c.if-not-is_mtu.false, c.is_room.ensures.within.0 c.if-not-is_room.false)
+
+pub returns-then-not-is_mtu-clause-bad_mtu : goal.returns-then-not-is_mtu-clause-bad_mtu
+returns-then-not-is_mtu-clause-bad_mtu g c = (λ _ mtu. iff_false c.is_mtu.ensures.within c.if-not-is_mtu.true mtu, λ _. refl)
+
+pub returns-then-not-is_mtu-clause-bad_room : goal.returns-then-not-is_mtu-clause-bad_room
+returns-then-not-is_mtu-clause-bad_room g c = (λ e. cc, λ w. absurd (iff_false c.is_mtu.ensures.within c.if-not-is_mtu.true w.0))
+
+pub returns-then-not-is_mtu-clause-memory : goal.returns-then-not-is_mtu-clause-memory
+returns-then-not-is_mtu-clause-memory g c = λ e. cc
+
+pub returns-then-not-is_room-clause-bad_mtu : goal.returns-then-not-is_room-clause-bad_mtu
+returns-then-not-is_room-clause-bad_mtu g c = (λ e. cc, λ no. absurd (no (c.is_mtu.ensures.within.0 c.if-not-is_mtu.false)))
+
+pub returns-then-not-is_room-clause-bad_room : goal.returns-then-not-is_room-clause-bad_room
+returns-then-not-is_room-clause-bad_room g c = (λ _. (c.is_mtu.ensures.within.0 c.if-not-is_mtu.false, λ room. iff_false c.is_room.ensures.within c.if-not-is_room.true room), λ _. refl)
+
+pub returns-then-not-is_room-clause-memory : goal.returns-then-not-is_room-clause-memory
+returns-then-not-is_room-clause-memory g c = λ e. cc
+
+pub returns-in-Ok-clause-bad_mtu : goal.returns-in-Ok-clause-bad_mtu
+returns-in-Ok-clause-bad_mtu g c = (λ e. cc, λ no. absurd (no (c.is_mtu.ensures.within.0 c.if-not-is_mtu.false)))
+
+pub returns-in-Ok-clause-bad_room : goal.returns-in-Ok-clause-bad_room
+returns-in-Ok-clause-bad_room g c = (λ e. cc, λ w. absurd (w.1 (c.is_room.ensures.within.0 c.if-not-is_room.false)))
+
+pub returns-in-Ok-clause-memory : goal.returns-in-Ok-clause-memory
+returns-in-Ok-clause-memory g c = λ e. cc
+
+pub returns-in-Err-clause-bad_mtu : goal.returns-in-Err-clause-bad_mtu
+returns-in-Err-clause-bad_mtu g c = (λ e. cc, λ no. absurd (no (c.is_mtu.ensures.within.0 c.if-not-is_mtu.false)))
+
+pub returns-in-Err-clause-bad_room : goal.returns-in-Err-clause-bad_room
+returns-in-Err-clause-bad_room g c = (λ e. cc, λ w. absurd (w.1 (c.is_room.ensures.within.0 c.if-not-is_room.false)))

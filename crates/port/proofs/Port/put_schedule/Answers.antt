@@ -1,4 +1,4 @@
-use Rattle.std.proofs.Common.{Err, refl, sym, ap, ◌∙◌, subst}
+use Rattle.std.proofs.Common.{Err, refl, sym, ap, ◌∙◌, subst, rules}
 use Rattle.port.specs.View.{IsKept}
 use Rattle.port.proofs.RefusalLaws.{replace_taken, replace_busy}
 use Rattle.port.proofs.SoundLaws.{sound_by}
@@ -33,3 +33,24 @@ pub returns-in-Err-clause-sound : goal.returns-in-Err-clause-sound
 returns-in-Err-clause-sound g c =
     sound_by _ _ c.install.ensures.current
     (subst (λ m. IsKept c.self.inside.rate c.self.inside.mtu c.self.inside.room m c.self.inside.free c.self.inside.queues) (sym c.install.ensures.moment) c.self.invariant.1) c.self.invariant.2 refl
+
+pub returns-in-Ok-clause-hindsight : goal.returns-in-Ok-clause-hindsight
+returns-in-Ok-clause-hindsight g c = rw (← c.self.view_is) c.install.ensures.hindsight
+
+pub returns-in-Err-clause-hindsight : goal.returns-in-Err-clause-hindsight
+returns-in-Err-clause-hindsight g c = rw (← c.self.view_is) c.install.ensures.hindsight
+
+pub returns-in-Ok-clause-visits : goal.returns-in-Ok-clause-visits
+returns-in-Ok-clause-visits g c = ap (λ q. q.visits) c.self.view_is
+
+pub returns-in-Err-clause-visits : goal.returns-in-Err-clause-visits
+returns-in-Err-clause-visits g c = ap (λ q. q.visits) c.self.view_is
+
+pub install-requires : goal.install-requires
+install-requires g c = search rules
+
+pub busy_of-requires : goal.busy_of-requires
+busy_of-requires g c = search rules
+
+pub classes_with-classes-requires : goal.classes_with-classes-requires
+classes_with-classes-requires g c = search rules

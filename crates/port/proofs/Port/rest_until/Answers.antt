@@ -1,4 +1,4 @@
-use Rattle.std.proofs.Common.{refl, ◌∙◌}
+use Rattle.std.proofs.Common.{refl, ◌∙◌, rules}
 use Rattle.abstract_port.specs.AbstractPort.{AbstractPort}
 use Rattle.abstract_port.proofs.ScanLaws.{moved_port, step_none, step_rest}
 use Rattle.port.proofs.MoveLaws.{moved_idle}
@@ -39,3 +39,9 @@ returns-clause-port g c = λ _.
 pub returns-clause-sound : goal.returns-clause-sound
 returns-clause-sound g c =
     sound_by _ _ c.rest_until.ensures.current (kept_later _ _ _ _ _ _ _ c.self.invariant.1 c.rest_until.ensures.onward) c.self.invariant.2 refl
+
+pub rest_until-requires : goal.rest_until-requires
+rest_until-requires g c = search rules
+
+pub zero-self-inside-requires : goal.zero-self-inside-requires
+zero-self-inside-requires g c = search rules

@@ -1,4 +1,4 @@
-use Rattle.std.proofs.Common.{◌++◌, ◌∷◌, [], List, arith, sym, ap, refl, ◌∙◌, subst}
+use Rattle.std.proofs.Common.{◌++◌, ◌∷◌, [], List, arith, sym, ap, refl, ◌∙◌, subst, rules}
 use Rattle.abstract_port.specs.declared.Answer.{Answer}
 use Rattle.abstract_port.specs.Answers.{IsBegun}
 use Rattle.abstract_port.proofs.RunLaws.{timely-sound}
@@ -62,3 +62,18 @@ returns-clause-ok g c = gone_answers _ _ _ _ _ _ c.loop-asked.invariant.1 (not_a
 
 pub returns-clause-port : goal.returns-clause-port
 returns-clause-port g c = gone_port _ _ _ _ _ _ c.loop-asked.invariant.1 (not_asked _ (sym c.is_some.ensures ∙ c.loop-asked-test.false)) c.loop-asked.invariant.0
+
+pub push-requires : goal.push-requires
+push-requires g c = search rules
+
+pub now-now-requires : goal.now-now-requires
+now-now-requires g c = search rules
+
+pub is_some-requires : goal.is_some-requires
+is_some-requires g c = search rules
+
+pub reserve-requires : goal.reserve-requires
+reserve-requires g c = search rules
+
+pub next_answer-requires : goal.next_answer-requires
+next_answer-requires g c = search rules

@@ -1,12 +1,13 @@
-use Rattle.std.proofs.Common.{Ok, [], ◌∷◌, sym, subst}
+use Rattle.std.proofs.Common.{Ok, [], ◌∷◌, rules, sym, subst}
 use Rattle.std.specs.Prelude.{slice_range}
 use Rattle.std.proofs.lemmas.Result.{err_from_is_err_and}
 use Rattle.abstract_port.specs.declared.Event.TheVariants as Events
 use Rattle.script.specs.Requests.{Asks, tc_request}
 use Rattle.words.specs.Words.{words_of}
-use Rattle.replay.specs.KeptScript.{kept_request}
+use Rattle.replay.specs.KeptScript.{IsKept, kept_request}
 use Rattle.replay.specs.Running.{Answers, state}
 use Rattle.replay.specs.declared.kept_script.KeptLine.{KeptLine}
+use Rattle.replay.proofs.Sends.{never}
 use Rattle.replay.proofs.TellLaws.{at, silent_count, silent_query, silent_tc, told_line, told_short, told_together}
 use Rattle.replay.proofs.lines.put_line.Goals as goal
 
@@ -95,3 +96,29 @@ returns-in_ok-put_tc-in-Tc-clause-together g c =
     let some = c.one_reader.ensures.some in
     let command = some.0 (words_of (slice_range c.args.script.now.octets.items c.in-Tc.start c.in-Tc.end)) in
     told_together [] (tc_request command) s.port c.put_tc.new.port.port s.store _ _ _ _ _ (silent_tc [] command s.port) (rw c.deref.ensures.value at (c.in_ok-put_tc-in-Tc.ensures.port some.0 some.1)) c.in_ok-put_tc-in-Tc.ensures.sound c.requires.together
+
+pub returns-in-Clock-clause-together : goal.returns-in-Clock-clause-together
+returns-in-Clock-clause-together g c = c.put_clock.ensures.together
+
+pub returns-in_err-put_answers-in-Query-clause-together : goal.returns-in_err-put_answers-in-Query-clause-together
+returns-in_err-put_answers-in-Query-clause-together g c = never _ (err_from_is_err_and c.from_residual.result c.from_residual.ensures.1).1
+
+pub returns-in_err-put_answers-in-Count-clause-together : goal.returns-in_err-put_answers-in-Count-clause-together
+returns-in_err-put_answers-in-Count-clause-together g c = never _ (err_from_is_err_and c.from_residual-in_err-put_answers-in-Count.result c.from_residual-in_err-put_answers-in-Count.ensures.1).1
+
+pub returns-in_err-put_tc-in-Tc-clause-together : goal.returns-in_err-put_tc-in-Tc-clause-together
+returns-in_err-put_tc-in-Tc-clause-together g c = never _ (err_from_is_err_and c.from_residual-in_err-put_tc-in-Tc.result c.from_residual-in_err-put_tc-in-Tc.ensures.1).1
+
+pub put_clock-requires : goal.put_clock-requires
+put_clock-requires g c =
+    let P : KeptLine → Type 0 = λ l. IsKept c.args.script.now.octets.items l in
+    (search rules, (subst P c.in-Clock.is c.requires.kept, c.requires.together))
+
+pub put_answers-requires : goal.put_answers-requires
+put_answers-requires g c = (search rules, search rules)
+
+pub put_answers-requires-in-Count : goal.put_answers-requires-in-Count
+put_answers-requires-in-Count g c = (search rules, search rules)
+
+pub put_tc-requires : goal.put_tc-requires
+put_tc-requires g c = (search rules, search rules)

@@ -1,6 +1,6 @@
 use Rattle.std.proofs.Common.{◌≡◌, ◌<◌, ◌≤◌, ◌+◌, ◌-◌, Ok, Err, Some, None, ℕ, List, Option, Result, [], ◌∷◌, ◌++◌, refl, sym, ap, ◌∙◌, subst, arith, rules}
 use Rattle.std.specs.Prelude.{OnOk, IfOk}
-use Rattle.std.proofs.lemmas.Result.{err_from_is_err_and}
+use Rattle.std.proofs.lemmas.Result.{IfOk-from_err, err_from_is_err_and}
 use Rattle.capture.specs.CaptureReader.{Next, answer, left}
 use Rattle.capture.specs.Record.{entry}
 use Rattle.capture.specs.declared.fault.CapFault.{CapFault}
@@ -10,7 +10,7 @@ use Rattle.replay.specs.Running.{state}
 use Rattle.replay.specs.declared.faults.Stop.{Stop}
 use Rattle.replay.proofs.RecordLaws.{Over, lines_fail, over, over_well, record_fails, stands_next, step_ended, step_few, step_number, step_within}
 use Rattle.replay.proofs.RunLaws.{done_none}
-use Rattle.replay.proofs.Sends.{always}
+use Rattle.replay.proofs.Sends.{always, never}
 use Rattle.replay.proofs.records.run_records.Goals as goal
 
 pub records-init : goal.records-init
@@ -188,3 +188,24 @@ returns-in-Err-clause-answers g c = λ read is es last comes.
 
 pub returns-in-Err-clause-together : goal.returns-in-Err-clause-together
 returns-in-Err-clause-together g c = always c.found.result c.records.invariant.together
+
+pub returns-in_err-run_lines-clause-together : goal.returns-in_err-run_lines-clause-together
+returns-in_err-run_lines-clause-together g c = never _ (err_from_is_err_and c.from_residual.result c.from_residual.ensures.1).1
+
+pub returns-in_err-run_lines-clause-ending : goal.returns-in_err-run_lines-clause-ending
+returns-in_err-run_lines-clause-ending g c = λ read is es last comes. IfOk-from_err c.from_residual.result _ c.from_residual.ensures.0
+
+pub returns-in_err-run_lines-clause-left : goal.returns-in_err-run_lines-clause-left
+returns-in_err-run_lines-clause-left g c = λ read is es last comes. never _ (err_from_is_err_and c.from_residual.result c.from_residual.ensures.1).1
+
+pub returns-in_err-take_record-clause-together : goal.returns-in_err-take_record-clause-together
+returns-in_err-take_record-clause-together g c = never _ (err_from_is_err_and c.from_residual-in_err-take_record.result c.from_residual-in_err-take_record.ensures.1).1
+
+pub returns-in_err-take_record-clause-ending : goal.returns-in_err-take_record-clause-ending
+returns-in_err-take_record-clause-ending g c = λ read is es last comes. IfOk-from_err c.from_residual-in_err-take_record.result _ c.from_residual-in_err-take_record.ensures.0
+
+pub returns-in_err-take_record-clause-left : goal.returns-in_err-take_record-clause-left
+returns-in_err-take_record-clause-left g c = λ read is es last comes. never _ (err_from_is_err_and c.from_residual-in_err-take_record.result c.from_residual-in_err-take_record.ensures.1).1
+
+pub returns-in-Ok-None-clause-together : goal.returns-in-Ok-None-clause-together
+returns-in-Ok-None-clause-together g c = c.records.invariant.together

@@ -1,5 +1,6 @@
-use Rattle.std.proofs.Common.{◌≡◌, Ok, Err, refl, sym, ◌∙◌}
-use Rattle.std.proofs.lemmas.Result.{err_from_is_err_and}
+use Rattle.std.proofs.Common.{◌≡◌, Ok, Err, refl, sym, ap, ◌∙◌}
+use Rattle.std.proofs.lemmas.Result.{IfOk-from_err, err_from_is_err_and}
+use Rattle.abstract_port.specs.AbstractPort.{PortState}
 use Rattle.replay.specs.declared.faults.Stop.TheVariants as Stops
 use Rattle.replay.proofs.Sends.{both_none, both_stop, capture_short, capture_whole}
 use Rattle.replay.proofs.running.begin.Goals as goal
@@ -24,3 +25,63 @@ returns-in-Ok-begin-clause-out g c = λ report. capture_whole _ report c.in-Ok-b
 
 pub returns-in-Err-clause-out : goal.returns-in-Err-clause-out
 returns-in-Err-clause-out g c = λ report. capture_short (Err Stops.Write) report refl c.in-Err.ensures.octets
+
+pub returns-in_err-clone-clause-port : goal.returns-in_err-clone-clause-port
+returns-in_err-clone-clause-port g c = IfOk-from_err c.from_residual.result _ c.from_residual.ensures.0
+
+pub returns-in_err-clone-clause-store : goal.returns-in_err-clone-clause-store
+returns-in_err-clone-clause-store g c = IfOk-from_err c.from_residual.result _ c.from_residual.ensures.0
+
+pub returns-in_err-clone-clause-seen : goal.returns-in_err-clone-clause-seen
+returns-in_err-clone-clause-seen g c = IfOk-from_err c.from_residual.result _ c.from_residual.ensures.0
+
+pub returns-in_err-clone-clause-sound : goal.returns-in_err-clone-clause-sound
+returns-in_err-clone-clause-sound g c = IfOk-from_err c.from_residual.result _ c.from_residual.ensures.0
+
+pub returns-in_err-store-clause-port : goal.returns-in_err-store-clause-port
+returns-in_err-store-clause-port g c = IfOk-from_err c.from_residual-in_err-store.result _ c.from_residual-in_err-store.ensures.0
+
+pub returns-in_err-store-clause-store : goal.returns-in_err-store-clause-store
+returns-in_err-store-clause-store g c = IfOk-from_err c.from_residual-in_err-store.result _ c.from_residual-in_err-store.ensures.0
+
+pub returns-in_err-store-clause-seen : goal.returns-in_err-store-clause-seen
+returns-in_err-store-clause-seen g c = IfOk-from_err c.from_residual-in_err-store.result _ c.from_residual-in_err-store.ensures.0
+
+pub returns-in_err-store-clause-sound : goal.returns-in_err-store-clause-sound
+returns-in_err-store-clause-sound g c = IfOk-from_err c.from_residual-in_err-store.result _ c.from_residual-in_err-store.ensures.0
+
+pub returns-in-Ok-begin-clause-port : goal.returns-in-Ok-begin-clause-port
+returns-in-Ok-begin-clause-port g c = rw (c.rate-rate.ensures, c.mtu-mtu.ensures.value, c.room-room.ensures.value) at (ap (λ (x : PortState). x.port) c.in-Ok.ensures.ok)
+
+pub returns-in-Ok-begin-clause-store : goal.returns-in-Ok-begin-clause-store
+returns-in-Ok-begin-clause-store g c = rw c.room-room.ensures.value at c.in_ok-store.ensures
+
+pub returns-in-Ok-begin-clause-seen : goal.returns-in-Ok-begin-clause-seen
+returns-in-Ok-begin-clause-seen g c = refl
+
+pub returns-in-Ok-begin-clause-sound : goal.returns-in-Ok-begin-clause-sound
+returns-in-Ok-begin-clause-sound g c = c.now-now.ensures.sound
+
+pub returns-in_default-clause-port : goal.returns-in_default-clause-port
+returns-in_default-clause-port g c = tt
+
+pub returns-in_default-clause-store : goal.returns-in_default-clause-store
+returns-in_default-clause-store g c = tt
+
+pub returns-in_default-clause-seen : goal.returns-in_default-clause-seen
+returns-in_default-clause-seen g c = tt
+
+pub returns-in_default-clause-sound : goal.returns-in_default-clause-sound
+returns-in_default-clause-sound g c = tt
+
+pub returns-in-Err-clause-port : goal.returns-in-Err-clause-port
+returns-in-Err-clause-port g c = tt
+
+pub returns-in-Err-clause-store : goal.returns-in-Err-clause-store
+returns-in-Err-clause-store g c = tt
+
+pub returns-in-Err-clause-seen : goal.returns-in-Err-clause-seen
+returns-in-Err-clause-seen g c = tt
+
+pub returns-in-Err-clause-sound : goal.returns-in-Err-clause-sound
+returns-in-Err-clause-sound g c = tt

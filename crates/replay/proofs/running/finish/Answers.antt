@@ -1,4 +1,4 @@
-use Rattle.std.proofs.Common.{◌++◌, [], List, Ok, Err, refl, ap, ◌∙◌, subst}
+use Rattle.std.proofs.Common.{◌++◌, [], List, Ok, Err, refl, rules, ap, ◌∙◌, subst}
 use Rattle.std.proofs.lemmas.Result.{err_from_is_err_and}
 use Rattle.script.specs.Outcome.{clock_after}
 use Rattle.replay.specs.LinesLeft.{lines_left}
@@ -74,3 +74,12 @@ returns g c = λ read is es k.
     let a = subst P all (c.in_ok-run_lines.ensures.answers read is es k) in
     let b = answers_then {U = Unit {0}} {y = tt} (Ok tt) es xs ys s t u c.requires.together.sound a (c.in_ok-run_to.ensures.answers es a.keeps) in
     told_whole {T = Unit {0}} (Ok tt) es (xs ++ ys) s u _ b (report_whole tt (g.W.Write.contents c.run_to.new.capture) c.in_ok-put_end.ensures)
+
+pub run_lines-requires : goal.run_lines-requires
+run_lines-requires g c = (search rules, c.requires.together)
+
+pub run_to-requires : goal.run_to-requires
+run_to-requires g c = (search rules, (c.requires.until, c.in_ok-run_lines.ensures.together))
+
+pub put_end-requires : goal.put_end-requires
+put_end-requires g c = (search rules, search rules)

@@ -1,4 +1,4 @@
-use Rattle.std.proofs.Common.{◌≡◌, [], Ok, Err, None, ◌⊎◌, inl, rules, refl, sym, ap, ◌∙◌}
+use Rattle.std.proofs.Common.{◌≡◌, [], Ok, Err, None, ◌⊎◌, inl, inr, rules, refl, sym, ap, ◌∙◌}
 use Rattle.std.proofs.lemmas.Result.{err_from_is_err_and}
 use Rattle.abstract_port.specs.AbstractPort.{AbstractPort, after_arrival, class_for}
 use Rattle.abstract_port.specs.Answers.{arrival_answer}
@@ -89,3 +89,23 @@ returns-in_err-put_noted_arrival-in-Err-clause-fault g c =
     let r = c.from_residual-in_err-put_noted_arrival-in-Err.result in
     let p = err_from_is_err_and r c.from_residual-in_err-put_noted_arrival-in-Err.ensures.1 in
     of_error r Stops.Write (λ fault. (fault ≡ Stops.Write) ⊎ (fault ≡ Stops.Memory)) (p.1 ∙ ap Err p.2) (inl refl)
+
+pub returns-in_err-put-in-Ok-clause-together : goal.returns-in_err-put-in-Ok-clause-together
+returns-in_err-put-in-Ok-clause-together g c = never _ (err_from_is_err_and c.from_residual.result c.from_residual.ensures.1).1
+
+pub returns-in_err-put_noted_arrival-in-Ok-clause-together : goal.returns-in_err-put_noted_arrival-in-Ok-clause-together
+returns-in_err-put_noted_arrival-in-Ok-clause-together g c = never _ (err_from_is_err_and c.from_residual-in_err-put_noted_arrival-in-Ok.result c.from_residual-in_err-put_noted_arrival-in-Ok.ensures.1).1
+
+pub returns-in_err-put_noted_arrival-in-Err-clause-together : goal.returns-in_err-put_noted_arrival-in-Err-clause-together
+returns-in_err-put_noted_arrival-in-Err-clause-together g c = never _ (err_from_is_err_and c.from_residual-in_err-put_noted_arrival-in-Err.result c.from_residual-in_err-put_noted_arrival-in-Err.ensures.1).1
+
+pub returns-in_err-put-in-Ok-clause-fault : goal.returns-in_err-put-in-Ok-clause-fault
+returns-in_err-put-in-Ok-clause-fault g c =
+    let p = err_from_is_err_and c.from_residual.result c.from_residual.ensures.1 in
+    of_error c.from_residual.result Stops.Memory (λ fault. (fault ≡ Stops.Write) ⊎ (fault ≡ Stops.Memory)) (p.1 ∙ ap Err p.2) (inr refl)
+
+pub returns-in_ok-put_noted_arrival-in-Ok-clause-fault : goal.returns-in_ok-put_noted_arrival-in-Ok-clause-fault
+returns-in_ok-put_noted_arrival-in-Ok-clause-fault g c = tt
+
+pub returns-in_ok-put_noted_arrival-in-Err-clause-fault : goal.returns-in_ok-put_noted_arrival-in-Err-clause-fault
+returns-in_ok-put_noted_arrival-in-Err-clause-fault g c = tt

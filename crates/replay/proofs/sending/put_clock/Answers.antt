@@ -1,4 +1,4 @@
-use Rattle.std.proofs.Common.{◌<◌, ◌≤◌, ◌∷◌, [], Ok, ℕ, map, refl, sym, ap, ◌∙◌, subst}
+use Rattle.std.proofs.Common.{◌≡◌, ◌<◌, ◌≤◌, ◌∷◌, [], Ok, Err, ℕ, map, refl, rules, sym, ap, ◌∙◌, subst}
 use Rattle.std.proofs.lemmas.Result.{err_from_is_err_and}
 use Rattle.abstract_port.specs.AbstractPort.{starts_until}
 use Rattle.abstract_port.specs.declared.Answer.TheVariants as Answered
@@ -6,9 +6,10 @@ use Rattle.abstract_port.specs.declared.Event.TheVariants as Events
 use Rattle.abstract_port.proofs.RunLaws.{settled-current}
 use Rattle.summary.specs.Wanted.{noted}
 use Rattle.replay.specs.Running.{State, state}
+use Rattle.replay.specs.declared.faults.Stop.TheVariants as Stops
 use Rattle.replay.proofs.ArrivalLaws.{one_answer}
 use Rattle.replay.proofs.SeenLaws.{noted-one}
-use Rattle.replay.proofs.Sends.{never, report_short, report_whole}
+use Rattle.replay.proofs.Sends.{never, of_error, report_short, report_whole}
 use Rattle.replay.proofs.TellLaws.{answers_one, clock_back, clock_on}
 use Rattle.replay.proofs.sending.put_clock.Goals as goal
 
@@ -41,3 +42,30 @@ returns-clause-answers g c = λ es k.
     let on = clock_on c.args.moment s.port (subst P c.now-now.ensures.now c.if-moment-now.false) c.requires.within in
     let a = c.put_starts.ensures.starts es k in
     answers_one c.put_starts.result es (Events.Clock c.args.moment) s t (map Answered.Start (starts_until s.port c.args.moment).0) (starts_until s.port c.args.moment).1 on a.port a.keeps a.seen a.out
+
+pub returns-in_err-put_noted-clause-together : goal.returns-in_err-put_noted-clause-together
+returns-in_err-put_noted-clause-together g c = never _ (err_from_is_err_and c.from_residual.result c.from_residual.ensures.1).1
+
+pub returns-in_err-put_noted-clause-fault : goal.returns-in_err-put_noted-clause-fault
+returns-in_err-put_noted-clause-fault g c =
+    let p = err_from_is_err_and c.from_residual.result c.from_residual.ensures.1 in
+    of_error c.from_residual.result Stops.Write (λ fault. fault ≡ Stops.Write) (p.1 ∙ ap Err p.2) refl
+
+pub returns-then-moment-now-clause-together : goal.returns-then-moment-now-clause-together
+returns-then-moment-now-clause-together g c =
+    let i = c.requires.together in
+    record { lengths = i.lengths; room = i.room; sound = i.sound }
+
+pub returns-then-moment-now-clause-fault : goal.returns-then-moment-now-clause-fault
+returns-then-moment-now-clause-fault g c = tt
+
+pub returns-clause-together : goal.returns-clause-together
+returns-clause-together g c = c.put_starts.ensures.together
+
+pub returns-clause-fault : goal.returns-clause-fault
+returns-clause-fault g c = c.put_starts.ensures.fault
+
+pub put_starts-requires : goal.put_starts-requires
+put_starts-requires g c =
+    let P : ℕ → Type 0 = λ n. n ≤ c.args.moment in
+    (search rules, (subst P c.now-now.ensures.now c.if-moment-now.false, (c.requires.within, c.requires.together)))

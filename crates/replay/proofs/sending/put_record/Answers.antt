@@ -1,4 +1,4 @@
-use Rattle.std.proofs.Common.{◌≡◌, List, [], ℕ, sym, ap, ◌∙◌, subst}
+use Rattle.std.proofs.Common.{◌≡◌, List, [], ℕ, refl, rules, sym, ap, ◌∙◌, subst}
 use Rattle.std.specs.Io.KnownBytes.{Appends}
 use Rattle.capture.specs.CaptureWriter.{written_record}
 use Rattle.octet_store.specs.Stored.{Kept, kept, kept_at}
@@ -18,3 +18,36 @@ returns-in-Err-clause-out g c =
     let first = first-of (kept_at c.args.sending.now.store.kept c.args.start.class) _ (kept 0 []) c.first-first.ensures.first in
     let P : List ℕ → Type 0 = λ text. FallsShort (g.W.Write.contents c.args.capture.now) (g.W.Write.contents c.put-put.new.writer) text in
     subst P (ap (λ k. start_record c.args.start.at k) (sym first)) c.in-Err.ensures.octets
+
+pub put-put-requires : goal.put-put-requires
+put-put-requires g c = record { moment = c.requires.early; size = c.first-first.ensures.within }
+
+pub first-first-requires : goal.first-first-requires
+first-first-requires g c = (search rules, (c.requires.class, c.requires.waits))
+
+pub give_up-requires : goal.give_up-requires
+give_up-requires g c = (search rules, (c.requires.class, c.requires.waits))
+
+pub returns-in-Ok-clause-port : goal.returns-in-Ok-clause-port
+returns-in-Ok-clause-port g c = refl
+
+pub returns-in-Ok-clause-seen : goal.returns-in-Ok-clause-seen
+returns-in-Ok-clause-seen g c = refl
+
+pub returns-in-Ok-clause-store : goal.returns-in-Ok-clause-store
+returns-in-Ok-clause-store g c = c.give_up.ensures
+
+pub returns-in-Ok-clause-fault : goal.returns-in-Ok-clause-fault
+returns-in-Ok-clause-fault g c = tt
+
+pub returns-in-Err-clause-port : goal.returns-in-Err-clause-port
+returns-in-Err-clause-port g c = refl
+
+pub returns-in-Err-clause-seen : goal.returns-in-Err-clause-seen
+returns-in-Err-clause-seen g c = refl
+
+pub returns-in-Err-clause-store : goal.returns-in-Err-clause-store
+returns-in-Err-clause-store g c = c.give_up.ensures
+
+pub returns-in-Err-clause-fault : goal.returns-in-Err-clause-fault
+returns-in-Err-clause-fault g c = refl

@@ -1,11 +1,12 @@
-use Rattle.std.proofs.Common.{Err, map, refl, rules, sym, ap, ◌∙◌, subst}
+use Rattle.std.proofs.Common.{◌≡◌, Err, map, refl, rules, sym, ap, ◌∙◌, subst}
 use Rattle.std.proofs.lemmas.Result.{err_from_is_err_and}
 use Rattle.abstract_port.specs.AbstractPort.{AbstractPort, PortState, starts_until}
 use Rattle.abstract_port.specs.declared.Answer.TheVariants as Answered
 use Rattle.summary.specs.Wanted.{noted_all}
 use Rattle.abstract_port.specs.Sound.{IsSoundPort}
 use Rattle.replay.specs.Running.{State, state}
-use Rattle.replay.proofs.Sends.{both_all, both_exit, both_more, both_none, never}
+use Rattle.replay.specs.declared.faults.Stop.TheVariants as Stops
+use Rattle.replay.proofs.Sends.{both_all, both_exit, both_more, both_none, never, of_error}
 use Rattle.replay.proofs.StartLaws.{early, fewer, has_first, idle_queues, idle_room, keeps-after, leaves, no-starts-end, no-starts-out, no-starts-seen, onward, same-end, starts-kept, starts-seen, still_keeps, still_together, together-after}
 use Rattle.replay.proofs.sending.put_starts.Goals as goal
 
@@ -92,3 +93,17 @@ returns-in-None-clause-starts g c = λ es k.
       seen = sym (no-starts-seen s.port t.port c.args.until i.later c.step.ensures.port i.together.sound e c.now-now.result s.seen) ∙ i.same_seen;
       out = both_all tt (i.sent es k) (no-starts-out s.port t.port c.args.until i.later c.step.ensures.port i.together.sound e es);
     }
+
+pub returns-in_err-put_start-in-Some-clause-together : goal.returns-in_err-put_start-in-Some-clause-together
+returns-in_err-put_start-in-Some-clause-together g c = never _ (err_from_is_err_and c.from_residual.result c.from_residual.ensures.1).1
+
+pub returns-in_err-put_start-in-Some-clause-fault : goal.returns-in_err-put_start-in-Some-clause-fault
+returns-in_err-put_start-in-Some-clause-fault g c =
+    let p = err_from_is_err_and c.from_residual.result c.from_residual.ensures.1 in
+    of_error c.from_residual.result Stops.Write (λ fault. fault ≡ Stops.Write) (p.1 ∙ ap Err (p.2 ∙ c.in_err-put_start-in-Some.ensures.fault)) refl
+
+pub returns-in-None-clause-fault : goal.returns-in-None-clause-fault
+returns-in-None-clause-fault g c = tt
+
+pub step-requires : goal.step-requires
+step-requires g c = (search rules, (c.loop-start.invariant.later, search (rules, c.requires.within)))

@@ -1,5 +1,5 @@
-use Rattle.std.proofs.Common.{drop}
-use Rattle.octet_store.proofs.ClassLaws.{still_room, changed_view}
+use Rattle.std.proofs.Common.{drop, rules}
+use Rattle.octet_store.proofs.ClassLaws.{frames_at, still_room, changed_view}
 use Rattle.octet_store.proofs.store.OctetStore.give_up.Goals as goal
 
 pub invariant_of-self : goal.invariant_of-self
@@ -7,3 +7,6 @@ invariant_of-self g c = still_room _ _ c.args.class (λ ks. drop 1 ks) c.require
 
 pub returns : goal.returns
 returns g c = changed_view _ _ c.args.class (λ ks. drop 1 ks) c.requires.class c.self.invariant c.give_up_in.ensures c.args.self.now c.self.view_is
+
+pub give_up_in-requires : goal.give_up_in-requires
+give_up_in-requires g c = (search rules, (c.requires.class, rw (frames_at c.self.inside.classes c.args.class) (rw (← c.self.view_is) at c.requires.waits)))

@@ -1,4 +1,4 @@
-use Rattle.std.proofs.Common.{◌≡◌, ◌≤◌, max, min, ap, sym, ◌∙◌, arith}
+use Rattle.std.proofs.Common.{◌≡◌, ◌≤◌, max, min, ap, refl, sym, ◌∙◌, rules, arith}
 use Rattle.list_config.specs.History.{kept}
 use Rattle.picture.specs.Drawn.{Drawing}
 use Rattle.picture.proofs.DrawLaws.{drawn_gone, kept_on, up_to_within}
@@ -32,3 +32,19 @@ returns-clause-classes g c =
     rw (← c.self.view_is)
     (c.draw_to.ensures.classes class below
     ∙ drawn_gone (record { history = c.self.inside.gates.history; moment = c.self.inside.gates.moment; from = c.self.inside.from; to = c.self.inside.to; classes = c.self.inside.classes }) c.args.moment c.move_to.new.self.moment c.up_to-upto.result class c.move_to.new.self.history c.self.invariant first (omega (arith, began, c.requires.later)) c.up_to-upto.ensures (omega (arith, c.up_to-upto.ensures, within)) moved)
+
+pub move_to-requires-clause-later : goal.move_to-requires-clause-later
+move_to-requires-clause-later g c =
+    let began : c.self.inside.gates.moment ≡ c.args.self.now.moment = ap (λ (d : Drawing). d.moment) c.self.view_is in
+    omega (arith, c.min-first.ensures, c.max.ensures, c.now.ensures, began, c.requires.later)
+
+pub draw_to-requires : goal.draw_to-requires
+draw_to-requires g c =
+    let within = up_to_within c.self.inside.to c.args.moment in
+    (search rules, (c.move_to.ensures.sound, omega (arith, c.up_to-upto.ensures, within, c.requires.within)))
+
+pub returns-clause-moment : goal.returns-clause-moment
+returns-clause-moment g c = c.move_to-2.ensures.moment
+
+pub returns-clause-window : goal.returns-clause-window
+returns-clause-window g c = rw (← c.self.view_is) (refl, refl)

@@ -17,3 +17,9 @@ returns-in-Replace-clause-accepted g c =
     ap (λ (d : Drawing). d.history) c.replace.ensures.drawing
     ∙ ap (λ (x : Command). history_with c.args.rate c.args.lead x c.args.self.now.history c.args.self.now.moment) (sym c.in-Replace.is)
     ∙ taken p c.args.command.now change c.args.rate c.args.lead c.args.self.now.moment c.args.self.now.history h m ps lead ok
+
+pub returns-in-Delete-clause-drawing : goal.returns-in-Delete-clause-drawing
+returns-in-Delete-clause-drawing g c = rw c.in-Delete.is c.delete.ensures.drawing
+
+pub returns-in-Replace-clause-drawing : goal.returns-in-Replace-clause-drawing
+returns-in-Replace-clause-drawing g c = rw c.in-Replace.is c.replace.ensures.drawing

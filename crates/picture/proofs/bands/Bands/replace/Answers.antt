@@ -9,3 +9,9 @@ returns-in-Ok-clause-drawing g c =
     let made = planned (plan_fault c.args.rate (plan_asked c.args.change.now)) (plan_asked c.args.change.now) c.in-Ok.schedule c.self.inside.gates.history c.self.inside.gates.moment c.args.lead c.in-Ok.ensures in
     rw (← c.self.view_is)
     (same_drawing _ _ _ _ c.self.inside.from c.self.inside.to c.self.inside.classes (c.install.ensures.history ∙ made) c.install.ensures.moment)
+
+pub returns-in-Ok-clause-hindsight : goal.returns-in-Ok-clause-hindsight
+returns-in-Ok-clause-hindsight g c = rw (← c.self.view_is) c.install.ensures.hindsight
+
+pub install-requires : goal.install-requires
+install-requires g c = record { sound = c.self.invariant; ahead = rw (← c.self.view_is) at c.requires.ahead; within = c.requires.within }

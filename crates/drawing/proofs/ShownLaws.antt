@@ -1,0 +1,18 @@
+-- What is shown after a start.
+use Rattle.std.proofs.Common.{◌≡◌, ℕ, List, true, false, if◌then◌else◌, ap, ap₂, ◌∙◌}
+use Rattle.abstract_port.specs.declared.Start.{Start}
+use Rattle.picture.specs.Rows.{Filled}
+use Rattle.drawing.specs.Shapes.{Shown, frame_drawn, is_drawn, wait_drawn, with_start}
+
+-- one that is drawn
+pub start_drawn : (came : ℕ) (s : Start) (x y : Shown) (frames waits : List Filled) → x ≡ y → true ≡ is_drawn s → frames ≡ frame_drawn x.view s x.frames → waits ≡ wait_drawn x.view came s x.waits
+    → record x { frames = frames; waits = waits } ≡ with_start came s y
+start_drawn came s x y frames waits same drawn f w =
+    let all : Shown = record x { frames = frame_drawn x.view s x.frames; waits = wait_drawn x.view came s x.waits } in
+    ap₂ (λ a b. record x { frames = a; waits = b }) f w ∙ ap (λ b. if b then all else x) drawn ∙ ap (with_start came s) same
+
+-- one that isn't
+pub start_hidden : (came : ℕ) (s : Start) (x : Shown) → false ≡ is_drawn s → x ≡ with_start came s x
+start_hidden came s x drawn =
+    let all : Shown = record x { frames = frame_drawn x.view s x.frames; waits = wait_drawn x.view came s x.waits } in
+    ap (λ b. if b then all else x) drawn

@@ -1,0 +1,44 @@
+-- What is written and seen of one answer.
+use Rattle.std.proofs.Common.{◌≡◌, ℕ, List, [], ◌∷◌, Option, Some, None, Result, Ok, Err, OnOk, refl, sym, ap, ◌∙◌, subst, append-nil}
+use denote.Bor.{Bor}
+use Rattle.abstract_port.specs.AbstractPort.{AbstractPort, installs}
+use Rattle.abstract_port.specs.Answers.{answers_to, command_answer}
+use Rattle.abstract_port.specs.declared.Answer.{Answer}
+use Rattle.abstract_port.specs.declared.Command.{Command}
+use Rattle.abstract_port.specs.declared.Event.{Event}
+use Rattle.abstract_port.specs.declared.Event.TheVariants.{Install}
+use Rattle.abstract_port.specs.declared.Refused.{Refused}
+use Rattle.answer_text.specs.Lines.{answer_lines, tc_fault_line}
+use Rattle.octet_writer.specs.Writes.{Writes}
+use Rattle.script.proofs.OutputLaws.{lines_of_answers}
+use Rattle.script.specs.Requests.{NoCommand}
+use Rattle.script.specs.Responses.{lines_of, responses_to}
+use Rattle.tc_reader.specs.declared.fault.TcFault.{TcFault}
+use Rattle.summary.specs.Observed.{Observed, seen, seen_all}
+use Rattle.summary.specs.Wanted.{noted, noted_at}
+
+pub always : {T E P : Type 0} (r : Result T E) → P → OnOk r P
+always (Ok x) p = p
+always (Err e) p = tt
+
+-- its lines are all that is written
+pub one_written : {T E : Type 0} (r : Result T E) (old new : Option (List ℕ)) (answer told : Answer) → answer ≡ told → Writes r old new (answer_lines answer) → Writes r old new (lines_of_answers (told ∷ []))
+one_written r old new answer told same w = subst (λ text. Writes r old new text) (ap answer_lines same ∙ sym (append-nil (answer_lines told))) w
+
+-- it is noted
+pub one_noted : (now : ℕ) (event : Event) (p : AbstractPort) (o : Option Observed) (answer : Answer) → now ≡ p.now → answer ∷ [] ≡ (answers_to event p).0 → noted now answer o ≡ noted_at event p o
+one_noted now event p (Some o) answer at one = ap (λ n. Some (seen n answer o)) at ∙ ap (λ answers. Some (seen_all p.now answers o)) one
+one_noted now event p None answer at one = refl
+
+unseen : (now : ℕ) (r : Result ℕ Refused) (o : Observed) → o ≡ seen now (command_answer r) o
+unseen now (Ok change) o = refl
+unseen now (Err why) o = refl
+
+-- nothing is seen of a command
+pub command_unseen : (command : Bor Command) (p : AbstractPort) (o : Option Observed) → o ≡ noted_at (Install command) p o
+command_unseen command p (Some o) = ap Some (unseen p.now (installs p command.now).0 o)
+command_unseen command p None = refl
+
+-- a fault's line is all that is written of it
+pub fault_written : {T E : Type 0} (r : Result T E) (old new : Option (List ℕ)) (fault : TcFault) (p : AbstractPort) → Writes r old new (tc_fault_line fault) → Writes r old new (lines_of (responses_to (NoCommand fault) p).0)
+fault_written r old new fault p w = subst (λ text. Writes r old new text) (sym (append-nil (tc_fault_line fault))) w
