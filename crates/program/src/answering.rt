@@ -113,6 +113,49 @@ fn answer_refusal<B: Allocator, W: Write + Drop, E: Write>(
     (ended, writer)
 }
 
+/// Answers a job and its options, as the words give them.
+fn answer_job<
+    F: Files,
+    B: Allocator,
+    R: Read,
+    W: Write + Drop,
+    E: Write,
+    C: Clock,
+    P: Write + Drop,
+>(
+    files: &F,
+    alloc: Global,
+    matches: &ArgMatches<'_>,
+    reader: &mut R,
+    answers: BufWriter<W, B>,
+    errors: &mut E,
+    progress: &mut Progress<'_, C, P>,
+) -> (Ended, W) {
+    if let Some(script) = matches.subcommand_matches("script") {
+        return answer_given(alloc, script, reader, answers, errors);
+    }
+    if let Some(replay) = matches.subcommand_matches("replay") {
+        if replay.get_flag("progress") {
+            progress.start();
+        }
+        return replay_given(files, alloc, replay, reader, answers, errors, progress);
+    }
+    if let Some(check) = matches.subcommand_matches("check") {
+        return check_given(alloc, check, reader, answers, errors);
+    }
+    if let Some(draw) = matches.subcommand_matches("draw") {
+        return draw_given(alloc, draw, reader, answers, errors);
+    }
+    if let Some(streams) = matches.subcommand_matches("streams") {
+        return streams_given(files, alloc, streams, reader, answers, errors);
+    }
+    let ended = Ended {
+        status: 2,
+        told: true,
+    };
+    (ended, answers.into_parts().0)
+}
+
 /// Answers the words of the program, the first of which is its name: a script, a replay of files, the check of schedules, the script of a
 /// table of streams, a picture, help, or why they are refused. What is answered goes through `answers`, whose writer is given back, and the text of a fault to `errors`; how far
 /// a replay has come is said through `progress`, where the words ask for it.
@@ -137,31 +180,8 @@ pub fn answer_words<
         let ended = end_without_memory(errors);
         return (ended, answers.into_parts().0);
     };
-    let matches = match command.try_get_matches_from(words) {
-        Ok(matches) => matches,
-        Err(error) => return answer_refusal(alloc, &error, answers, errors),
-    };
-    if let Some(script) = matches.subcommand_matches("script") {
-        return answer_given(alloc, script, reader, answers, errors);
+    match command.try_get_matches_from(words) {
+        Ok(matches) => answer_job(files, alloc, &matches, reader, answers, errors, progress),
+        Err(error) => answer_refusal(alloc, &error, answers, errors),
     }
-    if let Some(replay) = matches.subcommand_matches("replay") {
-        if replay.get_flag("progress") {
-            progress.start();
-        }
-        return replay_given(files, alloc, replay, reader, answers, errors, progress);
-    }
-    if let Some(check) = matches.subcommand_matches("check") {
-        return check_given(alloc, check, reader, answers, errors);
-    }
-    if let Some(draw) = matches.subcommand_matches("draw") {
-        return draw_given(alloc, draw, reader, answers, errors);
-    }
-    if let Some(streams) = matches.subcommand_matches("streams") {
-        return streams_given(files, alloc, streams, reader, answers, errors);
-    }
-    let ended = Ended {
-        status: 2,
-        told: true,
-    };
-    (ended, answers.into_parts().0)
 }

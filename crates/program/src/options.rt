@@ -180,32 +180,60 @@ fn with_lines<'a>(alloc: Global, command: Command<'a>) -> Result<Command<'a>, Al
     )
 }
 
-/// What the program understands.
-pub fn command<'a>(alloc: Global) -> Result<Command<'a>, AllocError> {
-    let script = Command::new(alloc, "script").about(
+fn script_command<'a>(alloc: Global) -> Result<Command<'a>, AllocError> {
+    let command = Command::new(alloc, "script").about(
         "Answers the lines of a script on standard input",
     );
-    let replay = Command::new(alloc, "replay").about(
+    with_summary(alloc, with_options(alloc, command, false)?)
+}
+
+fn replay_command<'a>(alloc: Global) -> Result<Command<'a>, AllocError> {
+    let command = Command::new(alloc, "replay").about(
         "Runs a script and a capture by moment: a report on standard output, and a capture of what leaves",
     );
-    let check = Command::new(alloc, "check").about(
+    with_files(
+        alloc,
+        with_summary(alloc, with_options(alloc, command, true)?)?,
+    )
+}
+
+fn check_command<'a>(alloc: Global) -> Result<Command<'a>, AllocError> {
+    let command = Command::new(alloc, "check").about(
         "Tells of the schedule commands on standard input which classes they keep apart",
     );
-    let streams = Command::new(alloc, "streams").about(
+    with_windows(alloc, with_rate(alloc, command)?)
+}
+
+fn streams_command<'a>(alloc: Global) -> Result<Command<'a>, AllocError> {
+    let command = Command::new(alloc, "streams").about(
         "Writes a script with the frames of the streams in a table on standard input",
     );
-    let draw = Command::new(alloc, "draw").about(
+    with_lines(alloc, command)
+}
+
+fn draw_command<'a>(alloc: Global) -> Result<Command<'a>, AllocError> {
+    let command = Command::new(alloc, "draw").about(
         "Draws the run of a script on standard input, as an SVG picture",
     );
-    Command::new(alloc, "taprio_port")
+    with_picture(alloc, with_port(alloc, command)?)
+}
+
+/// The program with one more job.
+fn with_job<'a>(
+    program: Command<'a>,
+    job: Result<Command<'a>, AllocError>,
+) -> Result<Command<'a>, AllocError> {
+    program.subcommand(job?)
+}
+
+/// What the program understands.
+pub fn command<'a>(alloc: Global) -> Result<Command<'a>, AllocError> {
+    let program = Command::new(alloc, "taprio_port")
         .about("An IEEE 802.1Qbv time-aware transmit port")
-        .subcommand_required(true)
-        .subcommand(with_summary(alloc, with_options(alloc, script, false)?)?)?
-        .subcommand(with_files(
-            alloc,
-            with_summary(alloc, with_options(alloc, replay, true)?)?,
-        )?)?
-        .subcommand(with_windows(alloc, with_rate(alloc, check)?)?)?
-        .subcommand(with_lines(alloc, streams)?)?
-        .subcommand(with_picture(alloc, with_port(alloc, draw)?)?)
+        .subcommand_required(true);
+    let program = with_job(program, script_command(alloc))?;
+    let program = with_job(program, replay_command(alloc))?;
+    let program = with_job(program, check_command(alloc))?;
+    let program = with_job(program, streams_command(alloc))?;
+    with_job(program, draw_command(alloc))
 }

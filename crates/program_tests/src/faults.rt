@@ -1,6 +1,6 @@
 //! Truncated and malicious input, and the status and the text of each fault, by the program's words and the streams that it is lent.
 
-use crate::tests::{Folder, outcome_from, outcome_of};
+use crate::tests::{Folder, differs_in, outcome_from, outcome_of};
 use std::test::Fail;
 use std::{fs, io};
 use test_streams::{Pieces, Repeated, TWO_RECORDS, cut_capture, hostile_scripts, repeated_octets};
@@ -13,10 +13,10 @@ fn status_of(text: &[u8]) -> u8 {
 #[test]
 fn scripts_that_no_one_means_well_with(rt: HostRuntime) -> Result<(), Fail> {
     for (script, answers, text) in hostile_scripts() {
-        let outcome = outcome_of(&rt, &["script"], script)?;
-        assert_eq!(rt; outcome.status, status_of(text));
-        assert_eq!(rt; outcome.answers.as_slice(), answers);
-        assert_eq!(rt; outcome.errors.as_slice(), text);
+        assert_eq!(rt;
+            differs_in(&rt, &["script"], script, status_of(text), answers, text)?,
+            ""
+        );
     }
     Ok(())
 }
@@ -43,11 +43,19 @@ fn captures_that_are_cut(rt: HostRuntime) -> Result<(), Fail> {
     let out = folder.path_of("out")?;
     let words = ["replay", "--until", "3000000000000", &script, "-", &out];
     for cut in 0..=TWO_RECORDS.len() {
-        let outcome = outcome_of(&rt, &words, &TWO_RECORDS[..cut])?;
         let want = cut_capture(cut);
-        assert_eq!(rt; outcome.status, status_of(want.text));
-        assert_eq!(rt; outcome.answers.as_slice(), want.report);
-        assert_eq!(rt; outcome.errors.as_slice(), want.text);
+        let status = status_of(want.text);
+        assert_eq!(rt;
+            differs_in(
+                &rt,
+                &words,
+                &TWO_RECORDS[..cut],
+                status,
+                want.report,
+                want.text
+            )?,
+            ""
+        );
         assert_eq!(rt; fs::read(&rt, out.as_str())?.as_slice(), want.departures);
     }
     folder.remove()?;
@@ -140,18 +148,17 @@ fn lines_with_faults(rt: HostRuntime) -> Result<(), Fail> {
         (b"frame 1\n", count, in_replay),
     ];
     for (script, text, of_replay) in rows {
-        let outcome = outcome_of(&rt, &["script"], script)?;
-        assert_eq!(rt; outcome.status, status_of(text));
-        assert_eq!(rt; outcome.errors.as_slice(), text);
-        let outcome = outcome_of(&rt, &["check"], script)?;
-        assert_eq!(rt; outcome.status, 3);
-        assert_eq!(rt; outcome.errors.as_slice(), unknown);
+        assert_eq!(rt;
+            differs_in(&rt, &["script"], script, status_of(text), b"", text)?,
+            ""
+        );
+        assert_eq!(rt; differs_in(&rt, &["check"], script, 3, b"", unknown)?, "");
         let path = folder.file("script", script)?;
         let words = ["replay", "--until", "1", &path, "-", &out];
-        let outcome = outcome_of(&rt, &words, &TWO_RECORDS)?;
-        assert_eq!(rt; outcome.status, 3);
-        assert_eq!(rt; outcome.errors.as_slice(), of_replay);
-        assert!(rt; outcome.answers.is_empty());
+        assert_eq!(rt;
+            differs_in(&rt, &words, &TWO_RECORDS, 3, b"", of_replay)?,
+            ""
+        );
     }
     folder.remove()?;
     Ok(())
@@ -179,13 +186,15 @@ fn bad_values(rt: HostRuntime) -> Result<(), Fail> {
         ("--until", "340282366920938463463374607431768211456", until),
     ];
     for (option, value, text) in rows {
-        let outcome = outcome_of(&rt, &["script", option, value], b"x")?;
-        assert_eq!(rt; (outcome.status, outcome.answers.len()), (2, 0));
-        assert_eq!(rt; outcome.errors.as_slice(), text);
+        assert_eq!(rt;
+            differs_in(&rt, &["script", option, value], b"x", 2, b"", text)?,
+            ""
+        );
         if option == "--rate" {
-            let outcome = outcome_of(&rt, &["check", option, value], b"x")?;
-            assert_eq!(rt; (outcome.status, outcome.answers.len()), (2, 0));
-            assert_eq!(rt; outcome.errors.as_slice(), text);
+            assert_eq!(rt;
+                differs_in(&rt, &["check", option, value], b"x", 2, b"", text)?,
+                ""
+            );
         }
     }
     Ok(())
@@ -221,9 +230,7 @@ fn bad_values_of_a_replay(rt: HostRuntime) -> Result<(), Fail> {
         let words = [
             "replay", name, value, until, moment, "no", "such", "file/out",
         ];
-        let outcome = outcome_of(&rt, &words, b"")?;
-        assert_eq!(rt; (outcome.status, outcome.answers.len()), (2, 0));
-        assert_eq!(rt; outcome.errors.as_slice(), text);
+        assert_eq!(rt; differs_in(&rt, &words, b"", 2, b"", text)?, "");
     }
     Ok(())
 }

@@ -89,6 +89,30 @@ pub fn outcome_from<R: Read>(
     })
 }
 
+/// In what the answer to these words and this input differs from the status, the answers and the text of a fault that are wanted; nothing is
+/// to be said of how far it has come. Empty where it doesn't.
+pub fn differs_in(
+    rt: &HostRuntime,
+    words: &[&str],
+    input: &[u8],
+    status: u8,
+    answers: &[u8],
+    errors: &[u8],
+) -> io::Result<&'static str> {
+    let outcome = outcome_of(rt, words, input)?;
+    Ok(if outcome.status != status {
+        "status"
+    } else if outcome.answers.as_slice() != answers {
+        "answers"
+    } else if outcome.errors.as_slice() != errors {
+        "errors"
+    } else if !outcome.progress.is_empty() {
+        "progress"
+    } else {
+        ""
+    })
+}
+
 /// Words and a script, with the status, what is answered, and what is told of a fault.
 #[test]
 fn answers_and_faults_are_told_apart(rt: HostRuntime) -> Result<(), Fail> {
@@ -186,11 +210,7 @@ fn answers_and_faults_are_told_apart(rt: HostRuntime) -> Result<(), Fail> {
         ),
     ];
     for (words, script, status, answers, text) in rows {
-        let outcome = outcome_of(&rt, words, script)?;
-        assert_eq!(rt; outcome.status, status);
-        assert_eq!(rt; outcome.answers.as_slice(), answers);
-        assert_eq!(rt; outcome.errors.as_slice(), text);
-        assert!(rt; outcome.progress.is_empty());
+        assert_eq!(rt; differs_in(&rt, words, script, status, answers, text)?, "");
     }
     Ok(())
 }
@@ -350,10 +370,10 @@ fn replays_files(rt: HostRuntime) -> Result<(), Fail> {
         &capture,
         &out,
     ];
-    let outcome = outcome_of(&rt, &words, b"not read")?;
-    assert_eq!(rt; outcome.status, 0);
-    assert_eq!(rt; outcome.answers.as_slice(), FIRST_TOLD);
-    assert!(rt; outcome.errors.is_empty() && outcome.progress.is_empty());
+    assert_eq!(rt;
+        differs_in(&rt, &words, b"not read", 0, FIRST_TOLD, b"")?,
+        ""
+    );
     assert_eq!(rt;
         fs::read(&rt, out.as_str())?.as_slice(),
         FIRST_LEFT.as_slice()
@@ -426,20 +446,22 @@ fn files_that_can_not_be_opened(rt: HostRuntime) -> Result<(), Fail> {
     ];
     for (script, capture, out, unopened) in rows {
         let words = ["replay", "--until", "1", script, capture, out];
-        let outcome = outcome_of(&rt, &words, b"")?;
-        assert_eq!(rt; outcome.status, 4);
-        assert!(rt; outcome.answers.is_empty());
         let text = format!(in rt.alloc(); "taprio_port: cannot open {unopened}\n")?;
-        assert_eq!(rt; outcome.errors.as_slice(), text.as_bytes());
+        assert_eq!(rt; differs_in(&rt, &words, b"", 4, b"", text.as_bytes())?, "");
     }
     let words = [
         "replay", "--room", "0", "--until", "1", &missing, &missing, &nowhere,
     ];
-    let outcome = outcome_of(&rt, &words, b"")?;
-    assert_eq!(rt; outcome.status, 2);
     assert_eq!(rt;
-        outcome.errors.as_slice(),
-        b"taprio_port: bad value of --room\n".as_slice()
+        differs_in(
+            &rt,
+            &words,
+            b"",
+            2,
+            b"",
+            b"taprio_port: bad value of --room\n"
+        )?,
+        ""
     );
     let words = [
         "replay",
@@ -449,10 +471,16 @@ fn files_that_can_not_be_opened(rt: HostRuntime) -> Result<(), Fail> {
         &capture,
         &out,
     ];
-    let outcome = outcome_of(&rt, &words, b"")?;
     assert_eq!(rt;
-        outcome.errors.as_slice(),
-        b"taprio_port: bad value of --until\n".as_slice()
+        differs_in(
+            &rt,
+            &words,
+            b"",
+            2,
+            b"",
+            b"taprio_port: bad value of --until\n"
+        )?,
+        ""
     );
     assert_eq!(rt; fs::read(&rt, out.as_str())?.as_slice(), b"kept".as_slice());
     folder.remove()?;
@@ -487,10 +515,7 @@ fn faults_behind_the_opening(rt: HostRuntime) -> Result<(), Fail> {
     for (script, capture, out, status, text) in rows {
         fs::write(&rt, out, b"emptied")?;
         let words = ["replay", "--until", "1", script, capture, out];
-        let outcome = outcome_of(&rt, &words, b"")?;
-        assert_eq!(rt; outcome.status, status);
-        assert_eq!(rt; outcome.errors.as_slice(), text);
-        assert!(rt; outcome.answers.is_empty());
+        assert_eq!(rt; differs_in(&rt, &words, b"", status, b"", text)?, "");
         assert!(rt; fs::read(&rt, out)?.is_empty());
     }
     folder.remove()?;
@@ -500,24 +525,26 @@ fn faults_behind_the_opening(rt: HostRuntime) -> Result<(), Fail> {
 /// A table of streams becomes a script; a fault of a line is told, and nothing is written; the job takes no word but an option's.
 #[test]
 fn streams_become_a_script(rt: HostRuntime) -> Result<(), Fail> {
-    let outcome = outcome_of(&rt, &["streams"], b"stream 1 5 60 1us 0s 2\n")?;
-    assert_eq!(rt; outcome.status, 0);
-    assert_eq!(rt;
-        outcome.answers.as_slice(),
-        b"clock 0\nframe 1 5 60\nclock 1000000\nframe 2 5 60\n".as_slice()
-    );
-    assert!(rt; outcome.errors.is_empty());
-    let outcome = outcome_of(
-        &rt,
-        &["streams"],
-        b"stream 1 5 60 1us 0s 2\nstream 1 5 60 1 0s 2\n",
-    )?;
-    assert_eq!(rt; outcome.status, 3);
-    assert!(rt; outcome.answers.is_empty());
-    assert_eq!(rt;
-        outcome.errors.as_slice(),
-        b"taprio_port: table line 2: BadNumber\n".as_slice()
-    );
+    let rows: [(&[u8], u8, &[u8], &[u8]); 2] = [
+        (
+            b"stream 1 5 60 1us 0s 2\n",
+            0,
+            b"clock 0\nframe 1 5 60\nclock 1000000\nframe 2 5 60\n",
+            b"",
+        ),
+        (
+            b"stream 1 5 60 1us 0s 2\nstream 1 5 60 1 0s 2\n",
+            3,
+            b"",
+            b"taprio_port: table line 2: BadNumber\n",
+        ),
+    ];
+    for (table, status, answers, text) in rows {
+        assert_eq!(rt;
+            differs_in(&rt, &["streams"], table, status, answers, text)?,
+            ""
+        );
+    }
     let outcome = outcome_of(&rt, &["streams", "table"], b"")?;
     assert_eq!(rt; outcome.status, 2);
     Ok(())
@@ -555,10 +582,17 @@ fn streams_with_a_script(rt: HostRuntime) -> Result<(), Fail> {
         (&here, table, 4, b"", b"taprio_port: read failed\n"),
     ];
     for (with, table, status, answers, text) in rows {
-        let outcome = outcome_of(&rt, &["streams", "--with", with], table)?;
-        assert_eq!(rt; outcome.status, status);
-        assert_eq!(rt; outcome.answers.as_slice(), answers);
-        assert_eq!(rt; outcome.errors.as_slice(), text);
+        assert_eq!(rt;
+            differs_in(
+                &rt,
+                &["streams", "--with", with],
+                table,
+                status,
+                answers,
+                text
+            )?,
+            ""
+        );
     }
     folder.remove()?;
     Ok(())

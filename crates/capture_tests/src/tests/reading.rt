@@ -31,35 +31,43 @@ fn is_record(record: &Record<'_>, moment: u128, original: u32, octets: &[u8]) ->
         && record.octets == octets
 }
 
+/// Whether a capture has these records, each by its moment, its original length and its octets, and no others.
+pub fn has_records(
+    rt: &HostRuntime,
+    capture: &[u8],
+    records: &[(u128, u32, &[u8])],
+) -> Result<bool, Fail> {
+    let mut reader = CaptureReader::new(rt.alloc(), capture).map_err(|_| "header")?;
+    for (moment, original, octets) in records {
+        let record = reader.next().map_err(|_| "record")?.ok_or("record")?;
+        if !is_record(&record, *moment, *original, octets) {
+            return Ok(false);
+        }
+    }
+    Ok(matches!(reader.next(), Ok(None)))
+}
+
 #[test]
 fn both_vectors(rt: HostRuntime) -> Result<(), Fail> {
-    let mut reader = CaptureReader::new(rt.alloc(), TWO_RECORDS.as_slice()).map_err(|_| "header")?;
-    let first = reader.next().map_err(|_| "first")?.ok_or("first")?;
-    assert!(rt; is_record(&first, 2_000_500_000_000, 60, &TWO_RECORDS[40..58]));
-    let second = reader.next().map_err(|_| "second")?.ok_or("second")?;
-    assert!(rt; is_record(&second, 2_000_400_000_000, 60, &TWO_RECORDS[74..92]));
-    assert!(rt; matches!(reader.next(), Ok(None)));
-
-    let mut reader = CaptureReader::new(rt.alloc(), WRITTEN.as_slice()).map_err(|_| "header")?;
-    let first = reader.next().map_err(|_| "first")?.ok_or("first")?;
-    assert!(rt; is_record(&first, 2_000_500_000_000, 60, &WRITTEN[40..58]));
-    let second = reader.next().map_err(|_| "second")?.ok_or("second")?;
-    assert!(rt; is_record(&second, 2_000_500_672_000, 60, &WRITTEN[74..92]));
-    assert!(rt; matches!(reader.next(), Ok(None)));
+    let two: [(u128, u32, &[u8]); 2] = [
+        (2_000_500_000_000, 60, &TWO_RECORDS[40..58]),
+        (2_000_400_000_000, 60, &TWO_RECORDS[74..92]),
+    ];
+    assert!(rt; has_records(&rt, &TWO_RECORDS, &two)?);
+    let written: [(u128, u32, &[u8]); 2] = [
+        (2_000_500_000_000, 60, &WRITTEN[40..58]),
+        (2_000_500_672_000, 60, &WRITTEN[74..92]),
+    ];
+    assert!(rt; has_records(&rt, &WRITTEN, &written)?);
     Ok(())
 }
 
 #[test]
 fn other_tools(rt: HostRuntime) -> Result<(), Fail> {
-    let mut reader = CaptureReader::new(rt.alloc(), TCPDUMP.as_slice()).map_err(|_| "header")?;
-    let record = reader.next().map_err(|_| "record")?.ok_or("record")?;
-    assert!(rt; is_record(&record, 1_700_000_000_123_456_000_000, 42, &TCPDUMP[40..],));
-    assert!(rt; matches!(reader.next(), Ok(None)));
-
-    let mut reader = CaptureReader::new(rt.alloc(), TSHARK.as_slice()).map_err(|_| "header")?;
-    let record = reader.next().map_err(|_| "record")?.ok_or("record")?;
-    assert!(rt; is_record(&record, 1_700_000_000_123_456_789_000, 98, &TSHARK[40..],));
-    assert!(rt; matches!(reader.next(), Ok(None)));
+    let tcpdump: [(u128, u32, &[u8]); 1] = [(1_700_000_000_123_456_000_000, 42, &TCPDUMP[40..])];
+    assert!(rt; has_records(&rt, &TCPDUMP, &tcpdump)?);
+    let tshark: [(u128, u32, &[u8]); 1] = [(1_700_000_000_123_456_789_000, 98, &TSHARK[40..])];
+    assert!(rt; has_records(&rt, &TSHARK, &tshark)?);
     Ok(())
 }
 

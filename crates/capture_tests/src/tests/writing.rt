@@ -1,7 +1,8 @@
 //! What is written, and what is left in writers that fail.
 
+use super::reading::has_records;
 use super::{Narrow, WRITTEN};
-use capture::{CAPTURE_END, CapFault, CaptureReader, CaptureWriter};
+use capture::{CAPTURE_END, CapFault, CaptureWriter};
 use std::alloc::Global;
 use std::io::Write;
 use std::test::Fail;
@@ -70,27 +71,29 @@ fn put_after_a_fault(rt: HostRuntime) -> Result<(), Fail> {
     Ok(())
 }
 
+/// The capture of a record without octets a picosecond before the end, and of one that is as long as any.
+fn at_the_limits(alloc: Global) -> Result<Vec<u8>, Fail> {
+    let longest = vec![in alloc; 0x81u8; 262_144]?;
+    let mut file = Vec::new(alloc);
+    let mut capture = CaptureWriter::begin(&mut file).map_err(|_| "begin")?;
+    capture
+        .put(&mut file, CAPTURE_END - 1, u32::MAX, b"")
+        .map_err(|_| "last")?;
+    capture
+        .put(&mut file, 1_999, 9, &longest)
+        .map_err(|_| "longest")?;
+    Ok(file)
+}
+
 #[test]
 fn limits_are_read_back(rt: HostRuntime) -> Result<(), Fail> {
-    let octets = vec![in rt.alloc(); 0x81u8; 262_144]?;
-    let mut file = Vec::new(rt.alloc());
-    let mut capture = CaptureWriter::begin(&mut file).map_err(|_| "begin")?;
-    assert_eq!(rt;
-        capture.put(&mut file, CAPTURE_END - 1, u32::MAX, b""),
-        Ok(())
-    );
-    assert_eq!(rt; capture.put(&mut file, 1_999, 9, &octets), Ok(()));
+    let file = at_the_limits(rt.alloc())?;
+    let longest = vec![in rt.alloc(); 0x81u8; 262_144]?;
     assert_eq!(rt; file.len(), 24 + 16 + 16 + 262_144);
-    let mut reader = CaptureReader::new(rt.alloc(), file.as_slice()).map_err(|_| "header")?;
-    let last = reader.next().map_err(|_| "last")?.ok_or("last")?;
-    assert_eq!(rt; last.moment, CAPTURE_END - 1_000);
-    assert_eq!(rt; last.original, u32::MAX);
-    assert_eq!(rt; last.octets.len(), 0);
-    let long = reader.next().map_err(|_| "long")?.ok_or("long")?;
-    assert_eq!(rt; long.moment, 1_000);
-    assert_eq!(rt; long.original, 9);
-    assert_eq!(rt; long.captured, 262_144);
-    assert_eq!(rt; long.octets, octets.as_slice());
-    assert!(rt; matches!(reader.next(), Ok(None)));
+    let records: [(u128, u32, &[u8]); 2] = [
+        (CAPTURE_END - 1_000, u32::MAX, b""),
+        (1_000, 9, longest.as_slice()),
+    ];
+    assert!(rt; has_records(&rt, file.as_slice(), &records)?);
     Ok(())
 }
