@@ -63,177 +63,204 @@ pub fn windows_of(matches: &ArgMatches<'_>) -> bool
     is_given(matches, "windows")
 }
 
-fn with_rate<'a>(alloc: Global, command: Command<'a>) -> Result<Command<'a>, AllocError> {
-    command.arg(
-        Arg::new(alloc, "rate")
-            .long("rate")
-            .value_name("MBPS")
-            .help("The line rate, in Mb/s [default: 1000]"),
-    )
+/// How a word is given.
+#[derive(Clone, Copy)]
+enum Given {
+    /// As `--NAME VALUE`, or not at all.
+    Value,
+    /// As `--NAME VALUE`.
+    NeededValue,
+    /// As `--NAME`, or not at all.
+    Flag,
+    /// As the name of a file alone.
+    File,
 }
 
-fn with_windows<'a>(alloc: Global, command: Command<'a>) -> Result<Command<'a>, AllocError> {
-    command.arg(
-        Arg::new(alloc, "windows")
-            .long("windows")
-            .action(ArgAction::SetTrue)
-            .help("Tell for how long each class is open and closed, and its longest frame"),
-    )
+/// A word that a job understands: its name, what its value is called, and what it does.
+#[derive(Clone, Copy)]
+struct Word {
+    given: Given,
+    name: &'static str,
+    value: &'static str,
+    help: &'static str,
 }
 
-fn with_summary<'a>(alloc: Global, command: Command<'a>) -> Result<Command<'a>, AllocError> {
-    command.arg(
-        Arg::new(alloc, "summary")
-            .long("summary")
-            .action(ArgAction::SetTrue)
-            .help("Tell at the end what each class and the wire came to"),
-    )
+/// A job of the program, with the words that it understands, in the order in which its help tells of them.
+#[derive(Clone, Copy)]
+struct Job {
+    name: &'static str,
+    about: &'static str,
+    words: &'static [Word],
 }
 
-fn with_port<'a>(alloc: Global, command: Command<'a>) -> Result<Command<'a>, AllocError> {
-    with_rate(alloc, command)?
-        .arg(
-            Arg::new(alloc, "mtu").long("mtu").value_name("OCTETS").help(
-                "The greatest service data unit, 68 to 9216 octets [default: 1500]",
-            ),
-        )?
-        .arg(
-            Arg::new(alloc, "room")
-                .long("room")
-                .value_name("FRAMES")
-                .help("How many frames a class holds, 1 to 4096 [default: 128]"),
-        )
+const RATE: Word = Word {
+    given: Given::Value,
+    name: "rate",
+    value: "MBPS",
+    help: "The line rate, in Mb/s [default: 1000]",
+};
+
+const MTU: Word = Word {
+    given: Given::Value,
+    name: "mtu",
+    value: "OCTETS",
+    help: "The greatest service data unit, 68 to 9216 octets [default: 1500]",
+};
+
+const ROOM: Word = Word {
+    given: Given::Value,
+    name: "room",
+    value: "FRAMES",
+    help: "How many frames a class holds, 1 to 4096 [default: 128]",
+};
+
+const UNTIL: Word = Word {
+    given: Given::Value,
+    name: "until",
+    value: "PS",
+    help: "Run to this moment after the input, in picoseconds",
+};
+
+const UNTIL_NEEDED: Word = Word {
+    given: Given::NeededValue,
+    ..UNTIL
+};
+
+const SUMMARY: Word = Word {
+    given: Given::Flag,
+    name: "summary",
+    value: "",
+    help: "Tell at the end what each class and the wire came to",
+};
+
+const PROGRESS: Word = Word {
+    given: Given::Flag,
+    name: "progress",
+    value: "",
+    help: "Say on standard error how far the replay has come, also where that is no terminal",
+};
+
+const SCRIPT: Word = Word {
+    given: Given::File,
+    name: "script",
+    value: "SCRIPT",
+    help: "The file with the script",
+};
+
+const CAPTURE: Word = Word {
+    given: Given::File,
+    name: "capture",
+    value: "CAPTURE",
+    help: "The file with the capture, or - for the standard input",
+};
+
+const OUT: Word = Word {
+    given: Given::File,
+    name: "out",
+    value: "OUT",
+    help: "The file for the capture of what leaves, made or emptied",
+};
+
+const WINDOWS: Word = Word {
+    given: Given::Flag,
+    name: "windows",
+    value: "",
+    help: "Tell for how long each class is open and closed, and its longest frame",
+};
+
+const LINES: Word = Word {
+    given: Given::Value,
+    name: "with",
+    value: "SCRIPT",
+    help: "A file with a script, whose lines are put in among the frames, each at its moment",
+};
+
+const FROM: Word = Word {
+    given: Given::Value,
+    name: "from",
+    value: "PS",
+    help: "The moment that the picture begins at, in picoseconds [default: 0]",
+};
+
+const TO: Word = Word {
+    given: Given::Value,
+    name: "to",
+    value: "PS",
+    help: "The moment that it ends at, in picoseconds [default: the end of the run]",
+};
+
+const WIDTH: Word = Word {
+    given: Given::Value,
+    name: "width",
+    value: "PX",
+    help: "Its width, 400 to 2400 pixels [default: 1200]",
+};
+
+const JOBS: [Job; 5] = [
+    Job {
+        name: "script",
+        about: "Answers the lines of a script on standard input",
+        words: &[RATE, MTU, ROOM, UNTIL, SUMMARY],
+    },
+    Job {
+        name: "replay",
+        about: "Runs a script and a capture by moment: a report on standard output, and a capture of what leaves",
+        words: &[
+            RATE,
+            MTU,
+            ROOM,
+            UNTIL_NEEDED,
+            SUMMARY,
+            PROGRESS,
+            SCRIPT,
+            CAPTURE,
+            OUT,
+        ],
+    },
+    Job {
+        name: "check",
+        about: "Tells of the schedule commands on standard input which classes they keep apart",
+        words: &[RATE, WINDOWS],
+    },
+    Job {
+        name: "streams",
+        about: "Writes a script with the frames of the streams in a table on standard input",
+        words: &[LINES],
+    },
+    Job {
+        name: "draw",
+        about: "Draws the run of a script on standard input, as an SVG picture",
+        words: &[RATE, MTU, ROOM, FROM, TO, WIDTH],
+    },
+];
+
+/// A word as `clap` has it.
+fn arg_of<'a>(alloc: Global, word: &Word) -> Arg<'a> {
+    let arg = Arg::new(alloc, word.name).help(word.help);
+    match word.given {
+        Given::Value => arg.long(word.name).value_name(word.value),
+        Given::NeededValue => arg.long(word.name).value_name(word.value).required(true),
+        Given::Flag => arg.long(word.name).action(ArgAction::SetTrue),
+        Given::File => arg.value_name(word.value).required(true),
+    }
 }
 
-fn with_options<'a>(
-    alloc: Global,
-    command: Command<'a>,
-    needs_until: bool,
-) -> Result<Command<'a>, AllocError> {
-    with_port(alloc, command)?.arg(
-        Arg::new(alloc, "until")
-            .long("until")
-            .value_name("PS")
-            .required(needs_until)
-            .help("Run to this moment after the input, in picoseconds"),
-    )
-}
-
-fn with_picture<'a>(alloc: Global, command: Command<'a>) -> Result<Command<'a>, AllocError> {
-    command
-        .arg(
-            Arg::new(alloc, "from").long("from").value_name("PS").help(
-                "The moment that the picture begins at, in picoseconds [default: 0]",
-            ),
-        )?
-        .arg(
-            Arg::new(alloc, "to").long("to").value_name("PS").help(
-                "The moment that it ends at, in picoseconds [default: the end of the run]",
-            ),
-        )?
-        .arg(
-            Arg::new(alloc, "width")
-                .long("width")
-                .value_name("PX")
-                .help("Its width, 400 to 2400 pixels [default: 1200]"),
-        )
-}
-
-fn with_files<'a>(alloc: Global, command: Command<'a>) -> Result<Command<'a>, AllocError> {
-    command
-        .arg(
-            Arg::new(alloc, "progress")
-                .long("progress")
-                .action(ArgAction::SetTrue)
-                .help(
-                    "Say on standard error how far the replay has come, also where that is no terminal",
-                ),
-        )?
-        .arg(
-            Arg::new(alloc, "script")
-                .value_name("SCRIPT")
-                .required(true)
-                .help("The file with the script"),
-        )?
-        .arg(
-            Arg::new(alloc, "capture")
-                .value_name("CAPTURE")
-                .required(true)
-                .help("The file with the capture, or - for the standard input"),
-        )?
-        .arg(
-            Arg::new(alloc, "out")
-                .value_name("OUT")
-                .required(true)
-                .help("The file for the capture of what leaves, made or emptied"),
-        )
-}
-
-fn with_lines<'a>(alloc: Global, command: Command<'a>) -> Result<Command<'a>, AllocError> {
-    command.arg(
-        Arg::new(alloc, "with")
-            .long("with")
-            .value_name("SCRIPT")
-            .help(
-                "A file with a script, whose lines are put in among the frames, each at its moment",
-            ),
-    )
-}
-
-fn script_command<'a>(alloc: Global) -> Result<Command<'a>, AllocError> {
-    let command = Command::new(alloc, "script").about(
-        "Answers the lines of a script on standard input",
-    );
-    with_summary(alloc, with_options(alloc, command, false)?)
-}
-
-fn replay_command<'a>(alloc: Global) -> Result<Command<'a>, AllocError> {
-    let command = Command::new(alloc, "replay").about(
-        "Runs a script and a capture by moment: a report on standard output, and a capture of what leaves",
-    );
-    with_files(
-        alloc,
-        with_summary(alloc, with_options(alloc, command, true)?)?,
-    )
-}
-
-fn check_command<'a>(alloc: Global) -> Result<Command<'a>, AllocError> {
-    let command = Command::new(alloc, "check").about(
-        "Tells of the schedule commands on standard input which classes they keep apart",
-    );
-    with_windows(alloc, with_rate(alloc, command)?)
-}
-
-fn streams_command<'a>(alloc: Global) -> Result<Command<'a>, AllocError> {
-    let command = Command::new(alloc, "streams").about(
-        "Writes a script with the frames of the streams in a table on standard input",
-    );
-    with_lines(alloc, command)
-}
-
-fn draw_command<'a>(alloc: Global) -> Result<Command<'a>, AllocError> {
-    let command = Command::new(alloc, "draw").about(
-        "Draws the run of a script on standard input, as an SVG picture",
-    );
-    with_picture(alloc, with_port(alloc, command)?)
-}
-
-/// The program with one more job.
-fn with_job<'a>(
-    program: Command<'a>,
-    job: Result<Command<'a>, AllocError>,
-) -> Result<Command<'a>, AllocError> {
-    program.subcommand(job?)
+/// A job with its words as `clap` has it.
+fn command_of<'a>(alloc: Global, job: &Job) -> Result<Command<'a>, AllocError> {
+    let mut command = Command::new(alloc, job.name).about(job.about);
+    for word in job.words {
+        command = command.arg(arg_of(alloc, word))?;
+    }
+    Ok(command)
 }
 
 /// What the program understands.
 pub fn command<'a>(alloc: Global) -> Result<Command<'a>, AllocError> {
-    let program = Command::new(alloc, "taprio_port")
+    let mut program = Command::new(alloc, "taprio_port")
         .about("An IEEE 802.1Qbv time-aware transmit port")
         .subcommand_required(true);
-    let program = with_job(program, script_command(alloc))?;
-    let program = with_job(program, replay_command(alloc))?;
-    let program = with_job(program, check_command(alloc))?;
-    let program = with_job(program, streams_command(alloc))?;
-    with_job(program, draw_command(alloc))
+    for job in &JOBS {
+        program = program.subcommand(command_of(alloc, job)?)?;
+    }
+    Ok(program)
 }
