@@ -3,7 +3,7 @@
 ghost use Rattle.std.specs.Prelude.{◌≡◌, ◌<◌, ◌≤◌, ◌*◌, ℕ, IfOk, length, slice_set, true};
 ghost use Rattle.wire_time.specs.Moment.{greatest_moment};
 ghost use Rattle.drawing.specs.Shapes.{drawn_in, empty_rows, frame_drawn, is_drawn, nothing_shown, row_at, row_of, shape_of, shapes_to, wait_drawn};
-ghost use Rattle.picture.specs.Rows.{joined_at};
+ghost use Rattle.picture.specs.Rows.{joined_at, no_shapes};
 ghost use Rattle.picture.specs.declared.TheConstants.{MOST_SHAPES};
 
 use crate::page::{ROWS, WIRE};
@@ -24,20 +24,27 @@ fn shape_of(from: u128, to: u128, id: u64) -> Shape
     }
 }
 
+// A row in which nothing is drawn.
+fn empty_row<A: Allocator + Clone>(alloc: &A) -> Result<Row<A>, AllocError>
+    ensures { IfOk result (λ row. row ≡ no_shapes) }
+{
+    Row::new(alloc.clone()?)
+}
+
 // Nine rows in which nothing is drawn.
 fn empty_rows<A: Allocator + Clone>(alloc: &A) -> Result<[Row<A>; 9], AllocError>
     ensures { IfOk result (λ rows. rows ≡ empty_rows) }
 {
     Ok([
-        Row::new(alloc.clone()?)?,
-        Row::new(alloc.clone()?)?,
-        Row::new(alloc.clone()?)?,
-        Row::new(alloc.clone()?)?,
-        Row::new(alloc.clone()?)?,
-        Row::new(alloc.clone()?)?,
-        Row::new(alloc.clone()?)?,
-        Row::new(alloc.clone()?)?,
-        Row::new(alloc.clone()?)?,
+        empty_row(alloc)?,
+        empty_row(alloc)?,
+        empty_row(alloc)?,
+        empty_row(alloc)?,
+        empty_row(alloc)?,
+        empty_row(alloc)?,
+        empty_row(alloc)?,
+        empty_row(alloc)?,
+        empty_row(alloc)?,
     ])
 }
 
@@ -163,7 +170,7 @@ impl<A: Allocator> Shapes<A> {
         let frames = empty_rows(alloc)?;
         let waits = empty_rows(alloc)?;
         let drops = empty_rows(alloc)?;
-        let changes = Row::new(alloc.clone()?)?;
+        let changes = empty_row(alloc)?;
         Ok(Shapes {
             view,
             frames,

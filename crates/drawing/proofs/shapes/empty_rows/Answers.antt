@@ -7,5 +7,5 @@ also first rest = ap₂ (λ z zs. z ∷ zs) first rest
 
 pub returns : goal.returns
 returns g c =
-    also c.in_ok-new.ensures (also c.in_ok-new-2.ensures (also c.in_ok-new-3.ensures (also c.in_ok-new-4.ensures (also c.in_ok-new-5.ensures
-    (also c.in_ok-new-6.ensures (also c.in_ok-new-7.ensures (also c.in_ok-new-8.ensures (also c.in_ok-new-9.ensures refl))))))))
+    also c.in_ok-empty_row.ensures (also c.in_ok-empty_row-2.ensures (also c.in_ok-empty_row-3.ensures (also c.in_ok-empty_row-4.ensures (also c.in_ok-empty_row-5.ensures
+    (also c.in_ok-empty_row-6.ensures (also c.in_ok-empty_row-7.ensures (also c.in_ok-empty_row-8.ensures (also c.in_ok-empty_row-9.ensures refl))))))))
