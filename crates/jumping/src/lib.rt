@@ -4,7 +4,5 @@
 mod alone;
 mod jumping;
 mod search;
-#[cfg(test)]
-mod tests;
 
 pub use jumping::Jumping;

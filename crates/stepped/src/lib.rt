@@ -2,7 +2,5 @@
 #![tactic(auto)]
 
 mod stepped;
-#[cfg(test)]
-mod tests;
 
 pub use stepped::Stepped;

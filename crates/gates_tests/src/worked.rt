@@ -3,10 +3,10 @@ ghost use Rattle.std.specs.Prelude.{◌≡◌, ◌≤◌, ◌<◌, length};
 ghost use Rattle.wire_time.specs.Moment.{greatest_moment};
 ghost use Rattle.list_config.specs.Current.{IsCurrent};
 
-use crate::Stepped;
 use gate_list::{Entry, GateList, Schedule, Visits};
 use list_config::{Gates, NotNow};
 use std::process::Abort;
+use stepped::Stepped;
 use wire_time::Rate;
 
 /// The schedule of two masks with their intervals at 1 Gb/s.

@@ -2,8 +2,8 @@
 ghost use Rattle.std.specs.Prelude.{◌≡◌};
 ghost use Rattle.list_config.specs.Current.{IsCurrent};
 
-use crate::Jumping;
 use gate_list::{Entry, GateList, Schedule, Visits};
+use jumping::Jumping;
 use list_config::Gates;
 use std::process::Abort;
 use wire_time::Rate;
