@@ -1,6 +1,7 @@
 //! Windows, steps of an axis, and rows.
 
-ghost use Rattle.std.specs.Prelude.{◌≡◌};
+ghost use Rattle.std.specs.Prelude.{◌≡◌, ◌≤◌, ◌<◌};
+ghost use Rattle.wire_time.specs.Moment.{greatest_moment};
 
 use picture::{MOST_SHAPES, Row, Shape, Span, Unit, Window, tick_step, unit_of};
 use std::process::Abort;
@@ -17,17 +18,26 @@ fn shape(from: u128, to: u128, id: Option<u64>) -> Shape
     }
 }
 
+/// From and up to which moment a window of these values shows, and its width, or that there is none.
+fn window_of(from: u128, to: u128, width: u32) -> Option<(u128, u128, u32)> {
+    let window = Window::new(from, to, width)?;
+    Some((window.from(), window.to(), window.width()))
+}
+
 #[test]
 fn windows_are_refused_past_their_limits(rt: HostRuntime) {
-    assert_eq!(rt; Window::new(5, 5, 800), None);
-    assert_eq!(rt; Window::new(6, 5, 800), None);
-    assert_eq!(rt; Window::new(0, 5, 199), None);
-    assert_eq!(rt; Window::new(0, 5, 2401), None);
-    assert_eq!(rt; Window::new(0, MAX_MOMENT + 1, 800), None);
-    let widest = Window::new(MAX_MOMENT - 1, MAX_MOMENT, 2400).expect(&rt, "a window");
-    assert_eq!(rt; widest.from(), MAX_MOMENT - 1);
-    assert_eq!(rt; widest.to(), MAX_MOMENT);
-    assert_eq!(rt; widest.width(), 2400);
+    let refused = [
+        (5, 5, 800),
+        (6, 5, 800),
+        (0, 5, 199),
+        (0, 5, 2401),
+        (0, MAX_MOMENT + 1, 800),
+    ];
+    for (from, to, width) in refused {
+        assert_eq!(rt; window_of(from, to, width), None);
+    }
+    let widest = (MAX_MOMENT - 1, MAX_MOMENT, 2400);
+    assert_eq!(rt; window_of(widest.0, widest.1, widest.2), Some(widest));
     let window = Window::new(0, MAX_MOMENT, 200).expect(&rt, "a window");
     assert_eq!(rt; window.x(MAX_MOMENT), 20_000);
     assert_eq!(rt; window.x(u128::MAX), 20_000);
@@ -78,6 +88,30 @@ fn times_are_cut(rt: HostRuntime) {
     }
 }
 
+/// A step of an axis, the unit that it is written in, the unit's name, and what is left of the step beside whole units.
+#[derive(Clone, Copy, Debug, PartialEq, Eq)]
+struct Step {
+    length: u128,
+    unit: Unit,
+    name: &'static str,
+    rest: u128,
+}
+
+/// The step of an axis of a length that has so many at most.
+fn step_of(length: u128, most: u32) -> Step
+    requires length { length ≤ greatest_moment }
+    requires most { 0 < most }
+{
+    let step = tick_step(length, most);
+    let unit = unit_of(step);
+    Step {
+        length: step,
+        unit,
+        name: unit.name(),
+        rest: step % unit.ps(),
+    }
+}
+
 /// The least of 1, 2, 5, 10 and so on, and the unit that it is written in.
 #[test]
 fn steps_have_units(rt: HostRuntime) {
@@ -96,11 +130,13 @@ fn steps_have_units(rt: HostRuntime) {
     for (length, most, step, unit, name) in rows {
         assert!(rt; length <= MAX_MOMENT);
         assert!(rt; most > 0);
-        let found = tick_step(length, most);
-        assert_eq!(rt; found, step);
-        assert_eq!(rt; unit_of(found), unit);
-        assert_eq!(rt; unit.name(), name);
-        assert_eq!(rt; found % unit.ps(), 0);
+        let wanted = Step {
+            length: step,
+            unit,
+            name,
+            rest: 0,
+        };
+        assert_eq!(rt; step_of(length, most), wanted);
     }
     assert_eq!(rt; unit_of(0), Unit::S);
     assert_eq!(rt; tick_step(MAX_MOMENT, u32::MAX), 5_000_000_000_000);
@@ -121,36 +157,82 @@ fn fill(rt: &impl Abort, row: &mut Row, place: u64, near: u128) {
     assert_eq!(rt; row.gap(), 0);
 }
 
+/// What a row has come to.
+#[derive(Clone, Copy, Debug, PartialEq, Eq)]
+struct RowEnds {
+    shapes: usize,
+    gap: u128,
+    first: Option<Shape>,
+    last: Option<Shape>,
+}
+
+/// What a row comes to with one shape more.
+fn pushed(row: &mut Row, shape: Shape) -> RowEnds
+    requires { shape.span.from ≤ greatest_moment }
+{
+    row.push(shape);
+    let shapes = row.shapes();
+    RowEnds {
+        shapes: shapes.len(),
+        gap: row.gap(),
+        first: shapes.first().copied(),
+        last: shapes.last().copied(),
+    }
+}
+
+/// The shapes of a row at a place and the two after it.
+fn three_at(row: &Row, place: usize) -> [Option<Shape>; 3]
+    requires { place < 4096 }
+{
+    let shapes = row.shapes();
+    [
+        shapes.get(place).copied(),
+        shapes.get(place + 1).copied(),
+        shapes.get(place + 2).copied(),
+    ]
+}
+
 /// The last shape that there is room for changes none, and one more joins those that are close.
 #[test]
 fn neighbours_are_joined_where_there_are_too_many(rt: HostRuntime) -> Result<(), Fail> {
     let mut row = Row::new(rt.alloc())?;
     fill(&rt, &mut row, 7, 10);
-    row.push(shape(20_000_000, 20_000_001, Some(5_000)));
-    assert_eq!(rt; row.gap(), 20);
-    assert_eq!(rt; row.shapes().len(), MOST_SHAPES);
-    assert_eq!(rt; row.shapes().get(6), Some(&shape(12_000, 13_000, Some(6))));
-    assert_eq!(rt; row.shapes().get(7), Some(&shape(14_000, 17_000, None)));
-    assert_eq!(rt; row.shapes().get(8), Some(&shape(18_000, 19_000, Some(9))));
-    row.push(shape(20_000_020, 20_000_021, Some(5_001)));
+    let mut ends = RowEnds {
+        shapes: MOST_SHAPES,
+        gap: 20,
+        first: Some(shape(0, 1_000, Some(0))),
+        last: Some(shape(20_000_000, 20_000_001, Some(5_000))),
+    };
     assert_eq!(rt;
-        row.shapes().last(),
-        Some(&shape(20_000_000, 20_000_021, None))
+        pushed(&mut row, shape(20_000_000, 20_000_001, Some(5_000))),
+        ends
     );
-    row.push(shape(20_000_041, 20_000_042, Some(5_002)));
-    assert_eq!(rt; row.gap(), 40);
-    assert_eq!(rt; row.shapes().len(), MOST_SHAPES);
+    let near = [
+        Some(shape(12_000, 13_000, Some(6))),
+        Some(shape(14_000, 17_000, None)),
+        Some(shape(18_000, 19_000, Some(9))),
+    ];
+    assert_eq!(rt; three_at(&row, 6), near);
+    ends.last = Some(shape(20_000_000, 20_000_021, None));
     assert_eq!(rt;
-        row.shapes().last(),
-        Some(&shape(20_000_000, 20_000_042, None))
+        pushed(&mut row, shape(20_000_020, 20_000_021, Some(5_001))),
+        ends
     );
-    row.push(shape(20_002_000, 20_002_001, Some(5_003)));
-    assert_eq!(rt; row.gap(), 2_000);
-    assert_eq!(rt; row.shapes().len(), 2);
-    assert_eq!(rt; row.shapes().first(), Some(&shape(0, 9_999_000, None)));
+    ends.gap = 40;
+    ends.last = Some(shape(20_000_000, 20_000_042, None));
     assert_eq!(rt;
-        row.shapes().last(),
-        Some(&shape(20_000_000, 20_002_001, None))
+        pushed(&mut row, shape(20_000_041, 20_000_042, Some(5_002))),
+        ends
+    );
+    let ends = RowEnds {
+        shapes: 2,
+        gap: 2_000,
+        first: Some(shape(0, 9_999_000, None)),
+        last: Some(shape(20_000_000, 20_002_001, None)),
+    };
+    assert_eq!(rt;
+        pushed(&mut row, shape(20_002_000, 20_002_001, Some(5_003))),
+        ends
     );
     Ok(())
 }
@@ -163,10 +245,12 @@ fn marks_of_one_moment_are_joined(rt: HostRuntime) -> Result<(), Fail> {
         row.push(shape(5, 5, Some(k)));
     }
     assert_eq!(rt; row.shapes().len(), MOST_SHAPES);
-    row.push(shape(6, 6, None));
-    assert_eq!(rt; row.gap(), 1);
-    assert_eq!(rt; row.shapes().len(), 2);
-    assert_eq!(rt; row.shapes().first(), Some(&shape(5, 5, None)));
-    assert_eq!(rt; row.shapes().last(), Some(&shape(6, 6, None)));
+    let ends = RowEnds {
+        shapes: 2,
+        gap: 1,
+        first: Some(shape(5, 5, None)),
+        last: Some(shape(6, 6, None)),
+    };
+    assert_eq!(rt; pushed(&mut row, shape(6, 6, None)), ends);
     Ok(())
 }
