@@ -3,6 +3,7 @@
 use linked_list_allocator::LocalHeap;
 use schedule_check::{CheckSettings, check};
 use script::{RunFault, ScriptFault};
+use std::alloc::Global;
 use std::process::Abort;
 use std::test::Fail;
 use test_streams::{Narrow, Pieces};
@@ -40,14 +41,32 @@ fn settings(rt: &impl Abort, mbps: u32, windows: bool) -> CheckSettings {
     CheckSettings { rate, windows }
 }
 
+/// What is told of schedule commands.
+fn told_of(alloc: Global, commands: &[u8], settings: CheckSettings) -> Result<Vec<u8>, Fail> {
+    let mut told = Vec::new(alloc);
+    check(alloc, commands, &mut told, settings)?;
+    Ok(told)
+}
+
+/// What is told of a schedule with these options.
+fn told_of_options(
+    alloc: Global,
+    options: &[u8],
+    settings: CheckSettings,
+) -> Result<Vec<u8>, Fail> {
+    let mut line = Vec::new(alloc);
+    line.extend_from_slice(b"tc qdisc replace dev eth0 root taprio ")?;
+    line.extend_from_slice(options)?;
+    told_of(alloc, line.as_slice(), settings)
+}
+
 #[test]
 fn tells_of_each_command(rt: HostRuntime) -> Result<(), Fail> {
-    let mut got = Vec::new(rt.alloc());
-    check(rt.alloc(), SCHEDULES, &mut got, settings(&rt, 1000, false))?;
-    assert_eq!(rt; got.as_slice(), TOLD);
-    got.clear();
-    check(rt.alloc(), SCHEDULES, &mut got, settings(&rt, 1000, true))?;
-    assert_eq!(rt; got.as_slice(), TOLD_WITH_WINDOWS);
+    let rows = [(false, TOLD), (true, TOLD_WITH_WINDOWS)];
+    for (windows, told) in rows {
+        let got = told_of(rt.alloc(), SCHEDULES, settings(&rt, 1000, windows))?;
+        assert_eq!(rt; got.as_slice(), told);
+    }
     Ok(())
 }
 
@@ -70,16 +89,7 @@ fn tells_of_the_maps_classes_that_are_ever_open(rt: HostRuntime) -> Result<(), F
         ),
     ];
     for (options, told) in rows {
-        let mut line = Vec::new(rt.alloc());
-        line.extend_from_slice(b"tc qdisc replace dev eth0 root taprio ")?;
-        line.extend_from_slice(options)?;
-        let mut got = Vec::new(rt.alloc());
-        check(
-            rt.alloc(),
-            line.as_slice(),
-            &mut got,
-            settings(&rt, 1000, true),
-        )?;
+        let got = told_of_options(rt.alloc(), options, settings(&rt, 1000, true))?;
         assert_eq!(rt; got.as_slice(), told);
     }
     Ok(())
@@ -99,16 +109,7 @@ fn looks_at_all_eight_classes(rt: HostRuntime) -> Result<(), Fail> {
         (b"sched-entry S 00 1000", b"apart 0 1 2 3 4 5 6 7\n"),
     ];
     for (options, told) in rows {
-        let mut line = Vec::new(rt.alloc());
-        line.extend_from_slice(b"tc qdisc replace dev eth0 root taprio ")?;
-        line.extend_from_slice(options)?;
-        let mut got = Vec::new(rt.alloc());
-        check(
-            rt.alloc(),
-            line.as_slice(),
-            &mut got,
-            settings(&rt, 1000, false),
-        )?;
+        let got = told_of_options(rt.alloc(), options, settings(&rt, 1000, false))?;
         assert_eq!(rt; got.as_slice(), told);
     }
     Ok(())
@@ -118,8 +119,7 @@ fn looks_at_all_eight_classes(rt: HostRuntime) -> Result<(), Fail> {
 #[test]
 fn judges_at_the_rate(rt: HostRuntime) -> Result<(), Fail> {
     let line = b"tc qdisc replace dev eth0 root taprio sched-entry S 01 479\n".as_slice();
-    let mut got = Vec::new(rt.alloc());
-    check(rt.alloc(), line, &mut got, settings(&rt, 10_000, false))?;
+    let got = told_of(rt.alloc(), line, settings(&rt, 10_000, false))?;
     assert_eq!(rt; got.as_slice(), b"apart 0 1 2 3 4 5 6 7\n".as_slice());
     Ok(())
 }

@@ -44,11 +44,14 @@ fn the_manuals_schedule(rt: HostRuntime) {
         window_of(&rt, &entries, 0, 2),
         window(400000, 600000, 400000, 1000000, 49976)
     );
-    let never = window_of(&rt, &entries, 0, 3);
-    assert_eq!(rt; never.open_time, Stay::Lasts(0));
-    assert_eq!(rt; never.closed_time, Stay::Always);
-    assert_eq!(rt; never.share, 0);
-    assert_eq!(rt; never.longest_frame, Longest::NoFrame);
+    let never = Window {
+        open_time: Stay::Lasts(0),
+        closed_time: Stay::Always,
+        share: 0,
+        cycle: 1_000_000_000,
+        longest_frame: Longest::NoFrame,
+    };
+    assert_eq!(rt; window_of(&rt, &entries, 0, 3), never);
 }
 
 #[test]
