@@ -1,3 +1,4 @@
+use native.Mathlib.Omega.{arith}
 use Rattle.std.proofs.Common.{refl, ap, rules}
 use Rattle.std.specs.Prelude.{slice_set}
 use Rattle.std.proofs.Common.{◌<◌}
@@ -37,3 +38,21 @@ returns-in-Some-clause-visits g c = ap (λ q. q.visits) c.self.view_is
 
 pub returns-in-None-clause-visits : goal.returns-in-None-clause-visits
 returns-in-None-clause-visits g c = ap (λ q. q.visits) c.self.view_is
+
+pub bounds-self-inside-class : goal.bounds-self-inside-class
+bounds-self-inside-class g c = c.requires _ c.in-Some.is
+
+pub bounds-self-inside-class-in-Some : goal.bounds-self-inside-class-in-Some
+bounds-self-inside-class-in-Some g c = c.requires _ c.in-Some.is
+
+pub overflow_cast-class : goal.overflow_cast-class
+overflow_cast-class g c = omega (arith, c.requires _ c.in-Some.is)
+
+pub overflow_cast-class-in-Some : goal.overflow_cast-class-in-Some
+overflow_cast-class-in-Some g c = omega (arith, c.requires _ c.in-Some.is)
+
+pub offset_bounds-self-inside-class : goal.offset_bounds-self-inside-class
+offset_bounds-self-inside-class g c = omega (arith, c.requires _ c.in-Some.is)
+
+pub offset_bounds-self-inside-class-in-Some : goal.offset_bounds-self-inside-class-in-Some
+offset_bounds-self-inside-class-in-Some g c = omega (arith, c.requires _ c.in-Some.is)
