@@ -1,8 +1,9 @@
 //! Readers that give little at a time, give without end, or fail.
 
 use super::{Pieces, TWO_RECORDS, summary};
-use capture::{CapFault, CaptureReader, End, MAX_RECORD_OCTETS, MAX_RECORDS};
+use capture::{CapFault, CaptureReader, End, MAX_RECORD_OCTETS, MAX_RECORDS, Record};
 use linked_list_allocator::LocalHeap;
+use std::alloc::Global;
 use std::io::{self, Read};
 use std::test::Fail;
 
@@ -12,34 +13,56 @@ const HEADER: usize = 24;
 /// The octets of a record of which none were captured.
 const EMPTY_RECORD: usize = 16;
 
-#[test]
-fn any_piece(rt: HostRuntime) -> Result<(), Fail> {
+/// The least piece in which the capture of two records is read otherwise.
+fn first_piece_to_differ(alloc: Global) -> Option<usize> {
     for piece in 1..=TWO_RECORDS.len() {
         let reader = Pieces::new(TWO_RECORDS.as_slice(), piece);
-        assert_eq!(rt; summary(rt.alloc(), reader), (2, End::Whole));
+        if summary(alloc, reader) != (2, End::Whole) {
+            return Some(piece);
+        }
     }
+    None
+}
+
+#[test]
+fn any_piece(rt: HostRuntime) -> Result<(), Fail> {
+    assert_eq!(rt; first_piece_to_differ(rt.alloc()), None);
     Ok(())
+}
+
+/// What is read of the capture of two records, an octet a call, where the call with this number fails, and those behind it too or not.
+fn read_with_a_fault(alloc: Global, call: u32, recovers: bool) -> (u32, End) {
+    let mut reader = Pieces::new(TWO_RECORDS.as_slice(), 1);
+    reader.fails_at = call;
+    reader.recovers = recovers;
+    summary(alloc, reader)
+}
+
+/// What is to be read then. Call 24 is the first for a record, call 58 the first for the second, call 92 finds the end.
+fn before_a_fault(call: u32) -> (u32, End) {
+    match call {
+        0..=57 => (0, End::Broken(CapFault::Read)),
+        58..=91 => (1, End::Broken(CapFault::Read)),
+        92 => (2, End::Broken(CapFault::Read)),
+        _ => (2, End::Whole),
+    }
+}
+
+/// The first call at whose fault something else is read.
+fn first_fault_to_differ(alloc: Global, recovers: bool) -> Option<u32> {
+    for call in 0..=93u32 {
+        if read_with_a_fault(alloc, call, recovers) != before_a_fault(call) {
+            return Some(call);
+        }
+    }
+    None
 }
 
 #[test]
 fn every_read_fails(rt: HostRuntime) -> Result<(), Fail> {
-    // One octet a call: call 24 is the first for a record, call 58 the first for the second, call 92 finds the end.
-    for call in 0..=93u32 {
-        let mut reader = Pieces::new(TWO_RECORDS.as_slice(), 1);
-        reader.fails_at = call;
-        let expected = match call {
-            0..=57 => (0, End::Broken(CapFault::Read)),
-            58..=91 => (1, End::Broken(CapFault::Read)),
-            92 => (2, End::Broken(CapFault::Read)),
-            _ => (2, End::Whole),
-        };
-        assert_eq!(rt; summary(rt.alloc(), reader), expected);
-        // A reader that would go on is not asked again.
-        let mut reader = Pieces::new(TWO_RECORDS.as_slice(), 1);
-        reader.fails_at = call;
-        reader.recovers = true;
-        assert_eq!(rt; summary(rt.alloc(), reader), expected);
-    }
+    assert_eq!(rt; first_fault_to_differ(rt.alloc(), false), None);
+    // A reader that would go on is not asked again.
+    assert_eq!(rt; first_fault_to_differ(rt.alloc(), true), None);
     Ok(())
 }
 
@@ -81,22 +104,19 @@ fn asks_for_all_the_room(rt: HostRuntime) -> Result<(), Fail> {
     Ok(())
 }
 
+/// What is read of the capture of two records, as much a call as is asked for, where the call with this number fails.
+fn read_whole(alloc: Global, fails_at: u32) -> (u32, End) {
+    let mut source = Pieces::new(TWO_RECORDS.as_slice(), usize::MAX);
+    source.fails_at = fails_at;
+    summary(alloc, source)
+}
+
 #[test]
 fn reads_no_more_than_it_needs(rt: HostRuntime) -> Result<(), Fail> {
     // Both records come at the first read behind the header, and the next read fails: it is made only after both.
-    let mut source = Pieces::new(TWO_RECORDS.as_slice(), usize::MAX);
-    source.fails_at = 2;
-    assert_eq!(rt;
-        summary(rt.alloc(), source),
-        (2, End::Broken(CapFault::Read))
-    );
+    assert_eq!(rt; read_whole(rt.alloc(), 2), (2, End::Broken(CapFault::Read)));
     // The header is read by itself.
-    let mut source = Pieces::new(TWO_RECORDS.as_slice(), usize::MAX);
-    source.fails_at = 1;
-    assert_eq!(rt;
-        summary(rt.alloc(), source),
-        (0, End::Broken(CapFault::Read))
-    );
+    assert_eq!(rt; read_whole(rt.alloc(), 1), (0, End::Broken(CapFault::Read)));
     Ok(())
 }
 
@@ -108,77 +128,125 @@ fn long_record(captured: u32) -> [u8; 40] {
     octets
 }
 
-#[test]
-fn longest_record(rt: HostRuntime) -> Result<(), Fail> {
+/// What is read of a record that says that so many octets were captured, with so many octets of 0 behind its header.
+fn read_long(alloc: Global, captured: u32, zeros: usize) -> (u32, End) {
+    let head = long_record(captured);
+    let mut source = Pieces::new(head.as_slice(), 65_521);
+    source.zeros = zeros;
+    summary(alloc, source)
+}
+
+/// Whether this is a record of so many octets, which are 0.
+fn is_of_zeros(record: Result<Option<Record<'_>>, CapFault>, captured: u32) -> bool {
+    match record {
+        Ok(Some(record)) => {
+            record.captured == captured
+                && record.octets.len() == captured as usize
+                && record.octets.iter().all(|octet| *octet == 0)
+        }
+        _ => false,
+    }
+}
+
+/// What is not read of the longest record, a record without octets behind it, and the end; empty where all is.
+fn missed_of_the_longest(alloc: Global) -> &'static str {
     let head = long_record(MAX_RECORD_OCTETS);
     let mut source = Pieces::new(head.as_slice(), 65_521);
     source.zeros = MAX_RECORD_OCTETS as usize + EMPTY_RECORD;
-    let mut reader = CaptureReader::new(rt.alloc(), source).map_err(|_| "header")?;
-    let record = reader.next().map_err(|_| "record")?.ok_or("record")?;
-    assert!(rt; record.captured == MAX_RECORD_OCTETS);
-    assert!(rt; record.octets.len() == MAX_RECORD_OCTETS as usize);
-    assert!(rt; record.octets.iter().all(|octet| *octet == 0));
-    // Behind it a record without octets.
-    let record = reader.next().map_err(|_| "record")?.ok_or("record")?;
-    assert!(rt; record.captured == 0 && record.octets.is_empty());
-    assert!(rt; matches!(reader.next(), Ok(None)));
+    let Ok(mut reader) = CaptureReader::new(alloc, source) else {
+        return "header";
+    };
+    if !is_of_zeros(reader.next(), MAX_RECORD_OCTETS) {
+        "longest"
+    } else if !is_of_zeros(reader.next(), 0) {
+        "empty"
+    } else if !matches!(reader.next(), Ok(None)) {
+        "end"
+    } else {
+        ""
+    }
+}
 
-    let head = long_record(MAX_RECORD_OCTETS);
-    let mut source = Pieces::new(head.as_slice(), 65_521);
-    source.zeros = MAX_RECORD_OCTETS as usize - 1;
+#[test]
+fn longest_record(rt: HostRuntime) -> Result<(), Fail> {
+    assert_eq!(rt; missed_of_the_longest(rt.alloc()), "");
     assert_eq!(rt;
-        summary(rt.alloc(), source),
+        read_long(
+            rt.alloc(),
+            MAX_RECORD_OCTETS,
+            MAX_RECORD_OCTETS as usize - 1
+        ),
         (0, End::Broken(CapFault::ShortRecord))
     );
-
-    let head = long_record(MAX_RECORD_OCTETS + 1);
-    let mut source = Pieces::new(head.as_slice(), 65_521);
-    source.zeros = MAX_RECORD_OCTETS as usize + 1;
     assert_eq!(rt;
-        summary(rt.alloc(), source),
+        read_long(
+            rt.alloc(),
+            MAX_RECORD_OCTETS + 1,
+            MAX_RECORD_OCTETS as usize + 1
+        ),
         (0, End::Broken(CapFault::LongRecord))
     );
     Ok(())
 }
 
+/// What is read of a header and so many octets of 0.
+fn read_empty_records(alloc: Global, zeros: usize) -> (u32, End) {
+    let mut source = Pieces::new(&TWO_RECORDS[..HEADER], usize::MAX);
+    source.zeros = zeros;
+    summary(alloc, source)
+}
+
 #[test]
 fn most_records(rt: HostRuntime) -> Result<(), Fail> {
     let most = EMPTY_RECORD * MAX_RECORDS as usize;
-    let mut source = Pieces::new(&TWO_RECORDS[..HEADER], usize::MAX);
-    source.zeros = most;
-    assert_eq!(rt; summary(rt.alloc(), source), (MAX_RECORDS, End::Whole));
-
-    // A reader without end.
-    let mut source = Pieces::new(&TWO_RECORDS[..HEADER], usize::MAX);
-    source.zeros = usize::MAX;
     assert_eq!(rt;
-        summary(rt.alloc(), source),
+        read_empty_records(rt.alloc(), most),
+        (MAX_RECORDS, End::Whole)
+    );
+    // A reader without end.
+    assert_eq!(rt;
+        read_empty_records(rt.alloc(), usize::MAX),
         (MAX_RECORDS, End::Broken(CapFault::TooManyRecords))
     );
     Ok(())
 }
 
+/// Why no reader begins over this heap, if none does.
+fn refusal(heap: &LocalHeap, capture: &[u8]) -> Option<CapFault> {
+    match CaptureReader::new(heap, capture) {
+        Ok(_) => None,
+        Err(fault) => Some(fault),
+    }
+}
+
 #[test]
 fn refuses_a_growth(rt: HostRuntime) -> Result<(), Fail> {
     let small = LocalHeap::new(rt.alloc(), 200_000)?;
-    assert!(rt;
-        matches!(
-            CaptureReader::new(&small, TWO_RECORDS.as_slice()),
-            Err(CapFault::Memory)
-        )
+    let refusals = [
+        refusal(&small, &TWO_RECORDS),
+        // The header comes first.
+        refusal(&small, &TWO_RECORDS[..23]),
+    ];
+    assert_eq!(rt;
+        refusals,
+        [Some(CapFault::Memory), Some(CapFault::ShortHeader)]
     );
-    // The header comes first.
-    assert!(rt;
-        matches!(
-            CaptureReader::new(&small, &TWO_RECORDS[..23]),
-            Err(CapFault::ShortHeader)
-        )
-    );
+    Ok(())
+}
 
+/// Whether the capture of two records is read over this heap.
+fn reads_both(heap: &LocalHeap) -> bool {
+    let Ok(mut reader) = CaptureReader::new(heap, TWO_RECORDS.as_slice()) else {
+        return false;
+    };
+    matches!(reader.next(), Ok(Some(_)))
+        && matches!(reader.next(), Ok(Some(_)))
+        && matches!(reader.next(), Ok(None))
+}
+
+#[test]
+fn reads_where_there_is_room(rt: HostRuntime) -> Result<(), Fail> {
     let heap = LocalHeap::new(rt.alloc(), 300_000)?;
-    let mut reader = CaptureReader::new(&heap, TWO_RECORDS.as_slice()).map_err(|_| "memory")?;
-    assert!(rt; matches!(reader.next(), Ok(Some(_))));
-    assert!(rt; matches!(reader.next(), Ok(Some(_))));
-    assert!(rt; matches!(reader.next(), Ok(None)));
+    assert!(rt; reads_both(&heap));
     Ok(())
 }
