@@ -114,9 +114,16 @@ fn read_whole(alloc: Global, fails_at: u32) -> (u32, End) {
 #[test]
 fn reads_no_more_than_it_needs(rt: HostRuntime) -> Result<(), Fail> {
     // Both records come at the first read behind the header, and the next read fails: it is made only after both.
-    assert_eq!(rt; read_whole(rt.alloc(), 2), (2, End::Broken(CapFault::Read)));
+    let behind_both = read_whole(rt.alloc(), 2);
     // The header is read by itself.
-    assert_eq!(rt; read_whole(rt.alloc(), 1), (0, End::Broken(CapFault::Read)));
+    let behind_the_header = read_whole(rt.alloc(), 1);
+    assert_eq!(rt;
+        [behind_both, behind_the_header],
+        [
+            (2, End::Broken(CapFault::Read)),
+            (0, End::Broken(CapFault::Read))
+        ]
+    );
     Ok(())
 }
 
@@ -170,21 +177,15 @@ fn missed_of_the_longest(alloc: Global) -> &'static str {
 #[test]
 fn longest_record(rt: HostRuntime) -> Result<(), Fail> {
     assert_eq!(rt; missed_of_the_longest(rt.alloc()), "");
+    let most = MAX_RECORD_OCTETS as usize;
+    let short = read_long(rt.alloc(), MAX_RECORD_OCTETS, most - 1);
+    let long = read_long(rt.alloc(), MAX_RECORD_OCTETS + 1, most + 1);
     assert_eq!(rt;
-        read_long(
-            rt.alloc(),
-            MAX_RECORD_OCTETS,
-            MAX_RECORD_OCTETS as usize - 1
-        ),
-        (0, End::Broken(CapFault::ShortRecord))
-    );
-    assert_eq!(rt;
-        read_long(
-            rt.alloc(),
-            MAX_RECORD_OCTETS + 1,
-            MAX_RECORD_OCTETS as usize + 1
-        ),
-        (0, End::Broken(CapFault::LongRecord))
+        [short, long],
+        [
+            (0, End::Broken(CapFault::ShortRecord)),
+            (0, End::Broken(CapFault::LongRecord))
+        ]
     );
     Ok(())
 }
@@ -198,15 +199,15 @@ fn read_empty_records(alloc: Global, zeros: usize) -> (u32, End) {
 
 #[test]
 fn most_records(rt: HostRuntime) -> Result<(), Fail> {
-    let most = EMPTY_RECORD * MAX_RECORDS as usize;
-    assert_eq!(rt;
-        read_empty_records(rt.alloc(), most),
-        (MAX_RECORDS, End::Whole)
-    );
+    let most = read_empty_records(rt.alloc(), EMPTY_RECORD * MAX_RECORDS as usize);
     // A reader without end.
+    let endless = read_empty_records(rt.alloc(), usize::MAX);
     assert_eq!(rt;
-        read_empty_records(rt.alloc(), usize::MAX),
-        (MAX_RECORDS, End::Broken(CapFault::TooManyRecords))
+        [most, endless],
+        [
+            (MAX_RECORDS, End::Whole),
+            (MAX_RECORDS, End::Broken(CapFault::TooManyRecords))
+        ]
     );
     Ok(())
 }
