@@ -1,7 +1,7 @@
 //! Random lists of events that lie far apart, on two implementations of the gates: long lists and short ones, cycles that cut them
 //! or outlast them, holds, commands that replace one another, deletions, and moments up to the greatest.
 
-use crate::ports::plain_map;
+use crate::ports::{new_port, plain_map};
 use abstract_port::{Answer, Change, Command, Event};
 use gate_list::{Entry, GateList};
 use jumping::Jumping;
@@ -9,10 +9,8 @@ use list_config::Gates;
 use port::Port;
 use random_lists::Numbers;
 use std::alloc::{AllocError, Global};
-use std::process::Abort;
-use std::test::Fail;
 use stepped::Stepped;
-use wire_time::{Frame, MAX_MOMENT, Rate};
+use wire_time::{Frame, MAX_MOMENT};
 
 /// How far events lie apart, and where they begin.
 #[derive(Clone, Copy)]
@@ -134,45 +132,48 @@ pub fn answers<G: Gates>(
     Ok(answers)
 }
 
-/// Ports on stepped and on jumping gates answer the same events alike.
-fn answer_alike<R: Abort + AllocGlobal>(
-    rt: &R,
+/// What a port answers to so many rounds, if it is one.
+fn answers_of<G: Gates + Drop>(
+    alloc: Global,
+    port: Option<Port<G>>,
     seed: u64,
     many: u32,
     reach: Reach,
-) -> Result<(), Fail> {
-    let rate = Rate::from_mbps(100_000).ok().ok_or("a rate")?;
-    let mut stepped = Port::<Stepped>::new(rt.alloc(), rate, 1500, 3)
-        .ok()
-        .ok_or("a port")?;
-    let mut jumping = Port::<Jumping>::new(rt.alloc(), rate, 1500, 3)
-        .ok()
-        .ok_or("a port")?;
-    let want = answers(rt.alloc(), &mut stepped, seed, many, reach)?;
-    let got = answers(rt.alloc(), &mut jumping, seed, many, reach)?;
-    assert_eq!(rt; got.as_slice(), want.as_slice(), "seed {seed}");
-    Ok(())
+) -> Option<Vec<Answer>> {
+    let mut port = port?;
+    answers(alloc, &mut port, seed, many, reach).ok()
+}
+
+/// Whether new ports at 100 Gb/s, on stepped and on jumping gates, answer the same events alike.
+fn answer_alike(alloc: Global, seed: u64, many: u32, reach: Reach) -> bool {
+    let stepped = new_port::<Stepped>(alloc, 100_000, 1500, 3);
+    let Some(want) = answers_of(alloc, stepped, seed, many, reach) else {
+        return false;
+    };
+    let jumping = new_port::<Jumping>(alloc, 100_000, 1500, 3);
+    match answers_of(alloc, jumping, seed, many, reach) {
+        Some(got) => got.as_slice() == want.as_slice(),
+        None => false,
+    }
 }
 
 /// Clock events up to 137 ms apart: up to 1,370,000 cycles of 100 ns, each of which the stepped gates take.
 #[test]
-fn ports_answer_alike_from_the_beginning_on(rt: HostRuntime) -> Result<(), Fail> {
+fn ports_answer_alike_from_the_beginning_on(rt: HostRuntime) {
     let reach = Reach { first: 0, bits: 37 };
     for seed in 0..40 {
-        answer_alike(&rt, seed, 40, reach)?;
+        assert!(rt; answer_alike(rt.alloc(), seed, 40, reach), "seed {seed}");
     }
-    Ok(())
 }
 
 /// The same from 275 ms before the greatest moment up to it.
 #[test]
-fn ports_answer_alike_up_to_the_greatest_moment(rt: HostRuntime) -> Result<(), Fail> {
+fn ports_answer_alike_up_to_the_greatest_moment(rt: HostRuntime) {
     let reach = Reach {
         first: MAX_MOMENT - (1 << 38),
         bits: 37,
     };
     for seed in 40..80 {
-        answer_alike(&rt, seed, 40, reach)?;
+        assert!(rt; answer_alike(rt.alloc(), seed, 40, reach), "seed {seed}");
     }
-    Ok(())
 }

@@ -5,43 +5,38 @@
 //! cycle, as many and the first of the next cycle, as many and the first of the last whole cycle before the change, and those of the
 //! cycle that the change cuts. A list that goes on takes each entry that it comes to in its cycle, and in another cycle all from the
 //! first up to the one of the moment. The gates move only where they are asked, or while a command is to come.
-use super::ports::{command, frame, plain_map};
+use super::ports::{command, frame, gigabit_port, plain_map};
 use super::*;
 use abstract_port::{Answer, Command, Event, Start};
 use jumping::Jumping;
 use port::Port;
-use std::process::Abort;
-use std::test::Fail;
+use std::alloc::Global;
 
 /// Some thirty years, in picoseconds.
 const FAR: u128 = 1_000_000_000_000_000_000_000;
 
-/// A new port at 1 Gb/s.
-fn new_port<R: Abort + AllocGlobal>(rt: &R) -> Result<Port<Jumping>, Fail> {
-    let rate = Rate::from_mbps(1000).ok().ok_or("a rate")?;
-    let port = Port::<Jumping>::new(rt.alloc(), rate, 1500, 8)
-        .ok()
-        .ok_or("a port")?;
-    Ok(port)
-}
+/// An event, each answer to it with the visits of its step, and those of the step that ends it.
+type Looks<'a> = (Event<'a>, &'a [(Answer, u64)], u64);
 
-/// Takes an event on a port, compares each answer with the visits of its step, and those of the step that ends it.
-fn steps<R: Abort>(
-    rt: &R,
-    port: &mut Port<Jumping>,
-    event: Event<'_>,
-    want: &[(Answer, u64)],
-    last: u64,
-) {
+/// Takes an event on a port. Whether its answers and the visits of its steps are those that are given.
+fn looks_at(port: &mut Port<Jumping>, (event, want, last): Looks<'_>) -> bool {
     let mut asked = Some(event);
     for (answer, visits) in want {
-        assert_eq!(rt; port.next_answer(&mut asked), Some(*answer));
-        assert_eq!(rt; port.visits(), *visits, "{answer:?}");
+        if port.next_answer(&mut asked) != Some(*answer) || port.visits() != *visits {
+            return false;
+        }
     }
-    if asked.is_some() {
-        assert_eq!(rt; port.next_answer(&mut asked), None);
+    port.next_answer(&mut asked).is_none() && port.visits() == last
+}
+
+/// Takes events on a port in turn. Which is the first whose answers or visits aren't those that are given.
+fn steps(port: &mut Port<Jumping>, looks: &[Looks<'_>]) -> Result<(), usize> {
+    for (i, look) in looks.iter().enumerate() {
+        if !looks_at(port, *look) {
+            return Err(i);
+        }
     }
-    assert_eq!(rt; port.visits(), last, "{event:?}");
+    Ok(())
 }
 
 /// So many entries that open class 1 and class 2 by turns, in force from 20 us on.
@@ -72,10 +67,36 @@ struct Waiting {
     mask: u8,
 }
 
+/// What is seen of a port on which a frame waits: the steps up to a far clock, the moment, the mask and the frames that wait
+/// then, and whether a clock after it looks at nothing.
+fn waits(alloc: Global, waiting: &Waiting) -> Option<(Result<(), usize>, (u128, u8, u64), bool)> {
+    let list = by_turns(waiting.many, waiting.interval)?;
+    let mut port = gigabit_port::<Jumping>(alloc, 8)?;
+    let queued = Answer::Queued { id: 1, class: 0 };
+    let looks: [Looks<'_>; 4] = [
+        (
+            Event::Install(&list),
+            &[(Answer::Installed(20_000_000), 0)],
+            0,
+        ),
+        (Event::Clock(20_000_000), &[], 1),
+        (Event::Arrive(frame(1, 0, 60)), &[(queued, 1)], 1),
+        (Event::Clock(FAR), &[], waiting.visits),
+    ];
+    let steps = steps(&mut port, &looks);
+    let shown = (port.now(), port.report().mask, port.counters(0).waiting);
+    // It is known that the frame doesn't start.
+    Some((
+        steps,
+        shown,
+        looks_at(&mut port, (Event::Clock(2 * FAR), &[], 0)),
+    ))
+}
+
 /// A frame waits through 5 * 10^12 cycles, 10^15 and 4 * 10^12: a step that took each of them would not end. It is searched for
 /// once, from the start of a cycle and through it, and then it is known that it never starts.
 #[test]
-fn a_frame_waits_through_far_clocks(rt: HostRuntime) -> Result<(), Fail> {
+fn a_frame_waits_through_far_clocks(rt: HostRuntime) {
     for waiting in [
         Waiting {
             many: 2,
@@ -96,27 +117,14 @@ fn a_frame_waits_through_far_clocks(rt: HostRuntime) -> Result<(), Fail> {
             mask: 0x02,
         },
     ] {
-        let list = by_turns(waiting.many, waiting.interval).ok_or("a command")?;
-        let mut port = new_port(&rt)?;
-        let installed = Answer::Installed(20_000_000);
-        let queued = Answer::Queued { id: 1, class: 0 };
-        steps(&rt, &mut port, Event::Install(&list), &[(installed, 0)], 0);
-        steps(&rt, &mut port, Event::Clock(20_000_000), &[], 1);
-        steps(
-            &rt,
-            &mut port,
-            Event::Arrive(frame(1, 0, 60)),
-            &[(queued, 1)],
-            1,
+        let want = (Ok(()), (FAR, waiting.mask, 1), true);
+        let interval = waiting.interval;
+        assert_eq!(rt;
+            waits(rt.alloc(), &waiting),
+            Some(want),
+            "interval {interval}"
         );
-        steps(&rt, &mut port, Event::Clock(FAR), &[], waiting.visits);
-        assert_eq!(rt; port.now(), FAR);
-        assert_eq!(rt; port.report().mask, waiting.mask);
-        assert_eq!(rt; port.counters(0).waiting, 1);
-        // It is known that the frame doesn't start.
-        steps(&rt, &mut port, Event::Clock(2 * FAR), &[], 0);
     }
-    Ok(())
 }
 
 /// A schedule of so many entries that open class 0, and a last one of 5 us that opens class 1, with an extension; a second one that
@@ -172,11 +180,12 @@ impl Change {
     }
 }
 
-/// A frame of class 1 that takes 12.304 us fits into no entry of 5 us: 5,000,000 cycles later the change lets it start.
-fn starts_at_the_change<R: Abort + AllocGlobal>(rt: &R, change: &Change) -> Result<(), Fail> {
-    let first = change.first().ok_or("a command")?;
-    let second = change.second().ok_or("a command")?;
-    let mut port = new_port(rt)?;
+/// A frame of class 1 that takes 12.304 us fits into no entry of 5 us: 5,000,000 cycles later the change lets it start. Which is
+/// the first step whose answers or visits aren't those that are given; nothing where there is no port, or no command.
+fn starts_at_the_change(alloc: Global, change: &Change) -> Option<Result<(), usize>> {
+    let first = change.first()?;
+    let second = change.second()?;
+    let mut port = gigabit_port::<Jumping>(alloc, 8)?;
     let at = Answer::Installed(20_000_000);
     let then = Answer::Installed(1000 * u128::from(change.base));
     let queued = Answer::Queued { id: 1, class: 1 };
@@ -186,24 +195,31 @@ fn starts_at_the_change<R: Abort + AllocGlobal>(rt: &R, change: &Change) -> Resu
         at: change.start,
         end: change.end,
     });
-    steps(rt, &mut port, Event::Install(&first), &[(at, 0)], 0);
-    steps(rt, &mut port, Event::Clock(20_000_000), &[], 1);
-    steps(
-        rt,
-        &mut port,
-        Event::Arrive(frame(1, 1, 1514)),
-        &[(queued, 1)],
-        1,
-    );
-    steps(rt, &mut port, Event::Install(&second), &[(then, 1)], 1);
-    let starts = [(start, change.visits[0])];
-    steps(
-        rt,
-        &mut port,
-        Event::Clock(2_000_000_000_000_000),
-        &starts,
-        change.visits[1],
-    );
+    let looks: [Looks<'_>; 5] = [
+        (Event::Install(&first), &[(at, 0)], 0),
+        (Event::Clock(20_000_000), &[], 1),
+        (Event::Arrive(frame(1, 1, 1514)), &[(queued, 1)], 1),
+        (Event::Install(&second), &[(then, 1)], 1),
+        (
+            Event::Clock(2_000_000_000_000_000),
+            &[(start, change.visits[0])],
+            change.visits[1],
+        ),
+    ];
+    Some(steps(&mut port, &looks))
+}
+
+/// Which is the first of these changes that comes out otherwise, and by which step.
+fn start_at_changes(
+    alloc: Global,
+    changes: &[Change],
+) -> Result<(), (usize, Option<Result<(), usize>>)> {
+    for (i, change) in changes.iter().enumerate() {
+        let started = starts_at_the_change(alloc, change);
+        if started != Some(Ok(())) {
+            return Err((i, started));
+        }
+    }
     Ok(())
 }
 
@@ -214,8 +230,8 @@ fn starts_at_the_change<R: Abort + AllocGlobal>(rt: &R, change: &Change) -> Resu
 /// entry, or in the one of the second list. After it no frame waits and nothing is searched: placed in the second list or in the hold,
 /// or not moved from the start's entry, where the frame ends; and placed in the second list where the clock stops.
 #[test]
-fn changes_are_found_from_afar(rt: HostRuntime) -> Result<(), Fail> {
-    for change in [
+fn changes_are_found_from_afar(rt: HostRuntime) {
+    let changes = [
         Change {
             many: 2,
             interval: 195_000,
@@ -243,16 +259,14 @@ fn changes_are_found_from_afar(rt: HostRuntime) -> Result<(), Fail> {
             end: 1_000_000_062_304_000,
             visits: [3 + 3 + 1, 1],
         },
-    ] {
-        starts_at_the_change(&rt, &change)?;
-    }
-    Ok(())
+    ];
+    assert_eq!(rt; start_at_changes(rt.alloc(), &changes), Ok(()));
 }
 
 /// The same with 256 entries, all but the last of 1 us. The cycle that is cut begins 30 of them.
 #[test]
-fn changes_of_long_lists_are_found_from_afar(rt: HostRuntime) -> Result<(), Fail> {
-    for change in [
+fn changes_of_long_lists_are_found_from_afar(rt: HostRuntime) {
+    let changes = [
         Change {
             many: 256,
             interval: 1000,
@@ -280,10 +294,8 @@ fn changes_of_long_lists_are_found_from_afar(rt: HostRuntime) -> Result<(), Fail
             end: 1_300_000_062_304_000,
             visits: [3 * 255 + 3 + 29 + 1, 1],
         },
-    ] {
-        starts_at_the_change(&rt, &change)?;
-    }
-    Ok(())
+    ];
+    assert_eq!(rt; start_at_changes(rt.alloc(), &changes), Ok(()));
 }
 
 /// A frame arrives at a moment, and starts at once: what the step up to its start looks at is given.
@@ -294,8 +306,8 @@ struct Starting {
     visits: u64,
 }
 
-/// Takes a clock event at the moment, which looks at nothing, then the frame, and then a picosecond.
-fn starts_at_once<R: Abort>(rt: &R, port: &mut Port<Jumping>, starting: &Starting) {
+/// Takes a clock event at the moment, which looks at nothing, then the frame, and then a picosecond. Whether each comes out so.
+fn starts_at_once(port: &mut Port<Jumping>, starting: &Starting) -> bool {
     let Starting { class, at, visits } = *starting;
     let queued = Answer::Queued { id: 1, class };
     let start = Answer::Start(Start {
@@ -304,31 +316,49 @@ fn starts_at_once<R: Abort>(rt: &R, port: &mut Port<Jumping>, starting: &Startin
         at,
         end: at.saturating_add(672_000),
     });
-    steps(rt, port, Event::Clock(at), &[], 0);
-    let arrival = Event::Arrive(frame(1, class, 60));
-    steps(rt, port, arrival, &[(queued, 0)], 0);
-    let until = Event::Clock(at.saturating_add(1));
-    steps(rt, port, until, &[(start, visits)], 0);
+    let looks: [Looks<'_>; 3] = [
+        (Event::Clock(at), &[], 0),
+        (Event::Arrive(frame(1, class, 60)), &[(queued, 0)], 0),
+        (Event::Clock(at.saturating_add(1)), &[(start, visits)], 0),
+    ];
+    steps(port, &looks).is_ok()
 }
 
-/// Frames that arrive over 256 entries of 1 us, and start at once. Clock events look at no entry. A start in the entry after that of
-/// the last start looks at that entry alone, also where a cycle begins; further on each entry that begins is looked at once, on the
-/// way.
-#[test]
-fn near_starts_look_at_the_next_entry_alone(rt: HostRuntime) -> Result<(), Fail> {
-    let list = by_turns(256, 1000).ok_or("a command")?;
-    let mut port = new_port(&rt)?;
-    let installed = Answer::Installed(20_000_000);
-    steps(&rt, &mut port, Event::Install(&list), &[(installed, 0)], 0);
-    steps(&rt, &mut port, Event::Clock(20_000_000), &[], 1);
+/// A port in the first of 256 entries of 1 us.
+fn port_by_turns(alloc: Global) -> Option<Port<Jumping>> {
+    let list = by_turns(256, 1000)?;
+    let mut port = gigabit_port::<Jumping>(alloc, 8)?;
+    let looks: [Looks<'_>; 2] = [
+        (
+            Event::Install(&list),
+            &[(Answer::Installed(20_000_000), 0)],
+            0,
+        ),
+        (Event::Clock(20_000_000), &[], 1),
+    ];
+    match steps(&mut port, &looks) {
+        Ok(()) => Some(port),
+        Err(_) => None,
+    }
+}
+
+/// Frames in each entry of the first cycle after its first: the number of the first that comes out otherwise.
+fn start_in_each_entry(port: &mut Port<Jumping>) -> Result<(), u32> {
     for i in 1..256u32 {
         let starting = Starting {
             class: if i % 2 == 0 { 1 } else { 2 },
             at: 20_000_000 + 1_000_000 * u128::from(i),
             visits: 1,
         };
-        starts_at_once(&rt, &mut port, &starting);
+        if !starts_at_once(port, &starting) {
+            return Err(i);
+        }
     }
+    Ok(())
+}
+
+/// Frames in the cycles after: the moment of the first that comes out otherwise.
+fn start_further_on(port: &mut Port<Jumping>) -> Result<(), u128> {
     for (class, at, visits) in [
         // The second cycle, from 276 us on.
         (1, 276_000_000, 1),
@@ -341,7 +371,23 @@ fn near_starts_look_at_the_next_entry_alone(rt: HostRuntime) -> Result<(), Fail>
         // The first of the fifth, from 1044 us on: no entry between is looked at.
         (1, 1_044_000_000, 1),
     ] {
-        starts_at_once(&rt, &mut port, &Starting { class, at, visits });
+        if !starts_at_once(port, &Starting { class, at, visits }) {
+            return Err(at);
+        }
     }
     Ok(())
+}
+
+/// Both on a new port.
+fn near_starts(alloc: Global) -> Option<(Result<(), u32>, Result<(), u128>)> {
+    let mut port = port_by_turns(alloc)?;
+    Some((start_in_each_entry(&mut port), start_further_on(&mut port)))
+}
+
+/// Frames that arrive over 256 entries of 1 us, and start at once. Clock events look at no entry. A start in the entry after that of
+/// the last start looks at that entry alone, also where a cycle begins; further on each entry that begins is looked at once, on the
+/// way.
+#[test]
+fn near_starts_look_at_the_next_entry_alone(rt: HostRuntime) {
+    assert_eq!(rt; near_starts(rt.alloc()), Some((Ok(()), Ok(()))));
 }

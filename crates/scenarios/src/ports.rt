@@ -11,6 +11,19 @@ use std::marker::PhantomData;
 use stepped::Stepped;
 use wire_time::{Frame, Rate};
 
+/// A new port of this rate in Mb/s, with this mtu, and room for so many frames a class.
+pub fn new_port<G: Gates + Drop>(alloc: Global, mbps: u32, mtu: u32, room: u32) -> Option<Port<G>> {
+    match Rate::from_mbps(mbps) {
+        Ok(rate) => Port::<G>::new(alloc, rate, mtu, room).ok(),
+        Err(_) => None,
+    }
+}
+
+/// A new port at 1 Gb/s with an mtu of 1500 octets.
+pub fn gigabit_port<G: Gates + Drop>(alloc: Global, room: u32) -> Option<Port<G>> {
+    new_port::<G>(alloc, 1000, 1500, room)
+}
+
 /// An untagged frame.
 pub fn frame(id: u64, priority: u8, len: u32) -> Frame {
     Frame {
@@ -108,16 +121,26 @@ fn report<G: Gates>(alloc: Global, port: &mut Port<G>, at: u128) -> Option<Repor
     }
 }
 
+/// The answer to a schedule at a moment. It has a map where the port has none.
+fn answer_to_schedule<G: Gates>(
+    alloc: Global,
+    port: &mut Port<G>,
+    at: u128,
+    given: &Given<'_>,
+) -> Option<Option<Answer>> {
+    let map = match port.report().classes {
+        Some(_) => None,
+        None => plain_map(),
+    };
+    let command = command(given, map)?;
+    Some(answer(alloc, port, at, Event::Install(&command)))
+}
+
 /// Whether a step comes out of a port as it has to, or isn't asked of a port.
 fn holds<G: Gates>(alloc: Global, port: &mut Port<G>, at: u128, step: &Step<'_>) -> Option<bool> {
     Some(match step {
         Step::Install(given, want) => {
-            let map = match port.report().classes {
-                Some(_) => None,
-                None => plain_map(),
-            };
-            let command = command(given, map)?;
-            answer(alloc, port, at, Event::Install(&command)) == installed(*want)
+            answer_to_schedule(alloc, port, at, given)? == installed(*want)
         }
         Step::Delete(want) => {
             answer(alloc, port, at, Event::Install(&Command::Delete)) == installed(*want)
@@ -132,13 +155,16 @@ fn holds<G: Gates>(alloc: Global, port: &mut Port<G>, at: u128, step: &Step<'_>)
 }
 
 /// Plays on a port in which no frame waits.
-fn play_on<G: Gates>(
+fn play_on<G: Gates + Drop>(
     alloc: Global,
-    port: &mut Port<G>,
+    port: Option<Port<G>>,
     steps: &[(u128, Step<'_>)],
 ) -> Result<(), usize> {
+    let Some(mut port) = port else {
+        return Err(0);
+    };
     for (i, (at, step)) in steps.iter().enumerate() {
-        if *at < port.now() || holds(alloc, port, *at, step) != Some(true) {
+        if *at < port.now() || holds(alloc, &mut port, *at, step) != Some(true) {
             return Err(i);
         }
     }
@@ -147,24 +173,12 @@ fn play_on<G: Gates>(
 
 impl Player for OnPort<Stepped> {
     fn play(&self, steps: &[(u128, Step<'_>)]) -> Result<(), usize> {
-        let Ok(rate) = Rate::from_mbps(1000) else {
-            return Err(0);
-        };
-        let Ok(mut port) = Port::<Stepped>::new(self.alloc, rate, 1500, 1) else {
-            return Err(0);
-        };
-        play_on(self.alloc, &mut port, steps)
+        play_on(self.alloc, gigabit_port::<Stepped>(self.alloc, 1), steps)
     }
 }
 
 impl Player for OnPort<Jumping> {
     fn play(&self, steps: &[(u128, Step<'_>)]) -> Result<(), usize> {
-        let Ok(rate) = Rate::from_mbps(1000) else {
-            return Err(0);
-        };
-        let Ok(mut port) = Port::<Jumping>::new(self.alloc, rate, 1500, 1) else {
-            return Err(0);
-        };
-        play_on(self.alloc, &mut port, steps)
+        play_on(self.alloc, gigabit_port::<Jumping>(self.alloc, 1), steps)
     }
 }
