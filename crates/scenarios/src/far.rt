@@ -144,15 +144,25 @@ fn answers_of<G: Gates + Drop>(
     answers(alloc, &mut port, seed, many, reach).ok()
 }
 
+/// Whether a port answers just so to so many rounds.
+fn answers_just<G: Gates + Drop>(
+    alloc: Global,
+    port: Option<Port<G>>,
+    (seed, many, reach): (u64, u32, Reach),
+    want: &[Answer],
+) -> bool {
+    match answers_of(alloc, port, seed, many, reach) {
+        Some(got) => got.as_slice() == want,
+        None => false,
+    }
+}
+
 /// Whether new ports at 100 Gb/s, on stepped and on jumping gates, answer the same events alike.
 fn answer_alike(alloc: Global, seed: u64, many: u32, reach: Reach) -> bool {
     let stepped = new_port::<Stepped>(alloc, 100_000, 1500, 3);
-    let Some(want) = answers_of(alloc, stepped, seed, many, reach) else {
-        return false;
-    };
     let jumping = new_port::<Jumping>(alloc, 100_000, 1500, 3);
-    match answers_of(alloc, jumping, seed, many, reach) {
-        Some(got) => got.as_slice() == want.as_slice(),
+    match answers_of(alloc, stepped, seed, many, reach) {
+        Some(want) => answers_just(alloc, jumping, (seed, many, reach), want.as_slice()),
         None => false,
     }
 }

@@ -47,29 +47,40 @@ fn queued(id: u64, class: u8) -> Answer {
     Answer::Queued { id, class }
 }
 
-/// Takes what happens on a port, and appends the answer. Whether there was memory, and a command where one is given.
-fn takes(port: &mut Port<Stepped>, happens: &Happens<'_>, answers: &mut Vec<Answer>) -> bool {
-    let taken = match *happens {
-        Schedule(base, extension, masks) => match command(base, extension, masks) {
-            Some(command) => port.run(&[Event::Install(&command)], answers),
-            None => return false,
+/// The command that is given, if one is.
+fn command_of(happens: &Happens<'_>) -> Option<Command> {
+    match *happens {
+        Schedule(base, extension, masks) => command(base, extension, masks),
+        Deletion => Some(Command::Delete),
+        _ => None,
+    }
+}
+
+/// What happens as an event; nothing where its command is wanting.
+fn event_of<'a>(happens: &Happens<'_>, command: &'a Option<Command>) -> Option<Event<'a>> {
+    Some(match *happens {
+        Schedule(..) | Deletion => match command {
+            Some(command) => Event::Install(command),
+            None => return None,
         },
-        Deletion => port.run(&[Event::Install(&Command::Delete)], answers),
-        Arrives(id, priority, len) => {
-            port.run(&[Event::Arrive(frame(id, priority, len))], answers)
-        }
-        ArrivesTagged(id, priority, len) => {
-            let tagged = Frame {
-                id,
-                priority,
-                len,
-                tagged: true,
-            };
-            port.run(&[Event::Arrive(tagged)], answers)
-        }
-        Clock(moment) => port.run(&[Event::Clock(moment)], answers),
-    };
-    taken.is_ok()
+        Arrives(id, priority, len) => Event::Arrive(frame(id, priority, len)),
+        ArrivesTagged(id, priority, len) => Event::Arrive(Frame {
+            id,
+            priority,
+            len,
+            tagged: true,
+        }),
+        Clock(moment) => Event::Clock(moment),
+    })
+}
+
+/// Takes what happens on a port, and appends the answers. Whether there was memory, and a command where one is given.
+fn takes(port: &mut Port<Stepped>, happens: &Happens<'_>, answers: &mut Vec<Answer>) -> bool {
+    let command = command_of(happens);
+    match event_of(happens, &command) {
+        Some(event) => port.run(&[event], answers).is_ok(),
+        None => false,
+    }
 }
 
 /// What a new port at 1 Gb/s answers to all that happens, in turn.

@@ -95,36 +95,40 @@ fn waits(alloc: Global, waiting: &Waiting) -> Option<(Result<(), usize>, (u128, 
 
 /// A frame waits through 5 * 10^12 cycles, 10^15 and 4 * 10^12: a step that took each of them would not end. It is searched for
 /// once, from the start of a cycle and through it, and then it is known that it never starts.
+const WAITING: [Waiting; 3] = [
+    Waiting {
+        many: 2,
+        interval: 100_000,
+        visits: 1,
+        mask: 0x04,
+    },
+    Waiting {
+        many: 2,
+        interval: 500,
+        visits: 1,
+        mask: 0x02,
+    },
+    Waiting {
+        many: 256,
+        interval: 1000,
+        visits: 255,
+        mask: 0x02,
+    },
+];
+
+/// Which is the first of these that comes out otherwise.
+fn wait_through_far_clocks(alloc: Global) -> Result<(), usize> {
+    for (i, waiting) in WAITING.iter().enumerate() {
+        if waits(alloc, waiting) != Some((Ok(()), (FAR, waiting.mask, 1), true)) {
+            return Err(i);
+        }
+    }
+    Ok(())
+}
+
 #[test]
 fn a_frame_waits_through_far_clocks(rt: HostRuntime) {
-    for waiting in [
-        Waiting {
-            many: 2,
-            interval: 100_000,
-            visits: 1,
-            mask: 0x04,
-        },
-        Waiting {
-            many: 2,
-            interval: 500,
-            visits: 1,
-            mask: 0x02,
-        },
-        Waiting {
-            many: 256,
-            interval: 1000,
-            visits: 255,
-            mask: 0x02,
-        },
-    ] {
-        let want = (Ok(()), (FAR, waiting.mask, 1), true);
-        let interval = waiting.interval;
-        assert_eq!(rt;
-            waits(rt.alloc(), &waiting),
-            Some(want),
-            "interval {interval}"
-        );
-    }
+    assert_eq!(rt; wait_through_far_clocks(rt.alloc()), Ok(()));
 }
 
 /// A schedule of so many entries that open class 0, and a last one of 5 us that opens class 1, with an extension; a second one that
@@ -229,73 +233,75 @@ fn start_at_changes(
 /// Up to the start: three times all entries but the first, the first of two cycles (of the cut one too), and placed in the last
 /// entry, or in the one of the second list. After it no frame waits and nothing is searched: placed in the second list or in the hold,
 /// or not moved from the start's entry, where the frame ends; and placed in the second list where the clock stops.
+const CHANGES: [Change; 3] = [
+    Change {
+        many: 2,
+        interval: 195_000,
+        extension: 0,
+        base: 1_000_000_020_000,
+        start: 1_000_000_015_000_000,
+        end: 1_000_000_027_304_000,
+        visits: [3 + 2 + 2, 1 + 1],
+    },
+    Change {
+        many: 2,
+        interval: 195_000,
+        extension: 100_000,
+        base: 1_000_000_050_000,
+        start: 1_000_000_015_000_000,
+        end: 1_000_000_027_304_000,
+        visits: [3 + 2 + 2, 2 + 1],
+    },
+    Change {
+        many: 2,
+        interval: 195_000,
+        extension: 20_000,
+        base: 1_000_000_050_000,
+        start: 1_000_000_050_000_000,
+        end: 1_000_000_062_304_000,
+        visits: [3 + 3 + 1, 1],
+    },
+];
+
 #[test]
 fn changes_are_found_from_afar(rt: HostRuntime) {
-    let changes = [
-        Change {
-            many: 2,
-            interval: 195_000,
-            extension: 0,
-            base: 1_000_000_020_000,
-            start: 1_000_000_015_000_000,
-            end: 1_000_000_027_304_000,
-            visits: [3 + 2 + 2, 1 + 1],
-        },
-        Change {
-            many: 2,
-            interval: 195_000,
-            extension: 100_000,
-            base: 1_000_000_050_000,
-            start: 1_000_000_015_000_000,
-            end: 1_000_000_027_304_000,
-            visits: [3 + 2 + 2, 2 + 1],
-        },
-        Change {
-            many: 2,
-            interval: 195_000,
-            extension: 20_000,
-            base: 1_000_000_050_000,
-            start: 1_000_000_050_000_000,
-            end: 1_000_000_062_304_000,
-            visits: [3 + 3 + 1, 1],
-        },
-    ];
-    assert_eq!(rt; start_at_changes(rt.alloc(), &changes), Ok(()));
+    assert_eq!(rt; start_at_changes(rt.alloc(), &CHANGES), Ok(()));
 }
 
 /// The same with 256 entries, all but the last of 1 us. The cycle that is cut begins 30 of them.
+const LONG_CHANGES: [Change; 3] = [
+    Change {
+        many: 256,
+        interval: 1000,
+        extension: 0,
+        base: 1_300_000_020_000,
+        start: 1_300_000_015_000_000,
+        end: 1_300_000_027_304_000,
+        visits: [3 * 255 + 2 + 256, 1 + 1],
+    },
+    Change {
+        many: 256,
+        interval: 1000,
+        extension: 100_000,
+        base: 1_300_000_050_000,
+        start: 1_300_000_015_000_000,
+        end: 1_300_000_027_304_000,
+        visits: [3 * 255 + 2 + 256, 2 + 1],
+    },
+    Change {
+        many: 256,
+        interval: 1000,
+        extension: 20_000,
+        base: 1_300_000_050_000,
+        start: 1_300_000_050_000_000,
+        end: 1_300_000_062_304_000,
+        visits: [3 * 255 + 3 + 29 + 1, 1],
+    },
+];
+
 #[test]
 fn changes_of_long_lists_are_found_from_afar(rt: HostRuntime) {
-    let changes = [
-        Change {
-            many: 256,
-            interval: 1000,
-            extension: 0,
-            base: 1_300_000_020_000,
-            start: 1_300_000_015_000_000,
-            end: 1_300_000_027_304_000,
-            visits: [3 * 255 + 2 + 256, 1 + 1],
-        },
-        Change {
-            many: 256,
-            interval: 1000,
-            extension: 100_000,
-            base: 1_300_000_050_000,
-            start: 1_300_000_015_000_000,
-            end: 1_300_000_027_304_000,
-            visits: [3 * 255 + 2 + 256, 2 + 1],
-        },
-        Change {
-            many: 256,
-            interval: 1000,
-            extension: 20_000,
-            base: 1_300_000_050_000,
-            start: 1_300_000_050_000_000,
-            end: 1_300_000_062_304_000,
-            visits: [3 * 255 + 3 + 29 + 1, 1],
-        },
-    ];
-    assert_eq!(rt; start_at_changes(rt.alloc(), &changes), Ok(()));
+    assert_eq!(rt; start_at_changes(rt.alloc(), &LONG_CHANGES), Ok(()));
 }
 
 /// A frame arrives at a moment, and starts at once: what the step up to its start looks at is given.

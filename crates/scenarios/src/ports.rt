@@ -155,16 +155,13 @@ fn holds<G: Gates>(alloc: Global, port: &mut Port<G>, at: u128, step: &Step<'_>)
 }
 
 /// Plays on a port in which no frame waits.
-fn play_on<G: Gates + Drop>(
+fn play_on<G: Gates>(
     alloc: Global,
-    port: Option<Port<G>>,
+    port: &mut Port<G>,
     steps: &[(u128, Step<'_>)],
 ) -> Result<(), usize> {
-    let Some(mut port) = port else {
-        return Err(0);
-    };
     for (i, (at, step)) in steps.iter().enumerate() {
-        if *at < port.now() || holds(alloc, &mut port, *at, step) != Some(true) {
+        if *at < port.now() || holds(alloc, port, *at, step) != Some(true) {
             return Err(i);
         }
     }
@@ -173,12 +170,18 @@ fn play_on<G: Gates + Drop>(
 
 impl Player for OnPort<Stepped> {
     fn play(&self, steps: &[(u128, Step<'_>)]) -> Result<(), usize> {
-        play_on(self.alloc, gigabit_port::<Stepped>(self.alloc, 1), steps)
+        match gigabit_port::<Stepped>(self.alloc, 1) {
+            Some(mut port) => play_on(self.alloc, &mut port, steps),
+            None => Err(0),
+        }
     }
 }
 
 impl Player for OnPort<Jumping> {
     fn play(&self, steps: &[(u128, Step<'_>)]) -> Result<(), usize> {
-        play_on(self.alloc, gigabit_port::<Jumping>(self.alloc, 1), steps)
+        match gigabit_port::<Jumping>(self.alloc, 1) {
+            Some(mut port) => play_on(self.alloc, &mut port, steps),
+            None => Err(0),
+        }
     }
 }

@@ -123,12 +123,18 @@ fn said_by_new(alloc: Global, command: Option<Command>) -> Option<Result<u128, R
     said(&mut port, command)
 }
 
+/// What a new port says to a command of this base time.
+fn said_to_base(alloc: Global, base: u64) -> Option<Result<u128, Refused>> {
+    said_by_new(alloc, replace(&[entry(1, 1_000_000)], base, plain_map()))
+}
+
 #[test]
 fn change_moments_at_the_lead(rt: HostRuntime) {
-    for (base, want) in [(12336, 12_336_000), (12335, 1_012_335_000)] {
-        let command = replace(&[entry(1, 1_000_000)], base, plain_map());
-        assert_eq!(rt; said_by_new(rt.alloc(), command), Some(Ok(want)));
-    }
+    let said = [
+        said_to_base(rt.alloc(), 12336),
+        said_to_base(rt.alloc(), 12335),
+    ];
+    assert_eq!(rt; said, [Some(Ok(12_336_000)), Some(Ok(1_012_335_000))]);
 }
 
 /// A command with this interval, and limits of the frames of each class.
@@ -342,36 +348,25 @@ fn answers_of_limited() -> [Answer; 10] {
     ]
 }
 
-#[test]
-fn verdicts_are_answered_and_counted_by_run(rt: HostRuntime) -> Result<(), Fail> {
-    let command = limited().ok_or("a command")?;
-    let port = gigabit_port::<Stepped>(rt.alloc(), 128);
-    let events = limited_events(&command);
-    assert!(rt; answers_just(rt.alloc(), port, &events, &answers_of_limited()));
-    Ok(())
-}
-
-/// How many frames have had no class then.
-fn no_class_after(alloc: Global) -> Option<u64> {
+/// Whether a new port answers them so, and how many frames have had no class then.
+fn verdicts_by_run(alloc: Global) -> Option<(bool, u64)> {
     let command = limited()?;
     let mut port = gigabit_port::<Stepped>(alloc, 128)?;
     let mut answers = Vec::new(alloc);
-    match port.run(&limited_events(&command), &mut answers) {
-        Ok(()) => Some(port.report().no_class),
-        Err(_) => None,
-    }
+    let taken = port.run(&limited_events(&command), &mut answers).is_ok();
+    let so = answers.as_slice() == answers_of_limited().as_slice();
+    Some((taken && so, port.report().no_class))
 }
 
 #[test]
-fn frames_of_no_class_are_counted_by_run(rt: HostRuntime) {
-    assert_eq!(rt; no_class_after(rt.alloc()), Some(1));
+fn verdicts_are_answered_and_counted_by_run(rt: HostRuntime) {
+    assert_eq!(rt; verdicts_by_run(rt.alloc()), Some((true, 1)));
 }
 
-/// Frames that wait keep their class when a map comes.
-#[test]
-fn waiting_frames_keep_their_class(rt: HostRuntime) -> Result<(), Fail> {
-    let map = ClassMap::new(2, &[0, 1]).ok().ok_or("a map")?;
-    let command = replace(&[entry(1, 100_000)], 20_000, Some(map)).ok_or("a command")?;
+/// Whether frames that wait are told and started so when a map comes.
+fn keep_their_class(alloc: Global) -> Option<bool> {
+    let map = ClassMap::new(2, &[0, 1]).ok()?;
+    let command = replace(&[entry(1, 100_000)], 20_000, Some(map))?;
     let events = [
         Event::Arrive(frame(1, 7, 60)),
         Event::Install(&command),
@@ -385,9 +380,14 @@ fn waiting_frames_keep_their_class(rt: HostRuntime) -> Result<(), Fail> {
         start(1, 7, 0, 672_000),
         start(2, 0, 672_000, 1_344_000),
     ];
-    let port = gigabit_port::<Plain>(rt.alloc(), 128);
-    assert!(rt; answers_just(rt.alloc(), port, &events, &want));
-    Ok(())
+    let port = gigabit_port::<Plain>(alloc, 128);
+    Some(answers_just(alloc, port, &events, &want))
+}
+
+/// Frames that wait keep their class when a map comes.
+#[test]
+fn waiting_frames_keep_their_class(rt: HostRuntime) {
+    assert_eq!(rt; keep_their_class(rt.alloc()), Some(true));
 }
 
 /// A list of events on a port with room for two frames a class, behind a gate that opens later.
@@ -432,13 +432,17 @@ fn closed_then_open() -> Option<Command> {
     replace(&[entry(0, 100_000), entry(1, 100_000)], 20_000, plain_map())
 }
 
-#[test]
-fn queues_fill_behind_a_closed_gate(rt: HostRuntime) -> Result<(), Fail> {
-    let command = closed_then_open().ok_or("a command")?;
-    let port = gigabit_port::<Stepped>(rt.alloc(), 2);
+/// Whether a port with room for two frames a class answers just so.
+fn fill_behind_a_closed_gate(alloc: Global) -> Option<bool> {
+    let command = closed_then_open()?;
     let events = closed_at_first(&command);
-    assert!(rt; answers_just(rt.alloc(), port, &events, &answers_of_closed_at_first()));
-    Ok(())
+    let port = gigabit_port::<Stepped>(alloc, 2);
+    Some(answers_just(alloc, port, &events, &answers_of_closed_at_first()))
+}
+
+#[test]
+fn queues_fill_behind_a_closed_gate(rt: HostRuntime) {
+    assert_eq!(rt; fill_behind_a_closed_gate(rt.alloc()), Some(true));
 }
 
 #[test]
