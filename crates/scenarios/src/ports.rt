@@ -4,7 +4,7 @@ use abstract_port::{Answer, Change, Command, Event, Refused, Report};
 use class_map::ClassMap;
 use gate_list::{Entry, GateList};
 use jumping::Jumping;
-use list_config::{Gates, NotNow};
+use list_config::{Gates, Installed, NotNow};
 use port::Port;
 use std::alloc::Global;
 use std::marker::PhantomData;
@@ -136,6 +136,11 @@ fn answer_to_schedule<G: Gates>(
     Some(answer(alloc, port, at, Event::Install(&command)))
 }
 
+/// Whether a report is of a moment and shows these commands in force, pending and announced.
+fn shows(report: &Report, at: u128, shown: &[Option<Installed>; 3]) -> bool {
+    report.now == at && [report.in_force, report.pending, report.announced] == *shown
+}
+
 /// Whether a step comes out of a port as it has to, or isn't asked of a port.
 fn holds<G: Gates>(alloc: Global, port: &mut Port<G>, at: u128, step: &Step<'_>) -> Option<bool> {
     Some(match step {
@@ -146,10 +151,7 @@ fn holds<G: Gates>(alloc: Global, port: &mut Port<G>, at: u128, step: &Step<'_>)
             answer(alloc, port, at, Event::Install(&Command::Delete)) == installed(*want)
         }
         Step::Mask(mask) => report(alloc, port, at)?.mask == *mask,
-        Step::Shown(shown) => {
-            let report = report(alloc, port, at)?;
-            report.now == at && [report.in_force, report.pending, report.announced] == *shown
-        }
+        Step::Shown(shown) => shows(&report(alloc, port, at)?, at, shown),
         Step::Open(..) => true,
     })
 }

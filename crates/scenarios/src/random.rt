@@ -76,13 +76,13 @@ pub fn rows_tell_open_time<G: Gates + Drop>(seed: u64) -> bool {
     let mut numbers = Numbers::new(seed);
     let mut again = numbers;
     let mut visits = Visits::zero();
-    let mut gates = G::begin();
     let Some(table) = schedule(&mut numbers) else {
         return false;
     };
     let Some(given) = schedule(&mut again) else {
         return false;
     };
+    let mut gates = G::begin();
     let Ok(change) = gates.install(&given, 1) else {
         return false;
     };

@@ -569,7 +569,7 @@ pub const OPEN_FOR_LONG_FRAMES: History = &[
 ];
 
 /// The tables that every player plays.
-static TABLES: [History; 26] = [
+const TABLES: [History; 26] = [
     ANNOUNCED_PENDING_IN_FORCE,
     BASE_TIME_AT_THE_LEAD_MOMENT,
     BASE_TIME_BEFORE_THE_LEAD_MOMENT,

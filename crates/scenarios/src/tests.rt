@@ -60,22 +60,19 @@ fn entry(mask: u8, interval: u32) -> Entry {
 }
 
 /// Whether a port answers just so to these events.
-fn answers_just<G: Gates + Drop>(
+fn answers_just<G: Gates>(
     alloc: Global,
-    port: Option<Port<G>>,
+    port: &mut Port<G>,
     events: &[Event<'_>],
     want: &[Answer],
 ) -> bool {
-    let Some(mut port) = port else {
-        return false;
-    };
     let mut answers = Vec::new(alloc);
     port.run(events, &mut answers).is_ok() && answers.as_slice() == want
 }
 
-#[test]
-fn answers_events(rt: HostRuntime) {
-    let port = gigabit_port::<Plain>(rt.alloc(), 128);
+/// Whether a new port answers a frame, a clock event and a class that there isn't.
+fn answers_three(alloc: Global) -> Option<bool> {
+    let mut port = gigabit_port::<Plain>(alloc, 128)?;
     let events = [
         Event::Arrive(frame(1, 0, 60)),
         Event::Clock(1),
@@ -86,7 +83,12 @@ fn answers_events(rt: HostRuntime) {
         start(1, 0, 0, 672_000),
         Answer::BadClass,
     ];
-    assert!(rt; answers_just(rt.alloc(), port, &events, &want));
+    Some(answers_just(alloc, &mut port, &events, &want))
+}
+
+#[test]
+fn answers_events(rt: HostRuntime) {
+    assert!(rt; answers_three(rt.alloc()) == Some(true));
 }
 
 /// Why a port with this mtu and room isn't made, if it isn't.
@@ -352,21 +354,26 @@ fn answers_of_limited() -> [Answer; 10] {
 fn verdicts_by_run(alloc: Global) -> Option<(bool, u64)> {
     let command = limited()?;
     let mut port = gigabit_port::<Stepped>(alloc, 128)?;
-    let mut answers = Vec::new(alloc);
-    let taken = port.run(&limited_events(&command), &mut answers).is_ok();
-    let so = answers.as_slice() == answers_of_limited().as_slice();
-    Some((taken && so, port.report().no_class))
+    let events = limited_events(&command);
+    let so = answers_just(alloc, &mut port, &events, &answers_of_limited());
+    Some((so, port.report().no_class))
 }
 
 #[test]
 fn verdicts_are_answered_and_counted_by_run(rt: HostRuntime) {
-    assert_eq!(rt; verdicts_by_run(rt.alloc()), Some((true, 1)));
+    assert!(rt; verdicts_by_run(rt.alloc()) == Some((true, 1)));
+}
+
+/// A command with a map of two classes.
+fn with_two_classes() -> Option<Command> {
+    let map = ClassMap::new(2, &[0, 1]).ok()?;
+    replace(&[entry(1, 100_000)], 20_000, Some(map))
 }
 
 /// Whether frames that wait are told and started so when a map comes.
 fn keep_their_class(alloc: Global) -> Option<bool> {
-    let map = ClassMap::new(2, &[0, 1]).ok()?;
-    let command = replace(&[entry(1, 100_000)], 20_000, Some(map))?;
+    let mut port = gigabit_port::<Plain>(alloc, 128)?;
+    let command = with_two_classes()?;
     let events = [
         Event::Arrive(frame(1, 7, 60)),
         Event::Install(&command),
@@ -380,14 +387,13 @@ fn keep_their_class(alloc: Global) -> Option<bool> {
         start(1, 7, 0, 672_000),
         start(2, 0, 672_000, 1_344_000),
     ];
-    let port = gigabit_port::<Plain>(alloc, 128);
-    Some(answers_just(alloc, port, &events, &want))
+    Some(answers_just(alloc, &mut port, &events, &want))
 }
 
 /// Frames that wait keep their class when a map comes.
 #[test]
 fn waiting_frames_keep_their_class(rt: HostRuntime) {
-    assert_eq!(rt; keep_their_class(rt.alloc()), Some(true));
+    assert!(rt; keep_their_class(rt.alloc()) == Some(true));
 }
 
 /// A list of events on a port with room for two frames a class, behind a gate that opens later.
@@ -436,13 +442,13 @@ fn closed_then_open() -> Option<Command> {
 fn fill_behind_a_closed_gate(alloc: Global) -> Option<bool> {
     let command = closed_then_open()?;
     let events = closed_at_first(&command);
-    let port = gigabit_port::<Stepped>(alloc, 2);
-    Some(answers_just(alloc, port, &events, &answers_of_closed_at_first()))
+    let mut port = gigabit_port::<Stepped>(alloc, 2)?;
+    Some(answers_just(alloc, &mut port, &events, &answers_of_closed_at_first()))
 }
 
 #[test]
 fn queues_fill_behind_a_closed_gate(rt: HostRuntime) {
-    assert_eq!(rt; fill_behind_a_closed_gate(rt.alloc()), Some(true));
+    assert!(rt; fill_behind_a_closed_gate(rt.alloc()) == Some(true));
 }
 
 #[test]
