@@ -184,12 +184,14 @@ impl Change {
     }
 }
 
-/// A frame of class 1 that takes 12.304 us fits into no entry of 5 us: 5,000,000 cycles later the change lets it start. Which is
-/// the first step whose answers or visits aren't those that are given; nothing where there is no port, or no command.
-fn starts_at_the_change(alloc: Global, change: &Change) -> Option<Result<(), usize>> {
-    let first = change.first()?;
-    let second = change.second()?;
-    let mut port = gigabit_port::<Jumping>(alloc, 8)?;
+/// Takes both schedules and a frame of class 1 on a new port, and then a far clock. Which is the first step whose answers or visits
+/// aren't those that are given.
+fn steps_to_the_change<'a>(
+    port: &mut Port<Jumping>,
+    change: &Change,
+    first: &'a Command,
+    second: &'a Command,
+) -> Result<(), usize> {
     let at = Answer::Installed(20_000_000);
     let then = Answer::Installed(1000 * u128::from(change.base));
     let queued = Answer::Queued { id: 1, class: 1 };
@@ -200,17 +202,26 @@ fn starts_at_the_change(alloc: Global, change: &Change) -> Option<Result<(), usi
         end: change.end,
     });
     let looks: [Looks<'_>; 5] = [
-        (Event::Install(&first), &[(at, 0)], 0),
+        (Event::Install(first), &[(at, 0)], 0),
         (Event::Clock(20_000_000), &[], 1),
         (Event::Arrive(frame(1, 1, 1514)), &[(queued, 1)], 1),
-        (Event::Install(&second), &[(then, 1)], 1),
+        (Event::Install(second), &[(then, 1)], 1),
         (
             Event::Clock(2_000_000_000_000_000),
             &[(start, change.visits[0])],
             change.visits[1],
         ),
     ];
-    Some(steps(&mut port, &looks))
+    steps(port, &looks)
+}
+
+/// A frame of class 1 that takes 12.304 us fits into no entry of 5 us: 5,000,000 cycles later the change lets it start. Which is
+/// the first step that comes out otherwise; nothing where there is no port, or no command.
+fn starts_at_the_change(alloc: Global, change: &Change) -> Option<Result<(), usize>> {
+    let first = change.first()?;
+    let second = change.second()?;
+    let mut port = gigabit_port::<Jumping>(alloc, 8)?;
+    Some(steps_to_the_change(&mut port, change, &first, &second))
 }
 
 /// Which is the first of these changes that comes out otherwise, and by which step.

@@ -127,13 +127,15 @@ fn answer_to_schedule<G: Gates>(
     port: &mut Port<G>,
     at: u128,
     given: &Given<'_>,
-) -> Option<Option<Answer>> {
+) -> Option<Answer> {
     let map = match port.report().classes {
         Some(_) => None,
         None => plain_map(),
     };
-    let command = command(given, map)?;
-    Some(answer(alloc, port, at, Event::Install(&command)))
+    match command(given, map) {
+        Some(command) => answer(alloc, port, at, Event::Install(&command)),
+        None => None,
+    }
 }
 
 /// Whether a report is of a moment and shows these commands in force, pending and announced.
@@ -142,18 +144,24 @@ fn shows(report: &Report, at: u128, shown: &[Option<Installed>; 3]) -> bool {
 }
 
 /// Whether a step comes out of a port as it has to, or isn't asked of a port.
-fn holds<G: Gates>(alloc: Global, port: &mut Port<G>, at: u128, step: &Step<'_>) -> Option<bool> {
-    Some(match step {
+fn holds<G: Gates>(alloc: Global, port: &mut Port<G>, at: u128, step: &Step<'_>) -> bool {
+    match step {
         Step::Install(given, want) => {
-            answer_to_schedule(alloc, port, at, given)? == installed(*want)
+            answer_to_schedule(alloc, port, at, given) == installed(*want)
         }
         Step::Delete(want) => {
             answer(alloc, port, at, Event::Install(&Command::Delete)) == installed(*want)
         }
-        Step::Mask(mask) => report(alloc, port, at)?.mask == *mask,
-        Step::Shown(shown) => shows(&report(alloc, port, at)?, at, shown),
+        Step::Mask(mask) => match report(alloc, port, at) {
+            Some(report) => report.mask == *mask,
+            None => false,
+        },
+        Step::Shown(shown) => match report(alloc, port, at) {
+            Some(report) => shows(&report, at, shown),
+            None => false,
+        },
         Step::Open(..) => true,
-    })
+    }
 }
 
 /// Plays on a port in which no frame waits.
@@ -163,7 +171,7 @@ fn play_on<G: Gates>(
     steps: &[(u128, Step<'_>)],
 ) -> Result<(), usize> {
     for (i, (at, step)) in steps.iter().enumerate() {
-        if *at < port.now() || holds(alloc, port, *at, step) != Some(true) {
+        if *at < port.now() || !holds(alloc, port, *at, step) {
             return Err(i);
         }
     }
