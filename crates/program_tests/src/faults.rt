@@ -293,10 +293,15 @@ const BAD_VALUES: [(&str, &str, &[u8]); 12] = [
 ];
 
 /// In what the answer to these words differs from a bad value that is told; empty where it doesn't.
-fn bad_value_differs_in(place: Place<'_>, words: &[&str], text: &[u8]) -> io::Result<&'static str> {
+fn bad_value_differs_in(
+    place: Place<'_>,
+    words: &[&str],
+    input: &[u8],
+    text: &[u8],
+) -> io::Result<&'static str> {
     place.differs_in(&Case {
         words,
-        input: b"x",
+        input,
         status: 2,
         answers: b"",
         errors: text,
@@ -310,7 +315,7 @@ fn first_value_to_differ(
     values: &[(&str, &str, &[u8])],
 ) -> io::Result<Found> {
     for (number, (option, value, text)) in values.iter().enumerate() {
-        let found = bad_value_differs_in(place, &[job, option, value], text)?;
+        let found = bad_value_differs_in(place, &[job, option, value], b"x", text)?;
         if !found.is_empty() {
             return Ok(Some((number, found)));
         }
@@ -351,7 +356,7 @@ fn of_a_replay_differs_in(
     let words = [
         "replay", name, value, until, moment, "no", "such", "file/out",
     ];
-    bad_value_differs_in(place, &words, text)
+    bad_value_differs_in(place, &words, b"", text)
 }
 
 /// The first of them that is told otherwise.
