@@ -142,6 +142,43 @@ fn have_all_left(answers: &[Answer]) -> bool {
     true
 }
 
+/// Whether a port goes on with the events that are left as if nothing had happened, behind the answers that it has given.
+fn goes_on(
+    alloc: Global,
+    port: &mut Port<Jumping>,
+    rest: &[Event<'static>],
+    few: &[Answer],
+) -> bool {
+    let Ok(mut all) = few.to_vec(alloc) else {
+        return false;
+    };
+    port.run(rest, &mut all) == Ok(()) && have_all_left(all.as_slice())
+}
+
+/// The forty frames in the run with this number: whether a growth was refused, how many events were taken before it, and whether all came
+/// out as it should. Nothing where there is no port.
+fn run_of_forty(
+    given: &Given,
+    alloc: Global,
+    events: &[Event<'static>],
+    run: u64,
+) -> Option<(bool, usize, bool)> {
+    let mut port = Port::<Jumping>::new(alloc, given.rate, 1500, 40).ok()?;
+    let heap = heap_of(alloc, run);
+    let mut few = Vec::new(&heap);
+    let taken = match port.run(events, &mut few) {
+        Ok(()) => events.len(),
+        Err(memory) => memory.taken,
+    };
+    let refused = is_refused(&heap, run);
+    let stopped = (taken < events.len()) == refused && taken <= few.len().saturating_add(1);
+    let goes_on = match events.get(taken..) {
+        Some(rest) => goes_on(alloc, &mut port, rest, few.as_slice()),
+        None => false,
+    };
+    Some((refused, taken, stopped && goes_on))
+}
+
 /// Forty frames through a port. Where memory is wanting, the events that are left go on as if nothing had happened, also where it is
 /// wanting between two starts of one clock event. A body that always says that it took no event fails, since the last runs want none.
 pub fn run_of_events(given: &Given, alloc: Global) -> Runs {
@@ -151,27 +188,11 @@ pub fn run_of_events(given: &Given, alloc: Global) -> Runs {
     let mut runs = Runs::none();
     let mut before = 0;
     for run in 0..16 {
-        let heap = heap_of(alloc, run);
-        let Ok(mut port) = Port::<Jumping>::new(alloc, given.rate, 1500, 40) else {
+        let Some((refused, taken, is_right)) = run_of_forty(given, alloc, &events, run) else {
             return Runs::failed();
         };
-        let mut few = Vec::new(&heap);
-        let taken = match port.run(&events, &mut few) {
-            Ok(()) => events.len(),
-            Err(memory) => memory.taken,
-        };
-        let refused = is_refused(&heap, run);
-        let stopped = (taken < events.len()) == refused;
-        let rises = before <= taken && taken <= few.len().saturating_add(1);
+        runs.count(refused, is_right && before <= taken);
         before = taken;
-        let Ok(mut all) = few.to_vec(alloc) else {
-            return Runs::failed();
-        };
-        let Some(rest) = events.get(taken..) else {
-            return Runs::failed();
-        };
-        let goes_on = port.run(rest, &mut all) == Ok(()) && have_all_left(all.as_slice());
-        runs.count(refused, stopped && rises && goes_on);
     }
     runs
 }

@@ -1,139 +1,222 @@
 //! Truncated and malicious input, and moments at the limits.
 
 use super::rows::{
-    Job, as_told, hundred_frames, replay_in_memory, settings, text_of, text_of_replay, to_the_end,
+    Job, as_told, hundred_frames, is_said, is_said_of_replay, replay_in_memory, settings,
+    to_the_end,
 };
 use capture::CapFault;
 use replay::{ReplayFault, Unwatched, replay};
-use schedule_check::check;
-use script::{RunFault, ScriptFault, run_script};
+use schedule_check::{CheckSettings, check};
+use script::{RunFault, ScriptFault, Settings, run_script};
+use std::alloc::Global;
 use std::test::Fail;
 use test_streams::{
     Counting, Pieces, Repeated, TWO_RECORDS, cut_capture, hostile_scripts, repeated_octets,
 };
 
+/// In what a script differs from what is answered and the text of how it ends. Empty where it doesn't.
+fn script_differs_in(
+    alloc: Global,
+    settings: Settings,
+    script: &[u8],
+    answers: &[u8],
+    text: &[u8],
+) -> &'static str {
+    let mut got = Vec::new(alloc);
+    let outcome = run_script(alloc, script, &mut got, settings);
+    if got.as_slice() != answers {
+        "answers"
+    } else if !is_said(alloc, outcome, text) {
+        "text"
+    } else {
+        ""
+    }
+}
+
 /// Scripts with what is answered and the text of how they end.
 #[test]
-fn scripts(rt: HostRuntime) -> Result<(), Fail> {
+fn scripts(rt: HostRuntime) {
+    let settings = settings(&rt, None);
     for (script, answers, text) in hostile_scripts() {
-        let mut got = Vec::new(rt.alloc());
-        let result = run_script(rt.alloc(), script, &mut got, settings(&rt, None));
-        assert_eq!(rt; got.as_slice(), answers);
-        assert_eq!(rt; text_of(rt.alloc(), result).as_slice(), text);
+        let differs = script_differs_in(rt.alloc(), settings, script, answers, text);
+        assert!(rt; differs.is_empty(), "{differs} of {script:?}");
     }
-    Ok(())
+}
+
+/// Whether an input as a script is answered by nothing, and this is said of it.
+fn is_script(alloc: Global, settings: Settings, input: Repeated, text: &[u8]) -> bool {
+    let mut got = Vec::new(alloc);
+    let outcome = run_script(alloc, input, &mut got, settings);
+    got.is_empty() && is_said(alloc, outcome, text)
+}
+
+/// Whether an input as schedule commands is answered by nothing, and this is said of it.
+fn are_commands(alloc: Global, settings: CheckSettings, input: Repeated, text: &[u8]) -> bool {
+    let mut got = Vec::new(alloc);
+    let outcome = check(alloc, input, &mut got, settings);
+    got.is_empty() && is_said(alloc, outcome, text)
 }
 
 /// Inputs of one octet, over and over, as a script and as schedule commands.
 #[test]
-fn one_octet_over_and_over(rt: HostRuntime) -> Result<(), Fail> {
+fn one_octet_over_and_over(rt: HostRuntime) {
+    let settings = settings(&rt, None);
     for (octet, times, last, text) in repeated_octets() {
-        let mut got = Vec::new(rt.alloc());
         let script = Repeated { octet, times, last };
-        let result = run_script(rt.alloc(), script, &mut got, settings(&rt, None));
-        assert_eq!(rt; text_of(rt.alloc(), result).as_slice(), text);
-        let script = Repeated { octet, times, last };
-        let result = check(rt.alloc(), script, &mut got, as_told(&rt));
-        assert_eq!(rt; text_of(rt.alloc(), result).as_slice(), text);
-        assert!(rt; got.is_empty());
+        assert!(rt;
+            is_script(rt.alloc(), settings, script, text),
+            "{octet} {times}"
+        );
+        let commands = Repeated { octet, times, last };
+        assert!(rt;
+            are_commands(rt.alloc(), as_told(&rt), commands, text),
+            "{octet} {times}"
+        );
     }
-    Ok(())
+}
+
+/// Whether this is said of an input as the script of a replay; nothing is told, and an output capture is begun where there is no fault.
+fn is_script_of_replay(alloc: Global, settings: Settings, input: Repeated, text: &[u8]) -> bool {
+    let mut report = Vec::new(alloc);
+    let mut departures = Vec::new(alloc);
+    let outcome = replay(
+        alloc,
+        input,
+        &TWO_RECORDS[..24],
+        &mut departures,
+        &mut report,
+        settings,
+        &mut Unwatched,
+    );
+    report.is_empty()
+        && departures.is_empty() != text.is_empty()
+        && is_said_of_replay(alloc, outcome, text)
 }
 
 /// The same as the script of a replay.
 #[test]
-fn one_octet_over_and_over_in_a_replay(rt: HostRuntime) -> Result<(), Fail> {
+fn one_octet_over_and_over_in_a_replay(rt: HostRuntime) {
+    let settings = to_the_end(&rt);
     for (octet, times, last, text) in repeated_octets() {
-        let mut report = Vec::new(rt.alloc());
-        let mut departures = Vec::new(rt.alloc());
-        let result = replay(
-            rt.alloc(),
-            Repeated { octet, times, last },
-            &TWO_RECORDS[..24],
-            &mut departures,
-            &mut report,
-            to_the_end(&rt),
-            &mut Unwatched,
+        let input = Repeated { octet, times, last };
+        assert!(rt;
+            is_script_of_replay(rt.alloc(), settings, input, text),
+            "{octet} {times}"
         );
-        assert_eq!(rt; text_of_replay(rt.alloc(), result).as_slice(), text);
-        assert!(rt; report.is_empty() && departures.is_empty() != text.is_empty());
     }
-    Ok(())
+}
+
+/// Whether two schedules of which so many octets are left are checked, or their last line has a fault where it is a word's front.
+fn is_checked(alloc: Global, settings: CheckSettings, cut: usize) -> bool {
+    let lines = Job::TwoSchedules.input();
+    let front = &lines[..cut.min(lines.len())];
+    let is_word = front.ends_with(b"\nt") || front == b"t".as_slice();
+    let line = if cut == 1 { 1 } else { 2 };
+    let fault = RunFault::Script(line, ScriptFault::UnknownLine);
+    let mut got = Vec::new(alloc);
+    check(alloc, front, &mut got, settings).err() == is_word.then_some(fault)
 }
 
 /// Two schedules are checked however they are cut, and a cut says so at most as the faults of a line do.
 #[test]
-fn schedules_that_are_cut(rt: HostRuntime) -> Result<(), Fail> {
-    let lines = Job::TwoSchedules.input();
-    for cut in 0..=lines.len() {
-        let front = &lines[..cut];
-        let mut got = Vec::new(rt.alloc());
-        let result = check(rt.alloc(), front, &mut got, as_told(&rt));
-        let is_word = front.ends_with(b"\nt") || front == b"t".as_slice();
-        let line = if cut == 1 { 1 } else { 2 };
-        let fault = RunFault::Script(line, ScriptFault::UnknownLine);
-        assert_eq!(rt; result.err(), is_word.then_some(fault));
+fn schedules_that_are_cut(rt: HostRuntime) {
+    for cut in 0..=Job::TwoSchedules.input().len() {
+        assert!(rt; is_checked(rt.alloc(), as_told(&rt), cut), "at {cut}");
     }
-    Ok(())
+}
+
+/// In what the replay of the first octets of a capture of two frames, so many, differs from what is wanted. Empty where it doesn't.
+fn cut_differs_in(alloc: Global, settings: Settings, cut: usize) -> &'static str {
+    let front = &TWO_RECORDS[..cut.min(TWO_RECORDS.len())];
+    let got = replay_in_memory(alloc, front, settings);
+    let want = cut_capture(cut);
+    if got.report.as_slice() != want.report {
+        "report"
+    } else if got.capture.as_slice() != want.departures {
+        "output capture"
+    } else if !is_said_of_replay(alloc, got.result, want.text) {
+        "text"
+    } else {
+        ""
+    }
 }
 
 /// The capture of two frames, cut behind each of its octets.
 #[test]
-fn two_frames_that_are_cut(rt: HostRuntime) -> Result<(), Fail> {
+fn two_frames_that_are_cut(rt: HostRuntime) {
+    let settings = to_the_end(&rt);
     for cut in 0..=TWO_RECORDS.len() {
-        let got = replay_in_memory(rt.alloc(), &TWO_RECORDS[..cut], to_the_end(&rt));
-        let want = cut_capture(cut);
-        assert_eq!(rt; got.report.as_slice(), want.report);
-        assert_eq!(rt; got.capture.as_slice(), want.departures);
-        assert_eq!(rt;
-            text_of_replay(rt.alloc(), got.result).as_slice(),
-            want.text
-        );
+        let differs = cut_differs_in(rt.alloc(), settings, cut);
+        assert!(rt; differs.is_empty(), "{differs} at {cut}");
     }
-    Ok(())
+}
+
+/// Whether the whole records of the first octets of a capture of frames of 60 octets, so many, leave, and the fault is that of the rest.
+fn is_cut(alloc: Global, settings: Settings, octets: &[u8], cut: u32) -> bool {
+    let records = cut.saturating_sub(24) / 76;
+    let rest = cut.saturating_sub(24) % 76;
+    let fault = ReplayFault::Capture(records, CapFault::ShortRecord);
+    let front = &octets[..(cut as usize).min(octets.len())];
+    let whole = &front[..front.len().saturating_sub(rest as usize)];
+    let got = replay_in_memory(alloc, front, settings);
+    got.result.err() == (rest > 0).then_some(fault) && got.capture.as_slice() == whole
 }
 
 /// A capture of a hundred frames, cut behind each of its first 399 octets: the whole records before the cut leave, and the fault is that of the rest.
 #[test]
 fn captures_that_are_cut(rt: HostRuntime) -> Result<(), Fail> {
     let capture = hundred_frames(rt.alloc())?;
-    let octets = capture.as_slice();
-    for cut in 24..octets.len().min(400) {
-        let got = replay_in_memory(rt.alloc(), &octets[..cut], to_the_end(&rt));
-        let records = (cut - 24) / 76;
-        let whole = 24 + 76 * records;
-        let fault = ReplayFault::Capture(records as u32, CapFault::ShortRecord);
-        assert_eq!(rt; got.result.err(), (cut != whole).then_some(fault));
-        assert_eq!(rt; got.capture.as_slice(), &octets[..whole.min(octets.len())]);
+    let settings = to_the_end(&rt);
+    for cut in 24..400u32 {
+        assert!(rt;
+            is_cut(rt.alloc(), settings, capture.as_slice(), cut),
+            "at {cut}"
+        );
     }
     Ok(())
 }
 
+/// Whether a capture of a hundred frames with one octet of its header changed has this fault, where nothing is written, or none.
+fn is_header(
+    alloc: Global,
+    settings: Settings,
+    at: usize,
+    octet: u8,
+    fault: Option<CapFault>,
+) -> bool {
+    let Ok(mut capture) = hundred_frames(alloc) else {
+        return false;
+    };
+    if let Some(place) = capture.get_mut(at) {
+        *place = octet;
+    }
+    let got = replay_in_memory(alloc, capture.as_slice(), settings);
+    match fault {
+        Some(fault) => {
+            got.result == Err(ReplayFault::Capture(0, fault))
+                && got.report.is_empty()
+                && got.capture.is_empty()
+        }
+        None => got.result == Ok(()),
+    }
+}
+
 /// The header of a capture with one octet changed, and what comes of it.
 #[test]
-fn headers(rt: HostRuntime) -> Result<(), Fail> {
+fn headers(rt: HostRuntime) {
     let rows = [
         (0, 0, Some(CapFault::BadMagic)),
         (4, 3, Some(CapFault::BadVersion)),
         (20, 113, Some(CapFault::BadLink)),
         (18, 0, None),
     ];
+    let settings = to_the_end(&rt);
     for (at, octet, fault) in rows {
-        let mut capture = hundred_frames(rt.alloc())?;
-        let octets = capture.as_mut_slice();
-        if at < octets.len() {
-            octets[at] = octet;
-        }
-        let got = replay_in_memory(rt.alloc(), capture.as_slice(), to_the_end(&rt));
-        match fault {
-            Some(fault) => {
-                assert_eq!(rt; got.result, Err(ReplayFault::Capture(0, fault)));
-                assert!(rt; got.report.is_empty() && got.capture.is_empty());
-            }
-            None => assert_eq!(rt; got.result, Ok(())),
-        }
+        assert!(rt;
+            is_header(rt.alloc(), settings, at, octet, fault),
+            "at {at}"
+        );
     }
-    Ok(())
 }
 
 /// The header of a capture in microseconds, and of a record: its fraction, its captured and its original length, big-endian.
@@ -149,84 +232,101 @@ fn one_record(fraction: u32, captured: u32, original: u32) -> [u8; 40] {
     octets
 }
 
-/// Records at the limits of their fields.
-#[test]
-fn records(rt: HostRuntime) -> Result<(), Fail> {
-    let rows = [
-        (
-            1_000_000,
-            262_145,
-            60,
-            Err(ReplayFault::Capture(0, CapFault::LongRecord)),
-        ),
-        (
-            0,
-            u32::MAX,
-            u32::MAX,
-            Err(ReplayFault::Capture(0, CapFault::LongRecord)),
-        ),
-        (
-            1_000_000,
-            0,
-            60,
-            Err(ReplayFault::Capture(0, CapFault::BadFraction)),
-        ),
-        (
-            u32::MAX,
-            0,
-            60,
-            Err(ReplayFault::Capture(0, CapFault::BadFraction)),
-        ),
-        (
-            0,
-            262_144,
-            60,
-            Err(ReplayFault::Capture(0, CapFault::ShortRecord)),
-        ),
-        (999_999, 0, 60, Ok(())),
-        (0, 0, u32::MAX, Ok(())),
-    ];
-    for (fraction, captured, original, result) in rows {
-        let octets = one_record(fraction, captured, original);
-        let got = replay_in_memory(rt.alloc(), octets.as_slice(), to_the_end(&rt));
-        assert_eq!(rt; got.result, result);
-        assert!(rt; got.capture.len() >= 24);
-    }
-    let got = replay_in_memory(
-        rt.alloc(),
-        one_record(999_999, 0, 60).as_slice(),
-        to_the_end(&rt),
-    );
-    assert_eq!(rt;
-        got.report.as_slice(),
-        b"queued 0 class 0\nstart 0 class 0 at 999999000000 end 999999672000\n".as_slice()
-    );
-    Ok(())
+/// Records at the limits of their fields, with what comes of them.
+static RECORDS: [(u32, u32, u32, Result<(), ReplayFault>); 7] = [
+    (
+        1_000_000,
+        262_145,
+        60,
+        Err(ReplayFault::Capture(0, CapFault::LongRecord)),
+    ),
+    (
+        0,
+        u32::MAX,
+        u32::MAX,
+        Err(ReplayFault::Capture(0, CapFault::LongRecord)),
+    ),
+    (
+        1_000_000,
+        0,
+        60,
+        Err(ReplayFault::Capture(0, CapFault::BadFraction)),
+    ),
+    (
+        u32::MAX,
+        0,
+        60,
+        Err(ReplayFault::Capture(0, CapFault::BadFraction)),
+    ),
+    (
+        0,
+        262_144,
+        60,
+        Err(ReplayFault::Capture(0, CapFault::ShortRecord)),
+    ),
+    (999_999, 0, 60, Ok(())),
+    (0, 0, u32::MAX, Ok(())),
+];
+
+/// Whether this comes of a record, and an output capture is begun.
+fn is_record(
+    alloc: Global,
+    settings: Settings,
+    octets: &[u8],
+    outcome: Result<(), ReplayFault>,
+) -> bool {
+    let got = replay_in_memory(alloc, octets, settings);
+    got.result == outcome && got.capture.len() >= 24
 }
 
-/// A capture without end: 4,000,000 records of no octets are told, and then the fault.
+/// Whether this is told of a capture.
+fn is_reported(alloc: Global, settings: Settings, octets: &[u8], report: &[u8]) -> bool {
+    replay_in_memory(alloc, octets, settings).report.as_slice() == report
+}
+
+/// Records at the limits of their fields.
 #[test]
-fn a_capture_without_end(rt: HostRuntime) -> Result<(), Fail> {
+fn records(rt: HostRuntime) {
+    let settings = to_the_end(&rt);
+    for (fraction, captured, original, result) in &RECORDS {
+        let octets = one_record(*fraction, *captured, *original);
+        assert!(rt;
+            is_record(rt.alloc(), settings, &octets, *result),
+            "{fraction} {captured}"
+        );
+    }
+    let octets = one_record(999_999, 0, 60);
+    let report = b"queued 0 class 0\nstart 0 class 0 at 999999000000 end 999999672000\n";
+    assert!(rt; is_reported(rt.alloc(), settings, &octets, report));
+}
+
+/// What a replay of a capture without end answers, and how many octets it tells and writes.
+fn replay_without_end(alloc: Global, settings: Settings) -> (Result<(), ReplayFault>, u64, u64) {
     let header = one_record(0, 0, 0);
     let mut endless = Pieces::new(&header[..24], usize::MAX);
     endless.zeros = usize::MAX;
     let mut report = Counting { octets: 0 };
     let mut written = Counting { octets: 0 };
     let result = replay(
-        rt.alloc(),
+        alloc,
         b"".as_slice(),
         endless,
         &mut written,
         &mut report,
-        settings(&rt, Some(0)),
+        settings,
         &mut Unwatched,
     );
-    assert_eq!(rt;
-        result,
-        Err(ReplayFault::Capture(4_000_000, CapFault::TooManyRecords))
-    );
-    assert_eq!(rt; written.octets, 24);
+    (result, report.octets, written.octets)
+}
+
+/// A capture without end: 4,000,000 records of no octets are told, and then the fault.
+#[test]
+fn a_capture_without_end(rt: HostRuntime) {
+    let fault = ReplayFault::Capture(4_000_000, CapFault::TooManyRecords);
     // 4,000,000 lines of 14 octets and a number: 10 of one digit, 90 of two, and so on.
-    assert_eq!(rt; report.octets, 56_000_000 + 26_888_890);
-    Ok(())
+    let told = 56_000_000 + 26_888_890;
+    assert_eq!(rt;
+        replay_without_end(rt.alloc(), settings(&rt, Some(0))),
+        (Err(fault), told, 24)
+    );
 }

@@ -25,19 +25,22 @@ struct Replays {
 
 /// The growths of each call that can want memory.
 fn each_growth(given: &Given, alloc: Global, replays: &Replays) -> [(&'static str, Runs); 10] {
-    let of_job = |job| growths::of_job(given, alloc, job);
-    let of_replay = |replaying| growths::of_replay(given, alloc, replaying);
+    let one = growths::of_job(given, alloc, Job::OneFrame);
+    let full = growths::of_job(given, alloc, Job::FullQueue);
+    let two = growths::of_job(given, alloc, Job::TwoSchedules);
+    let two_frames = growths::of_replay(given, alloc, &replays.two);
+    let hundred_frames = growths::of_replay(given, alloc, &replays.hundred);
     [
         ("a queue", growths::queue(alloc)),
         ("a port", growths::port(given, alloc)),
         ("a reader of lines", growths::line_reader(alloc)),
         ("a reader of a capture", growths::capture_reader(alloc)),
         ("a run of events", growths::run_of_events(given, alloc)),
-        ("a script of one frame", of_job(Job::OneFrame)),
-        ("a script with a full queue", of_job(Job::FullQueue)),
-        ("a check of two schedules", of_job(Job::TwoSchedules)),
-        ("a replay of two frames", of_replay(&replays.two)),
-        ("a replay of a hundred frames", of_replay(&replays.hundred)),
+        ("a script of one frame", one),
+        ("a script with a full queue", full),
+        ("a check of two schedules", two),
+        ("a replay of two frames", two_frames),
+        ("a replay of a hundred frames", hundred_frames),
     ]
 }
 
@@ -95,47 +98,74 @@ fn reads_and_writes(
         streams::PIECES_OF_A_HUNDRED_FRAMES,
         streams::WRITES_OF_A_HUNDRED_FRAMES,
     );
-    let of_job = |job| of_job(given, alloc, job);
+    let one = of_job(given, alloc, Job::OneFrame);
+    let full = of_job(given, alloc, Job::FullQueue);
+    let two = of_job(given, alloc, Job::TwoSchedules);
     [
-        ("a script of one frame", of_job(Job::OneFrame)),
-        ("a script with a full queue", of_job(Job::FullQueue)),
-        ("a check of two schedules", of_job(Job::TwoSchedules)),
+        ("a script of one frame", one),
+        ("a script with a full queue", full),
+        ("a check of two schedules", two),
         ("a replay of two frames", of_two),
         ("a replay of a hundred frames", of_hundred),
     ]
+}
+
+/// What is printed: the growths of each call, and its reads and writes.
+#[derive(Clone, Copy)]
+struct Counts {
+    growths: [(&'static str, Runs); 10],
+    streams: [(&'static str, (Runs, Runs)); 5],
+}
+
+/// Makes all runs.
+fn count_all(given: &Given, alloc: Global) -> io::Result<Counts> {
+    let replays = Replays {
+        two: Replaying::two_frames(alloc)?,
+        hundred: Replaying::hundred_frames(alloc)?,
+    };
+    Ok(Counts {
+        growths: each_growth(given, alloc, &replays),
+        streams: reads_and_writes(given, alloc, &replays),
+    })
+}
+
+/// Prints of runs how many met what was put in their way, and how many met none of it.
+fn print_runs(rt: &impl Print, call: &str, what: &str, runs: Runs) -> io::Result<()> {
+    println!(rt;
+        "{call}: {} runs with {what}, {} without",
+        runs.met, runs.free
+    )
+}
+
+/// Prints the growths, and answers how many runs those are.
+fn print_growths(rt: &impl Print, counts: &Counts) -> io::Result<Runs> {
+    let mut all = Runs::none();
+    for (call, runs) in &counts.growths {
+        print_runs(rt, call, "a growth refused", *runs)?;
+        all.add(*runs);
+    }
+    Ok(all)
+}
+
+/// Prints the reads and the writes, and answers how many runs those are.
+fn print_streams(rt: &impl Print, counts: &Counts) -> io::Result<Runs> {
+    let mut all = Runs::none();
+    for (call, (read, written)) in &counts.streams {
+        print_runs(rt, call, "a read turned", *read)?;
+        print_runs(rt, call, "a write turned", *written)?;
+        all.add(*read);
+        all.add(*written);
+    }
+    Ok(all)
 }
 
 fn main(rt: HostRuntime) -> io::Result<()> {
     let Some(given) = Given::new() else {
         return println!(rt; "no settings");
     };
-    let replays = Replays {
-        two: Replaying::two_frames(rt.alloc())?,
-        hundred: Replaying::hundred_frames(rt.alloc())?,
-    };
-    let mut all = Runs::none();
-    for (what, runs) in each_growth(&given, rt.alloc(), &replays) {
-        println!(rt;
-            "{what}: {} runs with a growth refused, {} without",
-            runs.met, runs.free
-        )?;
-        all.add(runs);
-    }
-    for (what, (read, written)) in reads_and_writes(&given, rt.alloc(), &replays) {
-        println!(rt;
-            "{what}: {} runs with a read turned, {} without",
-            read.met, read.free
-        )?;
-        println!(rt;
-            "{what}: {} runs with a write turned, {} without",
-            written.met, written.free
-        )?;
-        all.add(read);
-        all.add(written);
-    }
-    println!(rt;
-        "in all: {} runs with one refused or turned, {} without",
-        all.met, all.free
-    )?;
+    let counts = count_all(&given, rt.alloc())?;
+    let mut all = print_growths(&rt, &counts)?;
+    all.add(print_streams(&rt, &counts)?);
+    print_runs(&rt, "in all", "one refused or turned", all)?;
     println!(rt; "{} of them came out otherwise than they should", all.wrong)
 }

@@ -1,12 +1,12 @@
 //! Random scripts, schedule commands and captures from a seed, valid and mutated: each is fed twice, ends as one that lies in memory may
 //! end, the second time as the first, and writes no more than its input can call for.
 
-use super::rows::{as_told, settings};
-use replay::{ReplayFault, Unwatched, replay};
-use schedule_check::check;
-use script::{RunFault, run_script};
+use super::rows::{Replayed, as_told, replay_with_lines, settings};
+use replay::ReplayFault;
+use schedule_check::{CheckSettings, check};
+use script::{RunFault, Settings, run_script};
 use std::alloc::Global;
-use std::process::Abort;
+use std::io;
 use std::test::Fail;
 use test_streams::TWO_RECORDS;
 
@@ -81,6 +81,9 @@ const LENGTHS: [&str; 8] = ["0", "13", "14", "60", "1514", "1518", "9234", "4294
 /// Masks of entries.
 const MASKS: [&str; 6] = ["00", "01", "0x81", "7f", "ff", "100"];
 
+/// The classes.
+const CLASSES: [&str; 8] = ["0", "1", "2", "3", "4", "5", "6", "7"];
+
 /// The heads of schedule commands.
 const HEADS: [&str; 6] = [
     "tc qdisc replace dev eth0 root taprio",
@@ -91,88 +94,91 @@ const HEADS: [&str; 6] = [
     "tc qdisc del dev eth0 root",
 ];
 
+/// Adds words, one behind the other.
+fn add(lines: &mut Vec<u8>, words: &[&str]) -> io::Result<()> {
+    for word in words {
+        lines.extend_from_slice(word.as_bytes())?;
+    }
+    Ok(())
+}
+
 /// Adds a schedule command with up to four entries.
-fn add_command(numbers: &mut Numbers, alloc: Global, lines: &mut Vec<u8>) -> Result<(), Fail> {
+fn add_command(numbers: &mut Numbers, lines: &mut Vec<u8>) -> io::Result<()> {
     let head = numbers.one_of(&HEADS);
     let base = numbers.one_of(&TIMES);
-    lines.extend_from_slice(format!(in alloc; "{head} base-time {base}")?.as_bytes())?;
+    add(lines, &[head, " base-time ", base])?;
     if numbers.below(4) == 0 {
-        let cycle = numbers.one_of(&TIMES);
-        lines.extend_from_slice(format!(in alloc; " \\\n cycle-time {cycle}")?.as_bytes())?;
+        add(lines, &[" \\\n cycle-time ", numbers.one_of(&TIMES)])?;
     }
     for _ in 0..numbers.below(5) {
         let mask = numbers.one_of(&MASKS);
         let interval = numbers.one_of(&TIMES);
-        lines.extend_from_slice(format!(in alloc; " sched-entry S {mask} {interval}")?.as_bytes())?;
+        add(lines, &[" sched-entry S ", mask, " ", interval])?;
     }
-    lines.push(b'\n')?;
-    Ok(())
+    add(lines, &["\n"])
 }
 
 /// Adds a line of a script without frames.
-fn add_line(numbers: &mut Numbers, alloc: Global, lines: &mut Vec<u8>) -> Result<(), Fail> {
+fn add_line(numbers: &mut Numbers, lines: &mut Vec<u8>) -> io::Result<()> {
     match numbers.below(6) {
-        0 => lines.extend_from_slice(b"query\n")?,
-        1 => {
-            let class = numbers.below(8);
-            lines.extend_from_slice(format!(in alloc; "count {class}\n")?.as_bytes())?;
-        }
-        2 => lines.extend_from_slice(b"# nothing \\\n \xff\n\n")?,
-        3 => add_command(numbers, alloc, lines)?,
-        _ => {
-            let moment = numbers.one_of(&MOMENTS);
-            lines.extend_from_slice(format!(in alloc; "clock {moment}\n")?.as_bytes())?;
-        }
+        0 => add(lines, &["query\n"]),
+        1 => add(lines, &["count ", numbers.one_of(&CLASSES), "\n"]),
+        2 => Ok(lines.extend_from_slice(b"# nothing \\\n \xff\n\n")?),
+        3 => add_command(numbers, lines),
+        _ => add(lines, &["clock ", numbers.one_of(&MOMENTS), "\n"]),
     }
-    Ok(())
 }
 
 /// Adds a frame that arrives.
-fn add_frame(numbers: &mut Numbers, alloc: Global, lines: &mut Vec<u8>) -> Result<(), Fail> {
+fn add_frame(numbers: &mut Numbers, alloc: Global, lines: &mut Vec<u8>) -> io::Result<()> {
     let id = numbers.draw();
     let priority = numbers.below(17);
     let length = numbers.one_of(&LENGTHS);
     let tag = numbers.one_of(&["", " tagged"]);
     let line = format!(in alloc; "frame {id} {priority} {length}{tag}\n")?;
-    lines.extend_from_slice(line.as_bytes())?;
-    Ok(())
+    Ok(lines.extend_from_slice(line.as_bytes())?)
 }
 
 /// A script of up to thirty lines, with frames or without.
-fn random_script(numbers: &mut Numbers, alloc: Global, with_frames: bool) -> Result<Vec<u8>, Fail> {
+fn random_script(numbers: &mut Numbers, alloc: Global, with_frames: bool) -> io::Result<Vec<u8>> {
     let mut lines = Vec::new(alloc);
     for _ in 0..numbers.below(31) {
         if with_frames && numbers.below(2) == 0 {
             add_frame(numbers, alloc, &mut lines)?;
         } else {
-            add_line(numbers, alloc, &mut lines)?;
+            add_line(numbers, &mut lines)?;
         }
     }
     Ok(lines)
 }
 
 /// Up to eight schedule commands.
-fn random_commands(numbers: &mut Numbers, alloc: Global) -> Result<Vec<u8>, Fail> {
+fn random_commands(numbers: &mut Numbers, alloc: Global) -> io::Result<Vec<u8>> {
     let mut lines = Vec::new(alloc);
     for _ in 0..numbers.below(9) {
-        add_command(numbers, alloc, &mut lines)?;
+        add_command(numbers, &mut lines)?;
     }
     Ok(lines)
 }
 
+/// Adds a record, perhaps with a tag.
+fn add_record(numbers: &mut Numbers, octets: &mut Vec<u8>) -> io::Result<()> {
+    let seconds = numbers.field(3);
+    let fraction = numbers.field(1_000_000);
+    let original = numbers.field(2000);
+    for field in [seconds, fraction, 18, original] {
+        octets.extend_from_slice(&field.to_be_bytes())?;
+    }
+    octets.extend_from_slice(&TWO_RECORDS[40..54])?;
+    octets.push(numbers.octet())?;
+    Ok(octets.extend_from_slice(&TWO_RECORDS[55..58])?)
+}
+
 /// A capture of up to thirty records, with a tag in some.
-fn random_capture(numbers: &mut Numbers, alloc: Global) -> Result<Vec<u8>, Fail> {
+fn random_capture(numbers: &mut Numbers, alloc: Global) -> io::Result<Vec<u8>> {
     let mut octets = Vec::from_slice(alloc, &TWO_RECORDS[..24])?;
     for _ in 0..numbers.below(31) {
-        let seconds = numbers.field(3);
-        let fraction = numbers.field(1_000_000);
-        let original = numbers.field(2000);
-        for field in [seconds, fraction, 18, original] {
-            octets.extend_from_slice(&field.to_be_bytes())?;
-        }
-        octets.extend_from_slice(&TWO_RECORDS[40..54])?;
-        octets.push(numbers.octet())?;
-        octets.extend_from_slice(&TWO_RECORDS[55..58])?;
+        add_record(numbers, &mut octets)?;
     }
     Ok(octets)
 }
@@ -203,47 +209,68 @@ fn lines_in(octets: &[u8]) -> usize {
         .saturating_add(1)
 }
 
+/// What is fed with lines, and its settings.
+#[derive(Clone, Copy)]
+enum Feeding {
+    Script(Settings),
+    Check(CheckSettings),
+}
+
 /// What a script or a check answers, and what it writes.
-fn answered(
-    rt: &impl Abort,
-    alloc: Global,
-    lines: &[u8],
-    checks: bool,
-) -> (Result<(), RunFault>, Vec<u8>) {
+fn answered(alloc: Global, lines: &[u8], feeding: Feeding) -> (Result<(), RunFault>, Vec<u8>) {
     let mut got = Vec::new(alloc);
-    let outcome = if checks {
-        check(alloc, lines, &mut got, as_told(rt))
-    } else {
-        run_script(alloc, lines, &mut got, settings(rt, Some(1_000_000_000)))
+    let outcome = match feeding {
+        Feeding::Script(settings) => run_script(alloc, lines, &mut got, settings),
+        Feeding::Check(settings) => check(alloc, lines, &mut got, settings),
     };
     (outcome, got)
 }
 
+/// Whether lines are answered so, and this is written.
+fn is_answered(
+    alloc: Global,
+    lines: &[u8],
+    feeding: Feeding,
+    outcome: Result<(), RunFault>,
+    written: &[u8],
+) -> bool {
+    let (again, got) = answered(alloc, lines, feeding);
+    again == outcome && got.as_slice() == written
+}
+
 /// Feeds lines twice. A line has at most five lines of an answer, and a frame one more, when it starts; at the end are a clock event
-/// and what is left of eight classes. Answers whether there was no fault.
-fn feed_lines(rt: &impl Abort, alloc: Global, lines: &[u8], checks: bool) -> bool {
-    let (outcome, got) = answered(rt, alloc, lines, checks);
-    let (again, written) = answered(rt, alloc, lines, checks);
-    assert_eq!(rt; again, outcome);
-    assert_eq!(rt; written.as_slice(), got.as_slice());
-    assert!(rt; matches!(outcome, Ok(()) | Err(RunFault::Script(_, _))));
-    let most = if checks {
-        lines_in(lines)
-    } else {
-        lines_in(lines).saturating_mul(6).saturating_add(9)
+/// and what is left of eight classes. Answers whether there was no fault, or what is wrong.
+fn feed_lines(alloc: Global, lines: &[u8], feeding: Feeding) -> Result<bool, &'static str> {
+    let (outcome, got) = answered(alloc, lines, feeding);
+    let most = match feeding {
+        Feeding::Script(_) => lines_in(lines).saturating_mul(6).saturating_add(9),
+        Feeding::Check(_) => lines_in(lines),
     };
-    assert!(rt; lines_in(&got) <= most.saturating_add(1));
-    outcome.is_ok()
+    if !matches!(outcome, Ok(()) | Err(RunFault::Script(_, _))) {
+        Err("a fault of memory, a read or a write")
+    } else if !is_answered(alloc, lines, feeding, outcome, &got) {
+        Err("the second run differs")
+    } else if lines_in(&got) > most.saturating_add(1) {
+        Err("too many lines")
+    } else {
+        Ok(outcome.is_ok())
+    }
+}
+
+/// Makes a script and feeds it. Answers whether there was no fault.
+fn feed_script(numbers: &mut Numbers, alloc: Global, settings: Settings) -> Result<bool, Fail> {
+    let mut lines = random_script(numbers, alloc, true)?;
+    mutate(numbers, &mut lines);
+    Ok(feed_lines(alloc, &lines, Feeding::Script(settings))?)
 }
 
 #[test]
 fn random_scripts(rt: HostRuntime) -> Result<(), Fail> {
+    let settings = settings(&rt, Some(1_000_000_000));
     let mut numbers = Numbers { state: 1 };
     let mut whole = 0u32;
     for _ in 0..INPUTS {
-        let mut lines = random_script(&mut numbers, rt.alloc(), true)?;
-        mutate(&mut numbers, &mut lines);
-        if feed_lines(&rt, rt.alloc(), &lines, false) {
+        if feed_script(&mut numbers, rt.alloc(), settings)? {
             whole = whole.saturating_add(1);
         }
     }
@@ -251,14 +278,23 @@ fn random_scripts(rt: HostRuntime) -> Result<(), Fail> {
     Ok(())
 }
 
+/// Makes schedule commands and feeds them. Answers whether there was no fault.
+fn feed_commands(
+    numbers: &mut Numbers,
+    alloc: Global,
+    settings: CheckSettings,
+) -> Result<bool, Fail> {
+    let mut lines = random_commands(numbers, alloc)?;
+    mutate(numbers, &mut lines);
+    Ok(feed_lines(alloc, &lines, Feeding::Check(settings))?)
+}
+
 #[test]
 fn random_schedules(rt: HostRuntime) -> Result<(), Fail> {
     let mut numbers = Numbers { state: 2 };
     let mut whole = 0u32;
     for _ in 0..INPUTS {
-        let mut lines = random_commands(&mut numbers, rt.alloc())?;
-        mutate(&mut numbers, &mut lines);
-        if feed_lines(&rt, rt.alloc(), &lines, true) {
+        if feed_commands(&mut numbers, rt.alloc(), as_told(&rt))? {
             whole = whole.saturating_add(1);
         }
     }
@@ -266,57 +302,71 @@ fn random_schedules(rt: HostRuntime) -> Result<(), Fail> {
     Ok(())
 }
 
-/// What a replay answers, its report, and its output capture.
-fn replayed(
-    rt: &impl Abort,
+/// Whether a script and a capture are answered and written so.
+fn is_replayed(
     alloc: Global,
     lines: &[u8],
     capture: &[u8],
-) -> (Result<(), ReplayFault>, Vec<u8>, Vec<u8>) {
-    let mut report = Vec::new(alloc);
-    let mut departures = Vec::new(alloc);
-    let outcome = replay(
-        alloc,
-        lines,
-        capture,
-        &mut departures,
-        &mut report,
-        settings(rt, Some(4_000_000_000_000)),
-        &mut Unwatched,
-    );
-    (outcome, report, departures)
+    settings: Settings,
+    wanted: &Replayed,
+) -> bool {
+    let again = replay_with_lines(alloc, lines, capture, settings);
+    again.result == wanted.result
+        && again.report.as_slice() == wanted.report.as_slice()
+        && again.capture.as_slice() == wanted.capture.as_slice()
+}
+
+/// Whether this may come of a capture of so many octets that lies in memory.
+fn may_come(outcome: Result<(), ReplayFault>, octets: usize) -> bool {
+    match outcome {
+        Ok(()) | Err(ReplayFault::Script(_, _)) => true,
+        Err(ReplayFault::Capture(record, _)) => record as usize <= octets / 16,
+        _ => false,
+    }
 }
 
 /// Feeds a script and a capture twice. A record has at most two lines, and what leaves is no longer than what came. Answers whether there
-/// was no fault.
-fn feed_replay(rt: &impl Abort, alloc: Global, lines: &[u8], capture: &[u8]) -> bool {
-    let (outcome, report, departures) = replayed(rt, alloc, lines, capture);
-    let (again, same_report, same_departures) = replayed(rt, alloc, lines, capture);
-    assert_eq!(rt; again, outcome);
-    assert_eq!(rt; same_report.as_slice(), report.as_slice());
-    assert_eq!(rt; same_departures.as_slice(), departures.as_slice());
-    let may_come = match outcome {
-        Ok(()) | Err(ReplayFault::Script(_, _)) => true,
-        Err(ReplayFault::Capture(record, _)) => record as usize <= capture.len() / 16,
-        _ => false,
-    };
-    assert!(rt; may_come);
-    let lines = lines_in(lines).saturating_mul(5).saturating_add(10);
-    assert!(rt; lines_in(&report) <= lines.saturating_add(capture.len() / 16 * 2));
-    assert!(rt; departures.len() <= capture.len());
-    outcome.is_ok()
+/// was no fault, or what is wrong.
+fn feed_replay(
+    alloc: Global,
+    lines: &[u8],
+    capture: &[u8],
+    settings: Settings,
+) -> Result<bool, &'static str> {
+    let got = replay_with_lines(alloc, lines, capture, settings);
+    let most = lines_in(lines)
+        .saturating_mul(5)
+        .saturating_add(10)
+        .saturating_add(capture.len() / 16 * 2);
+    if !may_come(got.result, capture.len()) {
+        Err("a fault that can't be")
+    } else if !is_replayed(alloc, lines, capture, settings, &got) {
+        Err("the second run differs")
+    } else if lines_in(&got.report) > most {
+        Err("too many lines")
+    } else if got.capture.len() > capture.len() {
+        Err("too long an output capture")
+    } else {
+        Ok(got.result.is_ok())
+    }
+}
+
+/// Makes a script and a capture and feeds them. Answers whether there was no fault.
+fn feed_capture(numbers: &mut Numbers, alloc: Global, settings: Settings) -> Result<bool, Fail> {
+    let mut lines = random_script(numbers, alloc, false)?;
+    let mut capture = random_capture(numbers, alloc)?;
+    mutate(numbers, &mut lines);
+    mutate(numbers, &mut capture);
+    Ok(feed_replay(alloc, &lines, &capture, settings)?)
 }
 
 #[test]
 fn random_captures(rt: HostRuntime) -> Result<(), Fail> {
+    let settings = settings(&rt, Some(4_000_000_000_000));
     let mut numbers = Numbers { state: 3 };
     let mut whole = 0u32;
     for _ in 0..INPUTS {
-        let mut lines = random_script(&mut numbers, rt.alloc(), false)?;
-        let mut capture = random_capture(&mut numbers, rt.alloc())?;
-        mutate(&mut numbers, &mut lines);
-        mutate(&mut numbers, &mut capture);
-        if feed_replay(&rt, rt.alloc(), &lines, &capture) {
+        if feed_capture(&mut numbers, rt.alloc(), settings)? {
             whole = whole.saturating_add(1);
         }
     }

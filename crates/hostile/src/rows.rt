@@ -1,9 +1,13 @@
 //! What the tests feed: jobs over lines, replays, and settings.
 
 use capture::{CAPTURE_END, CaptureWriter};
-use replay::{ReplayFault, Unwatched, replay, say_replay_fault};
+#[cfg(test)]
+use replay::say_replay_fault;
+use replay::{ReplayFault, Unwatched, replay};
 use schedule_check::{CheckSettings, check};
-use script::{RunFault, Settings, run_script, say_fault};
+#[cfg(test)]
+use script::say_fault;
+use script::{RunFault, Settings, run_script};
 use std::alloc::{Allocator, Global};
 use std::io::{self, Read, Write};
 #[cfg(test)]
@@ -154,7 +158,7 @@ pub fn hundred_frames(alloc: Global) -> io::Result<Vec<u8>> {
     Ok(octets)
 }
 
-/// What a replay without script lines answers, its report, and its output capture.
+/// What a replay answers, its report, and its output capture.
 #[derive(Drop)]
 pub struct Replayed {
     pub result: Result<(), ReplayFault>,
@@ -162,13 +166,23 @@ pub struct Replayed {
     pub capture: Vec<u8>,
 }
 
-/// A replay of a capture in memory.
+/// A replay of a capture in memory, without script lines.
 pub fn replay_in_memory(alloc: Global, capture: &[u8], settings: Settings) -> Replayed {
+    replay_with_lines(alloc, b"", capture, settings)
+}
+
+/// A replay of a script and a capture in memory.
+pub fn replay_with_lines(
+    alloc: Global,
+    lines: &[u8],
+    capture: &[u8],
+    settings: Settings,
+) -> Replayed {
     let mut report = Vec::new(alloc);
     let mut written = Vec::new(alloc);
     let result = replay(
         alloc,
-        b"".as_slice(),
+        lines,
         capture,
         &mut written,
         &mut report,
@@ -182,24 +196,24 @@ pub fn replay_in_memory(alloc: Global, capture: &[u8], settings: Settings) -> Re
     }
 }
 
-/// What the program says of how a script or a check ended: nothing where it met no fault.
+/// Whether this is what the program says of how a script or a check ended: nothing where it met no fault.
 #[cfg(test)]
-pub fn text_of(alloc: Global, outcome: Result<(), RunFault>) -> Vec<u8> {
-    let mut text = Vec::new(alloc);
+pub fn is_said(alloc: Global, outcome: Result<(), RunFault>, text: &[u8]) -> bool {
+    let mut said = Vec::new(alloc);
     if let Err(fault) = outcome {
-        say_fault(&fault, &mut text);
+        say_fault(&fault, &mut said);
     }
-    text
+    said.as_slice() == text
 }
 
-/// What the program says of how a replay ended: nothing where it met no fault.
+/// Whether this is what the program says of how a replay ended: nothing where it met no fault.
 #[cfg(test)]
-pub fn text_of_replay(alloc: Global, outcome: Result<(), ReplayFault>) -> Vec<u8> {
-    let mut text = Vec::new(alloc);
+pub fn is_said_of_replay(alloc: Global, outcome: Result<(), ReplayFault>, text: &[u8]) -> bool {
+    let mut said = Vec::new(alloc);
     if let Err(fault) = outcome {
-        say_replay_fault(&fault, &mut text);
+        say_replay_fault(&fault, &mut said);
     }
-    text
+    said.as_slice() == text
 }
 
 /// A replay that meets no fault: the capture that is read, the report, and the capture that is written.
@@ -271,7 +285,7 @@ impl Replaying {
 }
 
 /// How many runs met what is put in the way, how many after them met nothing, and how many came out otherwise than they should.
-#[derive(Clone, Copy, Drop, PartialEq, Eq, Debug)]
+#[derive(Clone, Copy, PartialEq, Eq, Debug)]
 pub struct Runs {
     pub met: u32,
     pub free: u32,

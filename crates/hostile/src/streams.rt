@@ -31,6 +31,19 @@ fn four_each(calls: u32) -> Runs {
     Runs::right(calls.saturating_mul(4), 4)
 }
 
+/// Whether a job over these lines comes out so, and is answered so.
+fn is_outcome(
+    given: &Given,
+    alloc: Global,
+    job: Job,
+    lines: &[u8],
+    outcome: Result<(), RunFault>,
+    answers: &[u8],
+) -> bool {
+    let mut want = Vec::new(alloc);
+    job.run(given, alloc, lines, &mut want) == outcome && want.as_slice() == answers
+}
+
 /// A run of a job whose reader does something else at one call: whether it came to that call, and came out as it should.
 fn read_in_turn(given: &Given, alloc: Global, job: Job, piece: usize, run: u32) -> (bool, bool) {
     let (at, turn) = nth_turn(run);
@@ -40,18 +53,14 @@ fn read_in_turn(given: &Given, alloc: Global, job: Job, piece: usize, run: u32) 
     let result = job.run(given, alloc, reader, &mut got);
     let met = tally.calls.get() > at;
     let last = tally.calls.get().saturating_sub(at) == 1;
-    let is_right = match turn {
-        Turn::Fails | Turn::FailsOnce if met => {
-            result == Err(RunFault::Read) && last && job.output().starts_with(&got)
-        }
-        Turn::Nothing if met => {
-            let input = job.input();
-            let front = &input[..tally.octets.get().min(input.len())];
-            let mut want = Vec::new(alloc);
-            let wanted = job.run(given, alloc, front, &mut want);
-            result == wanted && last && got.as_slice() == want.as_slice()
-        }
-        _ => result == Ok(()) && got.as_slice() == job.output(),
+    let is_right = if !met || turn == Turn::OneOctet {
+        result == Ok(()) && got.as_slice() == job.output()
+    } else if turn == Turn::Nothing {
+        let input = job.input();
+        let front = &input[..tally.octets.get().min(input.len())];
+        last && is_outcome(given, alloc, job, front, result, &got)
+    } else {
+        last && result == Err(RunFault::Read) && job.output().starts_with(&got)
     };
     (met, is_right)
 }
@@ -128,6 +137,21 @@ fn each_write_of_a_job(rt: HostRuntime) {
     }
 }
 
+/// Whether the replay of a capture comes out so, and writes this.
+fn is_outcome_of_replay(
+    given: &Given,
+    alloc: Global,
+    capture: &[u8],
+    outcome: Result<(), ReplayFault>,
+    departures: &[u8],
+    report: &[u8],
+) -> bool {
+    let want = replay_in_memory(alloc, capture, given.to_the_end);
+    want.result == outcome
+        && want.report.as_slice() == report
+        && want.capture.as_slice() == departures
+}
+
 /// A run of a replay whose capture's reader does something else at one call: whether it came to that call, and came out as it should.
 fn read_of_capture(
     given: &Given,
@@ -145,19 +169,14 @@ fn read_of_capture(
     let result = Replaying::run(given, alloc, reader, &mut departures, &mut report);
     let met = tally.calls.get() > at;
     let last = tally.calls.get().saturating_sub(at) == 1;
-    let is_right = match turn {
-        Turn::Fails | Turn::FailsOnce if met => {
-            let front = replaying.is_front(&departures, &report, false);
-            result == Err(ReplayFault::Read) && last && front
-        }
-        Turn::Nothing if met => {
-            let front = &capture[..tally.octets.get().min(capture.len())];
-            let want = replay_in_memory(alloc, front, given.to_the_end);
-            let same = report.as_slice() == want.report.as_slice()
-                && departures.as_slice() == want.capture.as_slice();
-            result == want.result && last && same
-        }
-        _ => result == Ok(()) && replaying.is_front(&departures, &report, true),
+    let is_right = if !met || turn == Turn::OneOctet {
+        result == Ok(()) && replaying.is_front(&departures, &report, true)
+    } else if turn == Turn::Nothing {
+        let front = &capture[..tally.octets.get().min(capture.len())];
+        last && is_outcome_of_replay(given, alloc, front, result, &departures, &report)
+    } else {
+        let front = replaying.is_front(&departures, &report, false);
+        last && result == Err(ReplayFault::Read) && front
     };
     (met, is_right)
 }
@@ -292,15 +311,21 @@ fn each_write_of_a_hundred_frames(rt: HostRuntime) -> Result<(), Fail> {
     Ok(())
 }
 
+/// What a capture reader answers one of whose reads of an octet fails, in a run with this number: each read has two, once and for ever.
+#[cfg(test)]
+fn fault_of_header(alloc: Global, capture: &[u8], run: u32) -> Option<CapFault> {
+    let mut reader = Pieces::new(capture, 1);
+    reader.fails_at = run / 2;
+    reader.recovers = run % 2 == 0;
+    CaptureReader::new(alloc, reader).err()
+}
+
 /// A capture reader whose first reads fail answers that, and one whose reads don't reads on.
 #[test]
 fn each_read_of_a_header(rt: HostRuntime) -> Result<(), Fail> {
     let capture = hundred_frames(rt.alloc())?;
     for run in 0..60u32 {
-        let mut reader = Pieces::new(capture.as_slice(), 1);
-        reader.fails_at = run / 2;
-        reader.recovers = run % 2 == 0;
-        let fault = CaptureReader::new(rt.alloc(), reader).err();
+        let fault = fault_of_header(rt.alloc(), capture.as_slice(), run);
         assert_eq!(rt; fault, (run / 2 < 24).then_some(CapFault::Read));
     }
     Ok(())

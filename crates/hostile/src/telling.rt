@@ -4,9 +4,9 @@ use super::rows::{Job, to_the_end};
 use refusing_heap::RefusingHeap;
 use replay::{Inputs, Outputs, Unwatched, answer_replay};
 use schedule_check::answer_check;
-use script::{Ended, Values, answer_script};
+use script::{Ended, Settings, Values, answer_script};
 use std::alloc::Global;
-use std::io::BufWriter;
+use std::io::{self, BufWriter};
 use std::test::Fail;
 use test_streams::TWO_RECORDS;
 use traffic::answer_streams;
@@ -37,67 +37,84 @@ fn no_heap(alloc: Global) -> RefusingHeap<Global> {
     RefusingHeap::new(alloc, 0, false)
 }
 
-#[test]
-fn of_a_script(rt: HostRuntime) -> Result<(), Fail> {
-    let heap = no_heap(rt.alloc());
-    let answers = BufWriter::new(rt.alloc(), Vec::new(rt.alloc()))?;
-    let mut errors = Vec::new(rt.alloc());
+/// Whether a call ended so, told it, and answered nothing.
+fn is_told(ended: Ended, errors: &[u8], answers: &[u8]) -> bool {
+    ended == OUT_OF_MEMORY && errors == TEXT && answers.is_empty()
+}
+
+/// Whether a script tells it.
+fn script_tells(alloc: Global) -> io::Result<bool> {
+    let answers = BufWriter::new(alloc, Vec::new(alloc))?;
+    let heap = no_heap(alloc);
+    let mut errors = Vec::new(alloc);
     let mut reader = Job::OneFrame.input();
     let (ended, written) = answer_script(&heap, NO_VALUES, &mut reader, answers, &mut errors);
-    assert_eq!(rt; ended, OUT_OF_MEMORY);
-    assert!(rt; written.is_empty());
-    assert_eq!(rt; errors.as_slice(), TEXT);
+    Ok(is_told(ended, &errors, &written))
+}
+
+#[test]
+fn of_a_script(rt: HostRuntime) -> Result<(), Fail> {
+    assert!(rt; script_tells(rt.alloc())?);
     Ok(())
+}
+
+/// Whether a check tells it.
+fn check_tells(alloc: Global) -> io::Result<bool> {
+    let answers = BufWriter::new(alloc, Vec::new(alloc))?;
+    let heap = no_heap(alloc);
+    let mut errors = Vec::new(alloc);
+    let mut reader = Job::TwoSchedules.input();
+    let (ended, written) = answer_check(&heap, None, true, &mut reader, answers, &mut errors);
+    Ok(is_told(ended, &errors, &written))
 }
 
 #[test]
 fn of_a_check(rt: HostRuntime) -> Result<(), Fail> {
-    let heap = no_heap(rt.alloc());
-    let answers = BufWriter::new(rt.alloc(), Vec::new(rt.alloc()))?;
-    let mut errors = Vec::new(rt.alloc());
-    let mut reader = Job::TwoSchedules.input();
-    let (ended, written) = answer_check(&heap, None, true, &mut reader, answers, &mut errors);
-    assert_eq!(rt; ended, OUT_OF_MEMORY);
-    assert!(rt; written.is_empty());
-    assert_eq!(rt; errors.as_slice(), TEXT);
+    assert!(rt; check_tells(rt.alloc())?);
     Ok(())
+}
+
+/// Whether a table of streams tells it.
+fn table_tells(alloc: Global) -> io::Result<bool> {
+    let answers = BufWriter::new(alloc, Vec::new(alloc))?;
+    let heap = no_heap(alloc);
+    let mut errors = Vec::new(alloc);
+    let mut reader = b"stream 1 5 60 250us 0ns 2\n".as_slice();
+    let (ended, written) = answer_streams(&heap, &mut reader, NO_SCRIPT, answers, &mut errors);
+    Ok(is_told(ended, &errors, &written))
 }
 
 #[test]
 fn of_a_table_of_streams(rt: HostRuntime) -> Result<(), Fail> {
-    let heap = no_heap(rt.alloc());
-    let answers = BufWriter::new(rt.alloc(), Vec::new(rt.alloc()))?;
-    let mut errors = Vec::new(rt.alloc());
-    let mut reader = b"stream 1 5 60 250us 0ns 2\n".as_slice();
-    let (ended, written) = answer_streams(&heap, &mut reader, NO_SCRIPT, answers, &mut errors);
-    assert_eq!(rt; ended, OUT_OF_MEMORY);
-    assert!(rt; written.is_empty());
-    assert_eq!(rt; errors.as_slice(), TEXT);
+    assert!(rt; table_tells(rt.alloc())?);
     Ok(())
 }
 
-#[test]
-fn of_a_replay(rt: HostRuntime) -> Result<(), Fail> {
-    let heap = no_heap(rt.alloc());
+/// Whether a replay tells it.
+fn replay_tells(alloc: Global, settings: Settings) -> io::Result<bool> {
     let inputs = Inputs {
         script: b"".as_slice(),
         capture: TWO_RECORDS.as_slice(),
     };
     let outputs = Outputs {
-        report: BufWriter::new(rt.alloc(), Vec::new(rt.alloc()))?,
-        departures: BufWriter::new(rt.alloc(), Vec::new(rt.alloc()))?,
+        report: BufWriter::new(alloc, Vec::new(alloc))?,
+        departures: BufWriter::new(alloc, Vec::new(alloc))?,
     };
-    let mut errors = Vec::new(rt.alloc());
+    let heap = no_heap(alloc);
+    let mut errors = Vec::new(alloc);
     let (ended, report, departures) = answer_replay(
         &heap,
-        to_the_end(&rt),
+        settings,
         inputs,
         outputs,
         &mut errors,
         &mut Unwatched,
     );
-    assert_eq!(rt; ended, OUT_OF_MEMORY);
-    assert!(rt; report.is_empty() && departures.is_empty());
-    assert_eq!(rt; errors.as_slice(), TEXT);
+    Ok(is_told(ended, &errors, &report) && departures.is_empty())
+}
+
+#[test]
+fn of_a_replay(rt: HostRuntime) -> Result<(), Fail> {
+    assert!(rt; replay_tells(rt.alloc(), to_the_end(&rt))?);
     Ok(())
 }
