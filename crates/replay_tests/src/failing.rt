@@ -347,16 +347,12 @@ fn answer_differs_in(
 /// What was written is let out before a fault is told, and the status is the fault's.
 #[test]
 fn both_outputs_are_let_out(rt: HostRuntime) {
-    assert_eq!(rt;
-        answer_differs_in(rt.alloc(), &TWO_CAPTURED, 0, REPORT, &BOTH_LEFT, b""),
-        ""
-    );
+    let differs = answer_differs_in(rt.alloc(), &TWO_CAPTURED, 0, REPORT, &BOTH_LEFT, b"");
+    assert!(rt; differs.is_empty(), "{differs}");
     let text = b"taprio_port: capture record 1: ShortRecord\n";
     let front = &TWO_CAPTURED[..68];
-    assert_eq!(rt;
-        answer_differs_in(rt.alloc(), front, 3, FIRST_TOLD, &FIRST_LEFT, text),
-        ""
-    );
+    let differs = answer_differs_in(rt.alloc(), front, 3, FIRST_TOLD, &FIRST_LEFT, text);
+    assert!(rt; differs.is_empty(), "{differs} of a front");
 }
 
 /// Whether a failed write is told where there is room for so many octets of the report and of the output capture, and whether all of the
