@@ -11,7 +11,7 @@ use replay::{
 };
 use script::{Ended, ScriptFault, Settings};
 use std::alloc::Global;
-use std::io::{self, BufWriter};
+use std::io::{self, BufWriter, Write};
 use std::test::Fail;
 use test_streams::{BOTH_LEFT, FIRST_LEFT, FIRST_TOLD, Narrow, Pieces};
 
@@ -177,6 +177,25 @@ fn narrow(alloc: Global, room: usize, fails: bool, recovers: bool) -> Narrow {
     }
 }
 
+/// What a replay of the two frames ends with, whose output capture and report go to these writers.
+fn replay_to<W: Write, V: Write>(
+    alloc: Global,
+    written: &mut W,
+    report: &mut V,
+    settings: Settings,
+) -> Result<(), ReplayFault> {
+    let (script, capture) = (b"".as_slice(), TWO_CAPTURED.as_slice());
+    replay(
+        alloc,
+        script,
+        capture,
+        written,
+        report,
+        settings,
+        &mut Unwatched,
+    )
+}
+
 /// Whether a replay of the two frames is as it should be where each output has room for so many octets: it tells all, or a failed write and
 /// a front of the rest, which isn't all.
 fn is_written(alloc: Global, room: usize, recovers: bool) -> bool {
@@ -185,15 +204,7 @@ fn is_written(alloc: Global, room: usize, recovers: bool) -> bool {
     };
     let mut report = narrow(alloc, room, recovers, recovers);
     let mut written = narrow(alloc, room, recovers, recovers);
-    let result = replay(
-        alloc,
-        b"".as_slice(),
-        TWO_CAPTURED.as_slice(),
-        &mut written,
-        &mut report,
-        settings,
-        &mut Unwatched,
-    );
+    let result = replay_to(alloc, &mut written, &mut report, settings);
     let fronts = REPORT.starts_with(&report.got) && BOTH_LEFT.starts_with(&written.got);
     let whole = report.got.len() >= REPORT.len() && written.got.len() >= BOTH_LEFT.len();
     let fault = (room < REPORT.len()).then_some(ReplayFault::Write);
@@ -216,15 +227,7 @@ fn tells_before(alloc: Global, room: usize, told: &[u8]) -> bool {
     };
     let mut report = Vec::new(alloc);
     let mut written = narrow(alloc, room, true, false);
-    let result = replay(
-        alloc,
-        b"".as_slice(),
-        TWO_CAPTURED.as_slice(),
-        &mut written,
-        &mut report,
-        settings,
-        &mut Unwatched,
-    );
+    let result = replay_to(alloc, &mut written, &mut report, settings);
     result == Err(ReplayFault::Write) && written.got.len() == room && report.as_slice() == told
 }
 

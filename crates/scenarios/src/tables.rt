@@ -19,6 +19,15 @@ macro_rules! given {
 }
 
 /// A schedule is announced up to its lead moment, pending up to its change, and then in force.
+/// What is shown of the schedule of three entries that take a millisecond together.
+const THREE_ENTRIES: Installed = Installed {
+    change: 1000000000,
+    base_ns: 0,
+    cycle_ns: 1000000,
+    extension_ns: 0,
+    entries: 3,
+};
+
 const ANNOUNCED_PENDING_IN_FORCE: History = &[
     (
         0,
@@ -28,78 +37,13 @@ const ANNOUNCED_PENDING_IN_FORCE: History = &[
         ),
     ),
     (0, Step::Mask(0xff)),
-    (
-        0,
-        Step::Shown([
-            None,
-            None,
-            Some(Installed {
-                change: 1000000000,
-                base_ns: 0,
-                cycle_ns: 1000000,
-                extension_ns: 0,
-                entries: 3,
-            }),
-        ]),
-    ),
-    (
-        12335999,
-        Step::Shown([
-            None,
-            None,
-            Some(Installed {
-                change: 1000000000,
-                base_ns: 0,
-                cycle_ns: 1000000,
-                extension_ns: 0,
-                entries: 3,
-            }),
-        ]),
-    ),
-    (
-        12336000,
-        Step::Shown([
-            None,
-            Some(Installed {
-                change: 1000000000,
-                base_ns: 0,
-                cycle_ns: 1000000,
-                extension_ns: 0,
-                entries: 3,
-            }),
-            None,
-        ]),
-    ),
+    (0, Step::Shown([None, None, Some(THREE_ENTRIES)])),
+    (12335999, Step::Shown([None, None, Some(THREE_ENTRIES)])),
+    (12336000, Step::Shown([None, Some(THREE_ENTRIES), None])),
     (999999999, Step::Mask(0xff)),
-    (
-        999999999,
-        Step::Shown([
-            None,
-            Some(Installed {
-                change: 1000000000,
-                base_ns: 0,
-                cycle_ns: 1000000,
-                extension_ns: 0,
-                entries: 3,
-            }),
-            None,
-        ]),
-    ),
+    (999999999, Step::Shown([None, Some(THREE_ENTRIES), None])),
     (1000000000, Step::Mask(1)),
-    (
-        1000000000,
-        Step::Shown([
-            Some(Installed {
-                change: 1000000000,
-                base_ns: 0,
-                cycle_ns: 1000000,
-                extension_ns: 0,
-                entries: 3,
-            }),
-            None,
-            None,
-        ]),
-    ),
+    (1000000000, Step::Shown([Some(THREE_ENTRIES), None, None])),
     (1300000000, Step::Mask(2)),
     (1600000000, Step::Mask(4)),
     (2000000000, Step::Mask(1)),
