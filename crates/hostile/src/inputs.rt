@@ -11,7 +11,7 @@ use script::{RunFault, ScriptFault, Settings, run_script};
 use std::alloc::Global;
 use std::test::Fail;
 use test_streams::{
-    Counting, Pieces, Repeated, TWO_RECORDS, cut_capture, hostile_scripts, repeated_octets,
+    Counting, HOSTILE_SCRIPTS, Pieces, REPEATED_OCTETS, Repeated, TWO_RECORDS, cut_capture,
 };
 
 /// In what a script differs from what is answered and the text of how it ends. Empty where it doesn't.
@@ -37,7 +37,7 @@ fn script_differs_in(
 #[test]
 fn scripts(rt: HostRuntime) {
     let settings = settings(&rt, None);
-    for (script, answers, text) in hostile_scripts() {
+    for (script, answers, text) in HOSTILE_SCRIPTS {
         let differs = script_differs_in(rt.alloc(), settings, script, answers, text);
         assert!(rt; differs.is_empty(), "{differs} of {script:?}");
     }
@@ -61,7 +61,7 @@ fn are_commands(alloc: Global, settings: CheckSettings, input: Repeated, text: &
 #[test]
 fn one_octet_over_and_over(rt: HostRuntime) {
     let settings = settings(&rt, None);
-    for (octet, times, last, text) in repeated_octets() {
+    for (octet, times, last, text) in REPEATED_OCTETS {
         let script = Repeated { octet, times, last };
         assert!(rt;
             is_script(rt.alloc(), settings, script, text),
@@ -97,7 +97,7 @@ fn is_script_of_replay(alloc: Global, settings: Settings, input: Repeated, text:
 #[test]
 fn one_octet_over_and_over_in_a_replay(rt: HostRuntime) {
     let settings = to_the_end(&rt);
-    for (octet, times, last, text) in repeated_octets() {
+    for (octet, times, last, text) in REPEATED_OCTETS {
         let input = Repeated { octet, times, last };
         assert!(rt;
             is_script_of_replay(rt.alloc(), settings, input, text),

@@ -47,7 +47,7 @@ fn is_outcome(
 /// A run of a job whose reader does something else at one call: whether it came to that call, and came out as it should.
 fn read_in_turn(given: &Given, alloc: Global, job: Job, piece: usize, run: u32) -> (bool, bool) {
     let (at, turn) = nth_turn(run);
-    let tally = Tally::new();
+    let tally = Tally::default();
     let mut got = Vec::new(alloc);
     let reader = TurningReader::new(job.input(), piece, at, turn, &tally);
     let result = job.run(given, alloc, reader, &mut got);
@@ -161,7 +161,7 @@ fn read_of_capture(
     run: u32,
 ) -> (bool, bool) {
     let (at, turn) = nth_turn(run);
-    let tally = Tally::new();
+    let tally = Tally::default();
     let mut report = Vec::new(alloc);
     let mut departures = Vec::new(alloc);
     let capture = replaying.capture.as_slice();

@@ -4,7 +4,7 @@ use crate::cases::{Case, Folder, Found, Place, assert_none};
 use std::alloc::Global;
 use std::io;
 use std::test::Fail;
-use test_streams::{Pieces, Repeated, TWO_RECORDS, cut_capture, hostile_scripts, repeated_octets};
+use test_streams::{HOSTILE_SCRIPTS, Pieces, REPEATED_OCTETS, Repeated, TWO_RECORDS, cut_capture};
 
 /// The status where the text of a fault of an input is this one.
 fn status_of(text: &[u8]) -> u8 {
@@ -24,7 +24,7 @@ fn job<'a>(words: &'a [&'a str], input: &'a [u8], answers: &'a [u8], text: &'a [
 
 /// The first hostile script that is answered otherwise.
 fn first_script_to_differ(place: Place<'_>) -> io::Result<Found> {
-    for (number, (script, answers, text)) in hostile_scripts().iter().enumerate() {
+    for (number, (script, answers, text)) in HOSTILE_SCRIPTS.iter().enumerate() {
         let found = place.differs_in(&job(&["script"], script, answers, text))?;
         if !found.is_empty() {
             return Ok(Some((number, found)));
@@ -51,7 +51,7 @@ fn repeated_differs_in(
 
 /// The first octet over and over at which the answer to a word differs.
 fn first_repeated_to_differ(place: Place<'_>, word: &str) -> io::Result<Found> {
-    for (number, row) in repeated_octets().iter().enumerate() {
+    for (number, row) in REPEATED_OCTETS.iter().enumerate() {
         let (octet, times, last, text) = *row;
         let reader = Repeated { octet, times, last };
         let found = repeated_differs_in(place, word, reader, text)?;

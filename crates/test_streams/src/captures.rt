@@ -1,5 +1,9 @@
 //! A capture of two frames, what comes of it, and what comes of its fronts.
 
+ghost use Rattle.std.specs.Prelude.{◌≡◌, []};
+ghost use Rattle.test_streams.specs.Cuts.{cut_departures, cut_of, cut_text};
+ghost use Rattle.test_streams.specs.declared.captures.TheConstants.{BOTH_LEFT, BOTH_TOLD, FIRST_LEFT, FIRST_TOLD};
+
 /// Big-endian, in microseconds: two frames of 60 octets of which 18 are captured, with priorities 3 and 5, at 2 s and 500
 /// microseconds and at 2 s and 400 microseconds.
 pub const TWO_RECORDS: [u8; 92] = [
@@ -46,7 +50,11 @@ pub struct CutCapture {
 }
 
 /// What comes of the first octets of the capture of two frames, so many, where all gates are open and the clock goes on for long enough.
-pub fn cut_capture(octets: usize) -> CutCapture {
+pub fn cut_capture(octets: usize) -> CutCapture
+    ensures report { result.report.now ≡ cut_of [] FIRST_TOLD.now BOTH_TOLD.now octets }
+    ensures departures { result.departures.now ≡ cut_departures FIRST_LEFT BOTH_LEFT octets }
+    ensures text { result.text.now ≡ cut_text octets }
+{
     let text: &[u8] = match octets {
         0..=23 => b"taprio_port: capture header: ShortHeader\n",
         25..=57 => b"taprio_port: capture record 0: ShortRecord\n",

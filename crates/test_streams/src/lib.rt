@@ -2,6 +2,8 @@
 //! do is no promise.
 #![tactic(auto)]
 
+ghost use Rattle.std.specs.Prelude.{◌≡◌, false};
+
 mod captures;
 mod repeated;
 mod scripts;
@@ -10,8 +12,8 @@ mod turning;
 pub use captures::{
     BOTH_LEFT, BOTH_TOLD, CutCapture, FIRST_LEFT, FIRST_TOLD, TWO_RECORDS, cut_capture,
 };
-pub use repeated::{Counting, Repeated, repeated_octets};
-pub use scripts::hostile_scripts;
+pub use repeated::{Counting, REPEATED_OCTETS, Repeated};
+pub use scripts::HOSTILE_SCRIPTS;
 use std::io::{self, Read, Write};
 pub use turning::{Tally, Turn, TurningReader, TurningWriter, nth_turn};
 
@@ -34,7 +36,14 @@ pub struct Pieces<'a> {
 
 impl<'a> Pieces<'a> {
     /// A reader of these octets that never fails.
-    pub fn new(octets: &'a [u8], piece: usize) -> Pieces<'a> {
+    pub fn new(octets: &'a [u8], piece: usize) -> Pieces<'a>
+        ensures octets { result.octets ≡ octets.entry }
+        ensures zeros { result.zeros ≡ 0 }
+        ensures piece { result.piece ≡ piece }
+        ensures calls { result.calls ≡ 0 }
+        ensures sound { result.fails_at ≡ 4294967295 }
+        ensures recovers { result.recovers ≡ false }
+    {
         Pieces {
             octets,
             zeros: 0,

@@ -1,5 +1,6 @@
 //! A reader of one octet over and over, and a writer that keeps nothing.
 
+use crate::scripts::UNKNOWN;
 use std::io::{self, Read, Write};
 
 /// Gives one octet so many times, and then another one once.
@@ -53,20 +54,19 @@ impl Write for Counting {
     }
 }
 
+const LONG: &[u8] = b"taprio_port: script line 1: LongLine\n";
+
+const MANY: &[u8] = b"taprio_port: script line 4000001: TooManyLines\n";
+
 /// Inputs of one octet over and over: the octet, how often it comes, the one behind it, and the text of the fault that it is both as a
 /// script and as schedule commands, empty where it is none.
-pub fn repeated_octets() -> [(u8, usize, Option<u8>, &'static [u8]); 8] {
-    let unknown: &[u8] = b"taprio_port: script line 1: UnknownLine\n";
-    let long: &[u8] = b"taprio_port: script line 1: LongLine\n";
-    let many: &[u8] = b"taprio_port: script line 4000001: TooManyLines\n";
-    [
-        (b'a', 65_536, None, unknown),
-        (b'a', 65_537, None, long),
-        (b'a', usize::MAX, None, long),
-        (b'#', 65_536, Some(b'\n'), b""),
-        (b'#', 65_537, Some(b'\n'), long),
-        (b'\n', 4_000_000, None, b""),
-        (b'\n', usize::MAX, None, many),
-        (b'\0', 65_536, Some(b'\n'), unknown),
-    ]
-}
+pub static REPEATED_OCTETS: [(u8, usize, Option<u8>, &[u8]); 8] = [
+    (b'a', 65_536, None, UNKNOWN),
+    (b'a', 65_537, None, LONG),
+    (b'a', usize::MAX, None, LONG),
+    (b'#', 65_536, Some(b'\n'), b""),
+    (b'#', 65_537, Some(b'\n'), LONG),
+    (b'\n', 4_000_000, None, b""),
+    (b'\n', usize::MAX, None, MANY),
+    (b'\0', 65_536, Some(b'\n'), UNKNOWN),
+];

@@ -1,5 +1,8 @@
 //! Readers and writers that do something else at one of their calls.
 
+ghost use Rattle.std.specs.Prelude.{◌≡◌, ◌/◌, ◌%◌, [], true};
+ghost use Rattle.test_streams.specs.Turns.{turn_of};
+
 use std::alloc::Global;
 use std::cell::Cell;
 use std::io::{self, Read, Write};
@@ -18,7 +21,10 @@ pub enum Turn {
 }
 
 /// The number of a call and what is done there, of the run with this number: each call has four runs.
-pub fn nth_turn(run: u32) -> (u32, Turn) {
+pub fn nth_turn(run: u32) -> (u32, Turn)
+    ensures call { result.0 ≡ run / 4 }
+    ensures turn { result.1 ≡ turn_of (run % 4) }
+{
     let turn = match run % 4 {
         0 => Turn::Fails,
         1 => Turn::FailsOnce,
@@ -28,8 +34,8 @@ pub fn nth_turn(run: u32) -> (u32, Turn) {
     (run / 4, turn)
 }
 
-/// What a reader that is handed over has done.
-#[derive(Drop)]
+/// What a reader that is handed over has done; of one that nobody has called, the default.
+#[derive(Default, Drop)]
 pub struct Tally {
     /// How many calls were made.
     pub calls: Cell<u32>,
@@ -37,24 +43,19 @@ pub struct Tally {
     pub octets: Cell<usize>,
 }
 
-impl Tally {
-    /// Of a reader that nobody has called.
-    pub fn new() -> Tally {
-        Tally {
-            calls: Cell::new(0),
-            octets: Cell::new(0),
-        }
-    }
-}
-
 /// Gives its octets in pieces of so many, and does something else at the call with one number, from 0.
 #[derive(Drop)]
 pub struct TurningReader<'a> {
-    octets: &'a [u8],
-    piece: usize,
-    at: u32,
-    turn: Turn,
-    tally: &'a Tally,
+    /// What is left to give.
+    pub octets: &'a [u8],
+    /// The most octets that a call gives.
+    pub piece: usize,
+    /// The number of the call that does something else.
+    pub at: u32,
+    /// What it does there.
+    pub turn: Turn,
+    /// What it has done.
+    pub tally: &'a Tally,
 }
 
 impl<'a> TurningReader<'a> {
@@ -65,7 +66,13 @@ impl<'a> TurningReader<'a> {
         at: u32,
         turn: Turn,
         tally: &'a Tally,
-    ) -> TurningReader<'a> {
+    ) -> TurningReader<'a>
+        ensures octets { result.octets ≡ octets.entry }
+        ensures piece { result.piece ≡ piece }
+        ensures at { result.at ≡ at }
+        ensures turn { result.turn ≡ turn }
+        ensures tally { result.tally ≡ tally.entry }
+    {
         TurningReader {
             octets,
             piece,
@@ -100,14 +107,23 @@ pub struct TurningWriter {
     pub got: Vec<u8>,
     /// How many calls were made.
     pub calls: u32,
-    piece: usize,
-    at: u32,
-    turn: Turn,
+    /// The most octets that a call takes.
+    pub piece: usize,
+    /// The number of the call that does something else.
+    pub at: u32,
+    /// What it does there.
+    pub turn: Turn,
 }
 
 impl TurningWriter {
     /// A writer that took nothing yet.
-    pub fn new(alloc: Global, piece: usize, at: u32, turn: Turn) -> TurningWriter {
+    pub fn new(alloc: Global, piece: usize, at: u32, turn: Turn) -> TurningWriter
+        ensures got { result.got.items ≡ [] }
+        ensures calls { result.calls ≡ 0 }
+        ensures piece { result.piece ≡ piece }
+        ensures at { result.at ≡ at }
+        ensures turn { result.turn ≡ turn }
+    {
         TurningWriter {
             got: Vec::new(alloc),
             calls: 0,
