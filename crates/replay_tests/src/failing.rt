@@ -1,7 +1,8 @@
 //! Memory, reads and writes that fail, and what is told of it.
 
 use crate::tests::{
-    END, PRIORITY_3, PRIORITY_5, REPORT, Record, TWO_CAPTURED, capture_of, is_front_and, settings,
+    END, PRIORITY_3, PRIORITY_5, REPORT, Record, Replayed, TWO_CAPTURED, capture_of, is_front_and,
+    replay_of, settings,
 };
 use capture::CapFault;
 use linked_list_allocator::LocalHeap;
@@ -29,22 +30,13 @@ struct Refused {
 /// A replay of the two frames whose growth with this number is refused.
 fn run_refused(alloc: Global, settings: Settings, number: u64) -> Refused {
     let heap = RefusingHeap::new(alloc, number, true);
-    let mut report = Vec::new(alloc);
-    let mut written = Vec::new(alloc);
-    let result = replay(
-        &heap,
-        b"".as_slice(),
-        TWO_CAPTURED.as_slice(),
-        &mut written,
-        &mut report,
-        settings,
-        &mut Unwatched,
-    );
+    let (script, capture) = (b"".as_slice(), TWO_CAPTURED.as_slice());
+    let ended = replay_of(&heap, alloc, script, capture, settings);
     let met = heap.asked() > number;
     Refused {
         met,
-        right: result.err() == met.then_some(ReplayFault::Memory),
-        silent: report.is_empty() && written.is_empty(),
+        right: ended.result.err() == met.then_some(ReplayFault::Memory),
+        silent: ended.report.is_empty() && ended.capture.is_empty(),
     }
 }
 
@@ -78,34 +70,22 @@ fn sums_up_in_memory_that_is_taken_first(rt: HostRuntime) -> Result<(), Fail> {
 }
 
 /// Whether a replay of the two frames told all, or this fault and a front of the rest.
-fn is_told(
-    outcome: Result<(), ReplayFault>,
-    fault: ReplayFault,
-    report: &[u8],
-    written: &[u8],
-) -> bool {
-    if outcome.is_ok() {
-        return report == REPORT && written == BOTH_LEFT.as_slice();
+fn is_told(ended: &Replayed, fault: ReplayFault) -> bool {
+    if ended.result.is_ok() {
+        return ended.report.as_slice() == REPORT
+            && ended.capture.as_slice() == BOTH_LEFT.as_slice();
     }
-    outcome == Err(fault) && REPORT.starts_with(report) && BOTH_LEFT.starts_with(written)
+    let fronts = REPORT.starts_with(&ended.report) && BOTH_LEFT.starts_with(&ended.capture);
+    ended.result == Err(fault) && fronts
 }
 
 /// Whether a heap of so many octets is enough for a replay of the two frames and a line; none where what is answered or told is wrong.
 fn is_enough(alloc: Global, octets: usize) -> Option<bool> {
     let settings = settings(END)?;
     let heap = LocalHeap::new(alloc, octets).ok()?;
-    let mut report = Vec::new(alloc);
-    let mut written = Vec::new(alloc);
-    let result = replay(
-        &heap,
-        b"clock 1\n".as_slice(),
-        TWO_CAPTURED.as_slice(),
-        &mut written,
-        &mut report,
-        settings,
-        &mut Unwatched,
-    );
-    is_told(result, ReplayFault::Memory, &report, &written).then_some(result.is_ok())
+    let (script, capture) = (b"clock 1\n".as_slice(), TWO_CAPTURED.as_slice());
+    let ended = replay_of(&heap, alloc, script, capture, settings);
+    is_told(&ended, ReplayFault::Memory).then_some(ended.result.is_ok())
 }
 
 /// Once a heap is enough, each greater one is.
@@ -125,18 +105,8 @@ fn are_read(alloc: Global, script: Pieces<'_>, capture: Pieces<'_>) -> bool {
     let Some(settings) = settings(END) else {
         return false;
     };
-    let mut report = Vec::new(alloc);
-    let mut written = Vec::new(alloc);
-    let result = replay(
-        alloc,
-        script,
-        capture,
-        &mut written,
-        &mut report,
-        settings,
-        &mut Unwatched,
-    );
-    is_told(result, ReplayFault::Read, &report, &written)
+    let ended = replay_of(alloc, alloc, script, capture, settings);
+    is_told(&ended, ReplayFault::Read)
 }
 
 /// Whether they do so where a read of one of them fails, in a run with this number: each call has four, of the capture and of the script, and
@@ -255,20 +225,10 @@ const THREE_FRAMES: [Record; 3] = [
 
 /// Whether a replay of these records tells the two frames, the third and a failed read.
 fn tells_before_a_failed_read(alloc: Global, records: Pieces<'_>, settings: Settings) -> bool {
-    let mut report = Vec::new(alloc);
-    let mut written = Vec::new(alloc);
-    let result = replay(
-        alloc,
-        b"".as_slice(),
-        records,
-        &mut written,
-        &mut report,
-        settings,
-        &mut Unwatched,
-    );
-    result == Err(ReplayFault::Read)
-        && is_front_and(&report, REPORT, b"queued 2 class 3\n")
-        && written.as_slice() == BOTH_LEFT.as_slice()
+    let ended = replay_of(alloc, alloc, b"".as_slice(), records, settings);
+    ended.result == Err(ReplayFault::Read)
+        && is_front_and(&ended.report, REPORT, b"queued 2 class 3\n")
+        && ended.capture.as_slice() == BOTH_LEFT.as_slice()
 }
 
 /// A read that fails behind the last whole record ends a replay after what the records before it give.

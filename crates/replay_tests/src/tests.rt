@@ -3,8 +3,8 @@
 use capture::{CAPTURE_END, CapFault, CaptureWriter};
 use replay::{ReplayFault, Unwatched, replay};
 use script::{ScriptFault, Settings};
-use std::alloc::Global;
-use std::io;
+use std::alloc::{Allocator, Global};
+use std::io::{self, Read};
 use test_streams::BOTH_LEFT;
 use wire_time::Rate;
 
@@ -98,12 +98,18 @@ pub struct Replayed {
     pub capture: Vec<u8>,
 }
 
-/// A replay of octets in memory.
-pub fn run_in_memory(alloc: Global, script: &[u8], capture: &[u8], settings: Settings) -> Replayed {
+/// A replay of what two readers give, in this memory; what comes out is kept in the runtime's.
+pub fn replay_of<A: Allocator, R: Read + Drop, S: Read + Drop>(
+    memory: A,
+    alloc: Global,
+    script: R,
+    capture: S,
+    settings: Settings,
+) -> Replayed {
     let mut report = Vec::new(alloc);
     let mut written = Vec::new(alloc);
     let result = replay(
-        alloc,
+        memory,
         script,
         capture,
         &mut written,
@@ -116,6 +122,11 @@ pub fn run_in_memory(alloc: Global, script: &[u8], capture: &[u8], settings: Set
         report,
         capture: written,
     }
+}
+
+/// A replay of octets in memory.
+pub fn run_in_memory(alloc: Global, script: &[u8], capture: &[u8], settings: Settings) -> Replayed {
+    replay_of(alloc, alloc, script, capture, settings)
 }
 
 /// All octets of a capture.
