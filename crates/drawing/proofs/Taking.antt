@@ -15,10 +15,12 @@ use Rattle.line_reader.specs.declared.lines.LineFault.{LineFault}
 use Rattle.line_reader.specs.declared.lines.LineFault.TheVariants as LineFaults
 use Rattle.script.specs.Requests.{Request, Asks, NoCommand, request_of}
 use Rattle.script.specs.Responses.{events_of, responses_to}
-use Rattle.script.specs.Outcome.{Reading, fault_of_line, reading_of, with_line}
+use Rattle.job.specs.Lines.{fault_of_line}
+use Rattle.script.specs.Outcome.{bad_line, long_line, Reading, reading_of, with_line}
 use Rattle.script.specs.declared.faults.ScriptFault.{ScriptFault}
-use Rattle.script.specs.declared.faults.RunFault.{RunFault}
-use Rattle.script.specs.declared.faults.RunFault.TheVariants as Faults
+use Rattle.job.specs.declared.fault.Fault.{Fault}
+use Rattle.job.specs.declared.fault.Fault.TheVariants as Faults
+use Rattle.script.specs.declared.faults.BadLine.{BadLine}
 use Rattle.script.proofs.Going.{StandsFor, stands_for_itself, stands-after, event-answers}
 use Rattle.drawing.specs.Course.{Course, class_at, seen_after, seen_all, seen_at}
 use Rattle.drawing.specs.Taken.{Takes, TakesLine, seen_by}
@@ -129,55 +131,55 @@ module _ (read : List (List ℕ) → Result Command TcFault) where
   taken_on t law p0 x0 number line q x q' x' all s u i a d sound = took t law p0 x0 number line q x q' x' all s u (request_of read line) i a refl d sound
 
   -- a line with a fault
-  faulty : {T : Type 0} {f : Result T RunFault} (p0 : AbstractPort) (x0 : Course) (number : ℕ) (line : List ℕ) (p : AbstractPort) (x : Course) (q' : AbstractPort) (y : Course) (all s t : Option Script) (fault : ScriptFault)
-      → GoesOn p0 x0 all s p x → Advances s (Ok true) number line t → request_of read line ≡ Err fault → f ≡ Err (Faults.Script number fault)
+  faulty : {T : Type 0} {f : Result T (Fault BadLine)} (p0 : AbstractPort) (x0 : Course) (number : ℕ) (line : List ℕ) (p : AbstractPort) (x : Course) (q' : AbstractPort) (y : Course) (all s t : Option Script) (fault : ScriptFault)
+      → GoesOn p0 x0 all s p x → Advances s (Ok true) number line t → request_of read line ≡ Err fault → f ≡ Err (Faults.Input (bad_line number fault))
       → IfSome all (λ script. Takes f (reading_of read script) p0 x0 q' y)
   faulty p0 x0 number line p x q' y None s t fault g a e h = tt
   faulty p0 x0 number line p x q' y (Some all) None t fault g a e h = absurd g
   faulty {T} {f} p0 x0 number line p x q' y (Some all) (Some script) t fault g (rest, left, is) e h =
       let same = line_reading script rest number line (Err fault) is e in
-      let P : Result T RunFault → Type 0 = λ r. Takes r (reading_of read all) p0 x0 q' y in
+      let P : Result T (Fault BadLine) → Type 0 = λ r. Takes r (reading_of read all) p0 x0 q' y in
       subst P (sym h) (g.fault ∙ ap (λ (y : Reading). y.fault) same)
 
-  pub goes_wrong : {T : Type 0} {f : Result T RunFault} (p0 : AbstractPort) (x0 : Course) (number : ℕ) (line : List ℕ) (q : AbstractPort) (x : Course) (q' : AbstractPort) (y : Course) (all s t : Option Script) (fault : ScriptFault)
-      → IsTaking p0 x0 all s q x → Advances s (Ok true) number line t → request_of read line ≡ Err fault → f ≡ Err (Faults.Script number fault)
+  pub goes_wrong : {T : Type 0} {f : Result T (Fault BadLine)} (p0 : AbstractPort) (x0 : Course) (number : ℕ) (line : List ℕ) (q : AbstractPort) (x : Course) (q' : AbstractPort) (y : Course) (all s t : Option Script) (fault : ScriptFault)
+      → IsTaking p0 x0 all s q x → Advances s (Ok true) number line t → request_of read line ≡ Err fault → f ≡ Err (Faults.Input (bad_line number fault))
       → IfSome all (λ script. Takes f (reading_of read script) p0 x0 q' y)
   goes_wrong p0 x0 number line q x q' y all s t fault i a e h = faulty p0 x0 number line i.behind x q' y all s t fault i.goes a e h
 
   -- the lines end
-  ended : {T : Type 0} {f : Result T RunFault} (z : T) (p0 : AbstractPort) (x0 : Course) (p : AbstractPort) (q : AbstractPort) (x : Course) (number : ℕ) (line : List ℕ) (all s t : Option Script)
+  ended : {T : Type 0} {f : Result T (Fault BadLine)} (z : T) (p0 : AbstractPort) (x0 : Course) (p : AbstractPort) (q : AbstractPort) (x : Course) (number : ℕ) (line : List ℕ) (all s t : Option Script)
       → GoesOn p0 x0 all s p x → q ≡ settled p → Advances s (Ok false) number line t → f ≡ Ok z
       → IfSome all (λ script. Takes f (reading_of read script) p0 x0 q x)
   ended z p0 x0 p q x number line None s t g e a h = tt
   ended z p0 x0 p q x number line (Some all) None t g e a h = absurd g
   ended {T} {f} z p0 x0 p q x number line (Some all) (Some script) t g e a h =
       let same = ap (reading_of read) a in
-      let P : Result T RunFault → Type 0 = λ r. Takes r (reading_of read all) p0 x0 q x in
+      let P : Result T (Fault BadLine) → Type 0 = λ r. Takes r (reading_of read all) p0 x0 q x in
       subst P (sym h) (
         g.fault ∙ ap (λ (y : Reading). y.fault) same,
         e ∙ ap settled (sym (g.port ∙ ap (λ (y : Reading). port_after (events_of y.requests) p) same)),
         sym (g.drawn ∙ ap (λ (y : Reading). seen_after (events_of y.requests) p x) same),
       )
 
-  pub ends_well : {T : Type 0} {f : Result T RunFault} (z : T) (p0 : AbstractPort) (x0 : Course) (q : AbstractPort) (x : Course) (number : ℕ) (line : List ℕ) (all s t : Option Script)
+  pub ends_well : {T : Type 0} {f : Result T (Fault BadLine)} (z : T) (p0 : AbstractPort) (x0 : Course) (q : AbstractPort) (x : Course) (number : ℕ) (line : List ℕ) (all s t : Option Script)
       → IsTaking p0 x0 all s q x → Advances s (Ok false) number line t → f ≡ Ok z
       → IfSome all (λ script. Takes f (reading_of read script) p0 x0 q x)
   ends_well z p0 x0 q x number line all s t i a h = ended z p0 x0 i.behind q x number line all s t i.goes i.stands.same a h
 
   -- the lines stop
-  stopped : {T : Type 0} {f : Result T RunFault} (p0 : AbstractPort) (x0 : Course) (p : AbstractPort) (x : Course) (q' : AbstractPort) (y : Course) (fault : LineFault) (number : ℕ) (line : List ℕ) (all s t : Option Script)
-      → GoesOn p0 x0 all s p x → Advances s (Err fault) number line t → f ≡ Err (fault_of_line fault)
+  stopped : {T : Type 0} {f : Result T (Fault BadLine)} (p0 : AbstractPort) (x0 : Course) (p : AbstractPort) (x : Course) (q' : AbstractPort) (y : Course) (fault : LineFault) (number : ℕ) (line : List ℕ) (all s t : Option Script)
+      → GoesOn p0 x0 all s p x → Advances s (Err fault) number line t → f ≡ Err (fault_of_line long_line fault)
       → IfSome all (λ script. Takes f (reading_of read script) p0 x0 q' y)
   stopped p0 x0 p x q' y fault number line None s t g a h = tt
   stopped p0 x0 p x q' y fault number line (Some all) None t g a h = absurd g
   stopped {T} {f} p0 x0 p x q' y (LineFaults.Limit n limit) number line (Some all) (Some script) t g a h =
-      let P : Result T RunFault → Type 0 = λ r. Takes r (reading_of read all) p0 x0 q' y in
+      let P : Result T (Fault BadLine) → Type 0 = λ r. Takes r (reading_of read all) p0 x0 q' y in
       subst P (sym h) (g.fault ∙ ap (λ s. (reading_of read s).fault) a)
   stopped {T} {f} p0 x0 p x q' y LineFaults.Read number line (Some all) (Some script) t g a h =
-      let P : Result T RunFault → Type 0 = λ r. Takes r (reading_of read all) p0 x0 q' y in
+      let P : Result T (Fault BadLine) → Type 0 = λ r. Takes r (reading_of read all) p0 x0 q' y in
       subst P (sym h) tt
 
-  pub stops : {T : Type 0} {f : Result T RunFault} (p0 : AbstractPort) (x0 : Course) (q : AbstractPort) (x : Course) (q' : AbstractPort) (y : Course) (fault : LineFault) (number : ℕ) (line : List ℕ) (all s t : Option Script)
-      → IsTaking p0 x0 all s q x → Advances s (Err fault) number line t → f ≡ Err (fault_of_line fault)
+  pub stops : {T : Type 0} {f : Result T (Fault BadLine)} (p0 : AbstractPort) (x0 : Course) (q : AbstractPort) (x : Course) (q' : AbstractPort) (y : Course) (fault : LineFault) (number : ℕ) (line : List ℕ) (all s t : Option Script)
+      → IsTaking p0 x0 all s q x → Advances s (Err fault) number line t → f ≡ Err (fault_of_line long_line fault)
       → IfSome all (λ script. Takes f (reading_of read script) p0 x0 q' y)
   stops p0 x0 q x q' y fault number line all s t i a h = stopped p0 x0 i.behind x q' y fault number line all s t i.goes a h

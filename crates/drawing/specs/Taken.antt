@@ -6,8 +6,9 @@ use Rattle.script.specs.Requests.{Request, Asks, NoCommand}
 use Rattle.script.specs.Responses.{events_of, responses_to}
 use Rattle.script.specs.Outcome.{Reading}
 use Rattle.script.specs.declared.faults.ScriptFault.{ScriptFault}
-use Rattle.script.specs.declared.faults.RunFault.{RunFault}
-use Rattle.script.specs.declared.faults.RunFault.TheVariants as Faults
+use Rattle.job.specs.declared.fault.Fault.{Fault}
+use Rattle.job.specs.declared.fault.Fault.TheVariants as Faults
+use Rattle.script.specs.declared.faults.BadLine.{BadLine}
 use Rattle.drawing.specs.Course.{Course, seen_after, seen_at}
 
 -- what a request draws; a line that begins with tc and is no command draws nothing
@@ -24,10 +25,10 @@ TakesLine (Err fault) asked p x q y = asked ≡ Err fault
 
 -- The lines of a script are taken: they have no fault, each event is drawn in turn, and the port is as after all of them; or the fault is the
 -- first of the script, or a read failed.
-abbrev pub Takes : {T : Type 0} → Result T RunFault → Reading → AbstractPort → Course → AbstractPort → Course → Type 0
+abbrev pub Takes : {T : Type 0} → Result T (Fault BadLine) → Reading → AbstractPort → Course → AbstractPort → Course → Type 0
 Takes (Ok t) reading p x q y =
     (reading.fault ≡ None) × (q ≡ settled (port_after (events_of reading.requests) p)) × (y ≡ seen_after (events_of reading.requests) p x)
-Takes (Err (Faults.Script number fault)) reading p x q y = reading.fault ≡ Some (number, fault)
+Takes (Err (Faults.Input bad)) reading p x q y = reading.fault ≡ Some bad
 Takes (Err Faults.Read) reading p x q y = ⊤
 Takes (Err Faults.Write) reading p x q y = ⊥
 Takes (Err Faults.Memory) reading p x q y = ⊥

@@ -9,7 +9,8 @@ ghost use Rattle.drawing.specs.Options.{options_of};
 
 use crate::options::{DrawValues, options_given};
 use crate::running::draw;
-use script::{Ended, Values, end_run, end_with_value, settings_given};
+use job::{Ended, end_run};
+use script::{Values, end_with_value, settings_given};
 use std::alloc::{Allocator, Global};
 use std::io::{BufWriter, Read, Write};
 use wire_time::MAX_MOMENT;

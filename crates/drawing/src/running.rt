@@ -24,7 +24,7 @@ use abstract_port::{Answer, Command, Event};
 use answer_text::WriteFault;
 use line_reader::LineReader;
 use picture::Bands;
-use script::{RunFault, RunningPort, Said, ScriptFault, Settings, read_line, read_tc};
+use script::{BadLine, RunFault, RunningPort, Said, ScriptFault, Settings, read_line, read_tc};
 use separation::settling;
 use std::alloc::{Allocator, Global};
 use std::io::{Read, Write};
@@ -132,7 +132,7 @@ fn take_lines<A: Allocator, B: Allocator, R: Read + Drop>(
     'lines: while lines.advance()? {
         match take_line(port, bands, course, lines.line(), settings) {
             Ok(()) => {}
-            Err(fault) => return Err(RunFault::Script(lines.line_number(), fault)),
+            Err(fault) => return Err(RunFault::Input(BadLine::new(lines.line_number(), fault))),
         }
     }
     Ok(())

@@ -1,7 +1,7 @@
 //! Scripts, and what is drawn of their runs.
 
 use drawing::{DrawOptions, DrawValues, answer_draw, draw};
-use script::{RunFault, ScriptFault, Settings, Values};
+use script::{BadLine, RunFault, ScriptFault, Settings, Values};
 use std::io::{BufWriter, Write};
 use std::process::Abort;
 use std::test::Fail;
@@ -343,7 +343,10 @@ fn failed_reads_and_writes_end_it(rt: HostRuntime) -> Result<(), Fail> {
         usual(&rt),
         options,
     );
-    assert_eq!(rt; run, Err(RunFault::Script(2, ScriptFault::BadNumber)));
+    assert_eq!(rt;
+        run,
+        Err(RunFault::Input(BadLine::new(2, ScriptFault::BadNumber)))
+    );
     assert!(rt; got.is_empty());
     Ok(())
 }

@@ -5,9 +5,9 @@ use super::rows::{
     to_the_end,
 };
 use capture::CapFault;
-use replay::{ReplayFault, Unwatched, replay};
+use replay::{ReplayFault, ReplayInput, Unwatched, replay};
 use schedule_check::{CheckSettings, check};
-use script::{RunFault, ScriptFault, Settings, run_script};
+use script::{BadLine, RunFault, ScriptFault, Settings, run_script};
 use std::alloc::Global;
 use std::test::Fail;
 use test_streams::{
@@ -112,7 +112,7 @@ fn is_checked(alloc: Global, settings: CheckSettings, cut: usize) -> bool {
     let front = &lines[..cut.min(lines.len())];
     let is_word = front.ends_with(b"\nt") || front == b"t".as_slice();
     let line = if cut == 1 { 1 } else { 2 };
-    let fault = RunFault::Script(line, ScriptFault::UnknownLine);
+    let fault = RunFault::Input(BadLine::new(line, ScriptFault::UnknownLine));
     let mut got = Vec::new(alloc);
     check(alloc, front, &mut got, settings).err() == is_word.then_some(fault)
 }
@@ -155,7 +155,7 @@ fn two_frames_that_are_cut(rt: HostRuntime) {
 fn is_cut(alloc: Global, settings: Settings, octets: &[u8], cut: u32) -> bool {
     let records = cut.saturating_sub(24) / 76;
     let rest = cut.saturating_sub(24) % 76;
-    let fault = ReplayFault::Capture(records, CapFault::ShortRecord);
+    let fault = ReplayFault::Input(ReplayInput::Capture(records, CapFault::ShortRecord));
     let front = &octets[..(cut as usize).min(octets.len())];
     let whole = &front[..front.len().saturating_sub(rest as usize)];
     let got = replay_in_memory(alloc, front, settings);
@@ -193,7 +193,7 @@ fn is_header(
     let got = replay_in_memory(alloc, capture.as_slice(), settings);
     match fault {
         Some(fault) => {
-            got.result == Err(ReplayFault::Capture(0, fault))
+            got.result == Err(ReplayFault::Input(ReplayInput::Capture(0, fault)))
                 && got.report.is_empty()
                 && got.capture.is_empty()
         }
@@ -238,31 +238,31 @@ static RECORDS: [(u32, u32, u32, Result<(), ReplayFault>); 7] = [
         1_000_000,
         262_145,
         60,
-        Err(ReplayFault::Capture(0, CapFault::LongRecord)),
+        Err(ReplayFault::Input(ReplayInput::Capture(0, CapFault::LongRecord))),
     ),
     (
         0,
         u32::MAX,
         u32::MAX,
-        Err(ReplayFault::Capture(0, CapFault::LongRecord)),
+        Err(ReplayFault::Input(ReplayInput::Capture(0, CapFault::LongRecord))),
     ),
     (
         1_000_000,
         0,
         60,
-        Err(ReplayFault::Capture(0, CapFault::BadFraction)),
+        Err(ReplayFault::Input(ReplayInput::Capture(0, CapFault::BadFraction))),
     ),
     (
         u32::MAX,
         0,
         60,
-        Err(ReplayFault::Capture(0, CapFault::BadFraction)),
+        Err(ReplayFault::Input(ReplayInput::Capture(0, CapFault::BadFraction))),
     ),
     (
         0,
         262_144,
         60,
-        Err(ReplayFault::Capture(0, CapFault::ShortRecord)),
+        Err(ReplayFault::Input(ReplayInput::Capture(0, CapFault::ShortRecord))),
     ),
     (999_999, 0, 60, Ok(())),
     (0, 0, u32::MAX, Ok(())),
@@ -322,7 +322,7 @@ fn replay_without_end(alloc: Global, settings: Settings) -> (Result<(), ReplayFa
 /// A capture without end: 4,000,000 records of no octets are told, and then the fault.
 #[test]
 fn a_capture_without_end(rt: HostRuntime) {
-    let fault = ReplayFault::Capture(4_000_000, CapFault::TooManyRecords);
+    let fault = ReplayFault::Input(ReplayInput::Capture(4_000_000, CapFault::TooManyRecords));
     // 4,000,000 lines of 14 octets and a number: 10 of one digit, 90 of two, and so on.
     let told = 56_000_000 + 26_888_890;
     assert_eq!(rt;

@@ -2,7 +2,7 @@
 //! end, the second time as the first, and writes no more than its input can call for.
 
 use super::rows::{Replayed, as_told, replay_with_lines, settings};
-use replay::ReplayFault;
+use replay::{ReplayFault, ReplayInput};
 use schedule_check::{CheckSettings, check};
 use script::{RunFault, Settings, run_script};
 use std::alloc::Global;
@@ -246,7 +246,7 @@ fn feed_lines(alloc: Global, lines: &[u8], feeding: Feeding) -> Result<bool, &'s
         Feeding::Script(_) => lines_in(lines).saturating_mul(6).saturating_add(9),
         Feeding::Check(_) => lines_in(lines),
     };
-    if !matches!(outcome, Ok(()) | Err(RunFault::Script(_, _))) {
+    if !matches!(outcome, Ok(()) | Err(RunFault::Input(_))) {
         Err("a fault of memory, a read or a write")
     } else if !is_answered(alloc, lines, feeding, outcome, &got) {
         Err("the second run differs")
@@ -319,8 +319,8 @@ fn is_replayed(
 /// Whether this may come of a capture of so many octets that lies in memory.
 fn may_come(outcome: Result<(), ReplayFault>, octets: usize) -> bool {
     match outcome {
-        Ok(()) | Err(ReplayFault::Script(_, _)) => true,
-        Err(ReplayFault::Capture(record, _)) => record as usize <= octets / 16,
+        Ok(()) | Err(ReplayFault::Input(ReplayInput::Script(_))) => true,
+        Err(ReplayFault::Input(ReplayInput::Capture(record, _))) => record as usize <= octets / 16,
         _ => false,
     }
 }

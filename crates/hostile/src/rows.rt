@@ -2,11 +2,10 @@
 
 use capture::{CAPTURE_END, CaptureWriter};
 #[cfg(test)]
-use replay::say_replay_fault;
+use job::say_fault;
+#[cfg(test)]
 use replay::{ReplayFault, Unwatched, replay};
 use schedule_check::{CheckSettings, check};
-#[cfg(test)]
-use script::say_fault;
 use script::{RunFault, Settings, run_script};
 use std::alloc::{Allocator, Global};
 use std::io::{self, Read, Write};
@@ -211,7 +210,7 @@ pub fn is_said(alloc: Global, outcome: Result<(), RunFault>, text: &[u8]) -> boo
 pub fn is_said_of_replay(alloc: Global, outcome: Result<(), ReplayFault>, text: &[u8]) -> bool {
     let mut said = Vec::new(alloc);
     if let Err(fault) = outcome {
-        say_replay_fault(&fault, &mut said);
+        say_fault(&fault, &mut said);
     }
     said.as_slice() == text
 }

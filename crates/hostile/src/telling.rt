@@ -1,10 +1,11 @@
 //! Where memory is wanting, each of the calls that the program makes ends with status 4 and its text, and nothing is answered.
 
 use super::rows::{Job, to_the_end};
+use job::Ended;
 use refusing_heap::RefusingHeap;
 use replay::{Inputs, Outputs, Unwatched, answer_replay};
 use schedule_check::answer_check;
-use script::{Ended, Settings, Values, answer_script};
+use script::{Settings, Values, answer_script};
 use std::alloc::Global;
 use std::io::{self, BufWriter};
 use std::test::Fail;

@@ -1,11 +1,10 @@
 -- What a replay over memory tells, and what it leaves in the three slices that it is lent.
-use Rattle.std.specs.Prelude.{◌≡◌, ◌<◌, ◌⊎◌, List, ℕ, [], length, Option, Some, None, Result, Ok, Err}
+use Rattle.std.specs.Prelude.{◌≡◌, ◌<◌, ◌⊎◌, List, ℕ, [], length, Result, Ok, Err}
 use Rattle.replay.specs.Outcome.{Outcome}
-use Rattle.replay.specs.Texts.{replay_status, replay_text}
-use Rattle.replay.specs.declared.faults.ReplayFault.{ReplayFault}
+use Rattle.replay.specs.Texts.{replay_telling}
 use Rattle.script.specs.Texts.{value_text}
 use Rattle.script.specs.declared.settings.BadValue.{BadValue}
-use Rattle.octets.specs.Slices.{IsPut}
+use Rattle.octets.specs.Slices.{IsPut, status_of, text_of}
 use Rattle.octets.specs.declared.captures.ReplayRan.{ReplayRan}
 
 -- 1. What is told
@@ -17,24 +16,14 @@ pub record ToldReplay : Type 0 where
   pub departures : List ℕ
   pub fault : List ℕ
 
--- the status that goes with a fault, 0 where there is none
-abbrev pub replay_status_of : Option ReplayFault → ℕ
-replay_status_of None = 0
-replay_status_of (Some fault) = replay_status fault
-
--- its text
-abbrev pub replay_text_of : Option ReplayFault → List ℕ
-replay_text_of None = []
-replay_text_of (Some fault) = replay_text fault
-
 -- both outputs with the fault that ends them
 abbrev pub told_of_replay : Outcome → ToldReplay
 told_of_replay whole =
     record {
-      status = replay_status_of whole.fault;
+      status = status_of replay_telling whole.fault;
       report = whole.output.report;
       departures = whole.output.capture;
-      fault = replay_text_of whole.fault;
+      fault = text_of replay_telling whole.fault;
     }
 
 -- a bad value, with status 2 and no output

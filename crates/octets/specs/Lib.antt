@@ -1,5 +1,4 @@
 pub mod Values
 pub mod Slices
-pub mod Tables
 pub mod Captures
 pub mod Pictures

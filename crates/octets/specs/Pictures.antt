@@ -4,10 +4,11 @@ use Rattle.abstract_port.specs.declared.Command.{Command}
 use Rattle.drawing.specs.Ending.{fault_in}
 use Rattle.drawing.specs.Options.{options_of}
 use Rattle.drawing.specs.declared.options.DrawOptions.{DrawOptions}
-use Rattle.script.specs.Outcome.{Outcome}
+use Rattle.job.specs.Outcome.{Outcome}
 use Rattle.script.specs.Setup.{Setup}
 use Rattle.script.specs.declared.settings.BadValue.{BadValue}
-use Rattle.script.specs.declared.faults.ScriptFault.{ScriptFault}
+use Rattle.script.specs.Texts.{script_telling}
+use Rattle.script.specs.declared.faults.BadLine.{BadLine}
 use Rattle.tc_reader.specs.Reader.{IsReader}
 use Rattle.tc_reader.specs.declared.fault.TcFault.{TcFault}
 use Rattle.octets.specs.Slices.{Answers, Slices, refused, told_of}
@@ -19,14 +20,14 @@ abbrev pub options_at : PictureValues → Result DrawOptions BadValue
 options_at v = options_of (Some (decimal v.from)) (option_map decimal v.to) (Some (decimal v.width))
 
 -- this picture, or, where the script has a fault, no picture and its first fault
-abbrev pub drawn_with : List ℕ → Option (ℕ × ScriptFault) → Outcome
+abbrev pub drawn_with : List ℕ → Option BadLine → Outcome BadLine
 drawn_with picture None = record { text = picture; fault = None }
 drawn_with picture (Some fault) = record { text = []; fault = Some fault }
 
 -- Some picture of a script is told, or its first fault. What a picture's text is, is not said here.
 abbrev pub Draws : List ℕ → Ran → Slices → Slices → Type 0
 Draws script ran old new =
-    (picture : List ℕ) × ((read : List (List ℕ) → Result Command TcFault) → IsReader read → Answers (told_of (drawn_with picture (fault_in read script))) ran old new)
+    (picture : List ℕ) × ((read : List (List ℕ) → Result Command TcFault) → IsReader read → Answers (told_of script_telling (drawn_with picture (fault_in read script))) ran old new)
 
 -- by the settings and the options: the first bad value is told, and nothing is drawn
 abbrev pub DrawsWith : Result Setup BadValue → Result DrawOptions BadValue → List ℕ → Ran → Slices → Slices → Type 0

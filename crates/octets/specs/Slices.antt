@@ -1,9 +1,9 @@
 -- What a call over memory tells, and what it leaves in the two slices that it is lent.
 use Rattle.std.specs.Prelude.{◌≡◌, ◌<◌, ◌⊎◌, List, ℕ, [], ◌++◌, drop, length, Option, Some, None, Result, Ok, Err}
-use Rattle.script.specs.Outcome.{Outcome}
-use Rattle.script.specs.Texts.{fault_text, value_text}
-use Rattle.script.specs.declared.faults.RunFault.TheVariants as Faults
-use Rattle.script.specs.declared.faults.ScriptFault.{ScriptFault}
+use Rattle.job.specs.Outcome.{Outcome}
+use Rattle.job.specs.Telling.{Telling}
+use Rattle.script.specs.Texts.{script_telling, value_text}
+use Rattle.script.specs.declared.faults.BadLine.{BadLine}
 use Rattle.script.specs.declared.settings.BadValue.{BadValue}
 use Rattle.octets.specs.declared.answering.Ran.{Ran}
 
@@ -15,27 +15,27 @@ pub record Told : Type 0 where
   pub output : List ℕ
   pub fault : List ℕ
 
--- 0 where an input has no fault, else 3
-abbrev pub status_of : Option (ℕ × ScriptFault) → ℕ
-status_of None = 0
-status_of (Some fault) = 3
+-- the status that goes with the fault of an input, 0 where there is none
+abbrev pub status_of : {I : Type 0} → Telling I → Option I → ℕ
+status_of telling None = 0
+status_of telling (Some fault) = telling.status fault
 
--- the text of the fault of a line
-abbrev pub text_of : Option (ℕ × ScriptFault) → List ℕ
-text_of None = []
-text_of (Some fault) = fault_text (Faults.Script fault.0 fault.1)
+-- its text
+abbrev pub text_of : {I : Type 0} → Telling I → Option I → List ℕ
+text_of telling None = []
+text_of telling (Some fault) = telling.text fault
 
 -- an output with the fault that ends it
-abbrev pub told_of : Outcome → Told
-told_of whole = record { status = status_of whole.fault; output = whole.text; fault = text_of whole.fault }
+abbrev pub told_of : {I : Type 0} → Telling I → Outcome I → Told
+told_of telling whole = record { status = status_of telling whole.fault; output = whole.text; fault = text_of telling whole.fault }
 
 -- a bad value, with status 2 and no output
 abbrev pub refused : BadValue → Told
 refused value = record { status = 2; output = []; fault = value_text value }
 
 -- by what values say: what is to be written by them, or the first that is bad
-abbrev pub told_by : {S : Type 0} → (S → Outcome) → Result S BadValue → Told
-told_by whole (Ok settings) = told_of (whole settings)
+abbrev pub told_by : {S : Type 0} → (S → Outcome BadLine) → Result S BadValue → Told
+told_by whole (Ok settings) = told_of script_telling (whole settings)
 told_by whole (Err value) = refused value
 
 -- 2. What is left in the slices

@@ -2,9 +2,10 @@
 
 ghost use Rattle.std.specs.Prelude.{◌≡◌, ◌≤◌, List, ℕ, Some, [], length};
 ghost use Rattle.octets.specs.Slices.{Answers, HasNoMemory, IsPut, refused, slices, told_of};
-ghost use Rattle.script.specs.Outcome.{Outcome, Runs};
+ghost use Rattle.job.specs.Outcome.{Outcome, Runs};
 
-use script::{BadValue, RunFault, say_fault, say_value};
+use job::{Fault, InputFault, say_fault};
+use script::{BadValue, say_value};
 use std::alloc::Allocator;
 
 /// How a call ended, and how many octets there are of what it tells. C sees it as it stands.
@@ -56,14 +57,14 @@ pub fn out_of_memory() -> Ran
 }
 
 /// Ends a run that has written its output into memory: that, and the text of a fault, come into the slices.
-pub fn end_in_memory<A: Allocator>(
+pub fn end_in_memory<A: Allocator, I: InputFault>(
     alloc: &A,
-    run: Result<(), RunFault>,
+    run: Result<(), Fault<I>>,
     written: &[u8],
     output: &mut [u8],
     fault: &mut [u8],
 ) -> Ran
-    ensures { (whole : Outcome) → Runs run (Some []) (Some written.now) whole → Answers (told_of whole) result (slices output.old fault.old) (slices output.new fault.new) }
+    ensures { (whole : Outcome I) → Runs run (Some []) (Some written.now) whole → Answers (told_of I.telling whole) result (slices output.old fault.old) (slices output.new fault.new) }
 {
     let Err(why) = run else {
         return put_told(0, written, b"", output, fault);

@@ -14,7 +14,8 @@ ghost use Rattle.tc_reader.specs.declared.fault.TcFault.{TcFault};
 
 use crate::answering::put_front;
 use crate::values::{PortValues, settings_at};
-use replay::{ReplayFault, Unwatched, replay, say_replay_fault};
+use job::say_fault;
+use replay::{ReplayFault, Unwatched, replay};
 use script::{BadValue, Settings, say_value};
 use std::alloc::Allocator;
 
@@ -87,7 +88,7 @@ fn end_replay<A: Allocator>(
         return put_replay(0, told, left, b"", report, departures, fault);
     };
     let mut said = Vec::new(alloc);
-    let ended = say_replay_fault(&why, &mut said);
+    let ended = say_fault(&why, &mut said);
     if ended.status == 4 || !ended.told {
         return replay_out_of_memory();
     }

@@ -6,6 +6,7 @@ ghost use Rattle.octets.specs.Slices.{Answers, slices, told_by, told_of};
 ghost use Rattle.octets.specs.Values.{rate_at};
 ghost use Rattle.schedule_check.specs.Checked.{whole_check};
 ghost use Rattle.schedule_check.specs.Windows.{IsTeller, Teller};
+ghost use Rattle.script.specs.Texts.{script_telling};
 ghost use Rattle.tc_reader.specs.Reader.{IsReader};
 ghost use Rattle.tc_reader.specs.declared.fault.TcFault.{TcFault};
 
@@ -24,7 +25,7 @@ fn check_at<A: Allocator>(
     output: &mut [u8],
     fault: &mut [u8],
 ) -> Ran
-    ensures { (tell : Teller) → IsTeller tell → (read : List (List ℕ) → Result Command TcFault) → IsReader read → Answers (told_of (whole_check tell windows rate read schedules.now)) result (slices output.old fault.old) (slices output.new fault.new) }
+    ensures { (tell : Teller) → IsTeller tell → (read : List (List ℕ) → Result Command TcFault) → IsReader read → Answers (told_of script_telling (whole_check tell windows rate read schedules.now)) result (slices output.old fault.old) (slices output.new fault.new) }
 {
     let mut written = Vec::new(alloc);
     let settings = CheckSettings { rate, windows };

@@ -5,6 +5,7 @@ ghost use Rattle.abstract_port.specs.declared.Command.{Command};
 ghost use Rattle.octets.specs.Slices.{Answers, slices, told_by, told_of};
 ghost use Rattle.octets.specs.Values.{settings_at};
 ghost use Rattle.script.specs.Outcome.{outcome_of};
+ghost use Rattle.script.specs.Texts.{script_telling};
 ghost use Rattle.tc_reader.specs.Reader.{IsReader};
 ghost use Rattle.tc_reader.specs.declared.fault.TcFault.{TcFault};
 
@@ -21,7 +22,7 @@ fn run_with<A: Allocator>(
     output: &mut [u8],
     fault: &mut [u8],
 ) -> Ran
-    ensures { (read : List (List ℕ) → Result Command TcFault) → IsReader read → Answers (told_of (outcome_of read settings script.now)) result (slices output.old fault.old) (slices output.new fault.new) }
+    ensures { (read : List (List ℕ) → Result Command TcFault) → IsReader read → Answers (told_of script_telling (outcome_of read settings script.now)) result (slices output.old fault.old) (slices output.new fault.new) }
 {
     let mut written = Vec::new(alloc);
     let run = run_script(alloc, script, &mut written, settings);

@@ -4,7 +4,8 @@ ghost use Rattle.std.specs.Prelude.{◌≡◌, ◌++◌, ℕ, List, Result, Some
 ghost use Rattle.abstract_port.specs.declared.Command.{Command};
 ghost use Rattle.tc_reader.specs.Reader.{IsReader};
 ghost use Rattle.tc_reader.specs.declared.fault.TcFault.{TcFault};
-ghost use Rattle.script.specs.Outcome.{IsFaithfulTo, Runs, outcome_of};
+ghost use Rattle.job.specs.Outcome.{Runs};
+ghost use Rattle.script.specs.Outcome.{IsFaithfulTo, outcome_of};
 
 use script::{RunFault, Settings, run_script};
 use std::alloc::Global;

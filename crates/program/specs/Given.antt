@@ -7,9 +7,10 @@ use Rattle.clap.specs.declared.parser.matches.Found.{Found}
 use Rattle.drawing.specs.Options.{options_of}
 use Rattle.drawing.specs.declared.options.DrawOptions.{DrawOptions}
 use Rattle.replay.specs.Texts.{open_text}
-use Rattle.script.specs.Ending.{IsUnanswered, rate_given, settings_given}
+use Rattle.job.specs.Ending.{IsUnanswered}
+use Rattle.script.specs.Ending.{rate_given, settings_given}
 use Rattle.script.specs.Setup.{Setup}
-use Rattle.script.specs.declared.faults.Ended.{Ended}
+use Rattle.job.specs.declared.telling.Ended.{Ended}
 use Rattle.script.specs.declared.settings.BadValue.{BadValue}
 use Rattle.traffic.specs.Ending.{IsStreamsEnding}
 

@@ -11,10 +11,11 @@ mod replaying;
 mod streaming;
 
 pub use answering::{answer_given, answer_words, check_given, draw_given};
+use job::{Ended, say_fault};
 pub use options::values_of;
 pub use progress::Progress;
 pub use replaying::replay_given;
-use script::{Ended, RunFault, say_fault};
+use script::RunFault;
 use std::io::{BufWriter, IsTerminal, Write};
 use std::process::ExitCode;
 pub use streaming::streams_given;

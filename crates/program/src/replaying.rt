@@ -5,15 +5,17 @@ ghost use Rattle.std.specs.Io.Buffered.{writer_contents};
 ghost use Rattle.clap.specs.Matches.{found_of};
 ghost use Rattle.program.specs.Given.{settings_in};
 ghost use Rattle.capture.specs.declared.writer.TheConstants.{CAPTURE_END};
-ghost use Rattle.script.specs.Ending.{IsRefusal, IsUnanswered};
+ghost use Rattle.job.specs.Ending.{IsUnanswered};
+ghost use Rattle.script.specs.Ending.{IsRefusal};
 ghost use Rattle.replay.specs.Texts.{open_text};
 
 use crate::end_without_memory;
 use crate::options::values_of;
 use capture::CAPTURE_END;
 use clap::ArgMatches;
+use job::{Ended, end_told};
 use replay::{Inputs, Outputs, Watch, answer_replay, say_unopened};
-use script::{Ended, Settings, end_with_value, settings_given};
+use script::{Settings, end_with_value, settings_given};
 use std::alloc::{Allocator, Global};
 use std::fs;
 use std::io::{BufWriter, Read, Write};
@@ -79,9 +81,7 @@ pub fn end_unopened<B: Allocator, W: Write + Drop, E: Write>(
 ) -> (Ended, W)
     ensures { IsUnanswered 4 (open_text path.now) result.0 (writer_contents W.contents answers) (W.contents result.1) (E.contents errors.old) (E.contents errors.new) }
 {
-    let ended = say_unopened(path, errors);
-    let (writer, _unwritten) = answers.into_parts();
-    (ended, writer)
+    end_told(say_unopened(path, errors), answers)
 }
 
 /// Replays what is open, the capture from `reader` where that is the standard input.

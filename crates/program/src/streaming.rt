@@ -7,7 +7,7 @@ ghost use Rattle.program.specs.Given.{IsGivenStreams};
 
 use crate::replaying::{end_unopened, open};
 use clap::ArgMatches;
-use script::Ended;
+use job::Ended;
 use std::alloc::{Allocator, Global};
 use std::io::{BufWriter, Read, Write};
 use std::rt::Files;

@@ -1,7 +1,7 @@
 //! What the tests share: words and an input with what is wanted of the answer, and the folder whose files words name.
 
+use job::Ended;
 use program::{Progress, answer_words};
-use script::Ended;
 use std::alloc::Global;
 use std::cell::Cell;
 use std::io::{self, BufWriter, Read, Write};

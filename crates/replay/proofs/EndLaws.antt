@@ -16,15 +16,17 @@ use Rattle.replay.specs.Merge.{Timed, all_requests, before_end, came_from, lines
 use Rattle.replay.specs.RecordsLeft.{EndsSo}
 use Rattle.script.specs.Requests.{Request}
 use Rattle.script.specs.Responses.{responses_of}
-use Rattle.script.specs.declared.faults.ScriptFault.{ScriptFault}
+use Rattle.script.specs.declared.faults.BadLine.{BadLine}
 use Rattle.script.proofs.LeftLaws.{end-settled}
 use Rattle.summary.specs.Observed.{Observed}
 use Rattle.replay.specs.Faults.{fault_of_stop}
 use Rattle.replay.specs.Outcome.{AppendsBoth, Ends, IsOpenFault, Outcome, end_fault, header, is_too_late, end_of, open_fault, refused, told_to_end}
 use Rattle.replay.specs.Outputs.{Got, Output, PutsBoth, SentBoth, joined, nothing, output}
 use Rattle.replay.specs.Running.{Answers, State}
-use Rattle.replay.specs.declared.faults.ReplayFault.{ReplayFault}
-use Rattle.replay.specs.declared.faults.ReplayFault.TheVariants as Faults
+use Rattle.job.specs.declared.fault.Fault.{Fault}
+use Rattle.job.specs.declared.fault.Fault.TheVariants as Faults
+use Rattle.replay.specs.declared.faults.ReplayInput.{ReplayInput}
+use Rattle.replay.specs.declared.faults.ReplayInput.TheVariants as Inputs
 use Rattle.replay.specs.declared.faults.Stop.{Stop}
 use Rattle.replay.specs.declared.faults.Stop.TheVariants as Stops
 use Rattle.replay.proofs.RunLaws.{after, later_port, later_seen, parts}
@@ -80,32 +82,32 @@ whole_of s e = record {
 pub ends_ok : {T U : Type 0} {x : U} (y : T) (old new : Got) (o : Outcome) → PutsBoth {T = U} (Ok x) old new o.output → o.fault ≡ None → Ends {T = T} (Ok y) old new o
 ends_ok y old new o p e = (e, whole_of p.sent p.all)
 
-pub ends_capture : {T U : Type 0} {x : U} (r : Result T ReplayFault) (number : ℕ) (fault : CapFault) (old new : Got) (o : Outcome) → PutsBoth {T = U} (Ok x) old new o.output → o.fault ≡ Some (Faults.Capture number fault) → r ≡ Err (Faults.Capture number fault) → Ends r old new o
-ends_capture {T} r number fault old new o p e is = subst (λ (q : Result T ReplayFault). Ends q old new o) (sym is) (e, whole_of p.sent p.all)
+pub ends_capture : {T U : Type 0} {x : U} (r : Result T (Fault ReplayInput)) (number : ℕ) (fault : CapFault) (old new : Got) (o : Outcome) → PutsBoth {T = U} (Ok x) old new o.output → o.fault ≡ Some (Inputs.Capture number fault) → r ≡ Err (Faults.Input (Inputs.Capture number fault)) → Ends r old new o
+ends_capture {T} r number fault old new o p e is = subst (λ (q : Result T (Fault ReplayInput)). Ends q old new o) (sym is) (e, whole_of p.sent p.all)
 
 stop_at : (T U : Type 0) (y : Stop) (old new : Got) (o : Outcome) → PutsBoth {T = U} (Err y) old new o.output → Ends {T = T} (Err (fault_of_stop y)) old new o
 stop_at T U Stops.Read old new o p = (p.left, p.sent)
 stop_at T U Stops.Write old new o p = (p.left, p.short refl, p.sent)
 stop_at T U Stops.Memory old new o p = (p.left, p.sent)
 
-pub ends_stop : {T U : Type 0} (r : Result T ReplayFault) (y : Stop) (old new : Got) (o : Outcome) → r ≡ Err (fault_of_stop y) → PutsBoth {T = U} (Err y) old new o.output → Ends r old new o
-ends_stop {T} {U} r y old new o is p = subst (λ (q : Result T ReplayFault). Ends q old new o) (sym is) (stop_at T U y old new o p)
+pub ends_stop : {T U : Type 0} (r : Result T (Fault ReplayInput)) (y : Stop) (old new : Got) (o : Outcome) → r ≡ Err (fault_of_stop y) → PutsBoth {T = U} (Err y) old new o.output → Ends r old new o
+ends_stop {T} {U} r y old new o is p = subst (λ (q : Result T (Fault ReplayInput)). Ends q old new o) (sym is) (stop_at T U y old new o p)
 
 -- nothing was written
 nothing_written : (old : Got) → AppendsBoth old old nothing
 nothing_written old = record { report = Appends-nil old.report; capture = Appends-nil old.capture }
 
 -- the inputs are refused before anything was written
-pub refused_so : {T : Type 0} (r : Result T ReplayFault) (fault : ReplayFault) (old : Got) (o : Outcome) → r ≡ Err fault → o ≡ refused fault → Ends {T = T} (Err fault) old old (refused fault) → Ends r old old o
-refused_so {T} r fault old o is same e = subst (λ (q : Result T ReplayFault). Ends q old old o) (sym is) (subst (λ (x : Outcome). Ends {T = T} (Err fault) old old x) (sym same) e)
+pub refused_so : {T : Type 0} (r : Result T (Fault ReplayInput)) (fault : ReplayInput) (old : Got) (o : Outcome) → r ≡ Err (Faults.Input fault) → o ≡ refused fault → Ends {T = T} (Err (Faults.Input fault)) old old (refused fault) → Ends r old old o
+refused_so {T} r fault old o is same e = subst (λ (q : Result T (Fault ReplayInput)). Ends q old old o) (sym is) (subst (λ (x : Outcome). Ends {T = T} (Err (Faults.Input fault)) old old x) (sym same) e)
 
-pub refused_script : (T : Type 0) (number : ℕ) (fault : ScriptFault) (old : Got) → Ends {T = T} (Err (Faults.Script number fault)) old old (refused (Faults.Script number fault))
-refused_script T number fault old = (refl, nothing_written old)
+pub refused_script : (T : Type 0) (bad : BadLine) (old : Got) → Ends {T = T} (Err (Faults.Input (Inputs.Script bad))) old old (refused (Inputs.Script bad))
+refused_script T bad old = (refl, nothing_written old)
 
-pub refused_header : (T : Type 0) (number : ℕ) (fault : CapFault) (old : Got) → Ends {T = T} (Err (Faults.Capture number fault)) old old (refused (Faults.Capture number fault))
+pub refused_header : (T : Type 0) (number : ℕ) (fault : CapFault) (old : Got) → Ends {T = T} (Err (Faults.Input (Inputs.Capture number fault))) old old (refused (Inputs.Capture number fault))
 refused_header T number fault old = (refl, nothing_written old)
 
-pub refused_until : (T : Type 0) (old : Got) → Ends {T = T} (Err Faults.Until) old old (refused Faults.Until)
+pub refused_until : (T : Type 0) (old : Got) → Ends {T = T} (Err (Faults.Input Inputs.Until)) old old (refused Inputs.Until)
 refused_until T old = (refl, nothing_written old)
 
 pub broken_off : (T : Type 0) (y : Stop) (old : Got) (o : Outcome) → (y ≡ Stops.Write → ⊥) → Ends {T = T} (Err (fault_of_stop y)) old old o
@@ -128,17 +130,15 @@ append_both old mid new x y a b = record {
 sent_behind : {old mid new : Got} (x y left : Output) → SentBoth old mid (joined x y) y → SentBoth mid new y left → SentBoth old new (joined x y) left
 sent_behind {old} {mid} {new} x y left s t = both_last new left s t
 
-pub behind_header : {T U : Type 0} {x : U} (r : Result T ReplayFault) (old mid new : Got) (o : Outcome) → PutsBoth {T = U} (Ok x) old mid header → Ends r mid new o → Ends r old new (with_header o)
+pub behind_header : {T U : Type 0} {x : U} (r : Result T (Fault ReplayInput)) (old mid new : Got) (o : Outcome) → PutsBoth {T = U} (Ok x) old mid header → Ends r mid new o → Ends r old new (with_header o)
 behind_header {T} {U} {x} (Ok y) old mid new o p e = (e.0, append_both old mid new header o.output (whole_of p.sent p.all) e.1)
-behind_header {T} {U} {x} (Err Faults.Until) old mid new o p e = (e.0, append_both old mid new header o.output (whole_of p.sent p.all) e.1)
-behind_header {T} {U} {x} (Err (Faults.Script number fault)) old mid new o p e = (e.0, append_both old mid new header o.output (whole_of p.sent p.all) e.1)
-behind_header {T} {U} {x} (Err (Faults.Capture number fault)) old mid new o p e = (e.0, append_both old mid new header o.output (whole_of p.sent p.all) e.1)
+behind_header {T} {U} {x} (Err (Faults.Input fault)) old mid new o p e = (e.0, append_both old mid new header o.output (whole_of p.sent p.all) e.1)
 behind_header {T} {U} {x} (Err Faults.Read) old mid new o p (left, s) = (left, sent_behind header o.output left (both_more mid header o.output (both_none old _) refl p) s)
 behind_header {T} {U} {x} (Err Faults.Write) old mid new o p (left, some, s) = (left, some, sent_behind header o.output left (both_more mid header o.output (both_none old _) refl p) s)
 behind_header {T} {U} {x} (Err Faults.Memory) old mid new o p (left, s) = (left, sent_behind header o.output left (both_more mid header o.output (both_none old _) refl p) s)
 
 -- the exit of a call that failed in the header
-pub header_exit : {T U : Type 0} (r : Result T ReplayFault) (y : Stop) (old mid : Got) (o : Outcome) → r ≡ Err (fault_of_stop y) → PutsBoth {T = U} (Err y) old mid header → Ends r old mid (with_header o)
+pub header_exit : {T U : Type 0} (r : Result T (Fault ReplayInput)) (y : Stop) (old mid : Got) (o : Outcome) → r ≡ Err (fault_of_stop y) → PutsBoth {T = U} (Err y) old mid header → Ends r old mid (with_header o)
 header_exit {T} {U} r y old mid o is p =
     let q : PutsBoth {T = U} (Err y) old mid (joined header o.output) = both_exit {T = U} (Err y) mid header o.output refl (both_none old _) refl p in
     ends_stop {T = T} {U = U} r y old mid (with_header o) is q
@@ -177,10 +177,10 @@ pub no_fault : (entries : List Entry) (last : End) (n : ℕ) → EndsSo entries 
 no_fault entries Whole n e = refl
 no_fault entries (Broken fault) n e = absurd (cc)
 
-abbrev as_fault : Option (ℕ × CapFault) → Option ReplayFault
+abbrev as_fault : Option (ℕ × CapFault) → Option ReplayInput
 as_fault None = None
-as_fault (Some x) = Some (Faults.Capture x.0 x.1)
+as_fault (Some x) = Some (Inputs.Capture x.0 x.1)
 
-pub some_fault : (entries : List Entry) (last : End) (number : ℕ) (fault : CapFault) → EndsSo entries last (Some (number, fault)) → end_fault (length entries) last ≡ Some (Faults.Capture number fault)
+pub some_fault : (entries : List Entry) (last : End) (number : ℕ) (fault : CapFault) → EndsSo entries last (Some (number, fault)) → end_fault (length entries) last ≡ Some (Inputs.Capture number fault)
 some_fault entries Whole number fault e = absurd (cc)
 some_fault entries (Broken f) number fault e = sym (ap as_fault e)

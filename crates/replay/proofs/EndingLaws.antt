@@ -8,15 +8,17 @@ use Rattle.capture.specs.declared.fault.CapFault.{CapFault}
 use Rattle.capture.specs.declared.reader.End.{End}
 use Rattle.tc_reader.specs.Reader.{IsReader}
 use Rattle.tc_reader.specs.declared.fault.TcFault.{TcFault}
-use Rattle.script.specs.Ending.{IsTold}
+use Rattle.job.specs.Texts.{IsTold, run_status, run_text}
 use Rattle.script.specs.Setup.{Setup}
-use Rattle.script.specs.declared.faults.Ended.{Ended}
-use Rattle.script.proofs.EndingLaws.{appends_kept, sent_kept, sent_whole}
-use Rattle.replay.specs.Ending.{EndsOut, IsReplayEnding, ended_status, ended_text, with_unwritten}
+use Rattle.job.specs.declared.telling.Ended.{Ended}
+use Rattle.job.proofs.EndingLaws.{appends_kept, sent_kept, sent_whole}
+use Rattle.replay.specs.Ending.{EndsOut, IsReplayEnding, with_unwritten}
 use Rattle.replay.specs.Outcome.{AppendsBoth, Ends, Outcome, ReadsAs, outcome_of}
 use Rattle.replay.specs.Outputs.{Got, Output, SentBoth, nothing}
-use Rattle.replay.specs.declared.faults.ReplayFault.{ReplayFault}
-use Rattle.replay.specs.declared.faults.ReplayFault.TheVariants as Faults
+use Rattle.replay.specs.Texts.{replay_telling}
+use Rattle.job.specs.declared.fault.Fault.{Fault}
+use Rattle.job.specs.declared.fault.Fault.TheVariants as Faults
+use Rattle.replay.specs.declared.faults.ReplayInput.{ReplayInput}
 
 -- both writers keep what they hold
 abbrev pub KeepsBoth : Got → Got → Type 0
@@ -37,43 +39,37 @@ both_sent a b c whole left s k = record {
 front_of_both : (a b : Got) (whole : Output) → AppendsBoth a b whole → (left : Output) × SentBoth a b whole left
 front_of_both a b whole w = (nothing, record { report = sent_whole a.report b.report whole.report w.report; capture = sent_whole a.capture b.capture whole.capture w.capture })
 
-ends_kept : (r : Result (Unit {0}) ReplayFault) (old mid out : Got) (whole : Outcome) → Ends r old mid whole → KeepsBoth mid out → Ends r old out whole
+ends_kept : (r : Result (Unit {0}) (Fault ReplayInput)) (old mid out : Got) (whole : Outcome) → Ends r old mid whole → KeepsBoth mid out → Ends r old out whole
 ends_kept (Ok x) old mid out whole w k = (w.0, both_appended old mid out whole.output w.1 k)
-ends_kept (Err Faults.Until) old mid out whole w k = (w.0, both_appended old mid out whole.output w.1 k)
-ends_kept (Err (Faults.Script number fault)) old mid out whole w k = (w.0, both_appended old mid out whole.output w.1 k)
-ends_kept (Err (Faults.Capture number fault)) old mid out whole w k = (w.0, both_appended old mid out whole.output w.1 k)
+ends_kept (Err (Faults.Input fault)) old mid out whole w k = (w.0, both_appended old mid out whole.output w.1 k)
 ends_kept (Err Faults.Read) old mid out whole (left, s) k = (left, both_sent old mid out whole.output left s k)
 ends_kept (Err Faults.Write) old mid out whole (left, some, s) k = (left, some, both_sent old mid out whole.output left s k)
 ends_kept (Err Faults.Memory) old mid out whole (left, s) k = (left, both_sent old mid out whole.output left s k)
 
-ends_out : (r : Result (Unit {0}) ReplayFault) (old new : Got) (whole : Outcome) → Ends r old new whole → EndsOut r old new whole
+ends_out : (r : Result (Unit {0}) (Fault ReplayInput)) (old new : Got) (whole : Outcome) → Ends r old new whole → EndsOut r old new whole
 ends_out (Ok x) old new whole w = w
-ends_out (Err Faults.Until) old new whole w = w
-ends_out (Err (Faults.Script number fault)) old new whole w = w
-ends_out (Err (Faults.Capture number fault)) old new whole w = w
+ends_out (Err (Faults.Input fault)) old new whole w = w
 ends_out (Err Faults.Read) old new whole w = w
 ends_out (Err Faults.Write) old new whole (left, some, s) = (left, s)
 ends_out (Err Faults.Memory) old new whole w = w
 
-front_of_end : (r : Result (Unit {0}) ReplayFault) (old new : Got) (whole : Outcome) → Ends r old new whole → (left : Output) × SentBoth old new whole.output left
+front_of_end : (r : Result (Unit {0}) (Fault ReplayInput)) (old new : Got) (whole : Outcome) → Ends r old new whole → (left : Output) × SentBoth old new whole.output left
 front_of_end (Ok x) old new whole w = front_of_both old new whole.output w.1
-front_of_end (Err Faults.Until) old new whole w = front_of_both old new whole.output w.1
-front_of_end (Err (Faults.Script number fault)) old new whole w = front_of_both old new whole.output w.1
-front_of_end (Err (Faults.Capture number fault)) old new whole w = front_of_both old new whole.output w.1
+front_of_end (Err (Faults.Input fault)) old new whole w = front_of_both old new whole.output w.1
 front_of_end (Err Faults.Read) old new whole w = w
 front_of_end (Err Faults.Write) old new whole (left, some, s) = (left, s)
 front_of_end (Err Faults.Memory) old new whole w = w
 
-out_by : (before run : Result (Unit {0}) ReplayFault) (old new : Got) (whole : Outcome) → (run ≡ before) ⊎ (run ≡ Err Faults.Write) → Ends before old new whole → EndsOut run old new whole
+out_by : (before run : Result (Unit {0}) (Fault ReplayInput)) (old new : Got) (whole : Outcome) → (run ≡ before) ⊎ (run ≡ Err Faults.Write) → Ends before old new whole → EndsOut run old new whole
 out_by before run old new whole (inl same) w = subst (λ r. EndsOut r old new whole) (sym same) (ends_out before old new whole w)
 out_by before run old new whole (inr failed) w = subst (λ r. EndsOut r old new whole) (sym failed) (front_of_end before old new whole w)
 
 -- what a call says of the octets of both inputs
-abbrev pub Says : Result (Unit {0}) ReplayFault → Setup → Option (List ℕ) → Option (List ℕ) → Got → Got → Type 0
+abbrev pub Says : Result (Unit {0}) (Fault ReplayInput) → Setup → Option (List ℕ) → Option (List ℕ) → Got → Got → Type 0
 Says r s script capture old new = (read : List (List ℕ) → Result Command TcFault) → IsReader read → IfSome script (λ lines. IfSome capture (λ octets.
     (records : Result (List Entry × End) CapFault) → ReadsAs octets records → Ends r old new (outcome_of read s lines records)))
 
-module _ (s : Setup) (ended : Ended) (old mid out got : Got) (errors_old errors_new : Option (List ℕ)) (unwritten : Output) (before run : Result (Unit {0}) ReplayFault) where
+module _ (s : Setup) (ended : Ended) (old mid out got : Got) (errors_old errors_new : Option (List ℕ)) (unwritten : Output) (before run : Result (Unit {0}) (Fault ReplayInput)) where
   wrote : (script capture : Option (List ℕ)) (whole : List ℕ → Result (List Entry × End) CapFault → Outcome)
       → IfSome script (λ lines. IfSome capture (λ octets. (records : Result (List Entry × End) CapFault) → ReadsAs octets records → Ends before old mid (whole lines records)))
       → (run ≡ before) ⊎ (run ≡ Err Faults.Write) → KeepsBoth mid out → out ≡ with_unwritten got unwritten
@@ -85,14 +81,12 @@ module _ (s : Setup) (ended : Ended) (old mid out got : Got) (errors_old errors_
 
   pub replay_ending : (script capture : Option (List ℕ)) → Says before s script capture old mid
       → (run ≡ before) ⊎ (run ≡ Err Faults.Write) → (unwritten ≡ nothing) ⊎ (run ≡ Err Faults.Write) → KeepsBoth mid out → out ≡ with_unwritten got unwritten
-      → ended.status ≡ ended_status run → IsTold ended.told errors_old errors_new (ended_text run) → IsReplayEnding s script capture ended old got errors_old errors_new
+      → ended.status ≡ run_status replay_telling run → IsTold ended.told errors_old errors_new (run_text replay_telling run) → IsReplayEnding s script capture ended old got errors_old errors_new
   replay_ending script capture ends kept let_out keeps same status told = record {
     run = run;
-    unwritten = unwritten;
     status = status;
     told = told;
-    let_out = let_out;
-    wrote = λ read is. wrote script capture (outcome_of read s) (ends read is) kept keeps same;
+    left = record { unwritten = unwritten; let_out = let_out; wrote = λ read is. wrote script capture (outcome_of read s) (ends read is) kept keeps same };
   }
 
 -- both parts are empty
@@ -100,7 +94,7 @@ pub nothing_left : (r d : List ℕ) → r ≡ [] → d ≡ [] → ◌≡◌ {A =
 nothing_left r d e f = ap (λ (t : List ℕ). record { report = t; capture = d }) e ∙ ap (λ (t : List ℕ). record { report = []; capture = t }) f
 
 -- the same of both, or a write failed
-pub out_both : (run : Result (Unit {0}) ReplayFault) (r d : List ℕ) → ((r ≡ []) × (d ≡ [])) ⊎ (run ≡ Err Faults.Write) → ◌⊎◌ (◌≡◌ {A = Output} (record { report = r; capture = d }) nothing) (run ≡ Err Faults.Write)
+pub out_both : (run : Result (Unit {0}) (Fault ReplayInput)) (r d : List ℕ) → ((r ≡ []) × (d ≡ [])) ⊎ (run ≡ Err Faults.Write) → ◌⊎◌ (◌≡◌ {A = Output} (record { report = r; capture = d }) nothing) (run ≡ Err Faults.Write)
 out_both run r d (inl e) = inl (nothing_left r d e.0 e.1)
 out_both run r d (inr e) = inr e
 

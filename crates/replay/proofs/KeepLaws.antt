@@ -11,16 +11,19 @@ use Rattle.line_reader.specs.declared.lines.LineFault.{LineFault}
 use Rattle.line_reader.specs.declared.lines.LineFault.TheVariants as LineFaults
 use Rattle.tc_reader.specs.declared.fault.TcFault.{TcFault}
 use Rattle.words.specs.Words.{words_of}
-use Rattle.script.specs.Outcome.{Reading, with_line}
+use Rattle.script.specs.Outcome.{bad_line, Reading, with_line}
 use Rattle.script.specs.Requests.{Request, tc_request}
 use Rattle.script.specs.declared.faults.ScriptFault.{ScriptFault}
 use Rattle.script.proofs.ReaderLaws.{of_input}
-use Rattle.replay.specs.Faults.{fault_of_line}
+use Rattle.job.specs.Lines.{fault_of_line}
+use Rattle.replay.specs.Faults.{script_limited}
 use Rattle.replay.specs.Keeping.{GivesScript, ReadsRest, IsScriptFault}
 use Rattle.replay.specs.KeptScript.{AreKept, IsKept, kept_request, kept_requests}
 use Rattle.replay.specs.Lines.{reading_of, request_in}
-use Rattle.replay.specs.declared.faults.ReplayFault.{ReplayFault}
-use Rattle.replay.specs.declared.faults.ReplayFault.TheVariants as Faults
+use Rattle.job.specs.declared.fault.Fault.{Fault}
+use Rattle.job.specs.declared.fault.Fault.TheVariants as Faults
+use Rattle.replay.specs.declared.faults.ReplayInput.{ReplayInput}
+use Rattle.replay.specs.declared.faults.ReplayInput.TheVariants as Inputs
 use Rattle.replay.specs.declared.kept_script.KeptLine.{KeptLine}
 use Rattle.replay.specs.declared.kept_script.KeptScript.{KeptScript}
 use Rattle.replay.specs.declared.kept_script.KeptLine.TheVariants.{Clock, Query, Count, Tc}
@@ -104,26 +107,26 @@ module _ (read : List (List ℕ) → Result Command TcFault) where
       )
 
   -- a line with a fault
-  pub goes_wrong : {T : Type 0} (r : Result T ReplayFault) (all : Option Script) (first kept final : List Request) (number : ℕ) (line : List ℕ) (s t : Option Script) (fault : ScriptFault)
-      → Goes all first s kept → Advances s (Ok true) number line t → request_in read line ≡ Err fault → r ≡ Err (Faults.Script number fault)
+  pub goes_wrong : {T : Type 0} (r : Result T (Fault ReplayInput)) (all : Option Script) (first kept final : List Request) (number : ℕ) (line : List ℕ) (s t : Option Script) (fault : ScriptFault)
+      → Goes all first s kept → Advances s (Ok true) number line t → request_in read line ≡ Err fault → r ≡ Err (Faults.Input (Inputs.Script (bad_line number fault)))
       → IfSome all (λ script. ReadsRest r first (reading_of read script) final)
   goes_wrong r None first kept final number line s t fault g a e h = tt
   goes_wrong r (Some all) first kept final number line None t fault g a e h = absurd g
   goes_wrong {T} r (Some all) first kept final number line (Some script) t fault g (rest, left, is) e h =
-      let same : reading_of read script ≡ record { requests = []; fault = Some (number, fault) } = ap (λ s. reading_of read s) is ∙ ap (λ x. with_line number x (reading_of read rest)) e in
-      let P : Result T ReplayFault → Type 0 = λ x. ReadsRest x first (reading_of read all) final in
+      let same : reading_of read script ≡ record { requests = []; fault = Some (bad_line number fault) } = ap (λ s. reading_of read s) is ∙ ap (λ x. with_line number x (reading_of read rest)) e in
+      let P : Result T (Fault ReplayInput) → Type 0 = λ x. ReadsRest x first (reading_of read all) final in
       subst P (sym h) (g.1 ∙ ap (λ (x : Reading). x.fault) same)
 
   -- the lines stop
-  pub stops : {T : Type 0} (r : Result T ReplayFault) (all : Option Script) (first kept final : List Request) (fault : LineFault) (number : ℕ) (line : List ℕ) (s t : Option Script)
-      → Goes all first s kept → Advances s (Err fault) number line t → r ≡ Err (fault_of_line fault) → IfSome all (λ script. ReadsRest r first (reading_of read script) final)
+  pub stops : {T : Type 0} (r : Result T (Fault ReplayInput)) (all : Option Script) (first kept final : List Request) (fault : LineFault) (number : ℕ) (line : List ℕ) (s t : Option Script)
+      → Goes all first s kept → Advances s (Err fault) number line t → r ≡ Err (fault_of_line script_limited fault) → IfSome all (λ script. ReadsRest r first (reading_of read script) final)
   stops r None first kept final fault number line s t g a h = tt
   stops r (Some all) first kept final fault number line None t g a h = absurd g
   stops {T} r (Some all) first kept final (LineFaults.Limit n limit) number line (Some script) t g a h =
-      let P : Result T ReplayFault → Type 0 = λ x. ReadsRest x first (reading_of read all) final in
+      let P : Result T (Fault ReplayInput) → Type 0 = λ x. ReadsRest x first (reading_of read all) final in
       subst P (sym h) (g.1 ∙ ap (λ s. (reading_of read s).fault) a)
   stops {T} r (Some all) first kept final LineFaults.Read number line (Some script) t g a h =
-      let P : Result T ReplayFault → Type 0 = λ x. ReadsRest x first (reading_of read all) final in
+      let P : Result T (Fault ReplayInput) → Type 0 = λ x. ReadsRest x first (reading_of read all) final in
       subst P (sym h) tt
 
   -- the lines end
@@ -136,10 +139,10 @@ module _ (read : List (List ℕ) → Result Command TcFault) where
       (g.1 ∙ ap (λ (x : Reading). x.fault) same, sym (append-nil kept) ∙ ap (λ (x : Reading). kept ++ x.requests) (sym same) ∙ g.0)
 
   -- memory is refused
-  pub wants : {T : Type 0} (r : Result T ReplayFault) (all : Option Script) (first final : List Request) → r ≡ Err Faults.Memory → IfSome all (λ script. ReadsRest r first (reading_of read script) final)
+  pub wants : {T : Type 0} (r : Result T (Fault ReplayInput)) (all : Option Script) (first final : List Request) → r ≡ Err Faults.Memory → IfSome all (λ script. ReadsRest r first (reading_of read script) final)
   wants r None first final h = tt
   wants {T} r (Some all) first final h =
-      let P : Result T ReplayFault → Type 0 = λ x. ReadsRest x first (reading_of read all) final in
+      let P : Result T (Fault ReplayInput) → Type 0 = λ x. ReadsRest x first (reading_of read all) final in
       subst P (sym h) tt
 
   -- ---- a script read whole
@@ -148,11 +151,11 @@ module _ (read : List (List ℕ) → Result Command TcFault) where
   if_map None P Q f h = tt
   if_map (Some x) P Q f h = f x h
 
-  pub given_fault : {A : Type 0} {y : ReplayFault} (r : Result (KeptScript A) ReplayFault) (input : Option (List ℕ)) (lines : Option Script) → r ≡ Err y → lines ≡ option_map script_of input
+  pub given_fault : {A : Type 0} {y : Fault ReplayInput} (r : Result (KeptScript A) (Fault ReplayInput)) (input : Option (List ℕ)) (lines : Option Script) → r ≡ Err y → lines ≡ option_map script_of input
       → IfSome lines (λ rest. IsScriptFault y (reading_of read rest)) → IfSome input (λ octets. GivesScript read r (reading_of read (script_of octets)))
   given_fault {A} {y} r input lines is e h =
       of_input input lines (λ rest. GivesScript read r (reading_of read rest)) e
-      (if_map lines _ _ (λ rest p. subst (λ (q : Result (KeptScript A) ReplayFault). GivesScript read q (reading_of read rest)) (sym is) p) h)
+      (if_map lines _ _ (λ rest p. subst (λ (q : Result (KeptScript A) (Fault ReplayInput)). GivesScript read q (reading_of read rest)) (sym is) p) h)
 
   pub given_script : {T A : Type 0} (x : T) (script : KeptScript A) (input : Option (List ℕ)) (lines : Option Script) (first : List Request) → first ≡ [] → lines ≡ option_map script_of input
       → IfSome lines (λ rest. ReadsRest (Ok x) first (reading_of read rest) (kept_requests read script.octets.items script.lines.items)) → IfSome input (λ octets. GivesScript read (Ok script) (reading_of read (script_of octets)))

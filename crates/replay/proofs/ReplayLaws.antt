@@ -15,7 +15,7 @@ use Rattle.line_reader.specs.Script.{script_of}
 use Rattle.script.specs.Outcome.{Reading}
 use Rattle.script.specs.Requests.{Request}
 use Rattle.script.specs.Setup.{Setup}
-use Rattle.script.specs.declared.faults.ScriptFault.{ScriptFault}
+use Rattle.script.specs.declared.faults.BadLine.{BadLine}
 use Rattle.tc_reader.specs.declared.fault.TcFault.{TcFault}
 use Rattle.summary.specs.Observed.{Observed}
 use Rattle.summary.specs.Wanted.{watched}
@@ -28,8 +28,10 @@ use Rattle.wire_time.specs.declared.Frame.{Frame}
 use Rattle.replay.specs.Outputs.{Got, kept_in}
 use Rattle.replay.specs.Running.{Keeps, State}
 use Rattle.replay.specs.RecordsLeft.{Comes}
-use Rattle.replay.specs.declared.faults.ReplayFault.{ReplayFault}
-use Rattle.replay.specs.declared.faults.ReplayFault.TheVariants as Faults
+use Rattle.job.specs.declared.fault.Fault.{Fault}
+use Rattle.job.specs.declared.fault.Fault.TheVariants as Faults
+use Rattle.replay.specs.declared.faults.ReplayInput.{ReplayInput}
+use Rattle.replay.specs.declared.faults.ReplayInput.TheVariants as Inputs
 use Rattle.replay.proofs.EndLaws.{refused_header, refused_script, refused_so, with_header}
 use Rattle.replay.proofs.Sends.{both_none}
 
@@ -41,8 +43,8 @@ pub known_at : {X : Type 0} (o : Option X) (x : X) (P : X → Type 0) → o ≡ 
 known_at o x P e h = subst (λ o. IfSome o P) e h
 
 -- memory was wanting before anything was read
-pub memory_wanting : (T : Type 0) (r : Result T ReplayFault) (old : Got) (o : Outcome) → r ≡ Err Faults.Memory → Ends r old old o
-memory_wanting T r old o is = subst (λ (q : Result T ReplayFault). Ends q old old o) (sym is) (o.output, both_none old o.output)
+pub memory_wanting : (T : Type 0) (r : Result T (Fault ReplayInput)) (old : Got) (o : Outcome) → r ≡ Err Faults.Memory → Ends r old old o
+memory_wanting T r old o is = subst (λ (q : Result T (Fault ReplayInput)). Ends q old old o) (sym is) (o.output, both_none old o.output)
 
 module _ (read : List (List ℕ) → Result Command TcFault) (s : Setup) (lines : List ℕ) (records : Result (List Entry × End) CapFault) (late : is_too_late s.until ≡ false) where
   abbrev reading : Reading
@@ -52,32 +54,32 @@ module _ (read : List (List ℕ) → Result Command TcFault) (s : Setup) (lines 
   outcome_now = rw late refl
 
   pub outcome_good : (reading_of read (script_of lines)).fault ≡ None → outcome_of read s lines records ≡ outcome_read s (reading_of read (script_of lines)).requests records
-  outcome_good e = outcome_now ∙ ap (λ (f : Option (ℕ × ScriptFault)). outcome_said s (reading_of read (script_of lines)).requests f records) e
+  outcome_good e = outcome_now ∙ ap (λ (f : Option BadLine). outcome_said s (reading_of read (script_of lines)).requests f records) e
 
-  pub script_refused : (T : Type 0) (e : ReplayFault) (r : Result T ReplayFault) (old : Got) → r ≡ Err e → IsScriptFault e (reading_of read (script_of lines)) → Ends r old old (outcome_of read s lines records)
-  script_refused T (Faults.Script number fault) r old is h =
-      refused_so {T = T} r (Faults.Script number fault) old (outcome_of read s lines records) is
-      (outcome_now ∙ ap (λ (f : Option (ℕ × ScriptFault)). outcome_said s (reading_of read (script_of lines)).requests f records) h) (refused_script T number fault old)
-  script_refused T Faults.Read r old is h = subst (λ (q : Result T ReplayFault). Ends q old old (outcome_of read s lines records)) (sym is) ((outcome_of read s lines records).output, both_none old _)
-  script_refused T Faults.Memory r old is h = subst (λ (q : Result T ReplayFault). Ends q old old (outcome_of read s lines records)) (sym is) ((outcome_of read s lines records).output, both_none old _)
+  pub script_refused : (T : Type 0) (e : Fault ReplayInput) (r : Result T (Fault ReplayInput)) (old : Got) → r ≡ Err e → IsScriptFault e (reading_of read (script_of lines)) → Ends r old old (outcome_of read s lines records)
+  script_refused T (Faults.Input (Inputs.Script bad)) r old is h =
+      refused_so {T = T} r (Inputs.Script bad) old (outcome_of read s lines records) is
+      (outcome_now ∙ ap (λ (f : Option BadLine). outcome_said s (reading_of read (script_of lines)).requests f records) h) (refused_script T bad old)
+  script_refused T Faults.Read r old is h = subst (λ (q : Result T (Fault ReplayInput)). Ends q old old (outcome_of read s lines records)) (sym is) ((outcome_of read s lines records).output, both_none old _)
+  script_refused T Faults.Memory r old is h = subst (λ (q : Result T (Fault ReplayInput)). Ends q old old (outcome_of read s lines records)) (sym is) ((outcome_of read s lines records).output, both_none old _)
   script_refused T Faults.Write r old is h = absurd h
-  script_refused T Faults.Until r old is h = absurd h
-  script_refused T (Faults.Capture number fault) r old is h = absurd h
+  script_refused T (Faults.Input Inputs.Until) r old is h = absurd h
+  script_refused T (Faults.Input (Inputs.Capture number fault)) r old is h = absurd h
 
-header_read : (s : Setup) (script : List Request) (octets : List ℕ) (records : Result (List Entry × End) CapFault) (fault : CapFault) → ReadsAs octets records → format_of octets ≡ Err fault → outcome_read s script records ≡ refused (Faults.Capture 0 fault)
+header_read : (s : Setup) (script : List Request) (octets : List ℕ) (records : Result (List Entry × End) CapFault) (fault : CapFault) → ReadsAs octets records → format_of octets ≡ Err fault → outcome_read s script records ≡ refused (Inputs.Capture 0 fault)
 header_read s script octets (Ok x) fault reads e = absurd (let both = sym reads.1.0 ∙ e in cc)
 header_read s script octets (Err f) fault reads e = (let both : Err f ≡ Err fault = sym reads ∙ e in cc)
 
 module _ (s : Setup) (script : List Request) (octets : List ℕ) (records : Result (List Entry × End) CapFault) (reads : ReadsAs octets records) (o : Outcome) (is_o : o ≡ outcome_read s script records) where
-  pub header_refused : (T : Type 0) (known : Option (List ℕ)) (e : ReplayFault) (r : Result T ReplayFault) (old : Got) → known ≡ Some octets → r ≡ Err e → IsOpenFault known e → Ends r old old o
-  header_refused T known (Faults.Capture number fault) r old is_known is h =
-      refused_so {T = T} r (Faults.Capture number fault) old o is
-      (is_o ∙ header_read s script octets records fault reads (known_at known octets _ is_known h.1) ∙ ap (λ (n : ℕ). refused (Faults.Capture n fault)) (sym h.0)) (refused_header T number fault old)
-  header_refused T known Faults.Read r old is_known is h = subst (λ (q : Result T ReplayFault). Ends q old old o) (sym is) (o.output, both_none old _)
-  header_refused T known Faults.Memory r old is_known is h = subst (λ (q : Result T ReplayFault). Ends q old old o) (sym is) (o.output, both_none old _)
+  pub header_refused : (T : Type 0) (known : Option (List ℕ)) (e : Fault ReplayInput) (r : Result T (Fault ReplayInput)) (old : Got) → known ≡ Some octets → r ≡ Err e → IsOpenFault known e → Ends r old old o
+  header_refused T known (Faults.Input (Inputs.Capture number fault)) r old is_known is h =
+      refused_so {T = T} r (Inputs.Capture number fault) old o is
+      (is_o ∙ header_read s script octets records fault reads (known_at known octets _ is_known h.1) ∙ ap (λ (n : ℕ). refused (Inputs.Capture n fault)) (sym h.0)) (refused_header T number fault old)
+  header_refused T known Faults.Read r old is_known is h = subst (λ (q : Result T (Fault ReplayInput)). Ends q old old o) (sym is) (o.output, both_none old _)
+  header_refused T known Faults.Memory r old is_known is h = subst (λ (q : Result T (Fault ReplayInput)). Ends q old old o) (sym is) (o.output, both_none old _)
   header_refused T known Faults.Write r old is_known is h = absurd h
-  header_refused T known Faults.Until r old is_known is h = absurd h
-  header_refused T known (Faults.Script number fault) r old is_known is h = absurd h
+  header_refused T known (Faults.Input Inputs.Until) r old is_known is h = absurd h
+  header_refused T known (Faults.Input (Inputs.Script bad)) r old is_known is h = absurd h
 
 -- a new reader's records
 pub comes_new : {R : Type 0} (remaining : R → Option (List ℕ)) (known : Option (List ℕ)) (l : Left R) (octets : List ℕ) (es : List Entry) (last : End) → IsNewReader remaining known l → known ≡ Some octets → ReadsAs octets (Ok (es, last)) → Comes remaining l es last

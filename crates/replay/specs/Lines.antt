@@ -9,7 +9,7 @@ use Rattle.words.specs.Words.{words_of}
 use Rattle.line_reader.specs.Script.{Script, End, Broken}
 use Rattle.line_reader.specs.Script as Lines
 use Rattle.script.specs.Requests.{Request, Asks, said_in, tc_request}
-use Rattle.script.specs.Outcome.{Reading, limit_fault, with_line}
+use Rattle.script.specs.Outcome.{Reading, long_line, with_line}
 use Rattle.script.specs.declared.reading.Said.{Said}
 use Rattle.script.specs.declared.reading.Said.TheVariants as Says
 use Rattle.script.specs.declared.faults.ScriptFault.{ScriptFault}
@@ -73,5 +73,5 @@ request_in read octets = request_if (read (words_of octets)) (line_in octets)
 -- what the lines of a script ask, up to the first fault
 abbrev pub reading_of : (List (List ℕ) → Result Command TcFault) → Script → Reading
 reading_of read End = record { requests = []; fault = None }
-reading_of read (Broken number limit) = record { requests = []; fault = Some (number, limit_fault limit) }
+reading_of read (Broken number limit) = record { requests = []; fault = Some (long_line number limit) }
 reading_of read (Lines.Line number octets rest) = with_line number (request_in read octets) (reading_of read rest)

@@ -18,15 +18,17 @@ use Rattle.line_reader.specs.Script.{script_of}
 use Rattle.script.specs.Requests.{Request}
 use Rattle.script.specs.Responses.{end_lines, events_of, responses_of}
 use Rattle.script.specs.Setup.{Setup}
-use Rattle.script.specs.declared.faults.ScriptFault.{ScriptFault}
+use Rattle.script.specs.declared.faults.BadLine.{BadLine}
 use Rattle.summary.specs.Observed.{Observed}
 use Rattle.summary.specs.Wanted.{noted_after, watched}
 use Rattle.tc_reader.specs.declared.fault.TcFault.{TcFault}
 use Rattle.replay.specs.Lines.{reading_of}
 use Rattle.replay.specs.Merge.{all_requests}
 use Rattle.replay.specs.Outputs.{Got, Output, SentBoth, joined, nothing, output}
-use Rattle.replay.specs.declared.faults.ReplayFault.{ReplayFault}
-use Rattle.replay.specs.declared.faults.ReplayFault.TheVariants as Faults
+use Rattle.job.specs.declared.fault.Fault.{Fault}
+use Rattle.job.specs.declared.fault.Fault.TheVariants as Faults
+use Rattle.replay.specs.declared.faults.ReplayInput.{ReplayInput}
+use Rattle.replay.specs.declared.faults.ReplayInput.TheVariants as Inputs
 
 -- 1. What a capture says
 
@@ -40,10 +42,10 @@ ReadsAs octets (Err fault) = format_of octets ≡ Err fault
 -- both outputs, and the fault that ends them
 pub record Outcome : Type 0 where
   pub output : Output
-  pub fault : Option ReplayFault
+  pub fault : Option ReplayInput
 
 -- nothing but a fault
-abbrev pub refused : ReplayFault → Outcome
+abbrev pub refused : ReplayInput → Outcome
 refused fault = record { output = nothing; fault = Some fault }
 
 -- the file header of the output capture
@@ -60,9 +62,9 @@ told_to_end entries requests p o =
     let events = events_of requests in joined (output entries (responses_of requests p)) (end_of (port_after events p) (noted_after events p o))
 
 -- the fault with which the records of a capture end, if they do; there are so many
-abbrev pub end_fault : ℕ → End → Option ReplayFault
+abbrev pub end_fault : ℕ → End → Option ReplayInput
 end_fault number Whole = None
-end_fault number (Broken fault) = Some (Faults.Capture number fault)
+end_fault number (Broken fault) = Some (Inputs.Capture number fault)
 
 -- what is told of all that a script asks and of the records, from a new port: the header, the answers, how many frames are left, and the
 -- summary where one is wanted
@@ -76,27 +78,27 @@ outcome_whole s script entries last =
 -- the same by the capture
 abbrev pub outcome_read : Setup → List Request → Result (List Entry × End) CapFault → Outcome
 outcome_read s script (Ok records) = outcome_whole s script records.0 records.1
-outcome_read s script (Err fault) = refused (Faults.Capture 0 fault)
+outcome_read s script (Err fault) = refused (Inputs.Capture 0 fault)
 
 -- the fault of a replay whose capture is not opened
-abbrev pub open_fault : CapFault → ReplayFault
+abbrev pub open_fault : CapFault → Fault ReplayInput
 open_fault CapFaults.Read = Faults.Read
 open_fault CapFaults.Memory = Faults.Memory
-open_fault fault = Faults.Capture 0 fault
+open_fault fault = Faults.Input (Inputs.Capture 0 fault)
 
 -- why a capture is not opened: the fault of its file header, or a read or memory failed
-abbrev pub IsOpenFault : Option (List ℕ) → ReplayFault → Type 0
-IsOpenFault known (Faults.Capture number fault) = (number ≡ 0) × IfSome known (λ octets. format_of octets ≡ Err fault)
+abbrev pub IsOpenFault : Option (List ℕ) → Fault ReplayInput → Type 0
+IsOpenFault known (Faults.Input (Inputs.Capture number fault)) = (number ≡ 0) × IfSome known (λ octets. format_of octets ≡ Err fault)
 IsOpenFault known Faults.Read = Unit {0}
 IsOpenFault known Faults.Memory = Unit {0}
 IsOpenFault known Faults.Write = ⊥
-IsOpenFault known Faults.Until = ⊥
-IsOpenFault known (Faults.Script number fault) = ⊥
+IsOpenFault known (Faults.Input Inputs.Until) = ⊥
+IsOpenFault known (Faults.Input (Inputs.Script bad)) = ⊥
 
 -- the same by the script, whose fault comes first
-abbrev pub outcome_said : Setup → List Request → Option (ℕ × ScriptFault) → Result (List Entry × End) CapFault → Outcome
+abbrev pub outcome_said : Setup → List Request → Option BadLine → Result (List Entry × End) CapFault → Outcome
 outcome_said s script None capture = outcome_read s script capture
-outcome_said s script (Some fault) capture = refused (Faults.Script fault.0 fault.1)
+outcome_said s script (Some fault) capture = refused (Inputs.Script fault)
 
 -- a moment after the last that a capture can say
 abbrev pub is_too_late : Option ℕ → Bool
@@ -106,7 +108,7 @@ is_too_late (Some moment) = nat_lt CAPTURE_END moment
 -- the outcome of a script and a capture, on a new port
 abbrev pub outcome_of : (List (List ℕ) → Result Command TcFault) → Setup → List ℕ → Result (List Entry × End) CapFault → Outcome
 outcome_of read s script capture =
-    if is_too_late s.until then refused Faults.Until
+    if is_too_late s.until then refused Inputs.Until
     else let reading = reading_of read (script_of script) in outcome_said s reading.requests reading.fault capture
 
 -- both outputs were written whole
@@ -116,11 +118,9 @@ pub record AppendsBoth (old new : Got) (whole : Output) : Type 0 where
 
 -- At Ok, and at a fault of the inputs, both outputs are written whole, and the fault is theirs; at the other faults a front of each,
 -- and after a failed write not all of both.
-abbrev pub Ends : {T : Type 0} → Result T ReplayFault → Got → Got → Outcome → Type 0
+abbrev pub Ends : {T : Type 0} → Result T (Fault ReplayInput) → Got → Got → Outcome → Type 0
 Ends (Ok x) old new whole = (whole.fault ≡ None) × AppendsBoth old new whole.output
-Ends (Err Faults.Until) old new whole = (whole.fault ≡ Some Faults.Until) × AppendsBoth old new whole.output
-Ends (Err (Faults.Script number fault)) old new whole = (whole.fault ≡ Some (Faults.Script number fault)) × AppendsBoth old new whole.output
-Ends (Err (Faults.Capture number fault)) old new whole = (whole.fault ≡ Some (Faults.Capture number fault)) × AppendsBoth old new whole.output
+Ends (Err (Faults.Input fault)) old new whole = (whole.fault ≡ Some fault) × AppendsBoth old new whole.output
 Ends (Err Faults.Read) old new whole = (left : Output) × SentBoth old new whole.output left
 Ends (Err Faults.Write) old new whole = (left : Output) × (0 < length left.report + length left.capture) × SentBoth old new whole.output left
 Ends (Err Faults.Memory) old new whole = (left : Output) × SentBoth old new whole.output left

@@ -3,11 +3,11 @@ use Rattle.std.specs.Prelude.{List, ℕ, [], ◌∷◌, decimal, codes}
 use Rattle.std.specs.List.{concat}
 use Rattle.capture.specs.declared.fault.CapFault.{CapFault}
 use Rattle.capture.specs.declared.fault.CapFault.TheVariants.{ShortHeader, BadMagic, BadVersion, BadLink, ShortRecord, LongRecord, BadFraction, TooManyRecords, Read, Write, Memory}
-use Rattle.script.specs.Texts.{fault_text, status_of, value_text}
-use Rattle.script.specs.declared.faults.RunFault.TheVariants as RunFaults
+use Rattle.job.specs.Telling.{Telling}
+use Rattle.script.specs.Texts.{script_telling, value_text}
 use Rattle.script.specs.declared.settings.BadValue.TheVariants as Values
-use Rattle.replay.specs.declared.faults.ReplayFault.{ReplayFault}
-use Rattle.replay.specs.declared.faults.ReplayFault.TheVariants as Faults
+use Rattle.replay.specs.declared.faults.ReplayInput.{ReplayInput}
+use Rattle.replay.specs.declared.faults.ReplayInput.TheVariants as Inputs
 
 -- the name of a fault
 abbrev pub capture_fault_name : CapFault → List ℕ
@@ -41,18 +41,15 @@ capture_text number ShortRecord = record_text number ShortRecord
 capture_text number LongRecord = record_text number LongRecord
 capture_text number BadFraction = record_text number BadFraction
 capture_text number TooManyRecords = record_text number TooManyRecords
-capture_text number Read = fault_text RunFaults.Read
-capture_text number Write = fault_text RunFaults.Write
-capture_text number Memory = fault_text RunFaults.Memory
+capture_text number Read = codes "taprio_port: read failed\n"
+capture_text number Write = codes "taprio_port: write failed\n"
+capture_text number Memory = codes "taprio_port: out of memory\n"
 
 -- the text of a fault
-abbrev pub replay_text : ReplayFault → List ℕ
-replay_text Faults.Until = value_text Values.Until
-replay_text (Faults.Script line fault) = fault_text (RunFaults.Script line fault)
-replay_text (Faults.Capture number fault) = capture_text number fault
-replay_text Faults.Read = fault_text RunFaults.Read
-replay_text Faults.Write = fault_text RunFaults.Write
-replay_text Faults.Memory = fault_text RunFaults.Memory
+abbrev pub replay_text : ReplayInput → List ℕ
+replay_text Inputs.Until = value_text Values.Until
+replay_text (Inputs.Script bad) = script_telling.text bad
+replay_text (Inputs.Capture number fault) = capture_text number fault
 
 -- the text of a path that can't be opened
 abbrev pub open_text : List ℕ → List ℕ
@@ -73,10 +70,11 @@ capture_status Write = 4
 capture_status Memory = 4
 
 -- and 2: a value is refused
-abbrev pub replay_status : ReplayFault → ℕ
-replay_status Faults.Until = 2
-replay_status (Faults.Script line fault) = status_of (RunFaults.Script line fault)
-replay_status (Faults.Capture number fault) = capture_status fault
-replay_status Faults.Read = 4
-replay_status Faults.Write = 4
-replay_status Faults.Memory = 4
+abbrev pub replay_status : ReplayInput → ℕ
+replay_status Inputs.Until = 2
+replay_status (Inputs.Script bad) = 3
+replay_status (Inputs.Capture number fault) = capture_status fault
+
+-- what is told of a fault
+abbrev pub replay_telling : Telling ReplayInput
+replay_telling = record { text = replay_text; status = replay_status }

@@ -11,10 +11,11 @@ ghost use Rattle.replay.specs.KeptScript.{IsKept, kept_request, kept_requests};
 ghost use Rattle.replay.specs.Keeping.{GivesScript, ReadsRest};
 ghost use Rattle.replay.specs.Lines.{IsEarly, line_request, reading_of};
 
-use crate::faults::ReplayFault;
+use crate::faults::{ReplayFault, ReplayInput};
 use crate::kept_script::{KeptLine, KeptScript};
 use crate::reading::{Line, read_line_beside};
 use line_reader::LineReader;
+use script::BadLine;
 use std::alloc::{AllocError, Allocator};
 use std::io::Read;
 
@@ -81,7 +82,12 @@ fn keep_lines<A: Allocator, B: Allocator, R: Read + Drop>(
         match read_line_beside(octets) {
             Ok(None) => {}
             Ok(Some(line)) => keep(script, line, octets)?,
-            Err(fault) => return Err(ReplayFault::Script(lines.line_number(), fault)),
+            Err(fault) => {
+                return Err(ReplayFault::Input(ReplayInput::Script(BadLine::new(
+                    lines.line_number(),
+                    fault,
+                ))));
+            }
         }
     }
     Ok(())

@@ -15,8 +15,8 @@ mod sending;
 mod texts;
 mod watch;
 
-pub use faults::ReplayFault;
+pub use faults::{ReplayFault, ReplayInput};
 pub use program::{Inputs, Outputs, answer_replay};
 pub use running::replay;
-pub use texts::{say_replay_fault, say_unopened};
+pub use texts::say_unopened;
 pub use watch::{Unwatched, Watch};

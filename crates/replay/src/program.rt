@@ -3,15 +3,15 @@
 ghost use Rattle.std.specs.Prelude.{◌≡◌, ◌⊎◌, [], Err};
 ghost use Rattle.std.specs.Io.Buffered.{writer_buffer, writer_contents};
 ghost use Rattle.std.specs.Io.KnownBytes.{Keeps};
-ghost use Rattle.script.specs.Ending.{IsTold};
-ghost use Rattle.replay.specs.Ending.{IsReplayEnding, ended_status, ended_text};
+ghost use Rattle.job.specs.declared.fault.Fault.TheVariants as Faults;
+ghost use Rattle.replay.specs.Ending.{IsReplayEnding};
 ghost use Rattle.replay.specs.Outputs.{got};
 
 use crate::faults::ReplayFault;
 use crate::running::replay;
-use crate::texts::say_replay_fault;
 use crate::watch::Watch;
-use script::{Ended, Settings};
+use job::{Ended, say_run};
+use script::Settings;
 use std::alloc::Allocator;
 use std::io::{BufWriter, Read, Write};
 
@@ -21,11 +21,11 @@ fn let_out<W: Write + Drop, V: Write + Drop, A: Allocator, B: Allocator>(
     report: &mut BufWriter<W, A>,
     departures: &mut BufWriter<V, B>,
 ) -> Result<(), ReplayFault>
-    ensures kept { (result ≡ run) ⊎ (result ≡ Err ReplayFault.Write) }
-    ensures out { ((writer_buffer report.new ≡ []) × (writer_buffer departures.new ≡ [])) ⊎ (result ≡ Err ReplayFault.Write) }
+    ensures kept { (result ≡ run) ⊎ (result ≡ Err Faults.Write) }
+    ensures out { ((writer_buffer report.new ≡ []) × (writer_buffer departures.new ≡ [])) ⊎ (result ≡ Err Faults.Write) }
     ensures report { Keeps (writer_contents W.contents report.old) (writer_contents W.contents report.new) }
     ensures departures { Keeps (writer_contents V.contents departures.old) (writer_contents V.contents departures.new) }
-    ensures once { run ≡ Err ReplayFault.Write → (report.new ≡ report.old) × (departures.new ≡ departures.old) }
+    ensures once { run ≡ Err Faults.Write → (report.new ≡ report.old) × (departures.new ≡ departures.old) }
 {
     if run == Err(ReplayFault::Write) {
         return run;
@@ -37,20 +37,6 @@ fn let_out<W: Write + Drop, V: Write + Drop, A: Allocator, B: Allocator>(
         return Err(ReplayFault::Write);
     }
     run
-}
-
-// Tells how a replay ended: a fault's text, where there is one, and the status.
-fn say_replay<E: Write>(run: Result<(), ReplayFault>, errors: &mut E) -> Ended
-    ensures status { result.status ≡ ended_status run }
-    ensures told { IsTold result.told (E.contents errors.old) (E.contents errors.new) (ended_text run) }
-{
-    match run {
-        Ok(()) => Ended {
-            status: 0,
-            told: true,
-        },
-        Err(fault) => say_replay_fault(&fault, errors),
-    }
 }
 
 /// What a replay reads.
@@ -105,7 +91,7 @@ pub fn answer_replay<
         watch,
     );
     let run = let_out(run, &mut outputs.report, &mut outputs.departures);
-    let ended = say_replay(run, errors);
+    let ended = say_run(run, errors);
     let Outputs { report, departures } = outputs;
     let (report, _unwritten) = report.into_parts();
     let (departures, _unwritten) = departures.into_parts();

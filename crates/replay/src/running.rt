@@ -18,10 +18,12 @@ ghost use Rattle.replay.specs.Merge.{all_requests, requests_of};
 ghost use Rattle.replay.specs.Outcome.{Ends, IsOpenFault, ReadsAs, end_fault, header, is_too_late, open_fault, outcome_of, told_to_end};
 ghost use Rattle.replay.specs.Outputs.{PutsBoth, got};
 ghost use Rattle.replay.specs.RecordsLeft.{Comes};
+ghost use Rattle.job.specs.declared.fault.Fault.TheVariants as Faults;
+ghost use Rattle.replay.specs.declared.faults.ReplayInput.TheVariants as Inputs;
 ghost use Rattle.replay.specs.Running.{Answers, IsTogether, Keeps, state};
 
 use crate::cursor::Cursor;
-use crate::faults::{ReplayFault, Stop};
+use crate::faults::{ReplayFault, ReplayInput, Stop};
 use crate::keeping::read_script;
 use crate::kept_script::KeptScript;
 use crate::lines::run_lines;
@@ -120,7 +122,7 @@ fn run<A: Allocator + Clone, B: Allocator, C: Allocator, R: Read, W: Write, V: W
     finish(sending, script, &mut cursor, until, capture, report)?;
     match broken {
         None => Ok(()),
-        Some((number, fault)) => Err(ReplayFault::Capture(number, fault)),
+        Some((number, fault)) => Err(ReplayFault::Input(ReplayInput::Capture(number, fault))),
     }
 }
 
@@ -131,7 +133,7 @@ fn open_fault(fault: CapFault) -> ReplayFault
     match fault {
         CapFault::Read => ReplayFault::Read,
         CapFault::Memory => ReplayFault::Memory,
-        _ => ReplayFault::Capture(0, fault),
+        _ => ReplayFault::Input(ReplayInput::Capture(0, fault)),
     }
 }
 
@@ -206,11 +208,11 @@ pub fn replay<A: Allocator, R: Read + Drop, S: Read + Drop, W: Write, V: Write, 
     ensures replay { (read : List (List ℕ) → Result Command TcFault) → IsReader read → IfSome (R.remaining script) (λ lines. IfSome (S.remaining capture) (λ octets.
         (records : Result (List Entry × End) CapFault) → ReadsAs octets records →
         Ends result (got (V.contents out_report.old) (W.contents out_capture.old)) (got (V.contents out_report.new) (W.contents out_capture.new)) (outcome_of read settings lines records))) }
-    ensures late { is_too_late settings.until ≡ true → (result ≡ Err ReplayFault.Until) × (out_capture.new ≡ out_capture.old) × (out_report.new ≡ out_report.old) }
+    ensures late { is_too_late settings.until ≡ true → (result ≡ Err (Faults.Input Inputs.Until)) × (out_capture.new ≡ out_capture.old) × (out_report.new ≡ out_report.old) }
 {
     let until = settings.until();
     if is_too_late(until) {
-        return Err(ReplayFault::Until);
+        return Err(ReplayFault::Input(ReplayInput::Until));
     }
     let alloc = &alloc;
     let summary = summary_wanted(&alloc, settings.summary(), settings.room())?;

@@ -2,13 +2,14 @@
 
 ghost use Rattle.std.specs.Prelude.{◌≡◌};
 ghost use Rattle.octet_writer.specs.Writes.{Writes};
-ghost use Rattle.script.specs.Ending.{IsTold};
-ghost use Rattle.replay.specs.Texts.{capture_fault_name, capture_status, capture_text, header_text, record_text, open_text, replay_status, replay_text};
+ghost use Rattle.job.specs.Texts.{IsTold};
+ghost use Rattle.replay.specs.Texts.{capture_fault_name, capture_status, capture_text, header_text, record_text, open_text, replay_telling};
 
-use crate::faults::ReplayFault;
-use answer_text::{Part, WriteFault, put_parts};
+use crate::faults::ReplayInput;
+use answer_text::{Part, WriteFault, put, put_parts};
 use capture::CapFault;
-use script::{BadValue, Ended, RunFault, say_fault, say_value};
+use job::{Ended, InputFault};
+use script::{BadValue, put_value};
 use std::io::Write;
 
 fn capture_fault_name(fault: CapFault) -> &'static [u8]
@@ -61,54 +62,56 @@ fn put_record_fault<W: Write>(
     )
 }
 
-fn say_header_fault<W: Write>(fault: CapFault, writer: &mut W) -> Ended
-    ensures status { result.status ≡ 3 }
-    ensures told { IsTold result.told (W.contents writer.old) (W.contents writer.new) (header_text fault) }
-{
-    let told = put_header_fault(writer, fault).is_ok();
-    Ended { status: 3, told }
-}
-
-fn say_record_fault<W: Write>(number: u32, fault: CapFault, writer: &mut W) -> Ended
-    ensures status { result.status ≡ 3 }
-    ensures told { IsTold result.told (W.contents writer.old) (W.contents writer.new) (record_text number fault) }
-{
-    let told = put_record_fault(writer, number, fault).is_ok();
-    Ended { status: 3, told }
-}
-
-fn say_capture_fault<W: Write>(number: u32, fault: CapFault, writer: &mut W) -> Ended
-    ensures status { result.status ≡ capture_status fault }
-    ensures told { IsTold result.told (W.contents writer.old) (W.contents writer.new) (capture_text number fault) }
+fn put_capture_fault<W: Write>(
+    writer: &mut W,
+    number: u32,
+    fault: CapFault,
+) -> Result<(), WriteFault>
+    ensures { Writes result (W.contents writer.old) (W.contents writer.new) (capture_text number fault) }
 {
     match fault {
-        CapFault::ShortHeader => say_header_fault(CapFault::ShortHeader, writer),
-        CapFault::BadMagic => say_header_fault(CapFault::BadMagic, writer),
-        CapFault::BadVersion => say_header_fault(CapFault::BadVersion, writer),
-        CapFault::BadLink => say_header_fault(CapFault::BadLink, writer),
-        CapFault::ShortRecord => say_record_fault(number, CapFault::ShortRecord, writer),
-        CapFault::LongRecord => say_record_fault(number, CapFault::LongRecord, writer),
-        CapFault::BadFraction => say_record_fault(number, CapFault::BadFraction, writer),
-        CapFault::TooManyRecords => say_record_fault(number, CapFault::TooManyRecords, writer),
-        CapFault::Read => say_fault(&RunFault::Read, writer),
-        CapFault::Write => say_fault(&RunFault::Write, writer),
-        CapFault::Memory => say_fault(&RunFault::Memory, writer),
+        CapFault::ShortHeader => put_header_fault(writer, CapFault::ShortHeader),
+        CapFault::BadMagic => put_header_fault(writer, CapFault::BadMagic),
+        CapFault::BadVersion => put_header_fault(writer, CapFault::BadVersion),
+        CapFault::BadLink => put_header_fault(writer, CapFault::BadLink),
+        CapFault::ShortRecord => put_record_fault(writer, number, CapFault::ShortRecord),
+        CapFault::LongRecord => put_record_fault(writer, number, CapFault::LongRecord),
+        CapFault::BadFraction => put_record_fault(writer, number, CapFault::BadFraction),
+        CapFault::TooManyRecords => put_record_fault(writer, number, CapFault::TooManyRecords),
+        CapFault::Read => put(writer, b"taprio_port: read failed\n"),
+        CapFault::Write => put(writer, b"taprio_port: write failed\n"),
+        CapFault::Memory => put(writer, b"taprio_port: out of memory\n"),
     }
 }
 
-/// Writes the text of a fault. The exit status that goes with it, also where that write fails: 2 for a value that is refused, 3 for
-/// an input that is, 4 where a read, a write or memory failed.
-pub fn say_replay_fault<W: Write>(fault: &ReplayFault, writer: &mut W) -> Ended
-    ensures status { result.status ≡ replay_status fault.now }
-    ensures told { IsTold result.told (W.contents writer.old) (W.contents writer.new) (replay_text fault.now) }
+fn capture_status(fault: CapFault) -> u8
+    ensures { result ≡ capture_status fault }
 {
-    match *fault {
-        ReplayFault::Until => say_value(&BadValue::Until, writer),
-        ReplayFault::Script(line, fault) => say_fault(&RunFault::Script(line, fault), writer),
-        ReplayFault::Capture(number, fault) => say_capture_fault(number, fault, writer),
-        ReplayFault::Read => say_fault(&RunFault::Read, writer),
-        ReplayFault::Write => say_fault(&RunFault::Write, writer),
-        ReplayFault::Memory => say_fault(&RunFault::Memory, writer),
+    match fault {
+        CapFault::ShortHeader | CapFault::BadMagic | CapFault::BadVersion => 3,
+        CapFault::BadLink | CapFault::ShortRecord | CapFault::LongRecord => 3,
+        CapFault::BadFraction | CapFault::TooManyRecords => 3,
+        CapFault::Read | CapFault::Write | CapFault::Memory => 4,
+    }
+}
+
+impl InputFault for ReplayInput {
+    ghost telling = { replay_telling };
+
+    fn status(&self) -> u8 {
+        match *self {
+            ReplayInput::Until => 2,
+            ReplayInput::Script(_) => 3,
+            ReplayInput::Capture(_, fault) => capture_status(fault),
+        }
+    }
+
+    fn put<W: Write>(&self, writer: &mut W) -> Result<(), WriteFault> {
+        match *self {
+            ReplayInput::Until => put_value(writer, BadValue::Until),
+            ReplayInput::Script(bad) => bad.put(writer),
+            ReplayInput::Capture(number, fault) => put_capture_fault(writer, number, fault),
+        }
     }
 }
 

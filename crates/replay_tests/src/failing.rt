@@ -5,12 +5,13 @@ use crate::tests::{
     replay_of, settings,
 };
 use capture::CapFault;
+use job::{Ended, say_fault};
 use linked_list_allocator::LocalHeap;
 use refusing_heap::RefusingHeap;
 use replay::{
-    Inputs, Outputs, ReplayFault, Unwatched, answer_replay, replay, say_replay_fault, say_unopened,
+    Inputs, Outputs, ReplayFault, ReplayInput, Unwatched, answer_replay, replay, say_unopened,
 };
-use script::{Ended, ScriptFault, Settings};
+use script::{BadLine, ScriptFault, Settings};
 use std::alloc::Global;
 use std::io::{self, BufWriter, Write};
 use std::test::Fail;
@@ -361,22 +362,25 @@ fn a_failed_last_write_is_told(rt: HostRuntime) -> Result<(), Fail> {
 /// The exit status and the text of each fault.
 static FAULTS: [(ReplayFault, u8, &[u8]); 7] = [
     (
-        ReplayFault::Until,
+        ReplayFault::Input(ReplayInput::Until),
         2,
         b"taprio_port: bad value of --until\n",
     ),
     (
-        ReplayFault::Script(7, ScriptFault::FrameInReplay),
+        ReplayFault::Input(ReplayInput::Script(BadLine {
+            line: 7,
+            fault: ScriptFault::FrameInReplay,
+        })),
         3,
         b"taprio_port: script line 7: FrameInReplay\n",
     ),
     (
-        ReplayFault::Capture(0, CapFault::BadMagic),
+        ReplayFault::Input(ReplayInput::Capture(0, CapFault::BadMagic)),
         3,
         b"taprio_port: capture header: BadMagic\n",
     ),
     (
-        ReplayFault::Capture(12, CapFault::ShortRecord),
+        ReplayFault::Input(ReplayInput::Capture(12, CapFault::ShortRecord)),
         3,
         b"taprio_port: capture record 12: ShortRecord\n",
     ),
@@ -388,7 +392,7 @@ static FAULTS: [(ReplayFault, u8, &[u8]); 7] = [
 /// Whether a fault is told by this text and ends with this status.
 fn is_said(alloc: Global, fault: &ReplayFault, status: u8, text: &[u8]) -> bool {
     let mut got = Vec::new(alloc);
-    let ended = say_replay_fault(fault, &mut got);
+    let ended = say_fault(fault, &mut got);
     ended == (Ended { status, told: true }) && got.as_slice() == text
 }
 

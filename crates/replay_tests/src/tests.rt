@@ -1,8 +1,8 @@
 //! Scripts and captures, and what comes out.
 
 use capture::{CAPTURE_END, CapFault, CaptureWriter};
-use replay::{ReplayFault, Unwatched, replay};
-use script::{ScriptFault, Settings};
+use replay::{ReplayFault, ReplayInput, Unwatched, replay};
+use script::{BadLine, ScriptFault, Settings};
 use std::alloc::{Allocator, Global};
 use std::io::{self, Read};
 use test_streams::BOTH_LEFT;
@@ -338,7 +338,7 @@ const CUT: Row = Row {
     records: &TWO_FRAMES,
     cut: 68,
     until: END,
-    result: Err(ReplayFault::Capture(1, CapFault::ShortRecord)),
+    result: Err(ReplayFault::Input(ReplayInput::Capture(1, CapFault::ShortRecord))),
     report: b"queued 0 class 3\nstart 0 class 3 at 2000500000000 end 2000500672000\n",
     summary: b"summary class 3 queued 1 sent 1 dropped 0 octets 60 least 0 mean 0 greatest 0 most 1\nsummary wire busy 672000 ppm 0\n",
     left: &FIRST_START,
@@ -362,7 +362,10 @@ fn sums_up_before_a_fault(rt: HostRuntime) {
     let differs = differs_in(rt.alloc(), &CUT, true);
     assert!(rt; differs.is_empty(), "{differs}");
     let wanted = settings(END).expect(&rt, "settings").with_summary(true);
-    let fault = ReplayFault::Script(1, ScriptFault::UnknownLine);
+    let fault = ReplayFault::Input(ReplayInput::Script(BadLine {
+        line: 1,
+        fault: ScriptFault::UnknownLine,
+    }));
     assert!(rt; is_refused(rt.alloc(), b"x\n", &TWO_CAPTURED, wanted, fault));
 }
 
@@ -515,44 +518,64 @@ static REFUSALS: [(&[u8], &[u8], Option<u128>, ReplayFault); 8] = [
         b"query\nframe 1 0 60\n",
         &TWO_CAPTURED,
         None,
-        ReplayFault::Script(2, ScriptFault::FrameInReplay),
+        ReplayFault::Input(ReplayInput::Script(BadLine {
+            line: 2,
+            fault: ScriptFault::FrameInReplay,
+        })),
     ),
     (
         b"frame\n",
         &TWO_CAPTURED,
         None,
-        ReplayFault::Script(1, ScriptFault::FrameInReplay),
+        ReplayFault::Input(ReplayInput::Script(BadLine {
+            line: 1,
+            fault: ScriptFault::FrameInReplay,
+        })),
     ),
     (
         b"clock 4294967296000000000001\n",
         &TWO_CAPTURED,
         None,
-        ReplayFault::Script(1, ScriptFault::ClockTooLate),
+        ReplayFault::Input(ReplayInput::Script(BadLine {
+            line: 1,
+            fault: ScriptFault::ClockTooLate,
+        })),
     ),
     (
         b"clock x\n",
         b"",
         None,
-        ReplayFault::Script(1, ScriptFault::BadNumber),
+        ReplayFault::Input(ReplayInput::Script(BadLine {
+            line: 1,
+            fault: ScriptFault::BadNumber,
+        })),
     ),
     (
         b"query\n",
         b"",
         None,
-        ReplayFault::Capture(0, CapFault::ShortHeader),
+        ReplayFault::Input(ReplayInput::Capture(0, CapFault::ShortHeader)),
     ),
     (
         b"",
         &NO_MAGIC,
         None,
-        ReplayFault::Capture(0, CapFault::BadMagic),
+        ReplayFault::Input(ReplayInput::Capture(0, CapFault::BadMagic)),
     ),
-    (b"x\n", b"", Some(CAPTURE_END + 1), ReplayFault::Until),
+    (
+        b"x\n",
+        b"",
+        Some(CAPTURE_END + 1),
+        ReplayFault::Input(ReplayInput::Until),
+    ),
     (
         b"query \\\nx\n",
         b"",
         None,
-        ReplayFault::Script(1, ScriptFault::WordCount),
+        ReplayFault::Input(ReplayInput::Script(BadLine {
+            line: 1,
+            fault: ScriptFault::WordCount,
+        })),
     ),
 ];
 

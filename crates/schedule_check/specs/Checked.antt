@@ -6,7 +6,9 @@ use Rattle.line_reader.specs.Script.{Script, End, Broken, Line, script_of}
 use Rattle.abstract_port.specs.declared.Command.{Command}
 use Rattle.tc_reader.specs.declared.fault.TcFault.{TcFault}
 use Rattle.script.specs.Requests.{is_comment}
-use Rattle.script.specs.Outcome.{Outcome, limit_fault}
+use Rattle.job.specs.Outcome.{Outcome}
+use Rattle.script.specs.Outcome.{bad_line, long_line}
+use Rattle.script.specs.declared.faults.BadLine.{BadLine}
 use Rattle.script.specs.declared.faults.ScriptFault.{ScriptFault}
 use Rattle.script.specs.declared.faults.ScriptFault.TheVariants.{UnknownLine}
 use Rattle.script.specs.Ending.{Whole}
@@ -19,20 +21,20 @@ is_command [] = Ok false
 is_command (w ∷ ws) = if is_comment w then Ok false else if bytes_eq w (codes "tc") then Ok true else Err UnknownLine
 
 -- a line before what is told of the rest
-abbrev pub with_verdict : ℕ → Result Bool ScriptFault → List ℕ → Outcome → Outcome
-with_verdict number (Err fault) verdict rest = record { text = []; fault = Some (number, fault) }
+abbrev pub with_verdict : ℕ → Result Bool ScriptFault → List ℕ → Outcome BadLine → Outcome BadLine
+with_verdict number (Err fault) verdict rest = record { text = []; fault = Some (bad_line number fault) }
 with_verdict number (Ok false) verdict rest = rest
 with_verdict number (Ok true) verdict rest = record { text = verdict ++ rest.text; fault = rest.fault }
 
 -- what is told of lines, by what is told of each that begins with tc
-abbrev pub checked_in : (List (List ℕ) → Result Command TcFault) → (Result Command TcFault → List ℕ) → Script → Outcome
+abbrev pub checked_in : (List (List ℕ) → Result Command TcFault) → (Result Command TcFault → List ℕ) → Script → Outcome BadLine
 checked_in read told End = record { text = []; fault = None }
-checked_in read told (Broken number limit) = record { text = []; fault = Some (number, limit_fault limit) }
+checked_in read told (Broken number limit) = record { text = []; fault = Some (long_line number limit) }
 checked_in read told (Line number octets rest) =
     with_verdict number (is_command (words_of octets)) (told (read (words_of octets))) (checked_in read told rest)
 
 -- what is told of the octets of an input
-abbrev pub checked_of : (List (List ℕ) → Result Command TcFault) → (Result Command TcFault → List ℕ) → List ℕ → Outcome
+abbrev pub checked_of : (List (List ℕ) → Result Command TcFault) → (Result Command TcFault → List ℕ) → List ℕ → Outcome BadLine
 checked_of read told input = checked_in read told (script_of input)
 
 -- the same at a rate, with windows or without, as what is to be written

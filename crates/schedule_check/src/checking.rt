@@ -6,7 +6,9 @@ ghost use Rattle.schedule_check.specs.Apart.{verdict_lines};
 ghost use Rattle.schedule_check.specs.Checked.{checked_in, checked_of, is_command};
 ghost use Rattle.schedule_check.specs.Windows.{IsTeller, Teller};
 ghost use Rattle.line_reader.specs.LineReader.{current_number, script_left};
-ghost use Rattle.script.specs.Outcome.{Runs};
+ghost use Rattle.job.specs.Outcome.{Runs};
+ghost use Rattle.job.specs.declared.fault.Fault.TheVariants as Faults;
+ghost use Rattle.script.specs.Outcome.{bad_line};
 ghost use Rattle.tc_reader.specs.Reader.{IsReader};
 ghost use Rattle.tc_reader.specs.declared.fault.TcFault.{TcFault};
 ghost use Rattle.words.specs.Words.{words_of};
@@ -14,7 +16,7 @@ ghost use Rattle.words.specs.Words.{words_of};
 use crate::settings::CheckSettings;
 use crate::telling::put_line;
 use line_reader::LineReader;
-use script::{RunFault, ScriptFault};
+use script::{BadLine, RunFault, ScriptFault};
 use std::alloc::Allocator;
 use std::io::{Read, Write};
 use words::Words;
@@ -42,9 +44,9 @@ fn fault_here<A: Allocator, R: Read + Drop>(
     lines: &LineReader<R, A>,
     fault: ScriptFault,
 ) -> RunFault
-    ensures { result ≡ RunFault.Script (current_number lines.now) fault }
+    ensures { result ≡ Faults.Input (bad_line (current_number lines.now) fault) }
 {
-    RunFault::Script(lines.line_number(), fault)
+    RunFault::Input(BadLine::new(lines.line_number(), fault))
 }
 
 // Tells of the lines that are to come.

@@ -8,7 +8,8 @@ ghost use Rattle.script.specs.Ending.{IsEnding, rate_given};
 
 use crate::checking::check;
 use crate::settings::CheckSettings;
-use script::{Ended, end_run, end_with_value, rate_given};
+use job::{Ended, end_run};
+use script::{end_with_value, rate_given};
 use std::alloc::Allocator;
 use std::io::{BufWriter, Read, Write};
 

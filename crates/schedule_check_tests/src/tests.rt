@@ -2,7 +2,7 @@
 
 use linked_list_allocator::LocalHeap;
 use schedule_check::{CheckSettings, check};
-use script::{RunFault, ScriptFault};
+use script::{BadLine, RunFault, ScriptFault};
 use std::alloc::Global;
 use std::process::Abort;
 use std::test::Fail;
@@ -141,7 +141,7 @@ fn ends_at_faults(rt: HostRuntime) {
         let mut got = Vec::new(rt.alloc());
         assert_eq!(rt;
             check(rt.alloc(), input, &mut got, settings(&rt, 1000, false)),
-            Err(RunFault::Script(line, ScriptFault::UnknownLine))
+            Err(RunFault::Input(BadLine::new(line, ScriptFault::UnknownLine)))
         );
         assert_eq!(rt; got.as_slice(), told);
     }

@@ -19,11 +19,14 @@ use Rattle.line_reader.specs.declared.lines.LineFault.{LineFault}
 use Rattle.line_reader.specs.declared.lines.LineFault.TheVariants as LineFaults
 use Rattle.script.specs.Requests.{Request, Asks, NoCommand, request_of}
 use Rattle.script.specs.Responses.{Gave, end_lines, lines_of, noted_by, responses_to}
-use Rattle.script.specs.Outcome.{Outcome, Runs, ending_text, fault_of_line, outcome_after, outcome_from, reading_of, with_line}
+use Rattle.job.specs.Lines.{fault_of_line}
+use Rattle.script.specs.Outcome.{bad_line, ending_text, long_line, outcome_after, outcome_from, reading_of, with_line}
 use Rattle.script.proofs.OutputLaws.{after_text, outcome-more}
 use Rattle.script.specs.declared.faults.ScriptFault.{ScriptFault}
-use Rattle.script.specs.declared.faults.RunFault.{RunFault}
-use Rattle.script.specs.declared.faults.RunFault.TheVariants as Faults
+use Rattle.script.specs.declared.faults.BadLine.{BadLine}
+use Rattle.job.specs.Outcome.{Outcome, Runs}
+use Rattle.job.specs.declared.fault.Fault.{Fault}
+use Rattle.job.specs.declared.fault.Fault.TheVariants as Faults
 use Rattle.script.proofs.StartsLaws.{settled-sound}
 use Rattle.script.proofs.LeftLaws.{end-settled}
 use Rattle.summary.specs.Observed.{Observed, seen_all}
@@ -154,7 +157,7 @@ module _ (read : List (List ℕ) → Result Command TcFault) where
   skipped_line until p0 o0 number line p o (Some all) old now (Some script) t g (rest, left, is) e =
       let same : outcome_from read until script p o ≡ outcome_from read until rest p o = ap (λ s. outcome_from read until s p o) is ∙ ap (λ x. outcome_after until (with_line number x (reading_of read rest)) p o) e in
       let P : Option Script → Type 0 = λ u. Goes until p0 o0 (Some all) old now u p o in
-      let Q : Outcome → Type 0 = λ out. Sent old now (outcome_from read until all p0 o0).text out.text × ((outcome_from read until all p0 o0).fault ≡ out.fault) in
+      let Q : Outcome BadLine → Type 0 = λ out. Sent old now (outcome_from read until all p0 o0).text out.text × ((outcome_from read until all p0 o0).fault ≡ out.fault) in
       subst P (sym left) (subst Q same g)
 
   pub goes_past : (until : Option ℕ) (p0 : AbstractPort) (o0 : Option Observed) (number : ℕ) (line : List ℕ) (q : AbstractPort) (o : Option Observed) (all : Option Script) (old now : Option (List ℕ)) (s t : Option Script)
@@ -162,17 +165,17 @@ module _ (read : List (List ℕ) → Result Command TcFault) where
   goes_past until p0 o0 number line q o all old now s t i a e = record { behind = i.behind; stands = i.stands; goes = skipped_line until p0 o0 number line i.behind o all old now s t i.goes a e }
 
   -- a front of the answers to a line is written
-  front_of_line : {T : Type 0} {f : Result T RunFault} (until : Option ℕ) (p0 : AbstractPort) (o0 : Option Observed) (number : ℕ) (line : List ℕ) (p : AbstractPort) (o : Option Observed) (all : Option Script) (old now new : Option (List ℕ)) (s t : Option Script) (r : Request)
+  front_of_line : {T : Type 0} {f : Result T (Fault BadLine)} (until : Option ℕ) (p0 : AbstractPort) (o0 : Option Observed) (number : ℕ) (line : List ℕ) (p : AbstractPort) (o : Option Observed) (all : Option Script) (old now new : Option (List ℕ)) (s t : Option Script) (r : Request)
       → Goes until p0 o0 all old now s p o → Advances s (Ok true) number line t → request_of read line ≡ Ok (Some r) → FallsShort now new (lines_of (responses_to r p).0) → f ≡ Err Faults.Write
       → IfSome all (λ script. Runs f old new (outcome_from read until script p0 o0))
   front_of_line until p0 o0 number line p o None old now new s t r g a e w h = tt
   front_of_line until p0 o0 number line p o (Some all) old now new None t r g a e w h = absurd g
   front_of_line {T} {f} until p0 o0 number line p o (Some all) old now new (Some script) t r g (rest, left, is) e w h =
       let same = line_outcome until script rest number line p o r is e in
-      let P : Result T RunFault → Type 0 = λ x. Runs x old new (outcome_from read until all p0 o0) in
+      let P : Result T (Fault BadLine) → Type 0 = λ x. Runs x old new (outcome_from read until all p0 o0) in
       subst P (sym h) (sent_short new (lines_of (responses_to r p).0) _ g.0 (ap (λ x. x.text) same) w)
 
-  pub goes_no_further : {T : Type 0} {f : Result T RunFault} → IsSettling → (until : Option ℕ) (p0 : AbstractPort) (o0 : Option Observed) (number : ℕ) (line : List ℕ) (q : AbstractPort) (o : Option Observed) (all : Option Script) (old now new : Option (List ℕ)) (s t : Option Script) (r : Request)
+  pub goes_no_further : {T : Type 0} {f : Result T (Fault BadLine)} → IsSettling → (until : Option ℕ) (p0 : AbstractPort) (o0 : Option Observed) (number : ℕ) (line : List ℕ) (q : AbstractPort) (o : Option Observed) (all : Option Script) (old now new : Option (List ℕ)) (s t : Option Script) (r : Request)
       → IsRunning until p0 o0 all old now s q o → Advances s (Ok true) number line t → request_of read line ≡ Ok (Some r) → FallsShort now new (lines_of (responses_to r q).0) → f ≡ Err Faults.Write
       → IfSome all (λ script. Runs f old new (outcome_from read until script p0 o0))
   goes_no_further law until p0 o0 number line q o all old now new s t r i a e w h =
@@ -180,50 +183,50 @@ module _ (read : List (List ℕ) → Result Command TcFault) where
       front_of_line until p0 o0 number line i.behind o all old now new s t r i.goes a e (subst P (same-text law q i.behind i.stands r) w) h
 
   -- a line with a fault
-  faulty_line : {T : Type 0} {f : Result T RunFault} (until : Option ℕ) (p0 : AbstractPort) (o0 : Option Observed) (number : ℕ) (line : List ℕ) (p : AbstractPort) (o : Option Observed) (all : Option Script) (old now : Option (List ℕ)) (s t : Option Script) (fault : ScriptFault)
-      → Goes until p0 o0 all old now s p o → Advances s (Ok true) number line t → request_of read line ≡ Err fault → f ≡ Err (Faults.Script number fault)
+  faulty_line : {T : Type 0} {f : Result T (Fault BadLine)} (until : Option ℕ) (p0 : AbstractPort) (o0 : Option Observed) (number : ℕ) (line : List ℕ) (p : AbstractPort) (o : Option Observed) (all : Option Script) (old now : Option (List ℕ)) (s t : Option Script) (fault : ScriptFault)
+      → Goes until p0 o0 all old now s p o → Advances s (Ok true) number line t → request_of read line ≡ Err fault → f ≡ Err (Faults.Input (bad_line number fault))
       → IfSome all (λ script. Runs f old now (outcome_from read until script p0 o0))
   faulty_line until p0 o0 number line p o None old now s t fault g a e h = tt
   faulty_line until p0 o0 number line p o (Some all) old now None t fault g a e h = absurd g
   faulty_line {T} {f} until p0 o0 number line p o (Some all) old now (Some script) t fault g (rest, left, is) e h =
       let same = ap (λ s. outcome_from read until s p o) is ∙ ap (λ x. outcome_after until (with_line number x (reading_of read rest)) p o) e in
-      let P : Result T RunFault → Type 0 = λ x. Runs x old now (outcome_from read until all p0 o0) in
+      let P : Result T (Fault BadLine) → Type 0 = λ x. Runs x old now (outcome_from read until all p0 o0) in
       subst P (sym h) (g.1 ∙ ap (λ x. x.fault) same, sent_all g.0 (ap (λ x. x.text) same))
 
-  pub goes_wrong : {T : Type 0} {f : Result T RunFault} (until : Option ℕ) (p0 : AbstractPort) (o0 : Option Observed) (number : ℕ) (line : List ℕ) (q : AbstractPort) (o : Option Observed) (all : Option Script) (old now : Option (List ℕ)) (s t : Option Script) (fault : ScriptFault)
-      → IsRunning until p0 o0 all old now s q o → Advances s (Ok true) number line t → request_of read line ≡ Err fault → f ≡ Err (Faults.Script number fault)
+  pub goes_wrong : {T : Type 0} {f : Result T (Fault BadLine)} (until : Option ℕ) (p0 : AbstractPort) (o0 : Option Observed) (number : ℕ) (line : List ℕ) (q : AbstractPort) (o : Option Observed) (all : Option Script) (old now : Option (List ℕ)) (s t : Option Script) (fault : ScriptFault)
+      → IsRunning until p0 o0 all old now s q o → Advances s (Ok true) number line t → request_of read line ≡ Err fault → f ≡ Err (Faults.Input (bad_line number fault))
       → IfSome all (λ script. Runs f old now (outcome_from read until script p0 o0))
   goes_wrong until p0 o0 number line q o all old now s t fault i a e h = faulty_line until p0 o0 number line i.behind o all old now s t fault i.goes a e h
 
   -- the ending
-  ends_with : {T : Type 0} {f : Result T RunFault} (until : Option ℕ) (p0 : AbstractPort) (o0 : Option Observed) (p : AbstractPort) (o : Option Observed) (number : ℕ) (line : List ℕ) (all : Option Script) (old now new : Option (List ℕ)) (s t : Option Script)
+  ends_with : {T : Type 0} {f : Result T (Fault BadLine)} (until : Option ℕ) (p0 : AbstractPort) (o0 : Option Observed) (p : AbstractPort) (o : Option Observed) (number : ℕ) (line : List ℕ) (all : Option Script) (old now new : Option (List ℕ)) (s t : Option Script)
       → Goes until p0 o0 all old now s p o → Advances s (Ok false) number line t → FallsShort now new (ending_text until p o) → f ≡ Err Faults.Write
       → IfSome all (λ script. Runs f old new (outcome_from read until script p0 o0))
   ends_with until p0 o0 p o number line None old now new s t g a w h = tt
   ends_with until p0 o0 p o number line (Some all) old now new None t g a w h = absurd g
   ends_with {T} {f} until p0 o0 p o number line (Some all) old now new (Some script) t g a w h =
       let same = ap (λ s. outcome_from read until s p o) a in
-      let P : Result T RunFault → Type 0 = λ x. Runs x old new (outcome_from read until all p0 o0) in
+      let P : Result T (Fault BadLine) → Type 0 = λ x. Runs x old new (outcome_from read until all p0 o0) in
       subst P (sym h) (sent_short new (ending_text until p o) [] g.0 (ap (λ x. x.text) same ∙ sym (append-nil (ending_text until p o))) w)
 
-  pub ends_early : {T : Type 0} {f : Result T RunFault} → IsSettling → (until : Option ℕ) (p0 : AbstractPort) (o0 : Option Observed) (q : AbstractPort) (o : Option Observed) (number : ℕ) (line : List ℕ) (all : Option Script) (old now new : Option (List ℕ)) (s t : Option Script)
+  pub ends_early : {T : Type 0} {f : Result T (Fault BadLine)} → IsSettling → (until : Option ℕ) (p0 : AbstractPort) (o0 : Option Observed) (q : AbstractPort) (o : Option Observed) (number : ℕ) (line : List ℕ) (all : Option Script) (old now new : Option (List ℕ)) (s t : Option Script)
       → IsRunning until p0 o0 all old now s q o → Advances s (Ok false) number line t → FallsShort now new (ending_text until q o) → f ≡ Err Faults.Write
       → IfSome all (λ script. Runs f old new (outcome_from read until script p0 o0))
   ends_early law until p0 o0 q o number line all old now new s t i a w h =
       let P : List ℕ → Type 0 = λ text. FallsShort now new text in
       ends_with until p0 o0 i.behind o number line all old now new s t i.goes a (subst P (same-ending law q i.behind i.stands until o) w) h
 
-  ends_whole : {T : Type 0} {f : Result T RunFault} (x : T) (until : Option ℕ) (p0 : AbstractPort) (o0 : Option Observed) (p : AbstractPort) (o : Option Observed) (number : ℕ) (line : List ℕ) (all : Option Script) (old now new : Option (List ℕ)) (s t : Option Script)
+  ends_whole : {T : Type 0} {f : Result T (Fault BadLine)} (x : T) (until : Option ℕ) (p0 : AbstractPort) (o0 : Option Observed) (p : AbstractPort) (o : Option Observed) (number : ℕ) (line : List ℕ) (all : Option Script) (old now new : Option (List ℕ)) (s t : Option Script)
       → Goes until p0 o0 all old now s p o → Advances s (Ok false) number line t → Appends now new (ending_text until p o) → f ≡ Ok x
       → IfSome all (λ script. Runs f old new (outcome_from read until script p0 o0))
   ends_whole x until p0 o0 p o number line None old now new s t g a w h = tt
   ends_whole x until p0 o0 p o number line (Some all) old now new None t g a w h = absurd g
   ends_whole {T} {f} x until p0 o0 p o number line (Some all) old now new (Some script) t g a w h =
       let same = ap (λ s. outcome_from read until s p o) a in
-      let P : Result T RunFault → Type 0 = λ y. Runs y old new (outcome_from read until all p0 o0) in
+      let P : Result T (Fault BadLine) → Type 0 = λ y. Runs y old new (outcome_from read until all p0 o0) in
       subst P (sym h) (g.1 ∙ ap (λ x. x.fault) same, sent_all (sent_more new (ending_text until p o) [] g.0 (ap (λ x. x.text) same ∙ sym (append-nil (ending_text until p o))) w) refl)
 
-  pub ends_well : {T : Type 0} {f : Result T RunFault} → IsSettling → (x : T) (until : Option ℕ) (p0 : AbstractPort) (o0 : Option Observed) (q : AbstractPort) (o : Option Observed) (number : ℕ) (line : List ℕ) (all : Option Script) (old now new : Option (List ℕ)) (s t : Option Script)
+  pub ends_well : {T : Type 0} {f : Result T (Fault BadLine)} → IsSettling → (x : T) (until : Option ℕ) (p0 : AbstractPort) (o0 : Option Observed) (q : AbstractPort) (o : Option Observed) (number : ℕ) (line : List ℕ) (all : Option Script) (old now new : Option (List ℕ)) (s t : Option Script)
       → IsRunning until p0 o0 all old now s q o → Advances s (Ok false) number line t → Appends now new (ending_text until q o) → f ≡ Ok x
       → IfSome all (λ script. Runs f old new (outcome_from read until script p0 o0))
   ends_well law x until p0 o0 q o number line all old now new s t i a w h =
@@ -231,27 +234,27 @@ module _ (read : List (List ℕ) → Result Command TcFault) where
       ends_whole x until p0 o0 i.behind o number line all old now new s t i.goes a (subst P (same-ending law q i.behind i.stands until o) w) h
 
   -- the lines stop
-  stopped : {T : Type 0} {f : Result T RunFault} (until : Option ℕ) (p0 : AbstractPort) (o0 : Option Observed) (p : AbstractPort) (o : Option Observed) (fault : LineFault) (number : ℕ) (line : List ℕ) (all : Option Script) (old now : Option (List ℕ)) (s t : Option Script)
-      → Goes until p0 o0 all old now s p o → Advances s (Err fault) number line t → f ≡ Err (fault_of_line fault)
+  stopped : {T : Type 0} {f : Result T (Fault BadLine)} (until : Option ℕ) (p0 : AbstractPort) (o0 : Option Observed) (p : AbstractPort) (o : Option Observed) (fault : LineFault) (number : ℕ) (line : List ℕ) (all : Option Script) (old now : Option (List ℕ)) (s t : Option Script)
+      → Goes until p0 o0 all old now s p o → Advances s (Err fault) number line t → f ≡ Err (fault_of_line long_line fault)
       → IfSome all (λ script. Runs f old now (outcome_from read until script p0 o0))
   stopped until p0 o0 p o fault number line None old now s t g a h = tt
   stopped until p0 o0 p o fault number line (Some all) old now None t g a h = absurd g
   stopped {T} {f} until p0 o0 p o (LineFaults.Limit n limit) number line (Some all) old now (Some script) t g a h =
       let same = ap (λ s. outcome_from read until s p o) a in
-      let P : Result T RunFault → Type 0 = λ x. Runs x old now (outcome_from read until all p0 o0) in
+      let P : Result T (Fault BadLine) → Type 0 = λ x. Runs x old now (outcome_from read until all p0 o0) in
       subst P (sym h) (g.1 ∙ ap (λ x. x.fault) same, sent_all g.0 (ap (λ x. x.text) same))
   stopped {T} {f} until p0 o0 p o LineFaults.Read number line (Some all) old now (Some script) t g a h =
-      let P : Result T RunFault → Type 0 = λ x. Runs x old now (outcome_from read until all p0 o0) in
+      let P : Result T (Fault BadLine) → Type 0 = λ x. Runs x old now (outcome_from read until all p0 o0) in
       subst P (sym h) ((outcome_from read until script p o).text, g.0)
 
-  pub stops : {T : Type 0} {f : Result T RunFault} (until : Option ℕ) (p0 : AbstractPort) (o0 : Option Observed) (q : AbstractPort) (o : Option Observed) (fault : LineFault) (number : ℕ) (line : List ℕ) (all : Option Script) (old now : Option (List ℕ)) (s t : Option Script)
-      → IsRunning until p0 o0 all old now s q o → Advances s (Err fault) number line t → f ≡ Err (fault_of_line fault)
+  pub stops : {T : Type 0} {f : Result T (Fault BadLine)} (until : Option ℕ) (p0 : AbstractPort) (o0 : Option Observed) (q : AbstractPort) (o : Option Observed) (fault : LineFault) (number : ℕ) (line : List ℕ) (all : Option Script) (old now : Option (List ℕ)) (s t : Option Script)
+      → IsRunning until p0 o0 all old now s q o → Advances s (Err fault) number line t → f ≡ Err (fault_of_line long_line fault)
       → IfSome all (λ script. Runs f old now (outcome_from read until script p0 o0))
   stops until p0 o0 q o fault number line all old now s t i a h = stopped until p0 o0 i.behind o fault number line all old now s t i.goes a h
 
   -- nothing is written when memory is refused at the start
-  pub memory_exit : {T : Type 0} {f : Result T RunFault} (whole : List ℕ → Outcome) (o old : Option (List ℕ)) → f ≡ Err Faults.Memory → IfSome o (λ input. Runs f old old (whole input))
+  pub memory_exit : {T : Type 0} {f : Result T (Fault BadLine)} (whole : List ℕ → Outcome BadLine) (o old : Option (List ℕ)) → f ≡ Err Faults.Memory → IfSome o (λ input. Runs f old old (whole input))
   memory_exit whole None old e = tt
   memory_exit {T} {f} whole (Some input) old e =
-      let P : Result T RunFault → Type 0 = λ x. Runs x old old (whole input) in
+      let P : Result T (Fault BadLine) → Type 0 = λ x. Runs x old old (whole input) in
       subst P (sym e) ((whole input).text, sent_none old (whole input).text)

@@ -9,7 +9,9 @@ use Rattle.separation.specs.Promises.{IsKeepingPromises}
 use Rattle.line_reader.specs.Script.{script_of}
 use Rattle.script.specs.Requests.{Request, Asks, NoCommand}
 use Rattle.script.specs.Responses.{Response, Gave, answers_in, events_of, lines_of, noted_by, response_lines, responses_of, responses_to}
-use Rattle.script.specs.Outcome.{IsFaithfulTo, Outcome, Reading, asked_in, asked_with, end_unless, outcome_after, reading_of}
+use Rattle.job.specs.Outcome.{Outcome}
+use Rattle.script.specs.declared.faults.BadLine.{BadLine}
+use Rattle.script.specs.Outcome.{IsFaithfulTo, Reading, asked_in, asked_with, end_unless, outcome_after, reading_of}
 use Rattle.script.specs.Setup.{Setup}
 use Rattle.script.specs.declared.faults.ScriptFault.{ScriptFault}
 use Rattle.summary.specs.Observed.{Observed}
@@ -17,7 +19,7 @@ use Rattle.summary.specs.Wanted.{noted_after}
 use Rattle.summary.proofs.WantedLaws.{noted_after-cons}
 
 -- a text, and then the outcome
-abbrev pub after_text : List ℕ → Outcome → Outcome
+abbrev pub after_text : List ℕ → Outcome BadLine → Outcome BadLine
 after_text text rest = record { text = text ++ rest.text; fault = rest.fault }
 
 pub lines_of-append : (xs ys : List Response) → lines_of (xs ++ ys) ≡ lines_of xs ++ lines_of ys
@@ -33,7 +35,7 @@ events-more : (r : Request) (rest : List Request) (p : AbstractPort) → port_af
 events-more (Asks event) rest p = refl
 events-more (NoCommand fault) rest p = refl
 
-asked-more : (until : Option ℕ) (r : Request) (requests : List Request) (fault : Option (ℕ × ScriptFault)) → asked_with until (r ∷ requests) fault ≡ r ∷ asked_with until requests fault
+asked-more : (until : Option ℕ) (r : Request) (requests : List Request) (fault : Option BadLine) → asked_with until (r ∷ requests) fault ≡ r ∷ asked_with until requests fault
 asked-more until r requests None = refl
 asked-more until r requests (Some fault) = refl
 

@@ -1,18 +1,14 @@
 -- What is written for a script, and the fault that ends it.
 use Rattle.std.specs.Prelude.{◌≡◌, List, ℕ, [], ◌∷◌, ◌++◌, Option, Some, None, Result, Ok, Err}
-use Rattle.std.specs.Io.KnownBytes.{Appends}
 use Rattle.abstract_port.specs.AbstractPort.{AbstractPort, new_port}
 use Rattle.abstract_port.specs.Answers.{answers_of, port_after}
 use Rattle.abstract_port.specs.declared.Command.{Command}
 use Rattle.abstract_port.specs.declared.Event.TheVariants.{Clock}
 use Rattle.separation.specs.Promises.{KeepsPromises}
 use Rattle.tc_reader.specs.declared.fault.TcFault.{TcFault}
-use Rattle.octet_writer.specs.Writes.{AppendsFront, FallsShort}
 use Rattle.line_reader.specs.Script.{Script, End, Broken, Line, script_of}
 use Rattle.line_reader.specs.declared.lines.Limit.{Limit}
 use Rattle.line_reader.specs.declared.lines.Limit.TheVariants as Limits
-use Rattle.line_reader.specs.declared.lines.LineFault.{LineFault}
-use Rattle.line_reader.specs.declared.lines.LineFault.TheVariants as LineFaults
 use Rattle.script.specs.Requests.{Request, Asks, request_of}
 use Rattle.script.specs.Responses.{answers_in, end_lines, events_of, lines_of, responses_of}
 use Rattle.summary.specs.Observed.{Observed}
@@ -20,36 +16,39 @@ use Rattle.summary.specs.Wanted.{noted_after, watched}
 use Rattle.script.specs.Setup.{Setup}
 use Rattle.script.specs.declared.faults.ScriptFault.{ScriptFault}
 use Rattle.script.specs.declared.faults.ScriptFault.TheVariants as ScriptFaults
-use Rattle.script.specs.declared.faults.RunFault.{RunFault}
-use Rattle.script.specs.declared.faults.RunFault.TheVariants as Faults
+use Rattle.script.specs.declared.faults.BadLine.{BadLine}
+use Rattle.job.specs.Outcome.{Outcome}
+
+-- the line of this number has this fault
+abbrev pub bad_line : ℕ → ScriptFault → BadLine
+bad_line number fault = record { line = number; fault = fault }
 
 -- the fault of a line that passes a limit
 abbrev pub limit_fault : Limit → ScriptFault
 limit_fault Limits.LongLine = ScriptFaults.LongLine
 limit_fault Limits.TooManyLines = ScriptFaults.TooManyLines
 
--- the fault of a run whose line can not be read
-abbrev pub fault_of_line : LineFault → RunFault
-fault_of_line (LineFaults.Limit number limit) = Faults.Script number (limit_fault limit)
-fault_of_line LineFaults.Read = Faults.Read
+-- the line of this number passes a limit
+abbrev pub long_line : ℕ → Limit → BadLine
+long_line number limit = bad_line number (limit_fault limit)
 
 -- 1. What a script says
 
 -- what the lines ask, up to the first fault, and that fault with the number of its line
 pub record Reading : Type 0 where
   pub requests : List Request
-  pub fault : Option (ℕ × ScriptFault)
+  pub fault : Option BadLine
 
 -- a line before the rest of a script
 abbrev pub with_line : ℕ → Result (Option Request) ScriptFault → Reading → Reading
-with_line number (Err fault) rest = record { requests = []; fault = Some (number, fault) }
+with_line number (Err fault) rest = record { requests = []; fault = Some (bad_line number fault) }
 with_line number (Ok None) rest = rest
 with_line number (Ok (Some request)) rest = record { requests = request ∷ rest.requests; fault = rest.fault }
 
 -- what the lines of a script say
 abbrev pub reading_of : (List (List ℕ) → Result Command TcFault) → Script → Reading
 reading_of read End = record { requests = []; fault = None }
-reading_of read (Broken number limit) = record { requests = []; fault = Some (number, limit_fault limit) }
+reading_of read (Broken number limit) = record { requests = []; fault = Some (long_line number limit) }
 reading_of read (Line number octets rest) = with_line number (request_of read octets) (reading_of read rest)
 
 -- the clock event after a script, if one is given
@@ -58,7 +57,7 @@ clock_after None = []
 clock_after (Some moment) = Asks (Clock moment) ∷ []
 
 -- all that is asked: what the lines ask, and where there is no fault the clock event after them
-abbrev pub asked_with : Option ℕ → List Request → Option (ℕ × ScriptFault) → List Request
+abbrev pub asked_with : Option ℕ → List Request → Option BadLine → List Request
 asked_with until requests None = requests ++ clock_after until
 asked_with until requests (Some fault) = requests
 
@@ -69,17 +68,12 @@ asked_in until reading = asked_with until reading.requests reading.fault
 -- 2. What is written
 
 -- how many frames each class still has, and the summary where one is wanted; neither where there is a fault
-abbrev pub end_unless : Option (ℕ × ScriptFault) → AbstractPort → Option Observed → List ℕ
+abbrev pub end_unless : Option BadLine → AbstractPort → Option Observed → List ℕ
 end_unless None p o = end_lines p o
 end_unless (Some fault) p o = []
 
--- the whole output, and the fault of the script with its line
-pub record Outcome : Type 0 where
-  pub text : List ℕ
-  pub fault : Option (ℕ × ScriptFault)
-
 -- the lines of what the port answers, with the tc faults at their places, then of the frames that are left, and of the summary
-abbrev pub outcome_after : Option ℕ → Reading → AbstractPort → Option Observed → Outcome
+abbrev pub outcome_after : Option ℕ → Reading → AbstractPort → Option Observed → Outcome BadLine
 outcome_after until reading p o =
     let events = events_of (asked_in until reading) in
     record {
@@ -92,21 +86,12 @@ abbrev pub ending_text : Option ℕ → AbstractPort → Option Observed → Lis
 ending_text until p o = (outcome_after until (record { requests = []; fault = None }) p o).text
 
 -- the outcome of the lines to come, from a port and what is seen of it
-abbrev pub outcome_from : (List (List ℕ) → Result Command TcFault) → Option ℕ → Script → AbstractPort → Option Observed → Outcome
+abbrev pub outcome_from : (List (List ℕ) → Result Command TcFault) → Option ℕ → Script → AbstractPort → Option Observed → Outcome BadLine
 outcome_from read until script p o = outcome_after until (reading_of read script) p o
 
 -- the octets of an input, on a new port
-abbrev pub outcome_of : (List (List ℕ) → Result Command TcFault) → Setup → List ℕ → Outcome
+abbrev pub outcome_of : (List (List ℕ) → Result Command TcFault) → Setup → List ℕ → Outcome BadLine
 outcome_of read s input = outcome_from read s.until (script_of input) (new_port s.rate s.mtu s.room) (watched s.summary s.room)
-
--- At Ok and at a script's fault the whole output is written, and the fault is the script's; at the other faults a front of
--- the output, and after a failed write not all of it.
-abbrev pub Runs : {T : Type 0} → Result T RunFault → Option (List ℕ) → Option (List ℕ) → Outcome → Type 0
-Runs (Ok x) old new whole = (whole.fault ≡ None) × Appends old new whole.text
-Runs (Err (Faults.Script number fault)) old new whole = (whole.fault ≡ Some (number, fault)) × Appends old new whole.text
-Runs (Err Faults.Read) old new whole = AppendsFront old new whole.text
-Runs (Err Faults.Write) old new whole = FallsShort old new whole.text
-Runs (Err Faults.Memory) old new whole = AppendsFront old new whole.text
 
 -- 3. What holds of every output
 

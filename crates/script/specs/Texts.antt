@@ -1,12 +1,12 @@
 -- The texts of faults, and the exit statuses that go with them.
 use Rattle.std.specs.Prelude.{List, ℕ, [], ◌∷◌, decimal, codes}
 use Rattle.std.specs.List.{concat}
+use Rattle.job.specs.Telling.{Telling}
+use Rattle.script.specs.declared.faults.BadLine.{BadLine}
 use Rattle.script.specs.declared.settings.BadValue.{BadValue}
 use Rattle.script.specs.declared.settings.BadValue.TheVariants as Values
 use Rattle.script.specs.declared.faults.ScriptFault.{ScriptFault}
 use Rattle.script.specs.declared.faults.ScriptFault.TheVariants.{LongLine, TooManyLines, UnknownLine, FrameInReplay, WordCount, BadNumber, ClockTooLate}
-use Rattle.script.specs.declared.faults.RunFault.{RunFault}
-use Rattle.script.specs.declared.faults.RunFault.TheVariants as Faults
 
 -- the name of a fault
 abbrev pub script_fault_name : ScriptFault → List ℕ
@@ -32,17 +32,10 @@ option_name Values.Width = codes "--width"
 abbrev pub value_text : BadValue → List ℕ
 value_text value = concat (codes "taprio_port: bad value of " ∷ option_name value ∷ codes "\n" ∷ [])
 
--- the text of a fault
-abbrev pub fault_text : RunFault → List ℕ
-fault_text (Faults.Script line fault) =
-    concat (codes "taprio_port: script line " ∷ decimal line ∷ codes ": " ∷ script_fault_name fault ∷ codes "\n" ∷ [])
-fault_text Faults.Read = codes "taprio_port: read failed\n"
-fault_text Faults.Write = codes "taprio_port: write failed\n"
-fault_text Faults.Memory = codes "taprio_port: out of memory\n"
+-- the text of a line's fault, behind a beginning that names the input
+abbrev pub line_text : List ℕ → ℕ → ScriptFault → List ℕ
+line_text begin line fault = concat (begin ∷ decimal line ∷ codes ": " ∷ script_fault_name fault ∷ codes "\n" ∷ [])
 
--- 3: the input is refused; 4: a read, a write or memory failed
-abbrev pub status_of : RunFault → ℕ
-status_of (Faults.Script line fault) = 3
-status_of Faults.Read = 4
-status_of Faults.Write = 4
-status_of Faults.Memory = 4
+-- what is told of a line of a script; 3: the input is refused
+abbrev pub script_telling : Telling BadLine
+script_telling = record { text = λ bad. line_text (codes "taprio_port: script line ") bad.line bad.fault; status = λ bad. 3 }

@@ -1,16 +1,15 @@
 //! Why a run ends early, and the texts that say so.
 
 ghost use Rattle.std.specs.Prelude.{◌≡◌};
+ghost use Rattle.job.specs.Texts.{IsTold};
 ghost use Rattle.octet_writer.specs.Writes.{Writes};
-ghost use Rattle.script.specs.Ending.{IsTold};
-ghost use Rattle.script.specs.Texts.{script_fault_name, fault_text, status_of, option_name, value_text};
-ghost use Rattle.script.specs.Outcome.{fault_of_line};
-ghost use Rattle.script.specs.declared.faults.RunFault.TheVariants as Faults;
+ghost use Rattle.script.specs.Texts.{line_text, option_name, script_fault_name, script_telling, value_text};
+ghost use Rattle.script.specs.Outcome.{bad_line, limit_fault, long_line};
 
 use crate::settings::BadValue;
-use answer_text::{Part, WriteFault, put, put_parts};
-use line_reader::{Limit, LineFault};
-use std::alloc::AllocError;
+use answer_text::{Part, WriteFault, put_parts};
+use job::{Ended, Fault, InputFault, LineInput};
+use line_reader::Limit;
 use std::io::Write;
 use thiserror::Error;
 
@@ -33,54 +32,35 @@ pub enum ScriptFault {
     ClockTooLate,
 }
 
-/// Why a run ended early. What was written is then a front of the right output, and all of it at a script's fault.
+/// The line of a script of this number, counted in physical lines from 1, has this fault.
 #[derive(Clone, Copy, Debug, PartialEq, Eq, Error)]
-pub enum RunFault {
-    /// The line of this number, counted in physical lines from 1, has this fault.
-    #[error("line {0} of the script: {1:?}")]
-    Script(u32, ScriptFault),
-    /// A read failed.
-    #[error("a read failed")]
-    Read,
-    /// A write failed, or took nothing.
-    #[error("a write failed")]
-    Write,
-    /// Memory was wanting.
-    #[error("out of memory")]
-    Memory,
+#[error("line {line} of the script: {fault:?}")]
+pub struct BadLine {
+    /// The number of the line.
+    pub line: u32,
+    /// What is wrong with it.
+    pub fault: ScriptFault,
 }
 
-impl From<WriteFault> for RunFault {
-    ghost from_gives = { λ _ e. e ≡ Faults.Write };
-
-    fn from(_fault: WriteFault) -> RunFault {
-        RunFault::Write
+impl BadLine {
+    /// The line of this number has this fault.
+    pub fn new(line: u32, fault: ScriptFault) -> BadLine
+        ensures { result ≡ bad_line line fault }
+    {
+        BadLine { line, fault }
     }
 }
 
-impl From<AllocError> for RunFault {
-    ghost from_gives = { λ _ e. e ≡ Faults.Memory };
+/// Why a run on a script ended early.
+pub type RunFault = Fault<BadLine>;
 
-    fn from(_error: AllocError) -> RunFault {
-        RunFault::Memory
-    }
-}
-
-impl From<LineFault> for RunFault {
-    ghost from_gives = { λ l e. e ≡ fault_of_line l };
-
-    fn from(fault: LineFault) -> RunFault {
-        match fault {
-            LineFault::Limit(line, Limit::LongLine) => RunFault::Script(
-                line,
-                ScriptFault::LongLine,
-            ),
-            LineFault::Limit(line, Limit::TooManyLines) => RunFault::Script(
-                line,
-                ScriptFault::TooManyLines,
-            ),
-            LineFault::Read => RunFault::Read,
-        }
+/// The fault of a line that passes a limit.
+pub fn limit_fault(limit: Limit) -> ScriptFault
+    ensures { result ≡ limit_fault limit }
+{
+    match limit {
+        Limit::LongLine => ScriptFault::LongLine,
+        Limit::TooManyLines => ScriptFault::TooManyLines,
     }
 }
 
@@ -98,23 +78,45 @@ fn script_fault_name(fault: ScriptFault) -> &'static [u8]
     }
 }
 
-fn put_script_fault<W: Write>(
+/// Writes the text of a line's fault, behind a beginning that names the input.
+pub fn put_line_fault<W: Write>(
     writer: &mut W,
+    begin: &[u8],
     line: u32,
     fault: ScriptFault,
 ) -> Result<(), WriteFault>
-    ensures { Writes result (W.contents writer.old) (W.contents writer.new) (fault_text (Faults.Script line fault)) }
+    ensures { Writes result (W.contents writer.old) (W.contents writer.new) (line_text begin.now line fault) }
 {
     put_parts(
         writer,
         &[
-            Part::Text(b"taprio_port: script line "),
+            Part::Text(begin),
             Part::Number(u128::from(line)),
             Part::Text(b": "),
             Part::Text(script_fault_name(fault)),
             Part::Text(b"\n"),
         ],
     )
+}
+
+impl InputFault for BadLine {
+    ghost telling = { script_telling };
+
+    fn status(&self) -> u8 {
+        3
+    }
+
+    fn put<W: Write>(&self, writer: &mut W) -> Result<(), WriteFault> {
+        put_line_fault(writer, b"taprio_port: script line ", self.line, self.fault)
+    }
+}
+
+impl LineInput for BadLine {
+    ghost limited = { long_line };
+
+    fn of_limit(line: u32, limit: Limit) -> BadLine {
+        BadLine::new(line, limit_fault(limit))
+    }
 }
 
 fn option_name(value: BadValue) -> &'static [u8]
@@ -131,7 +133,8 @@ fn option_name(value: BadValue) -> &'static [u8]
     }
 }
 
-fn put_value<W: Write>(writer: &mut W, value: BadValue) -> Result<(), WriteFault>
+/// Writes the text of a bad value.
+pub fn put_value<W: Write>(writer: &mut W, value: BadValue) -> Result<(), WriteFault>
     ensures { Writes result (W.contents writer.old) (W.contents writer.new) (value_text value) }
 {
     put_parts(
@@ -142,47 +145,6 @@ fn put_value<W: Write>(writer: &mut W, value: BadValue) -> Result<(), WriteFault
             Part::Text(b"\n"),
         ],
     )
-}
-
-fn put_fault<W: Write>(writer: &mut W, fault: RunFault) -> Result<(), WriteFault>
-    ensures { Writes result (W.contents writer.old) (W.contents writer.new) (fault_text fault) }
-{
-    match fault {
-        RunFault::Script(line, script_fault) => put_script_fault(writer, line, script_fault),
-        RunFault::Read => put(writer, b"taprio_port: read failed\n"),
-        RunFault::Write => put(writer, b"taprio_port: write failed\n"),
-        RunFault::Memory => put(writer, b"taprio_port: out of memory\n"),
-    }
-}
-
-fn status_of(fault: RunFault) -> u8
-    ensures { result ≡ status_of fault }
-{
-    match fault {
-        RunFault::Script(_, _) => 3,
-        RunFault::Read | RunFault::Write | RunFault::Memory => 4,
-    }
-}
-
-/// How a run of the program ends: its exit status, and whether the text that goes with it was written whole.
-#[derive(Clone, Copy, Debug, PartialEq, Eq)]
-pub struct Ended {
-    /// 0 done, 2 a value is refused, 3 the input is, 4 a read, a write or memory failed.
-    pub status: u8,
-    /// Whether all of the text was written; else a front of it was.
-    pub told: bool,
-}
-
-/// Writes the text of a fault. The exit status that goes with it, also where that write fails.
-pub fn say_fault<W: Write>(fault: &RunFault, writer: &mut W) -> Ended
-    ensures status { result.status ≡ status_of fault.now }
-    ensures told { IsTold result.told (W.contents writer.old) (W.contents writer.new) (fault_text fault.now) }
-{
-    let told = put_fault(writer, *fault).is_ok();
-    Ended {
-        status: status_of(*fault),
-        told,
-    }
 }
 
 /// Writes the text of a bad value. The exit status that goes with it is 2, also where that write fails.

@@ -14,8 +14,10 @@ mod settings;
 
 pub use answering::{RunningPort, put_all_left, put_answers, put_tc};
 pub use ending::put_end;
-pub use faults::{Ended, RunFault, ScriptFault, say_fault, say_value};
-pub use program::{Values, answer_script, end_run, end_with_value, rate_given, settings_given};
+pub use faults::{
+    BadLine, RunFault, ScriptFault, limit_fault, put_line_fault, put_value, say_value,
+};
+pub use program::{Values, answer_script, end_with_value, rate_given, settings_given};
 pub use reading::{Said, read_line, read_tc};
 pub use running::run_script;
 pub use settings::{BadValue, Settings};

@@ -1,18 +1,14 @@
 //! The program's main job: a script is answered by the values of options.
 
-ghost use Rattle.std.specs.Prelude.{◌≡◌, ◌≤◌, ◌⊎◌, ℕ, List, [], Option, Result, Err, IfErr, IfSome, option_map};
-ghost use Rattle.std.specs.Io.Buffered.{writer_buffer, writer_contents};
-ghost use Rattle.std.specs.Io.KnownBytes.{Keeps};
-ghost use Rattle.abstract_port.specs.declared.Command.{Command};
-ghost use Rattle.tc_reader.specs.Reader.{IsReader};
-ghost use Rattle.tc_reader.specs.declared.fault.TcFault.{TcFault};
-ghost use Rattle.script.specs.Outcome.{Runs};
+ghost use Rattle.std.specs.Prelude.{◌≡◌, ◌≤◌, IfErr, option_map};
+ghost use Rattle.std.specs.Io.Buffered.{writer_contents};
 ghost use Rattle.wire_time.specs.Moment.{greatest_moment};
-ghost use Rattle.script.specs.Ending.{IsEnding, IsRefusal, IsRunEnding, IsTold, Whole, rate_given, run_status, run_text, settings_given, settings_or_usual, whole_script};
+ghost use Rattle.script.specs.Ending.{IsEnding, IsRefusal, rate_given, settings_given, settings_or_usual, whole_script};
 
-use crate::faults::{Ended, RunFault, say_fault, say_value};
+use crate::faults::say_value;
 use crate::running::run_script;
 use crate::settings::{BadValue, Settings, read_rate};
+use job::{Ended, end_run, end_told};
 use std::alloc::Allocator;
 use std::io::{BufWriter, Read, Write};
 use wire_time::{MAX_MOMENT, Rate};
@@ -77,57 +73,6 @@ pub fn settings_given(values: Values<'_>, greatest: u128) -> Result<Settings, Ba
     }
 }
 
-// Lets out what was answered, also before a fault, unless a write failed already: no write is tried again.
-fn let_out<W: Write + Drop, B: Allocator>(
-    run: Result<(), RunFault>,
-    answers: &mut BufWriter<W, B>,
-) -> Result<(), RunFault>
-    ensures kept { (result ≡ run) ⊎ (result ≡ Err RunFault.Write) }
-    ensures out { (writer_buffer answers.new ≡ []) ⊎ (result ≡ Err RunFault.Write) }
-    ensures bytes { Keeps (writer_contents W.contents answers.old) (writer_contents W.contents answers.new) }
-    ensures once { run ≡ Err RunFault.Write → answers.new ≡ answers.old }
-{
-    if run == Err(RunFault::Write) {
-        return run;
-    }
-    if answers.flush().is_err() {
-        return Err(RunFault::Write);
-    }
-    run
-}
-
-// Tells how a run ended: a fault's text, where there is one, and the status.
-fn say_run<E: Write>(run: Result<(), RunFault>, errors: &mut E) -> Ended
-    ensures status { result.status ≡ run_status run }
-    ensures told { IsTold result.told (E.contents errors.old) (E.contents errors.new) (run_text run) }
-{
-    match run {
-        Ok(()) => Ended {
-            status: 0,
-            told: true,
-        },
-        Err(fault) => say_fault(&fault, errors),
-    }
-}
-
-/// Ends a run whose answers went through `answers`: lets out what was answered, also before a fault, but after a failed write; then
-/// tells the fault on `errors`, where there is one; and gives the writer of the answers back. What the run has written is then what
-/// the writer has got, with what no write let out.
-pub fn end_run<B: Allocator, W: Write + Drop, E: Write>(
-    run: Result<(), RunFault>,
-    mut answers: BufWriter<W, B>,
-    errors: &mut E,
-) -> (Ended, W)
-    ensures { (whole : Whole) (input old : Option (List ℕ))
-        → ((read : List (List ℕ) → Result Command TcFault) → IsReader read → IfSome input (λ octets. Runs run old (writer_contents W.contents answers) (whole read octets)))
-        → IsRunEnding whole input result.0 old (W.contents result.1) (E.contents errors.old) (E.contents errors.new) }
-{
-    let run = let_out(run, &mut answers);
-    let ended = say_run(run, errors);
-    let (writer, _unwritten) = answers.into_parts();
-    (ended, writer)
-}
-
 /// Tells a bad value on `errors`, and gives the writer of the answers back. Nothing is answered.
 pub fn end_with_value<B: Allocator, W: Write + Drop, E: Write>(
     value: BadValue,
@@ -136,9 +81,7 @@ pub fn end_with_value<B: Allocator, W: Write + Drop, E: Write>(
 ) -> (Ended, W)
     ensures { IsRefusal value result.0 (writer_contents W.contents answers) (W.contents result.1) (E.contents errors.old) (E.contents errors.new) }
 {
-    let ended = say_value(&value, errors);
-    let (writer, _unwritten) = answers.into_parts();
-    (ended, writer)
+    end_told(say_value(&value, errors), answers)
 }
 
 /// Answers the script that `reader` gives, by these values, through `answers`, with the text of a fault on `errors`; and gives

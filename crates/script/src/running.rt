@@ -6,12 +6,13 @@ ghost use Rattle.abstract_port.specs.declared.Command.{Command};
 ghost use Rattle.octet_writer.specs.Writes.{Writes};
 ghost use Rattle.line_reader.specs.LineReader.{script_left};
 ghost use Rattle.tc_reader.specs.declared.fault.TcFault.{TcFault};
-ghost use Rattle.script.specs.Outcome.{IsFaithfulTo, Runs, ending_text, outcome_from, outcome_of};
+ghost use Rattle.job.specs.Outcome.{Runs};
+ghost use Rattle.script.specs.Outcome.{IsFaithfulTo, ending_text, outcome_from, outcome_of};
 ghost use Rattle.tc_reader.specs.Reader.{IsReader};
 
 use crate::answering::{RunningPort, put_answers, put_tc};
 use crate::ending::put_end;
-use crate::faults::RunFault;
+use crate::faults::{BadLine, RunFault};
 use crate::laws::faithful;
 use crate::plain::pass_plain;
 use crate::reading::{Said, read_line};
@@ -69,7 +70,7 @@ fn run_lines<A: Allocator, B: Allocator, R: Read + Drop, W: Write>(
             Ok(None) => {}
             Ok(Some(Said::Asked(event))) => put_answers(port, summary, &event, writer)?,
             Ok(Some(Said::Tc)) => put_tc(port, summary, line, writer)?,
-            Err(fault) => return Err(RunFault::Script(lines.line_number(), fault)),
+            Err(fault) => return Err(RunFault::Input(BadLine::new(lines.line_number(), fault))),
         }
     }
     end(port, summary, until, writer)?;

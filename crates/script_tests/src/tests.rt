@@ -1,8 +1,9 @@
 //! Scripts, readers and writers, and what comes out.
 
+use job::{Ended, say_fault};
 use linked_list_allocator::LocalHeap;
 use script::{
-    BadValue, Ended, RunFault, ScriptFault, Settings, Values, answer_script, run_script, say_fault,
+    BadLine, BadValue, RunFault, ScriptFault, Settings, Values, answer_script, run_script,
     say_value,
 };
 use std::alloc::Global;
@@ -201,7 +202,7 @@ static FAULTY: [(&[u8], &[u8], u32, ScriptFault); 9] = [
 fn ends_at_faults(rt: HostRuntime) {
     let settings = usual(&rt);
     for (script, answers, line, fault) in &FAULTY {
-        let outcome = Err(RunFault::Script(*line, *fault));
+        let outcome = Err(RunFault::Input(BadLine::new(*line, *fault)));
         assert!(rt;
             is_run(rt.alloc(), script, settings, outcome, answers),
             "{script:?}"
@@ -317,9 +318,9 @@ fn is_endless(alloc: Global, octet: u8, settings: Settings, fault: RunFault) -> 
 #[test]
 fn ends_on_endless_readers(rt: HostRuntime) {
     let settings = usual(&rt);
-    let long = RunFault::Script(1, ScriptFault::LongLine);
+    let long = RunFault::Input(BadLine::new(1, ScriptFault::LongLine));
     assert!(rt; is_endless(rt.alloc(), b'#', settings, long));
-    let many = RunFault::Script(4_000_001, ScriptFault::TooManyLines);
+    let many = RunFault::Input(BadLine::new(4_000_001, ScriptFault::TooManyLines));
     assert!(rt; is_endless(rt.alloc(), b'\n', settings, many));
 }
 
@@ -345,7 +346,7 @@ fn is_value_said(alloc: Global, value: &BadValue, text: &[u8]) -> bool {
 fn says_faults(rt: HostRuntime) {
     let rows: [(RunFault, &[u8], u8); 4] = [
         (
-            RunFault::Script(2, ScriptFault::ClockTooLate),
+            RunFault::Input(BadLine::new(2, ScriptFault::ClockTooLate)),
             b"taprio_port: script line 2: ClockTooLate\n",
             3,
         ),
@@ -577,7 +578,7 @@ fn sums_up(rt: HostRuntime) {
 #[test]
 fn sums_nothing_up(rt: HostRuntime) {
     let wanted = usual(&rt).with_summary(true);
-    let outcome = Err(RunFault::Script(2, ScriptFault::UnknownLine));
+    let outcome = Err(RunFault::Input(BadLine::new(2, ScriptFault::UnknownLine)));
     let script = b"frame 1 0 60\nx";
     assert!(rt; is_run(rt.alloc(), script, wanted, outcome, b"queued 1 class 0\n"));
 

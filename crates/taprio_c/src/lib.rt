@@ -10,8 +10,7 @@ ghost use Rattle.capture.specs.declared.fault.CapFault.{CapFault};
 ghost use Rattle.capture.specs.declared.reader.End.{End};
 ghost use Rattle.octets.specs.Captures.{Replays, outputs, told_by_replay};
 ghost use Rattle.octets.specs.Pictures.{DrawsWith, options_at};
-ghost use Rattle.octets.specs.Slices.{Answers, slices, told_by};
-ghost use Rattle.octets.specs.Tables.{told_of_streams};
+ghost use Rattle.octets.specs.Slices.{Answers, slices, told_by, told_of};
 ghost use Rattle.octets.specs.Values.{rate_at, settings_at};
 ghost use Rattle.replay.specs.Outcome.{ReadsAs, outcome_of as replay_outcome_of};
 ghost use Rattle.schedule_check.specs.Checked.{whole_check};
@@ -20,6 +19,7 @@ ghost use Rattle.script.specs.Outcome.{outcome_of};
 ghost use Rattle.taprio_c.specs.FromC.{is_wanted, picture_values, port_values};
 ghost use Rattle.tc_reader.specs.Reader.{IsReader};
 ghost use Rattle.tc_reader.specs.declared.fault.TcFault.{TcFault};
+ghost use Rattle.traffic.specs.Faults.{streams_telling};
 ghost use Rattle.traffic.specs.Outcome.{outcome_of as streams_outcome_of};
 
 use crate::values::{is_wanted, picture_values, port_values};
@@ -73,7 +73,7 @@ pub extern "C" fn taprio_streams(
     fault: &mut [u8],
     ran: &mut Ran,
 )
-    ensures { Answers (told_of_streams (streams_outcome_of table.now script.now)) ran.new (slices output.old fault.old) (slices output.new fault.new) }
+    ensures { Answers (told_of streams_telling (streams_outcome_of table.now script.now)) ran.new (slices output.old fault.old) (slices output.new fault.new) }
 {
     *ran = streams_octets(&alloc, table, script, output, fault);
 }

@@ -1,6 +1,5 @@
 mod BeforeLaws
 mod Digits
-mod EndingLaws
 mod FirstLaws
 mod FrameLaws
 mod LineLaws

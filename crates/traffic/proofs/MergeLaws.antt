@@ -12,10 +12,13 @@ use Rattle.line_reader.specs.declared.lines.LineFault.TheVariants as LineFaults
 use Rattle.script.specs.Outcome.{limit_fault}
 use Rattle.traffic.specs.Faults.{script_fault}
 use Rattle.traffic.specs.Merge.{clock_after, frames_before, frames_from, line_text, merged, moment_of}
-use Rattle.traffic.specs.Outcome.{Runs, fault_in, merging}
+use Rattle.job.specs.Outcome.{Runs}
+use Rattle.traffic.specs.Outcome.{fault_in, merging}
 use Rattle.traffic.specs.Written.{lines_of}
-use Rattle.traffic.specs.declared.faults.StreamsFault.{StreamsFault}
-use Rattle.traffic.specs.declared.faults.StreamsFault.TheVariants as Faults
+use Rattle.job.specs.declared.fault.Fault.{Fault}
+use Rattle.job.specs.declared.fault.Fault.TheVariants as Faults
+use Rattle.traffic.specs.declared.faults.StreamsInput.{StreamsInput}
+use Rattle.traffic.specs.declared.faults.StreamsInput.TheVariants as Inputs
 use Rattle.traffic.specs.declared.turn.Coming.{Coming}
 
 -- a line, and the frames before it
@@ -43,7 +46,7 @@ no_fault : fault_in End ≡ None
 unfolding fault_in
 no_fault = refl
 
-fault_broken : (number : ℕ) (limit : Limit) → fault_in (Broken number limit) ≡ Some (Faults.Script number (limit_fault limit))
+fault_broken : (number : ℕ) (limit : Limit) → fault_in (Broken number limit) ≡ Some (Inputs.Script number (limit_fault limit))
 unfolding fault_in
 fault_broken number limit = refl
 
@@ -73,7 +76,7 @@ module _ (number : ℕ) (line : List ℕ) where
       subst P (sym t_is) (sent_more new (text_at clock later line left) (merged later behind rest) r.0 parts w, r.1 ∙ ap fault_in is ∙ fault_behind number line behind)
 
   -- a write fails at a line
-  pub line_short : {T : Type 0} {f : Result T StreamsFault} (all : Option Script) (frames : List Coming) (old now new : Option (List ℕ)) (clock later : Option ℕ) (left : List Coming) (s t : Option Script)
+  pub line_short : {T : Type 0} {f : Result T (Fault StreamsInput)} (all : Option Script) (frames : List Coming) (old now new : Option (List ℕ)) (clock later : Option ℕ) (left : List Coming) (s t : Option Script)
       → Reaches all frames old now clock left s → Advances s (Ok true) number line t → later ≡ clock_after clock line
       → FallsShort now new (text_at clock later line left) → f ≡ Err Faults.Write → IfSome all (λ script. Runs f old new (merging None script frames))
   line_short None frames old now new clock later left s t r a e w h = tt
@@ -83,37 +86,37 @@ module _ (number : ℕ) (line : List ℕ) where
       let parts : merged clock script left ≡ text_at clock later line left ++ rest =
       ap (λ x. merged clock x left) is ∙ merged_line clock number line behind left
       ∙ ap (λ x. text_at clock x line left ++ merged x behind (frames_from (moment_of x) left)) (sym e) in
-      let P : Result T StreamsFault → Type 0 = λ x. Runs x old new (merging None all frames) in
+      let P : Result T (Fault StreamsInput) → Type 0 = λ x. Runs x old new (merging None all frames) in
       subst P (sym h) (sent_short new (text_at clock later line left) rest r.0 parts w)
 
   -- no line can be read
-  pub stops : {T : Type 0} {f : Result T StreamsFault} (fault : LineFault) (all : Option Script) (frames : List Coming) (old now : Option (List ℕ)) (clock : Option ℕ) (left : List Coming) (s t : Option Script)
+  pub stops : {T : Type 0} {f : Result T (Fault StreamsInput)} (fault : LineFault) (all : Option Script) (frames : List Coming) (old now : Option (List ℕ)) (clock : Option ℕ) (left : List Coming) (s t : Option Script)
       → Reaches all frames old now clock left s → Advances s (Err fault) number line t → f ≡ Err (script_fault fault) → IfSome all (λ script. Runs f old now (merging None script frames))
   stops fault None frames old now clock left s t r a h = tt
   stops fault (Some all) frames old now clock left None t r a h = absurd r
   stops {T} {f} (LineFaults.Limit n limit) (Some all) frames old now clock left (Some script) t r a h =
-      let P : Result T StreamsFault → Type 0 = λ x. Runs x old now (merging None all frames) in
+      let P : Result T (Fault StreamsInput) → Type 0 = λ x. Runs x old now (merging None all frames) in
       subst P (sym h) (r.1 ∙ ap fault_in a ∙ fault_broken n limit, sent_all r.0 (ap (λ x. merged clock x left) a ∙ merged_broken clock n limit left))
   stops {T} {f} LineFaults.Read (Some all) frames old now clock left (Some script) t r a h =
-      let P : Result T StreamsFault → Type 0 = λ x. Runs x old now (merging None all frames) in
+      let P : Result T (Fault StreamsInput) → Type 0 = λ x. Runs x old now (merging None all frames) in
       subst P (sym h) (merged clock script left, r.0)
 
   -- the lines end, and the other frames are written
-  pub ends : {T : Type 0} {f : Result T StreamsFault} (x : T) (all : Option Script) (frames : List Coming) (old now new : Option (List ℕ)) (clock : Option ℕ) (left : List Coming) (s t : Option Script)
+  pub ends : {T : Type 0} {f : Result T (Fault StreamsInput)} (x : T) (all : Option Script) (frames : List Coming) (old now new : Option (List ℕ)) (clock : Option ℕ) (left : List Coming) (s t : Option Script)
       → Reaches all frames old now clock left s → Advances s (Ok false) number line t → Appends now new (lines_of clock left) → f ≡ Ok x → IfSome all (λ script. Runs f old new (merging None script frames))
   ends x None frames old now new clock left s t r a w h = tt
   ends x (Some all) frames old now new clock left None t r a w h = absurd r
   ends {T} {f} x (Some all) frames old now new clock left (Some script) t r a w h =
       let last : merged clock script left ≡ lines_of clock left = ap (λ y. merged clock y left) a ∙ merged_end clock left in
-      let P : Result T StreamsFault → Type 0 = λ y. Runs y old new (merging None all frames) in
+      let P : Result T (Fault StreamsInput) → Type 0 = λ y. Runs y old new (merging None all frames) in
       subst P (sym h) (r.1 ∙ ap fault_in a ∙ no_fault, sent_all (sent_more new (lines_of clock left) [] r.0 (last ∙ sym (append-nil (lines_of clock left))) w) refl)
 
   -- or not all of them
-  pub end_short : {T : Type 0} {f : Result T StreamsFault} (all : Option Script) (frames : List Coming) (old now new : Option (List ℕ)) (clock : Option ℕ) (left : List Coming) (s t : Option Script)
+  pub end_short : {T : Type 0} {f : Result T (Fault StreamsInput)} (all : Option Script) (frames : List Coming) (old now new : Option (List ℕ)) (clock : Option ℕ) (left : List Coming) (s t : Option Script)
       → Reaches all frames old now clock left s → Advances s (Ok false) number line t → FallsShort now new (lines_of clock left) → f ≡ Err Faults.Write → IfSome all (λ script. Runs f old new (merging None script frames))
   end_short None frames old now new clock left s t r a w h = tt
   end_short (Some all) frames old now new clock left None t r a w h = absurd r
   end_short {T} {f} (Some all) frames old now new clock left (Some script) t r a w h =
       let last : merged clock script left ≡ lines_of clock left = ap (λ y. merged clock y left) a ∙ merged_end clock left in
-      let P : Result T StreamsFault → Type 0 = λ y. Runs y old new (merging None all frames) in
+      let P : Result T (Fault StreamsInput) → Type 0 = λ y. Runs y old new (merging None all frames) in
       subst P (sym h) (sent_short new (lines_of clock left) [] r.0 (last ∙ sym (append-nil (lines_of clock left))) w)

@@ -16,8 +16,10 @@ use Rattle.traffic.specs.Frames.{frames_of}
 use Rattle.traffic.specs.Reading.{ReadsTable}
 use Rattle.traffic.specs.Table.{Table, line_said, table_of, with_line}
 use Rattle.traffic.specs.Turns.{left_of}
-use Rattle.traffic.specs.declared.faults.StreamsFault.{StreamsFault}
-use Rattle.traffic.specs.declared.faults.StreamsFault.TheVariants as Faults
+use Rattle.job.specs.declared.fault.Fault.{Fault}
+use Rattle.job.specs.declared.fault.Fault.TheVariants as Faults
+use Rattle.traffic.specs.declared.faults.StreamsInput.{StreamsInput}
+use Rattle.traffic.specs.declared.faults.StreamsInput.TheVariants as Inputs
 use Rattle.traffic.specs.declared.table.Stream.{Stream}
 use Rattle.traffic.specs.declared.turn.Coming.{Coming}
 use Rattle.traffic.specs.declared.turn.Turn.{Turn}
@@ -75,43 +77,43 @@ module _ (number : ℕ) (line : List ℕ) where
       subst P (sym left) (g.0 ∙ ap (λ x. now ++ frames_in x) same ∙ sym (append_assoc now (frames_of stream) (frames_in (table_of rest))), g.1 ∙ ap (λ x. x.fault) same)
 
   -- a line with a fault
-  pub goes_wrong : {T : Type 0} {f : Result T StreamsFault} (all : Option Script) (before now : List Coming) (s t : Option Script) (fault : ScriptFault) (old new : List Turn)
-      → Goes all before now s → Advances s (Ok true) number line t → line_said (words_of line) ≡ Err fault → f ≡ Err (Faults.Table number fault)
+  pub goes_wrong : {T : Type 0} {f : Result T (Fault StreamsInput)} (all : Option Script) (before now : List Coming) (s t : Option Script) (fault : ScriptFault) (old new : List Turn)
+      → Goes all before now s → Advances s (Ok true) number line t → line_said (words_of line) ≡ Err fault → f ≡ Err (Faults.Input (Inputs.Table number fault))
       → IfSome all (λ script. ReadsTable f (table_of script) old new)
   goes_wrong None before now s t fault old new g a e h = tt
   goes_wrong (Some all) before now None t fault old new g a e h = absurd g
   goes_wrong {T} {f} (Some all) before now (Some script) t fault old new g (rest, left, is) e h =
       let same = table_is script rest (Err fault) is e in
-      let P : Result T StreamsFault → Type 0 = λ x. ReadsTable x (table_of all) old new in
+      let P : Result T (Fault StreamsInput) → Type 0 = λ x. ReadsTable x (table_of all) old new in
       subst P (sym h) (g.1 ∙ ap (λ x. x.fault) same)
 
   -- the lines end
-  pub ends : {T : Type 0} {f : Result T StreamsFault} (x : T) (all : Option Script) (s t : Option Script) (old new : List Turn)
+  pub ends : {T : Type 0} {f : Result T (Fault StreamsInput)} (x : T) (all : Option Script) (s t : Option Script) (old new : List Turn)
       → Goes all (flat_map left_of old) (flat_map left_of new) s → Advances s (Ok false) number line t → f ≡ Ok x → IfSome all (λ script. ReadsTable f (table_of script) old new)
   ends x None s t old new g a h = tt
   ends x (Some all) None t old new g a h = absurd g
   ends {T} {f} x (Some all) (Some script) t old new g a h =
       let same = ap table_of a ∙ of_end in
-      let P : Result T StreamsFault → Type 0 = λ y. ReadsTable y (table_of all) old new in
+      let P : Result T (Fault StreamsInput) → Type 0 = λ y. ReadsTable y (table_of all) old new in
       subst P (sym h) (g.1 ∙ ap (λ y. y.fault) same, sym (g.0 ∙ ap (λ y. flat_map left_of new ++ frames_in y) same ∙ append-nil (flat_map left_of new)))
 
   -- the lines stop
-  pub stops : {T : Type 0} {f : Result T StreamsFault} (fault : LineFault) (all : Option Script) (before now : List Coming) (s t : Option Script) (old new : List Turn)
+  pub stops : {T : Type 0} {f : Result T (Fault StreamsInput)} (fault : LineFault) (all : Option Script) (before now : List Coming) (s t : Option Script) (old new : List Turn)
       → Goes all before now s → Advances s (Err fault) number line t → f ≡ Err (table_fault fault) → IfSome all (λ script. ReadsTable f (table_of script) old new)
   stops fault None before now s t old new g a h = tt
   stops fault (Some all) before now None t old new g a h = absurd g
   stops {T} {f} (LineFaults.Limit n limit) (Some all) before now (Some script) t old new g a h =
-      let P : Result T StreamsFault → Type 0 = λ x. ReadsTable x (table_of all) old new in
+      let P : Result T (Fault StreamsInput) → Type 0 = λ x. ReadsTable x (table_of all) old new in
       subst P (sym h) (g.1 ∙ ap (λ x. (table_of x).fault) a ∙ of_limit n limit)
   stops {T} {f} LineFaults.Read (Some all) before now (Some script) t old new g a h =
-      let P : Result T StreamsFault → Type 0 = λ x. ReadsTable x (table_of all) old new in
+      let P : Result T (Fault StreamsInput) → Type 0 = λ x. ReadsTable x (table_of all) old new in
       subst P (sym h) tt
 
 -- memory is wanting
-pub memory : {T : Type 0} {f : Result T StreamsFault} (all : Option Script) (old new : List Turn) → f ≡ Err Faults.Memory → IfSome all (λ script. ReadsTable f (table_of script) old new)
+pub memory : {T : Type 0} {f : Result T (Fault StreamsInput)} (all : Option Script) (old new : List Turn) → f ≡ Err Faults.Memory → IfSome all (λ script. ReadsTable f (table_of script) old new)
 memory None old new e = tt
 memory {T} {f} (Some all) old new e =
-    let P : Result T StreamsFault → Type 0 = λ x. ReadsTable x (table_of all) old new in
+    let P : Result T (Fault StreamsInput) → Type 0 = λ x. ReadsTable x (table_of all) old new in
     subst P (sym e) tt
 
 -- what is to come, one stream more

@@ -1,16 +1,27 @@
--- Faults of a run on a table and a script, from those of their lines.
+-- Faults of a run on a table and a script, from those of their lines, and what is told of them.
+use Rattle.std.specs.Prelude.{List, ℕ, codes}
 use Rattle.line_reader.specs.declared.lines.LineFault.{LineFault}
-use Rattle.line_reader.specs.declared.lines.LineFault.TheVariants as LineFaults
+use Rattle.job.specs.Lines.{fault_of_line}
+use Rattle.job.specs.Telling.{Telling}
+use Rattle.job.specs.declared.fault.Fault.{Fault}
 use Rattle.script.specs.Outcome.{limit_fault}
-use Rattle.traffic.specs.declared.faults.StreamsFault.{StreamsFault}
-use Rattle.traffic.specs.declared.faults.StreamsFault.TheVariants as Faults
+use Rattle.script.specs.Texts.{line_text}
+use Rattle.traffic.specs.declared.faults.StreamsInput.{StreamsInput}
+use Rattle.traffic.specs.declared.faults.StreamsInput.TheVariants as Inputs
 
 -- the fault of a table whose line can not be read
-abbrev pub table_fault : LineFault → StreamsFault
-table_fault (LineFaults.Limit number limit) = Faults.Table number (limit_fault limit)
-table_fault LineFaults.Read = Faults.Read
+abbrev pub table_fault : LineFault → Fault StreamsInput
+table_fault fault = fault_of_line (λ number limit. Inputs.Table number (limit_fault limit)) fault
 
 -- the same of a script
-abbrev pub script_fault : LineFault → StreamsFault
-script_fault (LineFaults.Limit number limit) = Faults.Script number (limit_fault limit)
-script_fault LineFaults.Read = Faults.Read
+abbrev pub script_fault : LineFault → Fault StreamsInput
+script_fault fault = fault_of_line (λ number limit. Inputs.Script number (limit_fault limit)) fault
+
+-- the text of a fault
+abbrev pub streams_text : StreamsInput → List ℕ
+streams_text (Inputs.Table line fault) = line_text (codes "taprio_port: table line ") line fault
+streams_text (Inputs.Script line fault) = line_text (codes "taprio_port: script line ") line fault
+
+-- what is told of a fault; 3: an input is refused
+abbrev pub streams_telling : Telling StreamsInput
+streams_telling = record { text = streams_text; status = λ fault. 3 }

@@ -10,6 +10,6 @@ mod turn;
 mod turns;
 mod writing;
 
-pub use faults::{StreamsFault, say_streams_fault};
+pub use faults::{StreamsFault, StreamsInput};
 pub use program::answer_streams;
 pub use streaming::write_streams;

@@ -4,7 +4,8 @@ ghost use Rattle.std.specs.Prelude.{◌≡◌, ◌++◌, IfSome, OnOk, None};
 ghost use Rattle.octet_writer.specs.Writes.{Writes};
 ghost use Rattle.line_reader.specs.LineReader.{script_left};
 ghost use Rattle.traffic.specs.Merge.{clock_after, clock_in, clock_said, frames_before, frames_from, latest, line_end, line_text, moment_of};
-ghost use Rattle.traffic.specs.Outcome.{Runs, merging};
+ghost use Rattle.job.specs.Outcome.{Runs};
+ghost use Rattle.traffic.specs.Outcome.{merging};
 ghost use Rattle.traffic.specs.Turns.{left_of_all};
 ghost use Rattle.traffic.specs.Written.{lines_of};
 

@@ -3,13 +3,15 @@
 ghost use Rattle.std.specs.Prelude.{◌≡◌, ◌++◌, IfErr, IfSome, OnOk};
 ghost use Rattle.std.specs.List.{flat_map};
 ghost use Rattle.line_reader.specs.LineReader.{script_left};
-ghost use Rattle.traffic.specs.Outcome.{Runs, outcome_in, outcome_of};
+ghost use Rattle.job.specs.Outcome.{Runs};
+ghost use Rattle.job.specs.declared.fault.Fault.TheVariants as Faults;
+ghost use Rattle.traffic.specs.Outcome.{outcome_in, outcome_of};
 ghost use Rattle.traffic.specs.Reading.{ReadsTable};
 ghost use Rattle.traffic.specs.Table.{IsStream, table_of};
 ghost use Rattle.traffic.specs.Frames.{frames_of};
 ghost use Rattle.traffic.specs.Turns.{left_of};
 
-use crate::faults::{StreamsFault, table_fault};
+use crate::faults::{StreamsFault, StreamsInput, table_fault};
 use crate::merging::write_merged;
 use crate::table::{Stream, read_line};
 use crate::turn::Turn;
@@ -22,7 +24,7 @@ use std::io::{Read, Write};
 fn keep<A: Allocator>(turns: &mut Vec<Turn, A>, stream: Stream) -> Result<(), StreamsFault>
     requires { IsStream stream }
     ensures kept { OnOk result (flat_map left_of turns.new.items ≡ flat_map left_of turns.old.items ++ frames_of stream) }
-    ensures memory { IfErr result (λ fault. fault ≡ StreamsFault.Memory) }
+    ensures memory { IfErr result (λ fault. fault ≡ Faults.Memory) }
 {
     match turns.push(Turn::first(stream)) {
         Ok(()) => Ok(()),
@@ -48,7 +50,10 @@ fn read_streams<A: Allocator, B: Allocator, R: Read + Drop>(
         match read_line(lines.line()) {
             Ok(None) => {}
             Ok(Some(stream)) => keep(turns, stream)?,
-            Err(fault) => return Err(StreamsFault::Table(lines.line_number(), fault)),
+            Err(fault) => return Err(StreamsFault::Input(StreamsInput::Table(
+                lines.line_number(),
+                fault,
+            ))),
         }
     }
     Ok(())

@@ -4,7 +4,7 @@ use refusing_heap::RefusingHeap;
 use script::{ScriptFault, Settings, run_script};
 use std::test::Fail;
 use test_streams::{Narrow, Pieces};
-use traffic::{StreamsFault, answer_streams, write_streams};
+use traffic::{StreamsFault, StreamsInput, answer_streams, write_streams};
 use wire_time::Rate;
 
 /// Two streams that meet at each second period of the first, a stream of no frames, and lines that are skipped.
@@ -128,7 +128,10 @@ fn tells_the_fault_of_a_line(rt: HostRuntime) -> Result<(), Fail> {
         table.extend_from_slice(line)?;
         let mut got = Vec::new(rt.alloc());
         let run = write_streams(rt.alloc(), table.as_slice(), NONE, &mut got);
-        assert_eq!(rt; run, Err(StreamsFault::Table(3, fault)));
+        assert_eq!(rt;
+            run,
+            Err(StreamsFault::Input(StreamsInput::Table(3, fault)))
+        );
         assert!(rt; got.is_empty());
     }
     Ok(())
@@ -325,12 +328,18 @@ fn tells_whose_line_is_too_long(rt: HostRuntime) -> Result<(), Fail> {
     let table = b"stream 1 5 60 6ps 0s 3\n".as_slice();
     let mut got = Vec::new(rt.alloc());
     let run = write_streams(rt.alloc(), table, script.as_slice(), &mut got);
-    assert_eq!(rt; run, Err(StreamsFault::Script(4, ScriptFault::LongLine)));
+    assert_eq!(rt;
+        run,
+        Err(StreamsFault::Input(StreamsInput::Script(4, ScriptFault::LongLine)))
+    );
     let before = b"clock 0\nframe 1 5 60\nclock 5\n\nclock 6\nframe 2 5 60\nclock 7\n".as_slice();
     assert_eq!(rt; got.as_slice(), before);
     let mut got = Vec::new(rt.alloc());
     let run = write_streams(rt.alloc(), long.as_slice(), WITH, &mut got);
-    assert_eq!(rt; run, Err(StreamsFault::Table(1, ScriptFault::LongLine)));
+    assert_eq!(rt;
+        run,
+        Err(StreamsFault::Input(StreamsInput::Table(1, ScriptFault::LongLine)))
+    );
     assert!(rt; got.is_empty());
     Ok(())
 }

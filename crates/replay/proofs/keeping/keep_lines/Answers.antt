@@ -3,7 +3,9 @@ use Rattle.std.proofs.lemmas.Result.{err_from_is_err_and}
 use Rattle.words.specs.Words.{words_of}
 use Rattle.replay.specs.Lines.{line_in, line_request, request_if, request_in}
 use Rattle.replay.specs.KeptScript.{kept_requests}
-use Rattle.replay.specs.declared.faults.ReplayFault.TheVariants as Faults
+use Rattle.job.specs.declared.fault.Fault.TheVariants as Faults
+use Rattle.script.specs.Outcome.{bad_line}
+use Rattle.replay.specs.declared.faults.ReplayInput.TheVariants as Inputs
 use Rattle.replay.proofs.KeepLaws.{begins, ends, goes_on, goes_wrong, stops}
 use Rattle.replay.proofs.keeping.keep_lines.Goals as goal
 
@@ -30,7 +32,7 @@ returns-in-Err g c = λ read is.
     let said : line_in octets ≡ Err c.in-Err.fault = cc in
     let e : request_in read octets ≡ Err c.in-Err.fault = ap (request_if (read (words_of octets))) said in
     let a = rw c.if-branch.true at c.in_ok-advance.ensures.line in
-    goes_wrong read {T = Unit {0}} (Err (Faults.Script c.line_number.result c.in-Err.fault)) _ _ _ (kept_requests read c.lines.script.octets.items c.lines.script.lines.items) _ _ _ _ c.in-Err.fault (c.lines.invariant read is) a e (ap (λ n. Err (Faults.Script n c.in-Err.fault)) c.line_number.ensures)
+    goes_wrong read {T = Unit {0}} (Err (Faults.Input (Inputs.Script c.new.result))) _ _ _ (kept_requests read c.lines.script.octets.items c.lines.script.lines.items) _ _ _ _ c.in-Err.fault (c.lines.invariant read is) a e (ap (λ b. Err (Faults.Input (Inputs.Script b))) c.new.ensures ∙ ap (λ n. Err (Faults.Input (Inputs.Script (bad_line n c.in-Err.fault)))) c.line_number.ensures)
 
 pub returns : goal.returns
 returns g c = λ read is.

@@ -12,7 +12,7 @@ returns g c =
     let report = c.let_out-run.new.report in
     let departures = c.let_out-run.new.departures in
     let unwritten : Output = record { report = writer_buffer report; capture = writer_buffer departures } in
-    replay_ending c.args.settings c.say_replay-ended.result
+    replay_ending c.args.settings c.say_run-ended.result
     (got (writer_contents w c.args.outputs.report) (writer_contents v c.args.outputs.departures))
     (got (writer_contents w c.replay-run.new.out_report) (writer_contents v c.replay-run.new.out_capture))
     (got (writer_contents w report) (writer_contents v departures))
@@ -23,4 +23,4 @@ returns g c =
     (c.let_out-run.ensures.report, c.let_out-run.ensures.departures)
     (both_same _ _ _ _ (ap (λ x. append_known (w x) (writer_buffer report)) (sym c.into_parts-report.ensures.inner))
     (ap (λ x. append_known (v x) (writer_buffer departures)) (sym c.into_parts-departures.ensures.inner)))
-    c.say_replay-ended.ensures.status c.say_replay-ended.ensures.told
+    c.say_run-ended.ensures.status c.say_run-ended.ensures.told

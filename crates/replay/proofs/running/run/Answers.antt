@@ -10,7 +10,8 @@ use Rattle.replay.specs.Outcome.{Outcome, end_fault, told_to_end}
 use Rattle.replay.specs.Outputs.{PutsBoth, got}
 use Rattle.replay.specs.RecordsLeft.{EndsSo}
 use Rattle.replay.specs.Running.{state}
-use Rattle.replay.specs.declared.faults.ReplayFault.TheVariants as Faults
+use Rattle.job.specs.declared.fault.Fault.TheVariants as Faults
+use Rattle.replay.specs.declared.faults.ReplayInput.TheVariants as Inputs
 use Rattle.replay.proofs.EndLaws.{asked_split, ends_capture, ends_ok, ends_stop, no_fault, some_fault, told_exit, told_then}
 use Rattle.replay.proofs.RunLaws.{answers_exit}
 use Rattle.replay.proofs.running.run.Goals as goal
@@ -79,5 +80,5 @@ returns-in-Some g c = λ read is es last comes k.
     let ys = requests_of ls ++ clock_after c.args.until in
     let P : List Request → Type 0 = λ rs. PutsBoth {T = Unit {0}} (Ok tt) s.got v (told_to_end es rs s.port s.seen) in
     let Q : Option (ℕ × CapFault) → Type 0 = λ b. EndsSo es last b in
-    ends_capture {T = Unit {0}} {U = Unit {0}} (Err (Faults.Capture c.in-Some.number c.in-Some.fault)) c.in-Some.number c.in-Some.fault s.got v o (subst P (asked_split script es c.args.until ls left) (told_then {T = Unit {0}} (Ok tt) es xs ys s t v c.requires.together.sound a (c.in_ok-finish.ensures read is es a.keeps)))
+    ends_capture {T = Unit {0}} {U = Unit {0}} (Err (Faults.Input (Inputs.Capture c.in-Some.number c.in-Some.fault))) c.in-Some.number c.in-Some.fault s.got v o (subst P (asked_split script es c.args.until ls left) (told_then {T = Unit {0}} (Ok tt) es xs ys s t v c.requires.together.sound a (c.in_ok-finish.ensures read is es a.keeps)))
     (some_fault es last c.in-Some.number c.in-Some.fault (subst Q c.in-Some.is (c.in_ok-broken.ensures.ending read is es last comes))) refl

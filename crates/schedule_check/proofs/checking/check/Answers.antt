@@ -1,13 +1,16 @@
 use Rattle.std.proofs.Common.{Err, ap, ◌∙◌}
 use Rattle.std.proofs.lemmas.Result.{err_from_is_err_and}
-use Rattle.schedule_check.proofs.LineLaws.{memory_exit, of_input}
+use Rattle.job.proofs.LineLaws.{memory_exit, of_input}
+use Rattle.script.specs.Outcome.{long_line}
 use Rattle.schedule_check.specs.Apart.{verdict_lines}
+use Rattle.schedule_check.specs.Checked.{checked_of}
+use Rattle.schedule_check.proofs.LineLaws.{checked}
 use Rattle.schedule_check.proofs.checking.check.Goals as goal
 
 pub returns-in_err-lines : goal.returns-in_err-lines
 returns-in_err-lines g c = λ tell tells read is.
     let p = err_from_is_err_and c.from_residual.result c.from_residual.ensures.1 in
-    memory_exit read (verdict_lines tell c.args.settings) {T = Unit {0}} _ _ (p.1 ∙ ap Err p.2)
+    memory_exit {T = Unit {0}} (checked_of read (verdict_lines tell c.args.settings)) _ _ (p.1 ∙ ap Err p.2)
 
 pub returns : goal.returns
-returns g c = λ tell tells read is. of_input read (verdict_lines tell c.args.settings) _ _ _ (g.R.Read.remaining c.args.reader) _ c.in_ok-lines.ensures.left (c.check_lines.ensures tell tells read is)
+returns g c = λ tell tells read is. of_input long_line (checked read (verdict_lines tell c.args.settings)) _ tt _ _ (g.R.Read.remaining c.args.reader) _ c.in_ok-lines.ensures.left (c.check_lines.ensures tell tells read is)

@@ -6,7 +6,8 @@ use Rattle.std.proofs.lemmas.Result.{err_from_is_err_and}
 use Rattle.words.specs.Words.{words_of}
 use Rattle.script.specs.Requests.{Asks, request_of, request_said, said_in, tc_request}
 use Rattle.script.specs.declared.reading.Said.TheVariants as Says
-use Rattle.script.specs.declared.faults.RunFault.TheVariants as Faults
+use Rattle.job.specs.declared.fault.Fault.TheVariants as Faults
+use Rattle.script.specs.Outcome.{bad_line}
 use Rattle.script.proofs.Going.{is_begun, goes_on, goes_past, goes_no_further, goes_wrong, ends_early, ends_well, stops}
 use Rattle.script.proofs.running.run_lines.Goals as goal
 
@@ -98,7 +99,7 @@ returns-in-Err g c = λ read is.
     let e : request_of read c.advance.new.self.line.items ≡ Err c.in-Err.fault = ap (request_said (read (words_of c.advance.new.self.line.items))) said in
     let same : c.pass_plain.new.lines ≡ c.lines.lines = c.in_default.ensures.event in
     let a = advanced g.R.Read.remaining _ _ _ same c.if-not-branch.false c.in_ok-advance.ensures.line in
-    goes_wrong read {T = Unit {0}} _ _ _ _ _ _ _ _ _ _ _ _ c.in-Err.fault (c.lines.invariant read is) a e (ap (λ n. Err (Faults.Script n c.in-Err.fault)) c.line_number.ensures)
+    goes_wrong read {T = Unit {0}} _ _ _ _ _ _ _ _ _ _ _ _ c.in-Err.fault (c.lines.invariant read is) a e (ap (λ b. Err (Faults.Input b)) c.new.ensures ∙ ap (λ n. Err (Faults.Input (bad_line n c.in-Err.fault))) c.line_number.ensures)
 
 pub returns-in_err-end : goal.returns-in_err-end
 returns-in_err-end g c = λ read is.

@@ -4,7 +4,8 @@ use Rattle.std.proofs.lemmas.Result.{err_from_is_err_and}
 use Rattle.abstract_port.specs.AbstractPort.{AbstractPort, PortState, new_port}
 use Rattle.line_reader.specs.LineReader.{script_left}
 use Rattle.script.specs.Setup.{Setup}
-use Rattle.script.specs.Outcome.{Runs, outcome_from, outcome_of}
+use Rattle.job.specs.Outcome.{Runs}
+use Rattle.script.specs.Outcome.{outcome_from, outcome_of}
 use Rattle.script.proofs.Going.{memory_exit}
 use Rattle.script.proofs.ReaderLaws.{of_input}
 use Rattle.summary.specs.Observed.{Observed}

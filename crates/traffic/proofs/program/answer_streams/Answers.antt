@@ -1,14 +1,12 @@
-use Rattle.std.proofs.Common.{sym, ap}
-use Rattle.std.specs.Io.Buffered.{writer_buffer}
-use Rattle.std.specs.Io.KnownBytes.{append_known}
-use Rattle.traffic.proofs.EndingLaws.{streams_ending}
+use Rattle.std.specs.Io.Buffered.{writer_contents}
+use Rattle.job.proofs.EndingLaws.{ended, out_of_inputs}
+use Rattle.traffic.specs.Faults.{streams_telling}
+use Rattle.traffic.specs.Outcome.{outcome_of}
 use Rattle.traffic.proofs.program.answer_streams.Goals as goal
 
 pub returns : goal.returns
 returns g c =
-    let unwritten = writer_buffer c.let_out-run.new.answers in
-    streams_ending c.say_run-ended.result _ _ _ _ _ _ unwritten c.write_streams-run.result c.let_out-run.result
-    (g.R.Read.remaining c.args.reader.now) (g.S.Read.remaining c.args.script)
-    c.write_streams-run.ensures c.let_out-run.ensures.kept c.let_out-run.ensures.out c.let_out-run.ensures.bytes
-    (ap (λ w. append_known (g.W.Write.contents w) unwritten) (sym c.into_parts-writer.ensures.inner))
-    c.say_run-ended.ensures.status c.say_run-ended.ensures.told
+    let table = g.R.Read.remaining c.args.reader.now in
+    let script = g.S.Read.remaining c.args.script in
+    ended streams_telling _ _ _ _ _ _ _ c.end_run.ensures
+    (λ run out same keeps. out_of_inputs table script outcome_of _ _ out _ run keeps same c.write_streams-run.ensures)

@@ -3,7 +3,8 @@ use Rattle.std.specs.List.{flat_map}
 use Rattle.words.specs.Words.{words_of}
 use Rattle.line_reader.specs.LineReader.{script_left}
 use Rattle.traffic.specs.Table.{line_said}
-use Rattle.traffic.specs.declared.faults.StreamsFault.TheVariants as Faults
+use Rattle.job.specs.declared.fault.Fault.TheVariants as Faults
+use Rattle.traffic.specs.declared.faults.StreamsInput.TheVariants as Inputs
 use Rattle.traffic.specs.Turns.{left_of}
 use Rattle.traffic.proofs.TableLaws.{Goes, ends, goes_on, goes_past, goes_wrong, stops}
 use Rattle.traffic.proofs.streaming.read_streams.Goals as goal
@@ -30,7 +31,7 @@ pub returns-in-Err-read_line : goal.returns-in-Err-read_line
 returns-in-Err-read_line g c =
     let a = rw c.if-not-more.false at c.in-Ok.ensures.line in
     let e : line_said (words_of c.advance.new.self.line.items) ≡ Err c.in-Err-read_line.fault = cc in
-    goes_wrong _ _ {T = Unit {0}} _ _ _ _ _ c.in-Err-read_line.fault c.args.turns.now.items c.lines.turns.items c.lines.invariant a e (ap (λ n. Err (Faults.Table n c.in-Err-read_line.fault)) c.line_number.ensures)
+    goes_wrong _ _ {T = Unit {0}} _ _ _ _ _ c.in-Err-read_line.fault c.args.turns.now.items c.lines.turns.items c.lines.invariant a e (ap (λ n. Err (Faults.Input (Inputs.Table n c.in-Err-read_line.fault))) c.line_number.ensures)
 
 pub returns : goal.returns
 returns g c =

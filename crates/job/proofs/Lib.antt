@@ -1,0 +1,2 @@
+pub mod EndingLaws
+pub mod LineLaws

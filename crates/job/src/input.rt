@@ -1,0 +1,34 @@
+//! What is told of the fault of an input.
+
+ghost use Rattle.std.specs.Prelude.{◌≡◌, ℕ};
+ghost use Rattle.line_reader.specs.declared.lines.Limit.{Limit};
+ghost use Rattle.octet_writer.specs.Writes.{Writes};
+ghost use Rattle.job.specs.Telling.{Telling};
+
+use line_reader::Limit;
+use octet_writer::WriteFault;
+use std::io::Write;
+
+/// A fault of an input of a job.
+pub trait InputFault: Copy {
+    /// Its text, and the exit status that goes with it.
+    ghost telling: { Telling Self };
+
+    /// The exit status that goes with it.
+    fn status(&self) -> u8
+        ensures { result ≡ telling.status self.now };
+
+    /// Writes its text.
+    fn put<W: Write>(&self, writer: &mut W) -> Result<(), WriteFault>
+        ensures { Writes result (W.contents writer.old) (W.contents writer.new) (telling.text self.now) };
+}
+
+/// A fault of an input that is read line by line, and whose lines may pass a limit.
+pub trait LineInput: InputFault {
+    /// The fault where the line of a number passes a limit.
+    ghost limited: { ℕ → Limit → Self };
+
+    /// The fault where the line of this number passes a limit.
+    fn of_limit(line: u32, limit: Limit) -> Self
+        ensures { result ≡ limited line limit };
+}

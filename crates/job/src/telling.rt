@@ -1,0 +1,65 @@
+//! What is told of a run.
+
+ghost use Rattle.std.specs.Prelude.{◌≡◌};
+ghost use Rattle.octet_writer.specs.Writes.{Writes};
+ghost use Rattle.job.specs.Texts.{IsTold, fault_status, fault_text, run_status, run_text};
+
+use crate::fault::Fault;
+use crate::input::InputFault;
+use octet_writer::{WriteFault, put};
+use std::io::Write;
+
+fn put_fault<I: InputFault, W: Write>(fault: &Fault<I>, writer: &mut W) -> Result<(), WriteFault>
+    ensures { Writes result (W.contents writer.old) (W.contents writer.new) (fault_text I.telling fault.now) }
+{
+    match fault {
+        Fault::Input(fault) => fault.put(writer),
+        Fault::Read => put(writer, b"taprio_port: read failed\n"),
+        Fault::Write => put(writer, b"taprio_port: write failed\n"),
+        Fault::Memory => put(writer, b"taprio_port: out of memory\n"),
+    }
+}
+
+fn status_of<I: InputFault>(fault: &Fault<I>) -> u8
+    ensures { result ≡ fault_status I.telling fault.now }
+{
+    match fault {
+        Fault::Input(fault) => fault.status(),
+        Fault::Read | Fault::Write | Fault::Memory => 4,
+    }
+}
+
+/// How a run of the program ends: its exit status, and whether the text that goes with it was written whole.
+#[derive(Clone, Copy, Debug, PartialEq, Eq)]
+pub struct Ended {
+    /// 0 done, 2 a value is refused, 3 the input is, 4 a read, a write or memory failed.
+    pub status: u8,
+    /// Whether all of the text was written; else a front of it was.
+    pub told: bool,
+}
+
+/// Writes the text of a fault. The exit status that goes with it, also where that write fails.
+pub fn say_fault<I: InputFault, W: Write>(fault: &Fault<I>, writer: &mut W) -> Ended
+    ensures status { result.status ≡ fault_status I.telling fault.now }
+    ensures told { IsTold result.told (W.contents writer.old) (W.contents writer.new) (fault_text I.telling fault.now) }
+{
+    let told = put_fault(fault, writer).is_ok();
+    Ended {
+        status: status_of(fault),
+        told,
+    }
+}
+
+/// Tells how a run ended: a fault's text, where there is one, and the status.
+pub fn say_run<I: InputFault, E: Write>(run: Result<(), Fault<I>>, errors: &mut E) -> Ended
+    ensures status { result.status ≡ run_status I.telling run }
+    ensures told { IsTold result.told (E.contents errors.old) (E.contents errors.new) (run_text I.telling run) }
+{
+    match run {
+        Ok(()) => Ended {
+            status: 0,
+            told: true,
+        },
+        Err(fault) => say_fault(&fault, errors),
+    }
+}
