@@ -54,7 +54,7 @@ written {T} {S} {f} t z reading (Some script) p q x y old new e taken =
     let P : Result T (Fault BadLine) → Type 0 = λ r. IsDrawn r old new (reading script).fault in
     subst P (sym e) taken.0
 
--- where memory is wanting nothing is written
+-- when out of memory nothing is written
 pub without_memory : {T S : Type 0} {f : Result T (Fault BadLine)} (o : Option S) (first : S → Option BadLine) (old : Option (List ℕ)) → f ≡ Err Faults.Memory
     → IfSome o (λ s. IsDrawn f old old (first s))
 without_memory None first old e = tt

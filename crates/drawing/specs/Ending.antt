@@ -23,7 +23,7 @@ abbrev pub fault_in : (List (List ℕ) → Result Command TcFault) → List ℕ 
 fault_in read input = (reading_of read (script_of input)).fault
 
 -- A script with this fault, or with none, was drawn: at Ok, and where a write failed, it has no fault; at a script's fault that is the first of
--- the script; and at a script's fault, at a failed read, and where memory is wanting, nothing was written.
+-- the script; and at a script's fault, at a failed read, and when out of memory, nothing was written.
 abbrev pub IsDrawn : {T : Type 0} → Result T (Fault BadLine) → Option (List ℕ) → Option (List ℕ) → Option BadLine → Type 0
 IsDrawn (Ok x) old new first = first ≡ None
 IsDrawn (Err (Faults.Input bad)) old new first = (first ≡ Some bad) × Keeps old new
@@ -44,7 +44,7 @@ abbrev pub IsPictureEnding : Option (List ℕ) → Ended → (old got errors_old
 IsPictureEnding input ended old got errors_old errors_new =
     IsRunEnding script_telling (λ run. IsLetOut run got (λ out. (read : List (List ℕ) → Result Command TcFault) → IsReader read → IfSome input (λ octets. IsDrawnOut run old out (fault_in read octets)))) ended errors_old errors_new
 
--- By the settings and the options: a bad value is told, and nothing is drawn; else the run of the input ends.
+-- By the settings and the options: a bad value is reported, and nothing is drawn; else the run of the input ends.
 abbrev pub IsDrawEnding : Result Setup BadValue → Result DrawOptions BadValue → Option (List ℕ) → Ended → (old got errors_old errors_new : Option (List ℕ)) → Type 0
 IsDrawEnding (Err value) options input ended old got errors_old errors_new = IsRefusal value ended old got errors_old errors_new
 IsDrawEnding (Ok setup) (Err value) input ended old got errors_old errors_new = IsRefusal value ended old got errors_old errors_new

@@ -75,7 +75,7 @@ fn one_octet_over_and_over(rt: HostRuntime) {
     }
 }
 
-/// Whether this is said of an input as the script of a replay; nothing is told, and an output capture is begun where there is no fault.
+/// Whether this is said of an input as the script of a replay; nothing is reported, and an output capture is begun where there is no fault.
 fn is_script_of_replay(alloc: Global, settings: Settings, input: Repeated, text: &[u8]) -> bool {
     let mut report = Vec::new(alloc);
     let mut departures = Vec::new(alloc);
@@ -279,7 +279,7 @@ fn is_record(
     got.result == outcome && got.capture.len() >= 24
 }
 
-/// Whether this is told of a capture.
+/// Whether this is reported of a capture.
 fn is_reported(alloc: Global, settings: Settings, octets: &[u8], report: &[u8]) -> bool {
     replay_in_memory(alloc, octets, settings).report.as_slice() == report
 }
@@ -300,7 +300,7 @@ fn records(rt: HostRuntime) {
     assert!(rt; is_reported(rt.alloc(), settings, &octets, report));
 }
 
-/// What a replay of a capture without end answers, and how many octets it tells and writes.
+/// What a replay of a capture without end answers, and how many octets it says and writes.
 fn replay_without_end(alloc: Global, settings: Settings) -> (Result<(), ReplayFault>, u64, u64) {
     let header = one_record(0, 0, 0);
     let mut endless = Pieces::new(&header[..24], usize::MAX);
@@ -319,7 +319,7 @@ fn replay_without_end(alloc: Global, settings: Settings) -> (Result<(), ReplayFa
     (result, report.octets, written.octets)
 }
 
-/// A capture without end: 4,000,000 records of no octets are told, and then the fault.
+/// A capture without end: 4,000,000 records of no octets are reported, and then the fault.
 #[test]
 fn a_capture_without_end(rt: HostRuntime) {
     let fault = ReplayFault::Input(ReplayInput::Capture(4_000_000, CapFault::TooManyRecords));

@@ -59,7 +59,7 @@ module _ {I S : Type 0} (limited : ℕ → Limit → I) (outcome : S → Script 
         let P : Option Script → Type 0 = λ u. Goes first (Some all) old new next u in
         subst P (sym left) (sent_more new text _ g.0 (ap (λ x. x.text) same) w, g.1 ∙ ap (λ x. x.fault) same)
 
-    -- a front of it is written
+    -- a prefix of it is written
     pub goes_no_further : {T : Type 0} {f : Result T (Fault I)} (next : S) (new : Option (List ℕ)) (text : List ℕ) (all s t : Option Script) → Goes first all old now state s → Advances s (Ok true) number line t
         → ((rest : Script) → outcome state (Line number line rest) ≡ behind text (outcome next rest)) → FallsShort now new text → f ≡ Err Faults.Write → IfSome all (λ script. Runs f old new (outcome first script))
     goes_no_further next new text None s t g a e w h = tt
@@ -89,7 +89,7 @@ module _ {I S : Type 0} (limited : ℕ → Limit → I) (outcome : S → Script 
         let P : Result T (Fault I) → Type 0 = λ y. Runs y old new (outcome first all) in
         subst P (sym h) (g.1 ∙ ap (λ x. x.fault) same, sent_all (sent_more new text [] g.0 (ap (λ x. x.text) same ∙ sym (append-nil text)) w) refl)
 
-    -- or a front of it is
+    -- or a prefix of it is
     pub ends_short : {T : Type 0} {f : Result T (Fault I)} (new : Option (List ℕ)) (text : List ℕ) (all s t : Option Script) → Goes first all old now state s → Advances s (Ok false) number line t
         → outcome state End ≡ done text → FallsShort now new text → f ≡ Err Faults.Write → IfSome all (λ script. Runs f old new (outcome first script))
     ends_short new text None s t g a e w h = tt
@@ -120,7 +120,7 @@ module _ {I S : Type 0} (limited : ℕ → Limit → I) (outcome : S → Script 
       let Q : Option Script → Type 0 = λ o. IfSome o (λ script. Runs f old new (outcome first script)) in
       subst Q e h
 
--- nothing is written where memory is wanting before anything is read
+-- nothing is written where out of memory before anything is read
 pub memory_exit : {I T X : Type 0} {f : Result T (Fault I)} (whole : X → Outcome I) (input : Option X) (old : Option (List ℕ)) → f ≡ Err Faults.Memory → IfSome input (λ octets. Runs f old old (whole octets))
 memory_exit whole None old e = tt
 memory_exit {I} {T} {X} {f} whole (Some octets) old e =

@@ -13,7 +13,7 @@ pub record IsLetOut {I : Type 0} (run : Result (Unit {0}) (Fault I)) (got : Opti
   pub let_out : (unwritten ≡ []) ⊎ (run ≡ Err Faults.Write)
   pub wrote : Wrote (append_known got unwritten)
 
--- The end of a run: the status and the told text are those of a result of the run, and with that result it left what this says.
+-- The end of a run: the status and the reported text are those of a result of the run, and with that result it left what this says.
 pub record IsRunEnding {I : Type 0} (telling : Telling I) (Left : Result (Unit {0}) (Fault I) → Type 0) (ended : Ended) (errors_old errors_new : Option (List ℕ)) : Type 0 where
   pub run : Result (Unit {0}) (Fault I)
   pub status : ended.status ≡ run_status telling run
@@ -30,7 +30,7 @@ abbrev pub IsEndOf : {I : Type 0} → Telling I → Result (Unit {0}) (Fault I) 
 IsEndOf telling before mid ended got errors_old errors_new =
     IsRunEnding telling (λ run. IsOrFails run before × IsLetOut run got (Keeps mid)) ended errors_old errors_new
 
--- An end before anything is written: the status of this number, this text is told, and the writer has got what it had, with what no write let out.
+-- An end before anything is written: the status of this number, this text is reported, and the writer has got what it had, with what no write let out.
 pub record IsUnanswered (number : ℕ) (text : List ℕ) (ended : Ended) (old got : Option (List ℕ)) (errors_old errors_new : Option (List ℕ)) : Type 0 where
   pub status : ended.status ≡ number
   pub told : IsTold ended.told errors_old errors_new text

@@ -10,7 +10,7 @@ pub record Outcome (I : Type 0) : Type 0 where
   pub text : List ℕ
   pub fault : Option I
 
--- At Ok and at the fault of an input the whole output is written, and the fault is that one; at the other faults a front of the output, and
+-- At Ok and at the fault of an input the whole output is written, and the fault is that one; at the other faults a prefix of the output, and
 -- after a failed write not all of it.
 abbrev pub Runs : {I T : Type 0} → Result T (Fault I) → Option (List ℕ) → Option (List ℕ) → Outcome I → Type 0
 Runs (Ok x) old new whole = (whole.fault ≡ None) × Appends old new whole.text
@@ -19,7 +19,7 @@ Runs (Err Faults.Read) old new whole = AppendsFront old new whole.text
 Runs (Err Faults.Write) old new whole = FallsShort old new whole.text
 Runs (Err Faults.Memory) old new whole = AppendsFront old new whole.text
 
--- the same where the output goes through a buffer: after a failed write a front, which the buffer's octets end
+-- the same where the output goes through a buffer: after a failed write a prefix, which the buffer's octets end
 abbrev pub RunsOut : {I T : Type 0} → Result T (Fault I) → Option (List ℕ) → Option (List ℕ) → Outcome I → Type 0
 RunsOut (Ok x) old new whole = (whole.fault ≡ None) × Appends old new whole.text
 RunsOut (Err (Faults.Input fault)) old new whole = (whole.fault ≡ Some fault) × Appends old new whole.text

@@ -1,4 +1,4 @@
--- What is told of the faults of an input.
+-- What is reported of the faults of an input.
 use Rattle.std.specs.Prelude.{List, ℕ}
 
 -- to each fault its text, and the exit status that goes with it

@@ -25,12 +25,12 @@ abbrev pub run_status : {I T : Type 0} → Telling I → Result T (Fault I) → 
 run_status telling (Ok x) = 0
 run_status telling (Err fault) = fault_status telling fault
 
--- what is told of a run: nothing where there is no fault
+-- what is reported of a run: nothing where there is no fault
 abbrev pub run_text : {I T : Type 0} → Telling I → Result T (Fault I) → List ℕ
 run_text telling (Ok x) = []
 run_text telling (Err fault) = fault_text telling fault
 
--- whether a text was told: all of it was written; or not all of it, but a front
+-- whether a text was reported: all of it was written; or not all of it, but a prefix
 abbrev pub IsTold : Bool → Option (List ℕ) → Option (List ℕ) → List ℕ → Type 0
 IsTold true old new text = Appends old new text
 IsTold false old new text = FallsShort old new text

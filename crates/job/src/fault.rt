@@ -11,7 +11,7 @@ use std::alloc::AllocError;
 use std::error::Error;
 use std::fmt::{self, Debug, Display};
 
-/// Why a run of a job ended early: the fault of an input, which is the job's own; or a call failed. What was written is then a front of the right
+/// Why a run of a job ended early: the fault of an input, which is the job's own; or a call failed. What was written is then a prefix of the right
 /// output, and all of it at the fault of an input.
 #[derive(Clone, Copy, Debug, PartialEq, Eq)]
 pub enum Fault<I> {
@@ -21,7 +21,7 @@ pub enum Fault<I> {
     Read,
     /// A write failed, or took nothing.
     Write,
-    /// Memory was wanting.
+    /// Out of memory.
     Memory,
 }
 

@@ -1,4 +1,4 @@
-//! What is told of the fault of an input.
+//! What is reported of the fault of an input.
 
 ghost use Rattle.std.specs.Prelude.{◌≡◌, ℕ};
 ghost use Rattle.line_reader.specs.declared.lines.Limit.{Limit};

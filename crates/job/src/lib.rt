@@ -1,4 +1,4 @@
-//! What the jobs of the program have in common: why a run ends early, what is told of that, and how a run ends whose output goes through
+//! What the jobs of the program have in common: why a run ends early, what is reported of that, and how a run ends whose output goes through
 //! a buffer.
 #![tactic(auto)]
 

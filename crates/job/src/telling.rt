@@ -1,4 +1,4 @@
-//! What is told of a run.
+//! What is reported of a run.
 
 ghost use Rattle.std.specs.Prelude.{◌≡◌};
 ghost use Rattle.octet_writer.specs.Writes.{Writes};
@@ -34,7 +34,7 @@ fn status_of<I: InputFault>(fault: &Fault<I>) -> u8
 pub struct Ended {
     /// 0 done, 2 a value is refused, 3 the input is, 4 a read, a write or memory failed.
     pub status: u8,
-    /// Whether all of the text was written; else a front of it was.
+    /// Whether all of the text was written; else a prefix of it was.
     pub told: bool,
 }
 
@@ -50,7 +50,7 @@ pub fn say_fault<I: InputFault, W: Write>(fault: &Fault<I>, writer: &mut W) -> E
     }
 }
 
-/// Tells how a run ended: a fault's text, where there is one, and the status.
+/// Says how a run ended: a fault's text, where there is one, and the status.
 pub fn say_run<I: InputFault, E: Write>(run: Result<(), Fault<I>>, errors: &mut E) -> Ended
     ensures status { result.status ≡ run_status I.telling run }
     ensures told { IsTold result.told (E.contents errors.old) (E.contents errors.new) (run_text I.telling run) }

@@ -31,7 +31,7 @@ fn two_classes<A: Allocator + Clone>(
     Ok((first, second))
 }
 
-/// Eight classes without bands: two by two, so that few are given back where memory is wanting.
+/// Eight classes without bands: two by two, so that few are given back when out of memory.
 fn no_classes<A: Allocator + Clone>(alloc: &A) -> Result<[ClassBands<A>; 8], AllocError>
     ensures { IfOk result (λ classes. classes ≡ no_classes) }
 {

@@ -21,7 +21,7 @@ use Rattle.replay.specs.declared.faults.ReplayInput.{ReplayInput}
 abbrev pub with_unwritten : Got → Output → Got
 with_unwritten got unwritten = record { report = append_known got.report unwritten.report; capture = append_known got.capture unwritten.capture }
 
--- what is written where both outputs go through buffers: after a failed write a front of each, which the buffers' octets end
+-- what is written where both outputs go through buffers: after a failed write a prefix of each, which the buffers' octets end
 abbrev pub EndsOut : {T : Type 0} → Result T (Fault ReplayInput) → Got → Got → Outcome → Type 0
 EndsOut (Err Faults.Write) old new whole = (left : Output) × SentBoth old new whole.output left
 EndsOut (Ok x) old new whole = Ends (Ok x) old new whole
@@ -36,7 +36,7 @@ pub record AreLetOut (run : Result (Unit {0}) (Fault ReplayInput)) (got : Got) (
   pub wrote : Wrote (with_unwritten got unwritten)
 
 -- The end of a replay: what the writers got, with what no write let out, is what definitions over the octets of both inputs say, or after a fault of a
--- call's a front of each.
+-- call's a prefix of each.
 abbrev pub IsReplayEnding : (s : Setup) (script capture : Option (List ℕ)) → Ended → (old got : Got) (errors_old errors_new : Option (List ℕ)) → Type 0
 IsReplayEnding s script capture ended old got errors_old errors_new =
     IsRunEnding replay_telling (λ run. AreLetOut run got (λ out. (read : List (List ℕ) → Result Command TcFault) → IsReader read → IfSome script (λ lines. IfSome capture (λ octets.

@@ -75,6 +75,6 @@ replay_status Inputs.Until = 2
 replay_status (Inputs.Script bad) = 3
 replay_status (Inputs.Capture number fault) = capture_status fault
 
--- what is told of a fault
+-- what is reported of a fault
 abbrev pub replay_telling : Telling ReplayInput
 replay_telling = record { text = replay_text; status = replay_status }

@@ -45,7 +45,7 @@ pub enum Stop {
     Read,
     /// A write failed, or took nothing.
     Write,
-    /// Memory was wanting.
+    /// Out of memory.
     Memory,
 }
 

@@ -58,7 +58,7 @@ pub struct Outputs<W: Write + Drop, V: Write + Drop, A: Allocator, B: Allocator>
 }
 
 /// Runs a script and a capture with settings, the text of a fault on `errors`; and gives the writers of the report and of the
-/// output capture back. What was written is let out before a fault is told, the report first; after a failed write no other is tried.
+/// output capture back. What was written is let out before a fault is reported, the report first; after a failed write no other is tried.
 pub fn answer_replay<
     A: Allocator,
     B: Allocator,

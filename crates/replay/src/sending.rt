@@ -40,7 +40,7 @@ pub struct Sending<A: Allocator = Global> {
     pub writer: CaptureWriter,
 }
 
-// Writes an answer to an event that is taken at this moment, noted where a summary is wanted. At a fault a front of it is written.
+// Writes an answer to an event that is taken at this moment, noted where a summary is wanted. At a fault a prefix of it is written.
 // Apart, since an answer is large, and those to most events are written without one.
 #[inline(never)]
 fn put_noted<A: Allocator, V: Write>(
@@ -112,7 +112,7 @@ fn put_record<A: Allocator, W: Write>(
     }
 }
 
-// Tells a start, as an answer to an event that is taken at this moment, writes the first record that is kept of its class, and gives it up.
+// Says a start, as an answer to an event that is taken at this moment, writes the first record that is kept of its class, and gives it up.
 #[inline(always)]
 fn put_start<A: Allocator, W: Write, V: Write>(
     sending: &mut Sending<A>,
@@ -159,7 +159,7 @@ fn put_starts<A: Allocator, W: Write, V: Write>(
     }
 }
 
-/// Takes a clock event, and writes what is told of it.
+/// Takes a clock event, and writes what is reported of it.
 pub fn put_clock<A: Allocator, W: Write, V: Write>(
     sending: &mut Sending<A>,
     moment: u128,

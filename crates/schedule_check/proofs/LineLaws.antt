@@ -12,7 +12,7 @@ use Rattle.script.specs.declared.faults.ScriptFault.{ScriptFault}
 use Rattle.schedule_check.specs.Checked.{checked_in, is_command, with_verdict}
 
 module _ (read : List (List ℕ) → Result Command TcFault) (told : Result Command TcFault → List ℕ) where
-  -- what is told of lines; nothing is kept from one to the next
+  -- what is reported of lines; nothing is kept from one to the next
   abbrev pub checked : Unit {0} → Script → Outcome BadLine
   checked state script = checked_in read told script
 

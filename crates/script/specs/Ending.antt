@@ -37,12 +37,12 @@ abbrev pub Whole : Type 0
 Whole = (List (List ℕ) → Result Command TcFault) → List ℕ → Outcome BadLine
 
 -- The end of a run on good settings: what the writer got, with what no write let out, is what is to be written for the octets, or after a fault of the
--- call's a front of it.
+-- call's a prefix of it.
 abbrev pub IsWholeEnding : Whole → Option (List ℕ) → Ended → (old got errors_old errors_new : Option (List ℕ)) → Type 0
 IsWholeEnding whole input ended old got errors_old errors_new =
     IsRunEnding script_telling (λ run. IsLetOut run got (λ out. (read : List (List ℕ) → Result Command TcFault) → IsReader read → IfSome input (λ octets. RunsOut run old out (whole read octets)))) ended errors_old errors_new
 
--- the end where a value is bad: status 2, and its text is told
+-- the end where a value is bad: status 2, and its text is reported
 abbrev pub IsRefusal : BadValue → Ended → (old got errors_old errors_new : Option (List ℕ)) → Type 0
 IsRefusal value ended old got errors_old errors_new = IsUnanswered 2 (value_text value) ended old got errors_old errors_new
 

@@ -95,7 +95,7 @@ outcome_of read s input = outcome_from read s.until (script_of input) (new_port 
 
 -- 3. What holds of every output
 
--- The answers among what is told are those of the abstract port to the events of the script, and such a run keeps what every
+-- The answers among what is reported are those of the abstract port to the events of the script, and such a run keeps what every
 -- run of a new port keeps: each start by an open gate, one frame on the wire at a time, counters that are the counts.
 pub record IsFaithful (requests : List Request) (p : AbstractPort) : Type 0 where
   pub answers : answers_in (responses_of requests p) ≡ answers_of (events_of requests) p

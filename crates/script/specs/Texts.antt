@@ -36,6 +36,6 @@ value_text value = concat (codes "taprio_port: bad value of " ∷ option_name va
 abbrev pub line_text : List ℕ → ℕ → ScriptFault → List ℕ
 line_text begin line fault = concat (begin ∷ decimal line ∷ codes ": " ∷ script_fault_name fault ∷ codes "\n" ∷ [])
 
--- what is told of a line of a script; 3: the input is refused
+-- what is reported of a line of a script; 3: the input is refused
 abbrev pub script_telling : Telling BadLine
 script_telling = record { text = λ bad. line_text (codes "taprio_port: script line ") bad.line bad.fault; status = λ bad. 3 }

@@ -73,7 +73,7 @@ pub fn settings_given(values: Values<'_>, greatest: u128) -> Result<Settings, Ba
     }
 }
 
-/// Tells a bad value on `errors`, and gives the writer of the answers back. Nothing is answered.
+/// Says a bad value on `errors`, and gives the writer of the answers back. Nothing is answered.
 pub fn end_with_value<B: Allocator, W: Write + Drop, E: Write>(
     value: BadValue,
     answers: BufWriter<W, B>,
@@ -85,7 +85,7 @@ pub fn end_with_value<B: Allocator, W: Write + Drop, E: Write>(
 }
 
 /// Answers the script that `reader` gives, by these values, through `answers`, with the text of a fault on `errors`; and gives
-/// the writer of the answers back. What was answered is let out before a fault is told; after a failed write no other is tried.
+/// the writer of the answers back. What was answered is let out before a fault is reported; after a failed write no other is tried.
 pub fn answer_script<A: Allocator, B: Allocator, R: Read, W: Write + Drop, E: Write>(
     alloc: A,
     values: Values<'_>,

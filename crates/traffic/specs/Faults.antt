@@ -1,4 +1,4 @@
--- Faults of a run on a table and a script, from those of their lines, and what is told of them.
+-- Faults of a run on a table and a script, from those of their lines, and what is reported of them.
 use Rattle.std.specs.Prelude.{List, ℕ, codes}
 use Rattle.line_reader.specs.declared.lines.LineFault.{LineFault}
 use Rattle.job.specs.Lines.{fault_of_line}
@@ -22,6 +22,6 @@ abbrev pub streams_text : StreamsInput → List ℕ
 streams_text (Inputs.Table line fault) = line_text (codes "taprio_port: table line ") line fault
 streams_text (Inputs.Script line fault) = line_text (codes "taprio_port: script line ") line fault
 
--- what is told of a fault; 3: an input is refused
+-- what is reported of a fault; 3: an input is refused
 abbrev pub streams_telling : Telling StreamsInput
 streams_telling = record { text = streams_text; status = λ fault. 3 }

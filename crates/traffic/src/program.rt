@@ -9,7 +9,7 @@ use std::alloc::Allocator;
 use std::io::{BufWriter, Read, Write};
 
 /// Writes the script of the table of streams that `reader` gives through `answers`, with the lines of `script` among the frames, and with the
-/// text of a fault on `errors`; and gives the writer of the answers back. What was written is let out before a fault is told; after a failed
+/// text of a fault on `errors`; and gives the writer of the answers back. What was written is let out before a fault is reported; after a failed
 /// write no other is tried.
 pub fn answer_streams<
     A: Allocator,

@@ -24,7 +24,7 @@ const SHORT_DIGITS: usize = 19;
 // How many decimal digits surely make a number of 128 bits.
 const LONG_DIGITS: usize = 38;
 
-// The decimal digit that an octet is. In a word of the machine, where it is counted, one comparison tells.
+// The decimal digit that an octet is. In a word of the machine, where it is counted, one comparison says.
 #[inline(always)]
 fn decimal_digit(octet: u8) -> Option<u64>
     ensures digit { result ≡ digit_in 10 octet }

@@ -43,7 +43,7 @@ fn is_ordinary_at(octets: &[u8], place: usize) -> bool
     place < octets.len() && is_ordinary(octets[place])
 }
 
-// Goes on in a word from an octet that is no blank, and past all that can be told to be none by themselves.
+// Goes on in a word from an octet that is no blank, and past all that are known to be none by themselves.
 fn word_on(octets: &[u8], place: usize) -> usize
     requires { starts_blank (drop place octets.now) ≡ false }
     ensures onward { place < result }
@@ -329,7 +329,7 @@ impl<'a> Words<'a> {
         Some(number(word, most))
     }
 
-    /// The number that the next word is, where it can be told at once: it has decimal digits alone, at most 19 of them, and no blanks
+    /// The number that the next word is, where it can be read at once: it has decimal digits alone, at most 19 of them, and no blanks
     /// about it but spaces. Else None, and nothing changes.
     #[inline]
     pub fn next_short(&mut self) -> Option<u64>
