@@ -37,7 +37,7 @@ abbrev pub IsNewReader : {R : Type 0} → (R → Option (List ℕ)) → Option (
 IsNewReader remaining known l = (l.number ≡ 0) × (l.ended ≡ None) × (l.in_hand ≡ [])
     × IfSome known (λ octets. (format_of octets ≡ Ok l.format) × (remaining l.source ≡ Some (drop 24 octets)))
 
--- the octets in hand end before the next record does, so that they don't say the next answer
+-- the octets in hand end before the next record does, so they don't decide the next answer
 abbrev pub IsWanting : {R : Type 0} → Left R → Type 0
 IsWanting l = fault_at l.format l.number l.in_hand ≡ Some ShortRecord
 

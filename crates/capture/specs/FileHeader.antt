@@ -33,7 +33,7 @@ format_with octets (Some format) =
     else if not (u32_at format.endian (drop 20 octets) == 1) then Err BadLink
     else Ok format
 
--- the format that the 24 octets say, or what is wrong with them
+-- the format that the 24 octets have, or what is wrong with them
 abbrev pub header_format : List ℕ → Result Format CapFault
 header_format octets = format_with octets (format_by_magic octets)
 

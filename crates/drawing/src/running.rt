@@ -201,7 +201,7 @@ fn draw_lines<A: Allocator, B: Allocator, R: Read + Drop, W: Write>(
     Ok(())
 }
 
-// The same, with nothing drawn yet.
+// Runs the input and writes its picture, with nothing drawn yet.
 fn draw_course<B: Allocator, R: Read + Drop, W: Write>(
     alloc: &Global,
     port: &mut RunningPort<Global>,
@@ -218,7 +218,7 @@ fn draw_course<B: Allocator, R: Read + Drop, W: Write>(
     draw_lines(port, bands, &mut course, lines, writer, settings, options)
 }
 
-// The same, with no bands yet.
+// Runs the input and writes its picture, with no bands yet.
 fn draw_bands<B: Allocator, R: Read + Drop, W: Write>(
     alloc: &Global,
     port: &mut RunningPort<Global>,
@@ -234,7 +234,7 @@ fn draw_bands<B: Allocator, R: Read + Drop, W: Write>(
     draw_course(alloc, port, &mut bands, lines, writer, settings, options)
 }
 
-// The same, on a new port.
+// Runs the input and writes its picture, on a new port.
 fn draw_port<B: Allocator, R: Read + Drop, W: Write>(
     alloc: &Global,
     lines: &mut LineReader<R, B>,

@@ -43,7 +43,7 @@ fn is_told(ended: Ended, errors: &[u8], answers: &[u8]) -> bool {
     ended == OUT_OF_MEMORY && errors == TEXT && answers.is_empty()
 }
 
-/// Whether a script says it.
+/// Whether a script reports it.
 fn script_tells(alloc: Global) -> io::Result<bool> {
     let answers = BufWriter::new(alloc, Vec::new(alloc))?;
     let heap = no_heap(alloc);
@@ -59,7 +59,7 @@ fn of_a_script(rt: HostRuntime) -> Result<(), Fail> {
     Ok(())
 }
 
-/// Whether a check says it.
+/// Whether a check reports it.
 fn check_tells(alloc: Global) -> io::Result<bool> {
     let answers = BufWriter::new(alloc, Vec::new(alloc))?;
     let heap = no_heap(alloc);
@@ -75,7 +75,7 @@ fn of_a_check(rt: HostRuntime) -> Result<(), Fail> {
     Ok(())
 }
 
-/// Whether a table of streams says it.
+/// Whether a table of streams reports it.
 fn table_tells(alloc: Global) -> io::Result<bool> {
     let answers = BufWriter::new(alloc, Vec::new(alloc))?;
     let heap = no_heap(alloc);
@@ -91,7 +91,7 @@ fn of_a_table_of_streams(rt: HostRuntime) -> Result<(), Fail> {
     Ok(())
 }
 
-/// Whether a replay says it.
+/// Whether a replay reports it.
 fn replay_tells(alloc: Global, settings: Settings) -> io::Result<bool> {
     let inputs = Inputs {
         script: b"".as_slice(),

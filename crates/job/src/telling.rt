@@ -50,7 +50,7 @@ pub fn say_fault<I: InputFault, W: Write>(fault: &Fault<I>, writer: &mut W) -> E
     }
 }
 
-/// Says how a run ended: a fault's text, where there is one, and the status.
+/// Reports how a run ended: a fault's text, where there is one, and the status.
 pub fn say_run<I: InputFault, E: Write>(run: Result<(), Fault<I>>, errors: &mut E) -> Ended
     ensures status { result.status ≡ run_status I.telling run }
     ensures told { IsTold result.told (E.contents errors.old) (E.contents errors.new) (run_text I.telling run) }

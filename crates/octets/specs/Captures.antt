@@ -1,4 +1,4 @@
--- What a replay over memory says, and what it leaves in the three slices that it is lent.
+-- What a replay over memory reports, and what it leaves in the three slices that it is lent.
 use Rattle.std.specs.Prelude.{◌≡◌, ◌<◌, ◌⊎◌, List, ℕ, [], length, Result, Ok, Err}
 use Rattle.replay.specs.Outcome.{Outcome}
 use Rattle.replay.specs.Texts.{replay_telling}

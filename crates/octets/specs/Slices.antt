@@ -1,4 +1,4 @@
--- What a call over memory says, and what it leaves in the two slices that it is lent.
+-- What a call over memory reports, and what it leaves in the two slices that it is lent.
 use Rattle.std.specs.Prelude.{◌≡◌, ◌<◌, ◌⊎◌, List, ℕ, [], ◌++◌, drop, length, Option, Some, None, Result, Ok, Err}
 use Rattle.job.specs.Outcome.{Outcome}
 use Rattle.job.specs.Telling.{Telling}

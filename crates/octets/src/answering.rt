@@ -8,13 +8,13 @@ use job::{Fault, InputFault, say_fault};
 use script::{BadValue, say_value};
 use std::alloc::Allocator;
 
-/// How a call ended, and how many octets there are of what it says. C sees it as it stands.
+/// How a call ended, and how many octets there are of what it reports. C sees it as it stands.
 #[repr(C)]
 #[derive(Clone, Copy, Debug, PartialEq, Eq)]
 pub struct Ran {
     /// How many octets the output has: those that are written, and at status 5 those that want room.
     pub output: usize,
-    /// The same of the text of the fault.
+    /// How many octets the text of the fault has, or wants.
     pub fault: usize,
     /// 0 done, 2 a value is refused, 3 the input is, 4 out of memory, 5 a slice has too little room.
     pub status: u8,
@@ -77,7 +77,7 @@ pub fn end_in_memory<A: Allocator, I: InputFault>(
     put_told(ended.status, written, said.as_slice(), output, fault)
 }
 
-/// Says a bad value: its text comes into the slice of faults, and no output is written.
+/// Reports a bad value: its text comes into the slice of faults, and no output is written.
 pub fn refuse_value<A: Allocator>(
     alloc: &A,
     value: BadValue,

@@ -19,15 +19,15 @@ use replay::{ReplayFault, Unwatched, replay};
 use script::{BadValue, Settings, say_value};
 use std::alloc::Allocator;
 
-/// How a replay ended, and how many octets there are of what it says. C sees it as it stands.
+/// How a replay ended, and how many octets there are of what it reports. C sees it as it stands.
 #[repr(C)]
 #[derive(Clone, Copy, Debug, PartialEq, Eq)]
 pub struct ReplayRan {
     /// How many octets the report has: those that are written, and at status 5 those that want room.
     pub report: usize,
-    /// The same of the capture of the frames that leave.
+    /// How many octets the capture of the frames that leave has, or wants.
     pub departures: usize,
-    /// The same of the text of the fault.
+    /// How many octets the text of the fault has, or wants.
     pub fault: usize,
     /// 0 done, 2 a value is refused, 3 an input is, 4 out of memory, 5 a slice has too little room.
     pub status: u8,
@@ -103,7 +103,7 @@ fn end_replay<A: Allocator>(
     )
 }
 
-// Says a bad value.
+// Reports a bad value.
 fn refuse_replay<A: Allocator>(
     alloc: &A,
     value: BadValue,

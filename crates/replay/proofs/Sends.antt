@@ -74,7 +74,7 @@ both_exit {T} {T'} {f} {g} {whole} {left} {y} r h x rest is s e p = record {
       omega (arith, some, length-append p.left.report rest.report, length-append p.left.capture rest.capture);
 }
 
--- the exit of a call that wrote nothing, and doesn't say of a failed write
+-- the exit of a call that wrote nothing, and reports no failed write
 pub both_stop : {T : Type 0} {f g : Got} {whole left : Output} {y : Stop} (r : Result T Stop) → r ≡ Err y → (y ≡ Stops.Write → ⊥) → SentBoth f g whole left → PutsBoth r f g whole
 both_stop {T} {f} {g} {whole} {left} {y} r is other s = record { left = left; sent = s; all = never _ is; short = λ w. absurd (other (let both : Err y ≡ r = sym is in cc)) }
 

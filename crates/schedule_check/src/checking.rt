@@ -49,7 +49,7 @@ fn fault_here<A: Allocator, R: Read + Drop>(
     RunFault::Input(BadLine::new(lines.line_number(), fault))
 }
 
-// Says of the lines that are to come.
+// Reports on the lines that are to come.
 fn check_lines<A: Allocator, R: Read + Drop, W: Write>(
     lines: &mut LineReader<R, A>,
     writer: &mut W,
@@ -70,7 +70,7 @@ fn check_lines<A: Allocator, R: Read + Drop, W: Write>(
     Ok(())
 }
 
-/// Reads schedule commands to the end of the input, and says of each at the line rate: its fault where it is no command; the
+/// Reads schedule commands to the end of the input, and reports on each at the line rate: its fault where it is no command; the
 /// refusal of its schedule; or `apart` with the classes that the schedule keeps apart, in rising order, of those that the
 /// command's map has, or of all eight where it gives no map; a deletion keeps none apart. Where windows are asked for, a line
 /// follows for each of these classes that the schedule ever opens, of what it gives the class.

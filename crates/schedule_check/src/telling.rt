@@ -97,7 +97,7 @@ fn put_apart<W: Write>(writer: &mut W, classes: &[u8]) -> Result<(), WriteFault>
     }
 }
 
-// Says of an accepted schedule: the classes that it keeps apart and, where windows are asked for, what it gives each class.
+// Reports on an accepted schedule: the classes that it keeps apart and, where windows are asked for, what it gives each class.
 fn put_schedule<W: Write>(
     writer: &mut W,
     settings: CheckSettings,
@@ -114,7 +114,7 @@ fn put_schedule<W: Write>(
     put_asked(writer, settings, change, count)
 }
 
-// Says of a change: the refusal of its schedule, or what the schedule promises.
+// Reports on a change: the refusal of its schedule, or what the schedule promises.
 fn put_change<W: Write>(
     writer: &mut W,
     settings: CheckSettings,

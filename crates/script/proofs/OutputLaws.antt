@@ -1,4 +1,4 @@
--- What is written for a script, request by request, and the answers that it says.
+-- What is written for a script, request by request, and the answers that it reports.
 use Rattle.std.proofs.Common.{◌≡◌, ◌≤◌, ℕ, List, [], ◌∷◌, ◌++◌, map, Option, Some, None, Result, refl, sym, ap, ◌∙◌, append_assoc}
 use Rattle.abstract_port.specs.AbstractPort.{AbstractPort}
 use Rattle.abstract_port.specs.Answers.{answers_to, answers_of, port_after}

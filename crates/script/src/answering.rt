@@ -72,7 +72,7 @@ fn put_each_start<A: Allocator, W: Write>(
     Ok(())
 }
 
-// The same where it may be known that there are none.
+// Runs to a moment and writes the starts before it, where it may be known that there are none.
 #[inline(always)]
 fn put_starts<A: Allocator, W: Write>(
     port: &mut RunningPort<A>,

@@ -73,7 +73,7 @@ pub fn settings_given(values: Values<'_>, greatest: u128) -> Result<Settings, Ba
     }
 }
 
-/// Says a bad value on `errors`, and gives the writer of the answers back. Nothing is answered.
+/// Reports a bad value on `errors`, and gives the writer of the answers back. Nothing is answered.
 pub fn end_with_value<B: Allocator, W: Write + Drop, E: Write>(
     value: BadValue,
     answers: BufWriter<W, B>,
