@@ -1,7 +1,7 @@
 #!/usr/bin/env python3
 """Runs each row and each case of this folder on a built program: tests/run.py PROGRAM [WORD]. With WORD only those whose name has it.
 
-A row is of a TOML file, or of a list or generator `rows()` of a Python file; a case is a function `case_..(program)` of a Python file, which
+A row is of a TOML file, or of a generator `all_rows()` of a Python file; a case is a function `case_..(program)` of a Python file, which
 raises AssertionError. Its last line is `N passed, M failed`."""
 import concurrent.futures
 import importlib.util
@@ -50,7 +50,7 @@ def all_of_it(program):
         if path.name in OWN:
             continue
         cases = module(path)
-        for row in cases.rows() if hasattr(cases, "rows") else []:
+        for row in cases.all_rows() if hasattr(cases, "all_rows") else []:
             add(f"{path.stem}: {row.name}", lambda row=row: of_row(program, row))
         for name, case in vars(cases).items():
             if name.startswith("case_"):
