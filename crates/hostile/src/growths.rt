@@ -155,7 +155,7 @@ fn run_of_forty(
     Some((refused, taken, stopped && goes_on))
 }
 
-/// Forty frames through a port. Where memory is wanting, the events that are left go on as if nothing had happened, also where it is
+/// Forty frames through a port. When out of memory, the events that are left go on as if nothing had happened, also where it is
 /// wanting between two starts of one clock event. A body that always says that it took no event fails, since the last runs want none.
 pub fn run_of_events(given: &Given, alloc: Global) -> Runs {
     let Ok(events) = forty_frames(alloc) else {

@@ -105,7 +105,7 @@ fn reads_and_writes(
     ]
 }
 
-/// What is printed: the growths of each call, its reads and writes, the reads of a header, and the calls that tell that they are out of memory.
+/// What is printed: the growths of each call, its reads and writes, the reads of a header, and the calls that say that they are out of memory.
 #[derive(Clone, Copy)]
 struct Counts {
     growths: [(&'static str, Runs); 10],

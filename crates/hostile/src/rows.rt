@@ -33,7 +33,7 @@ queues 1@0 1@1 2@2 base-time 1528743495910289987 sched-entry S 01 300000 sched-e
 clockid CLOCK_TAI\n\
 tc qdisc replace dev eth0 root taprio num_tc 8 map 0 1 2 3 4 5 6 7 sched-entry S 01 300000 sched-entry S 03 300000\n";
 
-/// What is told of them at 1 Gb/s.
+/// What is reported of them at 1 Gb/s.
 const TOLD: &[u8] = b"apart 0 1 2\napart 2 3 4 5 6 7\n";
 
 /// The moment that replays are run to, in picoseconds.
@@ -211,7 +211,7 @@ impl Replaying {
         )
     }
 
-    /// Whether what was written is a front of what is to be written, and all of it where the replay met no fault.
+    /// Whether what was written is a prefix of what is to be written, and all of it where the replay met no fault.
     pub fn is_front(&self, departures: &[u8], report: &[u8], whole: bool) -> bool {
         self.departures.as_slice().starts_with(departures)
             && self.report.as_slice().starts_with(report)

@@ -166,7 +166,7 @@ pub fn reads_of_capture(
 /// octet.
 pub const PIECES_OF_TWO_FRAMES: [(usize, u32); 2] = [(WHOLE, 3), (1, 93)];
 
-/// The same of a hundred frames: the header, what is behind it, and the end; and the header and then record by record.
+/// Pieces in which the capture of a hundred frames is read, and how many reads those are: the header, what is behind it, and the end; and the header and then record by record.
 pub const PIECES_OF_A_HUNDRED_FRAMES: [(usize, u32); 2] = [(WHOLE, 3), (76, 102)];
 
 /// A run of a replay one of whose writers does something else at one call: whether it came to that call, and came out as it should.
@@ -223,7 +223,7 @@ pub fn writes_of_replay(
 /// How many writes the report of two frames takes, and how many the output capture.
 pub const WRITES_OF_TWO_FRAMES: [(bool, u32); 2] = [(true, 4), (false, 5)];
 
-/// The same of a hundred frames.
+/// How many writes the report of a hundred frames takes, and how many the output capture.
 pub const WRITES_OF_A_HUNDRED_FRAMES: [(bool, u32); 2] = [(true, 200), (false, 201)];
 
 /// All runs of a new reader of a capture that gets an octet at a time, of which one read fails: each of the first 24, once and for ever.

@@ -1,4 +1,4 @@
-//! Where memory is wanting, each of the calls that the program makes ends with status 4 and its text, and nothing is answered.
+//! When out of memory, each of the calls that the program makes ends with status 4 and its text, and nothing is answered.
 
 use super::rows::{Given, Job, Runs};
 use refusing_heap::RefusingHeap;
@@ -16,7 +16,7 @@ const OUT_OF_MEMORY: Ended = Ended {
     told: true,
 };
 
-/// What is told.
+/// What is reported.
 const TEXT: &[u8] = b"taprio_port: out of memory\n";
 
 /// No option is given.
@@ -36,12 +36,12 @@ fn no_heap(alloc: Global) -> RefusingHeap<Global> {
     RefusingHeap::new(alloc, 0, false)
 }
 
-/// Whether a call ended so, told it, and answered nothing.
+/// Whether a call ended so, reported it, and answered nothing.
 fn is_told(ended: Ended, errors: &[u8], answers: &[u8]) -> bool {
     ended == OUT_OF_MEMORY && errors == TEXT && answers.is_empty()
 }
 
-/// Whether a script tells it.
+/// Whether a script reports it.
 fn script_tells(alloc: Global) -> io::Result<bool> {
     let answers = BufWriter::new(alloc, Vec::new(alloc))?;
     let heap = no_heap(alloc);
@@ -51,7 +51,7 @@ fn script_tells(alloc: Global) -> io::Result<bool> {
     Ok(is_told(ended, &errors, &written))
 }
 
-/// Whether a check tells it.
+/// Whether a check reports it.
 fn check_tells(alloc: Global) -> io::Result<bool> {
     let answers = BufWriter::new(alloc, Vec::new(alloc))?;
     let heap = no_heap(alloc);
@@ -61,7 +61,7 @@ fn check_tells(alloc: Global) -> io::Result<bool> {
     Ok(is_told(ended, &errors, &written))
 }
 
-/// Whether a table of streams tells it.
+/// Whether a table of streams reports it.
 fn table_tells(alloc: Global) -> io::Result<bool> {
     let answers = BufWriter::new(alloc, Vec::new(alloc))?;
     let heap = no_heap(alloc);
@@ -71,7 +71,7 @@ fn table_tells(alloc: Global) -> io::Result<bool> {
     Ok(is_told(ended, &errors, &written))
 }
 
-/// Whether a replay tells it.
+/// Whether a replay reports it.
 fn replay_tells(alloc: Global, settings: Settings) -> io::Result<bool> {
     let inputs = Inputs {
         script: b"".as_slice(),

@@ -85,7 +85,7 @@ struct Word {
     help: &'static str,
 }
 
-/// A job of the program, with the words that it understands, in the order in which its help tells of them.
+/// A job of the program, with the words that it understands, in the order in which its help lists them.
 #[derive(Clone, Copy)]
 struct Job {
     name: &'static str,
