@@ -1,6 +1,6 @@
 //! When out of memory, each of the calls that the program makes ends with status 4 and its text, and nothing is answered.
 
-use super::rows::{Job, to_the_end};
+use super::rows::{Given, Job, Runs};
 use job::Ended;
 use refusing_heap::RefusingHeap;
 use replay::{Inputs, Outputs, Unwatched, answer_replay};
@@ -8,7 +8,6 @@ use schedule_check::answer_check;
 use script::{Settings, Values, answer_script};
 use std::alloc::Global;
 use std::io::{self, BufWriter};
-use std::test::Fail;
 use test_streams::TWO_RECORDS;
 use traffic::answer_streams;
 
@@ -53,12 +52,6 @@ fn script_tells(alloc: Global) -> io::Result<bool> {
     Ok(is_told(ended, &errors, &written))
 }
 
-#[test]
-fn of_a_script(rt: HostRuntime) -> Result<(), Fail> {
-    assert!(rt; script_tells(rt.alloc())?);
-    Ok(())
-}
-
 /// Whether a check reports it.
 fn check_tells(alloc: Global) -> io::Result<bool> {
     let answers = BufWriter::new(alloc, Vec::new(alloc))?;
@@ -69,12 +62,6 @@ fn check_tells(alloc: Global) -> io::Result<bool> {
     Ok(is_told(ended, &errors, &written))
 }
 
-#[test]
-fn of_a_check(rt: HostRuntime) -> Result<(), Fail> {
-    assert!(rt; check_tells(rt.alloc())?);
-    Ok(())
-}
-
 /// Whether a table of streams reports it.
 fn table_tells(alloc: Global) -> io::Result<bool> {
     let answers = BufWriter::new(alloc, Vec::new(alloc))?;
@@ -83,12 +70,6 @@ fn table_tells(alloc: Global) -> io::Result<bool> {
     let mut reader = b"stream 1 5 60 250us 0ns 2\n".as_slice();
     let (ended, written) = answer_streams(&heap, &mut reader, NO_SCRIPT, answers, &mut errors);
     Ok(is_told(ended, &errors, &written))
-}
-
-#[test]
-fn of_a_table_of_streams(rt: HostRuntime) -> Result<(), Fail> {
-    assert!(rt; table_tells(rt.alloc())?);
-    Ok(())
 }
 
 /// Whether a replay reports it.
@@ -114,8 +95,12 @@ fn replay_tells(alloc: Global, settings: Settings) -> io::Result<bool> {
     Ok(is_told(ended, &errors, &report) && departures.is_empty())
 }
 
-#[test]
-fn of_a_replay(rt: HostRuntime) -> Result<(), Fail> {
-    assert!(rt; replay_tells(rt.alloc(), to_the_end(&rt))?);
-    Ok(())
+/// All four calls.
+pub fn of_each_call(given: &Given, alloc: Global) -> io::Result<Runs> {
+    let mut runs = Runs::none();
+    runs.count(true, script_tells(alloc)?);
+    runs.count(true, check_tells(alloc)?);
+    runs.count(true, table_tells(alloc)?);
+    runs.count(true, replay_tells(alloc, given.to_the_end)?);
+    Ok(runs)
 }

@@ -14,7 +14,7 @@ loop-class-preserved g c =
     record { value = omega (arith, i.value, more, here); within = omega (arith, i.within, c.row.ensures.few) }
 
 pub row-requires : goal.row-requires
-row-requires g c = (search rules, c.loop-class-test.true)
+row-requires g c = (search, c.loop-class-test.true)
 
 pub overflow_add-count : goal.overflow_add-count
 overflow_add-count g c = omega (arith, c.loop-class.invariant.within, c.row.ensures.few, c.loop-class-test.true)

@@ -33,7 +33,7 @@ returns-else-count-gt-MOST_APART-clause-shapes g c = λ many.
     absurd (omega (arith, many, c.if-count-gt-MOST_APART.false, c.count_bands.ensures.value, all))
 
 pub count_bands-requires : goal.count_bands-requires
-count_bands-requires g c = search rules
+count_bands-requires g c = search
 
 pub shapes-requires : goal.shapes-requires
 shapes-requires g c = search rules
@@ -42,10 +42,10 @@ pub count-requires : goal.count-requires
 count-requires g c = search rules
 
 pub pixel-pixel-requires : goal.pixel-pixel-requires
-pixel-pixel-requires g c = search rules
+pixel-pixel-requires g c = search
 
 pub join-requires : goal.join-requires
-join-requires g c = search rules
+join-requires g c = search
 
 pub join-requires-then-count-gt-MOST_APART : goal.join-requires-then-count-gt-MOST_APART
-join-requires-then-count-gt-MOST_APART g c = search rules
+join-requires-then-count-gt-MOST_APART g c = search

@@ -13,4 +13,4 @@ install-requires-then-now-lead g c =
     let lead = c.lead.ensures.within c.mtu-mtu.ensures.within.1 in
     let ahead = c.if-now-lead.true in
     let same = c.now.ensures in
-    (search rules, (omega (arith, ahead, same), omega (arith, now, lead)))
+    (search, (omega (arith, ahead, same), omega (arith, now, lead)))

@@ -11,7 +11,7 @@ returns-in-None-clause-gives g c =
     gives_end c.args.until _ _ c.now-now.ensures.sound (sym c.is_backward.ensures ∙ c.if-is_backward.false) c.step.ensures.port c.step.ensures.sound (sym c.step.ensures.start ∙ c.in-None.is)
 
 pub now-now-requires : goal.now-now-requires
-now-now-requires g c = search rules
+now-now-requires g c = search
 
 pub is_backward-requires : goal.is_backward-requires
-is_backward-requires g c = search rules
+is_backward-requires g c = search

@@ -8,7 +8,7 @@ pub queue_in-requires : goal.queue_in-requires
 queue_in-requires g c = search rules
 
 pub class_for-class-requires : goal.class_for-class-requires
-class_for-class-requires g c = search rules
+class_for-class-requires g c = search
 
 pub verdict-verdict-requires : goal.verdict-verdict-requires
 verdict-verdict-requires g c = search rules

@@ -31,7 +31,7 @@ pub returns-in-None-clause-port : goal.returns-in-None-clause-port
 returns-in-None-clause-port g c = rw (← c.self.view_is) (rw (c.in-None.is, c.saturating_add-self-inside.ensures) refl)
 
 pub count_dropped-requires : goal.count_dropped-requires
-count_dropped-requires g c = search rules
+count_dropped-requires g c = search
 
 pub returns-in-Some-clause-visits : goal.returns-in-Some-clause-visits
 returns-in-Some-clause-visits g c = ap (λ q. q.visits) c.self.view_is

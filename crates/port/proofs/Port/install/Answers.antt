@@ -39,7 +39,7 @@ replace-requires g c =
     (search rules, (ends, (omega (arith, c.now.ensures.now, c.lead.ensures.above), (omega (arith, c.now.ensures.now, now, lead), c.now.ensures.sound))))
 
 pub now-requires : goal.now-requires
-now-requires g c = search rules
+now-requires g c = search
 
 pub lead-requires : goal.lead-requires
-lead-requires g c = search rules
+lead-requires g c = search

@@ -1,5 +1,4 @@
-use Rattle.std.proofs.Common.{rules}
 use Rattle.port.proofs.Port.next_answer.Goals as goal
 
 pub now-now-requires : goal.now-now-requires
-now-now-requires g c = search rules
+now-now-requires g c = search

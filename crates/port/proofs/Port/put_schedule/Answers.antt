@@ -50,7 +50,7 @@ pub install-requires : goal.install-requires
 install-requires g c = search rules
 
 pub busy_of-requires : goal.busy_of-requires
-busy_of-requires g c = search rules
+busy_of-requires g c = search
 
 pub classes_with-classes-requires : goal.classes_with-classes-requires
-classes_with-classes-requires g c = search rules
+classes_with-classes-requires g c = search

@@ -44,4 +44,4 @@ pub rest_until-requires : goal.rest_until-requires
 rest_until-requires g c = search rules
 
 pub zero-self-inside-requires : goal.zero-self-inside-requires
-zero-self-inside-requires g c = search rules
+zero-self-inside-requires g c = search

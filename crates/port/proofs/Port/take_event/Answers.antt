@@ -67,7 +67,7 @@ pub push-requires : goal.push-requires
 push-requires g c = search rules
 
 pub now-now-requires : goal.now-now-requires
-now-now-requires g c = search rules
+now-now-requires g c = search
 
 pub is_some-requires : goal.is_some-requires
 is_some-requires g c = search rules
@@ -76,4 +76,4 @@ pub reserve-requires : goal.reserve-requires
 reserve-requires g c = search rules
 
 pub next_answer-requires : goal.next_answer-requires
-next_answer-requires g c = search rules
+next_answer-requires g c = search

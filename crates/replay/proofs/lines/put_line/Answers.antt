@@ -112,7 +112,7 @@ returns-in_err-put_tc-in-Tc-clause-together g c = never _ (err_from_is_err_and c
 pub put_clock-requires : goal.put_clock-requires
 put_clock-requires g c =
     let P : KeptLine → Type 0 = λ l. IsKept c.args.script.now.octets.items l in
-    (search rules, (subst P c.in-Clock.is c.requires.kept, c.requires.together))
+    (search, (subst P c.in-Clock.is c.requires.kept, c.requires.together))
 
 pub put_answers-requires : goal.put_answers-requires
 put_answers-requires g c = (search rules, search rules)

@@ -19,7 +19,7 @@ pub put_line-requires : goal.put_line-requires
 put_line-requires g c =
     let below = rw c.as_slice-lines.ensures.value at c.loop-cursor-test.true in
     let P : List KeptLine → Type 0 = λ ls. IsKept c.args.script.now.octets.items (get_or ls c.loop-cursor.cursor.at (Clock 0)) in
-    (search rules, (subst P (sym c.as_slice-lines.ensures.value) (c.args.script.now.kept c.loop-cursor.cursor.at (Clock 0) below), c.loop-cursor.invariant.together))
+    (search, (subst P (sym c.as_slice-lines.ensures.value) (c.args.script.now.kept c.loop-cursor.cursor.at (Clock 0) below), c.loop-cursor.invariant.together))
 
 pub invariant_of-cursor : goal.invariant_of-cursor
 invariant_of-cursor g c =

@@ -76,10 +76,10 @@ returns g c = λ read is es k.
     told_whole {T = Unit {0}} (Ok tt) es (xs ++ ys) s u _ b (report_whole tt (g.W.Write.contents c.run_to.new.capture) c.in_ok-put_end.ensures)
 
 pub run_lines-requires : goal.run_lines-requires
-run_lines-requires g c = (search rules, c.requires.together)
+run_lines-requires g c = (search, c.requires.together)
 
 pub run_to-requires : goal.run_to-requires
-run_to-requires g c = (search rules, (c.requires.until, c.in_ok-run_lines.ensures.together))
+run_to-requires g c = (search, (c.requires.until, c.in_ok-run_lines.ensures.together))
 
 pub put_end-requires : goal.put_end-requires
 put_end-requires g c = (search rules, search rules)

@@ -26,4 +26,4 @@ not_later m n e = grind (arith, e)
 pub put_clock-requires : goal.put_clock-requires
 put_clock-requires g c =
     let early : ltb CAPTURE_END c.in-Some.moment ≡ false = ap is_too_late (sym c.in-Some.is) ∙ c.requires.until in
-    (search rules, (not_later c.in-Some.moment CAPTURE_END early, c.requires.together))
+    (search, (not_later c.in-Some.moment CAPTURE_END early, c.requires.together))

@@ -68,4 +68,4 @@ returns-clause-fault g c = c.put_starts.ensures.fault
 pub put_starts-requires : goal.put_starts-requires
 put_starts-requires g c =
     let P : ℕ → Type 0 = λ n. n ≤ c.args.moment in
-    (search rules, (subst P c.now-now.ensures.now c.if-moment-now.false, (c.requires.within, c.requires.together)))
+    (search, (subst P c.now-now.ensures.now c.if-moment-now.false, (c.requires.within, c.requires.together)))

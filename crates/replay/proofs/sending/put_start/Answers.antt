@@ -39,4 +39,4 @@ pub returns-in_err-put_noted_start-clause-store : goal.returns-in_err-put_noted_
 returns-in_err-put_noted_start-clause-store g c = never _ (err_from_is_err_and c.from_residual.result c.from_residual.ensures.1).1
 
 pub put_record-requires : goal.put_record-requires
-put_record-requires g c = (search rules, (c.requires.class, (c.requires.waits, c.requires.early)))
+put_record-requires g c = (search, (c.requires.class, (c.requires.waits, c.requires.early)))

@@ -22,7 +22,7 @@ put_start-requires g c =
     let e = sym c.step.ensures.start ∙ c.in-Some.is in
     let is = leaves s.port q c.args.until i.later c.step.ensures.port i.together.sound x e in
     let before = early s.port q c.args.until i.later c.step.ensures.port i.together.sound x e in
-    (search rules, (is.class, (has_first s q x is i.together, search (rules, before, c.requires.within))))
+    (search, (is.class, (has_first s q x is i.together, search (rules, before, c.requires.within))))
 
 pub loop-start-smaller : goal.loop-start-smaller
 loop-start-smaller g c =
