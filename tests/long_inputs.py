@@ -1,8 +1,9 @@
 """Rows and cases whose input is long or made by a rule: long lines, inputs without end, full lists, long runs."""
+import pathlib
 import subprocess
 import time
 
-from rows import SECONDS, Row, run
+from rows import SECONDS, Row, read, run
 
 # One octet more than a line may have.
 LONG_LINE = b"#" * 65537
@@ -107,21 +108,27 @@ def case_lines_without_end_are_a_fault(program):
 
 
 def frames_drawn(program, *words):
-    """The lines of a picture of 30,000 frames of 60 octets, one each 10 microseconds, and how many octets it has."""
+    """The lines of a picture of 30,000 frames of 60 octets, one each 10 microseconds, and how long it is."""
     lines = (b"clock %d\nframe %d %d 60\n" % (number * 10_000_000, number, number % 8) for number in range(30_000))
     script = b"".join(lines)
     ran = run(program, ["draw", "--width", "1096", *words], script)
     assert (ran.status, ran.errors) == (0, b"")
-    return ran.output.split(b"\n"), len(ran.output)
+    return ran.output.decode().split("\n"), len(ran.output)
 
 
 def case_the_picture_of_a_long_run_joins_its_frames(program):
-    lines, octets = frames_drawn(program)
-    assert sum(line.startswith(b'<rect class="f"') for line in lines) <= 9 * 1001 + 1
-    assert octets < 2_000_000
+    lines, length = frames_drawn(program)
+    assert sum(line.startswith('<rect class="f"') for line in lines) <= 9 * 1001 + 1
+    assert length < 2_000_000
 
 
 def case_a_window_of_a_long_run_shows_each_frame(program):
-    lines, _octets = frames_drawn(program, "--from", "250000000000", "--to", "250100000000")
-    assert sum(line.startswith(b'<rect class="f"') for line in lines) == 2 * 10 + 1
-    assert lines.count(b'<rect class="f" x="164.00" y="284" width="6.72" height="16"/>') == 1
+    lines, _length = frames_drawn(program, "--from", "250000000000", "--to", "250100000000")
+    assert sum(line.startswith('<rect class="f"') for line in lines) == 2 * 10 + 1
+    assert lines.count('<rect class="f" x="164.00" y="284" width="6.72" height="16"/>') == 1
+
+
+def case_a_picture_is_text(program):
+    """Those of the rows of `draw.toml` are: the names and numbers in them are UTF-8."""
+    for row in read(pathlib.Path(__file__).with_name("draw.toml")):
+        run(program, row.words, row.input).output.decode()
