@@ -1,7 +1,7 @@
 """Rows and cases whose input is long or made by a rule: long lines, inputs without end, full lists, long runs."""
 import pathlib
 import subprocess
-import time
+import threading
 
 from rows import SECONDS, Row, read, run
 
@@ -84,17 +84,18 @@ def case_what_streams_writes_is_a_script(program):
 
 def of_endless(program, words, octet):
     """How the program ends on one octet over and over: the status, the standard output and the standard error."""
-    ends = time.monotonic() + SECONDS
     pipes = {name: subprocess.PIPE for name in ("stdin", "stdout", "stderr")}
     with subprocess.Popen([program, *words], bufsize=0, **pipes) as running:
+        too_late = threading.Timer(SECONDS, running.kill)
+        too_late.start()
         try:
-            while time.monotonic() < ends:
+            while True:
                 running.stdin.write(octet * 65536)
         except BrokenPipeError:
-            output, errors = running.communicate(timeout=SECONDS)
+            output, errors = running.communicate()
             return running.returncode, output, errors
-        running.kill()
-        raise AssertionError("it reads on and on")
+        finally:
+            too_late.cancel()
 
 
 def case_a_line_without_end_is_a_fault(program):
