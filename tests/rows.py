@@ -28,6 +28,9 @@ class Row:
     output: bytes | None = b""
     output_begins: bytes = b""
     output_has: bytes = b""
+    # Lines that stand in it, each once; and how many of its lines begin so.
+    output_lines: list = dataclasses.field(default_factory=list)
+    output_begun: dict = dataclasses.field(default_factory=dict)
     # The standard error, in the same way.
     errors: bytes | None = b""
     errors_begin: bytes = b""
@@ -96,6 +99,14 @@ def judge(row, ran):
             told += differs(what, begins, got[: len(begins)])
     if row.output_has not in ran.output:
         told += f"standard output: {shown(row.output_has)!r} stands nowhere in it\n"
+    lines = ran.output.split(b"\n") if row.output_lines or row.output_begun else []
+    for line in row.output_lines:
+        if lines.count(line) != 1:
+            told += f"standard output: the line {shown(line)!r} stands in it {lines.count(line)} times, not once\n"
+    for front, wanted in row.output_begun.items():
+        got = sum(line.startswith(front) for line in lines)
+        if got != wanted:
+            told += f"standard output: {wanted} lines are to begin with {shown(front)!r}, and {got} do\n"
     for name, octets in row.written.items():
         if octets is None and name in ran.files:
             told += f"file {name}: it is there, and should not be\n"
@@ -149,11 +160,15 @@ def read(path):
         row["words"] = shlex.split(row["words"]) if isinstance(row["words"], str) else row["words"]
         for key in ("files", "written"):
             row[key] = {name: file_octets(value) for name, value in row.get(key, {}).items()}
+        if "output_lines" in row:
+            row["output_lines"] = [octets(line) for line in row["output_lines"]]
+        if "output_begun" in row:
+            row["output_begun"] = {octets(front): count for front, count in row["output_begun"].items()}
         for name in row.pop("not_written", []):
             row["written"][name] = None
-        for whole, part in (("output", "output_begins"), ("output", "output_has"), ("errors", "errors_begin")):
+        for part in ("output_begins", "output_has", "output_lines", "output_begun", "errors_begin"):
             if part in row:
-                row.setdefault(whole, None)
+                row.setdefault(part.split("_")[0], None)
         yield Row(**row)
 
 
