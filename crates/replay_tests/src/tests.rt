@@ -1,7 +1,7 @@
 //! Two frames, and what comes out.
 
-use replay::{ReplayFault, Unwatched, Watch, replay};
-use script::Settings;
+use replay::{ReplayFault, Unwatched, Watch, replay, say_replay_fault};
+use script::{Ended, Settings};
 use std::alloc::{Allocator, Global};
 use std::io::{self, Read};
 use std::test::Fail;
@@ -108,6 +108,44 @@ fn endless_differs_in(alloc: Global) -> &'static str {
 #[test]
 fn frames_stay_without_an_end(rt: HostRuntime) {
     assert_eq!(rt; endless_differs_in(rt.alloc()), "");
+}
+
+/// What is told of a moment to run to that is refused.
+const UNTIL: &[u8] = b"taprio_port: bad value of --until\n";
+
+/// Whether that is what is told of the fault, with the status of a value.
+fn is_until_said(alloc: Global) -> bool {
+    let mut text = Vec::new(alloc);
+    let ended = say_replay_fault(&ReplayFault::Until, &mut text);
+    let wanted = Ended {
+        status: 2,
+        told: true,
+    };
+    ended == wanted && text.as_slice() == UNTIL
+}
+
+/// In what a replay to a moment that no capture can say differs, whose script has a fault too; empty where it doesn't.
+fn too_late_differs_in(alloc: Global) -> &'static str {
+    let Some(settings) = settings(Some(4_294_967_296_000_000_000_001)) else {
+        return "settings";
+    };
+    let (script, capture) = (b"x\n".as_slice(), b"".as_slice());
+    let got = replay_of(alloc, alloc, script, capture, settings);
+    if got.result != Err(ReplayFault::Until) {
+        "result"
+    } else if !got.report.is_empty() || !got.capture.is_empty() {
+        "output"
+    } else if !is_until_said(alloc) {
+        "text"
+    } else {
+        ""
+    }
+}
+
+/// Such a moment is refused, and nothing is written. The program refuses it before it begins a replay.
+#[test]
+fn a_moment_that_no_capture_can_say(rt: HostRuntime) {
+    assert_eq!(rt; too_late_differs_in(rt.alloc()), "");
 }
 
 /// Sees how often it is told how far a replay has come, and what it was told last.
