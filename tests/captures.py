@@ -1,5 +1,5 @@
 """Replays of captures that a rule makes: cut behind each octet, faulty, with odd frames, long, and without end."""
-from rows import Row, captured, run, run_fed, shown
+from rows import Row, captured, run
 
 HEADER = bytes.fromhex("a1b2c3d4 0002 0004 00000000 00000000 00040000 00000001")
 # Big-endian, in microseconds: two frames of 60 octets of which 18 are captured, with priorities 3 and 5,
@@ -256,19 +256,6 @@ def case_octets_are_those_of_the_records(program):
     """Captures that are given here by their octets are those of the records that are meant."""
     assert captured([(2000500000, PRIORITY_3, 60), (2000400000, PRIORITY_5, 60)]) == TWO_CAPTURED
     assert captured([(2000500000, PRIORITY_5, 60), (2000500672, PRIORITY_3, 60)]) == BOTH_LEFT
-
-
-def case_records_without_octets_for_ever(program):
-    """One after another is told, and then the fault: a capture has at most four million."""
-    def pieces():
-        yield HEADER
-        while True:
-            yield bytes(1 << 16)
-    ran = run_fed(program, ["replay", "--until", "0", "script", "-", "out"], pieces(), {"script": b""})
-    assert ran.output.endswith(b"dropped 3999999 Runt\n"), shown(ran.output[-200:])
-    got = (ran.status, ran.errors)
-    assert got == (3, b"taprio_port: capture record 4000000: TooManyRecords\n"), got
-    assert len(ran.files["out"]) == 24
 
 
 def case_octets_are_kept_while_frames_wait_alone(program):

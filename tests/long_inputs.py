@@ -1,9 +1,7 @@
-"""Rows and cases whose input is long or made by a rule: long lines, inputs without end, full lists, long runs."""
+"""Rows and cases whose input is long or made by a rule: long lines, full lists, long runs."""
 import pathlib
-import subprocess
-import threading
 
-from rows import SECONDS, Row, read, run
+from rows import Row, read, run
 
 # One octet more than a line may have.
 LONG_LINE = b"#" * 65537
@@ -80,32 +78,6 @@ def case_what_streams_writes_is_a_script(program):
         b"queued 2 class 5\nstart 2 class 5 at 1344000 end 2016000\n"
         b"queued 3 class 5\nstart 3 class 5 at 2016000 end 2688000\n"
     ), ran.output
-
-
-def of_endless(program, words, octet):
-    """How the program ends on one octet over and over: the status, the standard output and the standard error."""
-    pipes = {name: subprocess.PIPE for name in ("stdin", "stdout", "stderr")}
-    with subprocess.Popen([program, *words], bufsize=0, **pipes) as running:
-        too_late = threading.Timer(SECONDS, running.kill)
-        too_late.start()
-        try:
-            while True:
-                running.stdin.write(octet * 65536)
-        except BrokenPipeError:
-            output, errors = running.communicate()
-            return running.returncode, output, errors
-        finally:
-            too_late.cancel()
-
-
-def case_a_line_without_end_is_a_fault(program):
-    ended = of_endless(program, ["script"], b"#")
-    assert ended == (3, b"", b"taprio_port: script line 1: LongLine\n"), ended
-
-
-def case_lines_without_end_are_a_fault(program):
-    ended = of_endless(program, ["script"], b"\n")
-    assert ended == (3, b"", b"taprio_port: script line 4000001: TooManyLines\n"), ended
 
 
 def frames_drawn(program, *words):
