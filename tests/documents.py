@@ -22,7 +22,7 @@ LEFT_OUT = {"out", ".git", "crates", "__pycache__"}
 NOTE = re.compile(r"^taprio_port: this build is not proved on this machine.*\n", re.MULTILINE)
 FENCE = re.compile(r"^( *)(```+|~~~+)(.*)$")
 LINK = re.compile(r"!?\[(?:[^\]\[]|\[[^\]]*\])*\]\(\s*<?([^)\s>]+)>?(?:\s+\"[^\"]*\")?\s*\)")
-ONLY_A_LINK = re.compile(r"^\s*(?:[-*] )?!?\[.*\]\(\S+\)\W*$|^\s*\[[^\]]+\]: \S+$|^\s*<?https?://\S+>?$")
+ONLY_A_LINK = re.compile(r"^\s*(?:[-*] )?!?\[[^\]]*\]\(\S+\)\W*$|^\s*\[[^\]]+\]: \S+$|^\s*<?https?://\S+>?$")
 
 
 def pages():
@@ -51,8 +51,8 @@ def numbered(page):
 
 
 def prose(page):
-    """The lines of a page that are outside of fenced blocks, without what stands between backquotes."""
-    return [(number, re.sub(r"`[^`]*`", "", line)) for number, line, fenced in numbered(page) if not fenced]
+    """The text of a page outside of fenced blocks, without what stands between backquotes; each line stands where it stood."""
+    return "\n".join("" if fenced else re.sub(r"`[^`]*`", "", line) for _, line, fenced in numbered(page))
 
 
 def slugs(page):
@@ -71,12 +71,12 @@ def slugs(page):
 
 def links(page):
     """The relative links of a page: the line, the file and the anchor."""
-    for number, line in prose(page):
-        targets = LINK.findall(line) + re.findall(r"(?:src|href)=\"([^\"]+)\"", line) + re.findall(r"^\[[^\]]+\]: +(\S+)", line)
-        for target in targets:
-            if not re.match(r"[a-z][a-z+.-]*:", target):
-                path, _, anchor = target.partition("#")
-                yield number, path, anchor
+    text = prose(page)
+    for pattern in (LINK, re.compile(r"(?:src|href)=\"([^\"]+)\""), re.compile(r"^\[[^\]]+\]: +(\S+)", re.MULTILINE)):
+        for link in pattern.finditer(text):
+            if not re.match(r"[a-z][a-z+.-]*:", link[1]):
+                path, _, anchor = link[1].partition("#")
+                yield text.count("\n", 0, link.start()) + 1, path, anchor
 
 
 def told(faults):
@@ -124,22 +124,16 @@ def case_lines_are_short(program):
 
 
 def sessions(page):
-    """The commands of a page: the number of the line, the command, its lines and the lines behind it that are to be its output."""
-    block = []
-    for number, line, fenced in [*numbered(page), (0, "", False)]:
-        if fenced:
+    """The commands of a page: the number of the line, the command, how many lines it has, and the lines behind it that are to be its output."""
+    block = None
+    for number, line, fenced in numbered(page):
+        if fenced and block is None:
+            block = []
+        elif fenced and not FENCE.match(line):
             block.append((number, line))
-            continue
-        lines = block[1:-1]
-        # (two blocks that touch are one run of fenced lines)
-        inside, start = [], True
-        for at, text in block:
-            if FENCE.match(text):
-                yield from commands(inside) if not start else ()
-                inside, start = [], not start
-            else:
-                inside.append((at, text))
-        block = []
+        elif block is not None:
+            yield from commands(block)
+            block = None
 
 
 def commands(lines):
@@ -254,21 +248,20 @@ def case_errors_has_each_name(program):
     page = pathlib.Path("docs/errors.md")
     heads = [(number, line) for number, line, fenced in numbered(page) if not fenced and line.startswith("### ")]
     shown = list(sessions(page))
-    sections = {}
+    sections = []
     for (number, line), (end, _) in zip(heads, [*heads[1:], (10**9, "")]):
-        names = re.findall(r"`([^`]+)`", line)
         outputs = [line for at, _, _, output in shown if number < at < end for line in output]
-        for name in names:
-            sections[name] = (number, outputs)
+        sections += [(name, number, outputs) for name in re.findall(r"`([^`]+)`", line)]
+    has = {name for name, _, _ in sections}
     names = printed_names()
     texts, options = printed_texts()
     faults = [] if len(names) >= 40 and len(texts) >= 6 and len(options) >= 7 else [f"crates: only {len(names)}, {len(texts)}, {len(options)} texts are found: mend the expressions here"]
     text = (ROOT / page).read_text(encoding="utf-8")
     for name in sorted(names | {text for text in texts if "bad value" not in text and " line" not in text}):
-        if name not in sections and not (name.startswith("capture ") and name in text):
+        if name not in has and not (name.startswith("capture ") and name in text):
             faults.append(f"{page}: it has no section for {name}")
     faults += [f"{page}: it says nothing of {word}" for word in sorted(texts | options) if word not in text]
-    for name, (number, outputs) in sections.items():
+    for name, number, outputs in sections:
         if not any(re.search(rf"(?<![\w-]){re.escape(name)}(?![\w-])", line) for line in outputs):
             faults.append(f"{page}:{number}: no example there gives {name}")
     told(faults)
