@@ -111,6 +111,26 @@ def case_the_readme_is_short(program):
     told([f"README.md: {count} lines, and {README_LINES} at most are wanted"] if count > README_LINES else [])
 
 
+def spec_lines(path):
+    """How many lines a file of definitions has, without blank lines, comments and imports."""
+    lines = [line.strip() for line in path.read_text(encoding="utf-8").splitlines()]
+    return sum(1 for line in lines if line and not line.startswith(("--", "use ")))
+
+
+def case_the_readme_counts_what_there_is(program):
+    """The number of lines that say what a port is: in the README, in the page of definitions, and in the files that it lists."""
+    text = (ROOT / "docs/trust/definitions.md").read_text(encoding="utf-8")
+    part = text.partition("\n## What a port is\n")[2].partition("\n## ")[0]
+    count = sum(spec_lines(ROOT / "crates" / name) for name in re.findall(r"^\| `(\w+/specs/\w+\.antt)`", part, re.MULTILINE))
+    found = {"README.md": r"(\d+)\s+lines\s+say\s+what\s+the\s+port\s+is", "docs/trust/definitions.md": r"(\d+)\s+lines\s+of\s+\"What\s+a\s+port\s+is\""}
+    faults = []
+    for page, pattern in found.items():
+        said = re.search(pattern, (ROOT / page).read_text(encoding="utf-8"))
+        if not said or int(said[1]) != count:
+            faults.append(f"{page}: it says {said[1] if said else 'nothing'} of the {count} lines of \"What a port is\"")
+    told(faults)
+
+
 def case_lines_are_short(program):
     """No line of prose is longer than a reader's window."""
     faults = []
