@@ -1,6 +1,6 @@
 """Rows: words and an input for the program, and what has to come out. Standard library alone (Python 3.11).
 
-A row stands in a TOML file of this folder (README.md shows one), or is made by a function of a Python file there."""
+A row stands in a TOML file of this folder (CONTRIBUTING.md shows one), or is made by a function of a Python file there."""
 import dataclasses
 import os
 import shlex
