@@ -16,8 +16,8 @@
  *                        same call with slices of at least these lengths has room
  *
  * What lies behind the text in a slice stays as it was. The texts of faults are those that the program writes on its standard
- * error: they begin with "taprio_port: " and end with a newline, without a NUL. Formats: docs/SCRIPT.md, docs/TC.md,
- * docs/CHECK.md, docs/STREAMS.md, docs/DRAW.md, docs/REPLAY.md.
+ * error: they begin with "taprio_port: " and end with a newline, without a NUL. Formats: docs/reference/script.md, docs/reference/tc.md,
+ * docs/reference/check.md, docs/reference/streams.md, docs/reference/draw.md, docs/reference/replay.md.
  *
  * What a caller has to keep
  * -------------------------
