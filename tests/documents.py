@@ -86,13 +86,15 @@ def told(faults):
 
 
 def case_links_resolve(program):
-    """Each relative link leads to a file, and to a heading of it where it has an anchor."""
+    """Each relative link leads to a file, and to a heading of it where it has an anchor; and through no symbolic link."""
     faults = []
     for page in pages():
         for number, path, anchor in links(page):
             target = ROOT / page if not path else ROOT / page.parent / path
             if not target.exists():
                 faults.append(f"{page}:{number}: {path} is not there")
+            elif os.path.realpath(target) != os.path.normpath(target):
+                faults.append(f"{page}:{number}: {path} leads through a symbolic link, which a page on the web does not follow")
             elif anchor and target.suffix == ".md" and anchor not in slugs(target.resolve().relative_to(ROOT)):
                 faults.append(f"{page}:{number}: {path}#{anchor}: there is no such heading")
     told(faults)
