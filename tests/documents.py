@@ -108,9 +108,10 @@ def case_the_index_has_each_page(program):
 
 
 def case_the_readme_is_short(program):
-    """README.md has at most 120 lines."""
-    count = len((ROOT / "README.md").read_text(encoding="utf-8").splitlines())
-    told([f"README.md: {count} lines, and {README_LINES} at most are wanted"] if count > README_LINES else [])
+    """README.md has at most 120 lines, each of less than 120 characters."""
+    lines = (ROOT / "README.md").read_text(encoding="utf-8").splitlines()
+    faults = [f"README.md: {len(lines)} lines, and {README_LINES} at most are wanted"] if len(lines) > README_LINES else []
+    told(faults + [f"README.md:{number}: {len(line)} characters" for number, line in enumerate(lines, 1) if len(line) >= LINE_LENGTH])
 
 
 def spec_lines(path):
