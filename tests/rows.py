@@ -8,6 +8,7 @@ import struct
 import subprocess
 import sys
 import tempfile
+import threading
 import tomllib
 
 SECONDS = 60
@@ -28,6 +29,9 @@ class Row:
     output: bytes | None = b""
     output_begins: bytes = b""
     output_has: bytes = b""
+    # Lines that stand in it, each once; and how many of its lines begin so.
+    output_lines: list = dataclasses.field(default_factory=list)
+    output_begun: dict = dataclasses.field(default_factory=dict)
     # The standard error, in the same way.
     errors: bytes | None = b""
     errors_begin: bytes = b""
@@ -64,6 +68,27 @@ def run(program, words, input=b"", files=None, **how):
         return Ran(ran.returncode, ran.stdout or b"", ran.stderr or b"", left)
 
 
+def run_fed(program, words, pieces, files=None, **how):
+    """The same with these pieces as the standard input, one after another, for as long as the program reads; they may have no end."""
+    reader, writer = os.pipe()
+
+    def feed():
+        try:
+            with open(writer, "wb") as pipe:
+                for piece in pieces:
+                    pipe.write(piece)
+        except BrokenPipeError:
+            pass
+
+    feeding = threading.Thread(target=feed)
+    feeding.start()
+    try:
+        with open(reader, "rb") as source:
+            return run(program, words, None, files, stdin=source, **how)
+    finally:
+        feeding.join()
+
+
 def shown(octets):
     """Octets as a person reads them, at most some lines."""
     text = octets.decode("latin-1")
@@ -96,6 +121,14 @@ def judge(row, ran):
             told += differs(what, begins, got[: len(begins)])
     if row.output_has not in ran.output:
         told += f"standard output: {shown(row.output_has)!r} stands nowhere in it\n"
+    lines = ran.output.split(b"\n") if row.output_lines or row.output_begun else []
+    for line in row.output_lines:
+        if lines.count(line) != 1:
+            told += f"standard output: the line {shown(line)!r} stands in it {lines.count(line)} times, not once\n"
+    for front, wanted in row.output_begun.items():
+        got = sum(line.startswith(front) for line in lines)
+        if got != wanted:
+            told += f"standard output: {wanted} lines are to begin with {shown(front)!r}, and {got} do\n"
     for name, octets in row.written.items():
         if octets is None and name in ran.files:
             told += f"file {name}: it is there, and should not be\n"
@@ -109,11 +142,11 @@ def judge(row, ran):
 def captured(records, nanoseconds=True):
     """A classic capture (little-endian, Ethernet) of records `(moment, octets)` or `(moment, octets, original length)`, with moments in
     nanoseconds, or in microseconds where it has those."""
-    found = struct.pack("<IHHiIII", 0xA1B23C4D if nanoseconds else 0xA1B2C3D4, 2, 4, 0, 0, 262144, 1)
+    found = [struct.pack("<IHHiIII", 0xA1B23C4D if nanoseconds else 0xA1B2C3D4, 2, 4, 0, 0, 262144, 1)]
     for moment, octets, *length in records:
         second, rest = divmod(moment, 10**9 if nanoseconds else 10**6)
-        found += struct.pack("<IIII", second, rest, len(octets), *(length or [len(octets)])) + octets
-    return found
+        found += [struct.pack("<IIII", second, rest, len(octets), *(length or [len(octets)])), octets]
+    return b"".join(found)
 
 
 def tagged(priority, octets):
@@ -127,13 +160,13 @@ def octets(value):
 
 
 def file_octets(value):
-    """A file of a row: its text; or `{ hex = ".." }`; or `{ capture = [[moment, octets, priority], ..] }`: frames of that many octets, with a
-    customer tag, at moments in nanoseconds."""
+    """A file of a row, or its input: its text; or `{ hex = ".." }`; or `{ capture = [[moment, octets, priority], ..] }`: frames of that many
+    octets, with a customer tag, at moments in nanoseconds. A fourth number is the original length, where more was on the wire."""
     if isinstance(value, str):
         return octets(value)
     if "hex" in value:
         return bytes.fromhex(value["hex"])
-    return captured([(moment, tagged(priority, length)) for moment, length, priority in value["capture"]])
+    return captured([(moment, tagged(priority, length), *original) for moment, length, priority, *original in value["capture"]])
 
 
 TEXTS = ("input", "output", "output_begins", "output_has", "errors", "errors_begin")
@@ -145,15 +178,19 @@ def read(path):
         table = tomllib.load(file)
     for entry in table["row"]:
         given = {**table.get("all", {}), **entry}
-        row = {key: octets(value) if key in TEXTS else value for key, value in given.items()}
+        row = {key: file_octets(value) if key in TEXTS else value for key, value in given.items()}
         row["words"] = shlex.split(row["words"]) if isinstance(row["words"], str) else row["words"]
         for key in ("files", "written"):
             row[key] = {name: file_octets(value) for name, value in row.get(key, {}).items()}
+        if "output_lines" in row:
+            row["output_lines"] = [octets(line) for line in row["output_lines"]]
+        if "output_begun" in row:
+            row["output_begun"] = {octets(front): count for front, count in row["output_begun"].items()}
         for name in row.pop("not_written", []):
             row["written"][name] = None
-        for whole, part in (("output", "output_begins"), ("output", "output_has"), ("errors", "errors_begin")):
+        for part in ("output_begins", "output_has", "output_lines", "output_begun", "errors_begin"):
             if part in row:
-                row.setdefault(whole, None)
+                row.setdefault(part.split("_")[0], None)
         yield Row(**row)
 
 

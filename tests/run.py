@@ -1,7 +1,7 @@
 #!/usr/bin/env python3
 """Runs each row and each case of this folder on a built program: tests/run.py PROGRAM [WORD]. With WORD only those whose name has it.
 
-A row is of a TOML file, or of a list or generator `rows()` of a Python file; a case is a function `case_..(program)` of a Python file, which
+A row is of a TOML file, or of a function `rows()` of a Python file; a case is a function `case_..(program)` of a Python file, which
 raises AssertionError. Its last line is `N passed, M failed`."""
 import concurrent.futures
 import importlib.util
@@ -11,7 +11,7 @@ import sys
 import time
 import traceback
 
-import rows
+from rows import judge, read, run
 
 HERE = pathlib.Path(__file__).resolve().parent
 OWN = {"rows.py", "run.py"}
@@ -27,7 +27,7 @@ def module(path):
 
 def of_row(program, row):
     """What a row's run differs in."""
-    return rows.judge(row, rows.run(program, row.words, row.input, row.files))
+    return judge(row, run(program, row.words, row.input, row.files))
 
 
 def of_case(program, case):
@@ -44,7 +44,7 @@ def all_of_it(program):
             sys.exit(f"tests: {name} stands twice")
         found[name] = work
     for path in sorted(HERE.glob("*.toml")):
-        for row in rows.read(path):
+        for row in read(path):
             add(f"{path.stem}: {row.name}", lambda row=row: of_row(program, row))
     for path in sorted(HERE.glob("*.py")):
         if path.name in OWN:

@@ -7,6 +7,8 @@ import pathlib
 import re
 import sys
 
+import sources
+
 WEB = pathlib.Path(__file__).resolve().parent
 IMPORT = re.compile(r'^import \{[^}]*\} from "\./([a-z]+\.js)";\n', re.M)
 KINDS = {".script": "script", ".schedules": "check", ".streams": "streams"}
@@ -104,6 +106,7 @@ def main(wasm, folder, out):
     script = bundle("page.js")
     parts = {
         "POLICY": policy(style, script),
+        "SOURCES": sources.told(),
         "STYLE": style,
         "TRUST": (WEB / "trust.html").read_text(encoding="utf-8"),
         "EXAMPLES": data(examples(pathlib.Path(folder))),

@@ -9,7 +9,7 @@ import tempfile
 import time
 
 from browsers import Chromium, Firefox
-from test import OUT, TOP, Page
+from test import OUT, PAGE, PROGRAM, Page
 
 sys.path.insert(0, str(TOP / "bench"))
 import workloads  # noqa: E402
@@ -21,7 +21,7 @@ LOADED = "const it = performance.timing; return it.domContentLoadedEventEnd - it
 def of_program(text):
     """The seconds that the program takes, and what it answers."""
     begun = time.monotonic()
-    ran = subprocess.run([TOP / "taprio_port", "script"], input=text.encode(), capture_output=True, check=True)
+    ran = subprocess.run([PROGRAM, "script"], input=text.encode(), capture_output=True, check=True)
     return time.monotonic() - begun, ran.stdout
 
 
@@ -38,7 +38,7 @@ def measure(kind, scripts):
         browser = kind(downloads)
         try:
             browser.look()
-            page = Page(browser, downloads, (OUT / "taprio.html").as_uri())
+            page = Page(browser, downloads, PAGE.as_uri())
             print(f"{browser.name}: {page.do(LOADED)} ms to the page; {page.text('status')}")
             for name, text, seconds, wanted in scripts:
                 times = [of_page(page, text, wanted) for _ in range(RUNS)]

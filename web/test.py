@@ -16,15 +16,17 @@ from browsers import Broken, Chromium, Firefox, wait_for
 WEB = pathlib.Path(__file__).resolve().parent
 TOP = WEB.parent
 OUT = WEB / "out"
+PAGE = WEB / "taprio.html"
 EXAMPLES = TOP / "examples"
 SHOTS = OUT / "shots"
+PROGRAM = subprocess.run([TOP / "taprio_port", "--where"], stdout=subprocess.PIPE, text=True, check=True).stdout.strip()
 OPTIONS_OF = options(TOP / "examples")
 PS = {"ps": 1, "ns": 10**3, "us": 10**6, "ms": 10**9, "s": 10**12}
 
 
 def program(*words, text=b""):
     """What the program answers: its status, its output and its fault."""
-    ran = subprocess.run([TOP / "taprio_port", *words], input=text, capture_output=True, check=False)
+    ran = subprocess.run([PROGRAM, *words], input=text, capture_output=True, check=False)
     return ran.returncode, ran.stdout, ran.stderr
 
 
@@ -41,7 +43,7 @@ class Server(http.server.ThreadingHTTPServer):
                 super().do_GET()
 
         self.asked = []
-        super().__init__(("127.0.0.1", 0), functools.partial(Handler, directory=str(OUT)))
+        super().__init__(("127.0.0.1", 0), functools.partial(Handler, directory=str(WEB)))
         threading.Thread(target=self.serve_forever, daemon=True).start()
 
 
@@ -425,7 +427,7 @@ def main(names):
     SHOTS.mkdir(exist_ok=True)
     program("--help")
     server = Server()
-    places = [(OUT / "taprio.html").as_uri(), f"http://127.0.0.1:{server.server_port}/taprio.html"]
+    places = [PAGE.as_uri(), f"http://127.0.0.1:{server.server_port}/taprio.html"]
     for kind in (Chromium, Firefox):
         if names and kind.name not in names:
             continue

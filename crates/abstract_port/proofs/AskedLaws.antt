@@ -230,7 +230,7 @@ module _ (event : Event) (old : List Answer) (p : AbstractPort) (asked : Option 
   pub gone_port : asked ≡ None → IsSoundPort q → q ≡ settled (answers_to event p).1
   gone_port is sound = sym (settled-current q sound.current) ∙ (ap (λ a. settled (answers_left a q).1) (sym is) ∙ going.port)
 
-  -- where memory is wanting
+  -- when out of memory
   pub gone_stopped : (e : Event) → asked ≡ Some e → IsStopped event old p new q
   gone_stopped e is = subst (λ a. IfSome a (λ x. IsStopped event old p new q)) is going.stopped
 

@@ -130,7 +130,7 @@ abbrev pub told : Happening → Answer
 told (Arrived f o v) = arrival_answer f v
 told (Started s f) = Answered.Start s
 
--- whether an answer tells of an arrival or a start
+-- whether an answer is of an arrival or a start
 abbrev pub is_told : Answer → Bool
 is_told (Answered.Queued id class) = true
 is_told (Answered.Dropped id why) = true

@@ -254,7 +254,7 @@ module _ (c : Commands) (s : AreCommands c) where
       ∙ (ap (λ q. open_while (mask_in (stretches_from c.in_force (cons_some q (cons_some (announced (history_of c) c.moment) [])))) class c.moment d) (settled_pending c.moment c.in_force c.pending c.announced s.settled)
       ∙ ap (λ x. open_while (mask_in (stretches_from c.in_force (cons_some c.pending (cons_some x [])))) class c.moment d) (settled_announced c.moment c.in_force c.pending c.announced s.settled)))
 
-  -- where no command comes up to the end of a while, the one in force tells of it
+  -- where no command comes up to the end of a while, the one in force decides
   pub alone_while : (class d : ℕ) → NoneBy c.pending c.announced (c.moment + d) → open_while (shows_under c.in_force c.pending) class c.moment d ≡ open_while (mask_in (stretches_from c.in_force (cons_some c.pending (cons_some c.announced [])))) class c.moment d
   alone_while class d none =
       same_while (shows_under c.in_force c.pending) (gates (history_of c)) class c.moment d

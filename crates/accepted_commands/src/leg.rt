@@ -84,7 +84,7 @@ pub struct Rest<'a> {
 }
 
 impl<'a> ListedLeg<'a> {
-    /// The same list where it stands at another moment, in picoseconds.
+    /// This list where it stands at another moment, in picoseconds.
     pub fn at(&self, from: u128, position: Position) -> ListedLeg<'a>
         ensures { result ≡ record self.now { from = from; position = position } }
     {
@@ -95,7 +95,7 @@ impl<'a> ListedLeg<'a> {
         }
     }
 
-    /// The same list at the start of the cycle that holds `t`, in picoseconds, where it is in force and in no hold.
+    /// This list at the start of the cycle that holds `t`, in picoseconds, where it is in force and in no hold.
     pub fn cycle_at(&self, t: u128, visits: &mut Visits) -> ListedLeg<'a>
         requires stands { IsStanding (Listed self.now) }
         requires later { self.now.from ≤ t }
@@ -192,7 +192,7 @@ impl Leg<'_> {
     }
 }
 
-/// The same leg, if there is one.
+/// A copy of a leg, if there is one.
 pub fn copied<'a>(leg: &Option<Leg<'a>>) -> Option<Leg<'a>>
     ensures { result ≡ leg.now }
 {

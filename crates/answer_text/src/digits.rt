@@ -99,7 +99,7 @@ pub fn octet_before(number: u8, line: &mut Line, end: usize) -> usize
     write_digits(u64::from(number), line, end)
 }
 
-// The same where there are more than 64 bits.
+// Puts a number of more than 64 bits in decimal before what ends a line from `end` on, and answers where the line begins then.
 #[inline(never)]
 fn long_before(number: u128, line: &mut Line, end: usize) -> usize
     requires room { NUMBER_CAPACITY ≤ end }

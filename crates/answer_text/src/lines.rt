@@ -43,7 +43,7 @@ fn put_dropped<W: Write>(writer: &mut W, id: u64, why: Dropped) -> Result<(), Wr
     put(writer, &line[start..])
 }
 
-/// Writes the line of a frame that arrived: its class, or why it was dropped. At a fault a front of it is written.
+/// Writes the line of a frame that arrived: its class, or why it was dropped. At a fault a prefix of it is written.
 pub fn put_arrival<W: Write>(
     writer: &mut W,
     frame: &Frame,
@@ -92,7 +92,7 @@ fn put_refused<W: Write>(writer: &mut W, why: Refused) -> Result<(), WriteFault>
     }
 }
 
-/// Writes the line of a command: the moment at which it comes into force, in picoseconds, or why it is refused. At a fault a front of
+/// Writes the line of a command: the moment at which it comes into force, in picoseconds, or why it is refused. At a fault a prefix of
 /// it is written.
 pub fn put_installation<W: Write>(
     writer: &mut W,
@@ -106,7 +106,7 @@ pub fn put_installation<W: Write>(
     }
 }
 
-/// Writes the line of a frame that starts. At a fault a front of it is written.
+/// Writes the line of a frame that starts. At a fault a prefix of it is written.
 pub fn put_start<W: Write>(writer: &mut W, start: &Start) -> Result<(), WriteFault>
     ensures { Writes result (W.contents writer.old) (W.contents writer.new) (start_line start.now) }
 {
@@ -151,7 +151,7 @@ fn put_counters<W: Write>(writer: &mut W, class: u8, counters: &Counters) -> Res
     )
 }
 
-/// Writes the lines of an answer. At a fault a front of them is written.
+/// Writes the lines of an answer. At a fault a prefix of them is written.
 pub fn put_answer<W: Write>(writer: &mut W, answer: &Answer) -> Result<(), WriteFault>
     ensures { Writes result (W.contents writer.old) (W.contents writer.new) (answer_lines answer.now) }
 {
@@ -168,7 +168,7 @@ pub fn put_answer<W: Write>(writer: &mut W, answer: &Answer) -> Result<(), Write
     }
 }
 
-/// Writes the line that says how many frames a class still has at the end. At a fault a front of it is written.
+/// Writes the line that says how many frames a class still has at the end. At a fault a prefix of it is written.
 pub fn put_left<W: Write>(writer: &mut W, class: u8, frames: u64) -> Result<(), WriteFault>
     ensures { Writes result (W.contents writer.old) (W.contents writer.new) (left_line class frames) }
 {
@@ -184,7 +184,7 @@ pub fn put_left<W: Write>(writer: &mut W, class: u8, frames: u64) -> Result<(), 
     )
 }
 
-/// Writes the line of a tc line that is no command. At a fault a front of it is written.
+/// Writes the line of a tc line that is no command. At a fault a prefix of it is written.
 pub fn put_tc_fault<W: Write>(writer: &mut W, fault: TcFault) -> Result<(), WriteFault>
     ensures { Writes result (W.contents writer.old) (W.contents writer.new) (tc_fault_line fault) }
 {

@@ -90,7 +90,7 @@ fn short_near(first: u64, second: u64) -> Option<(u64, u64, u64)>
     Some((front, eight, other))
 }
 
-// The same of numbers of more than 64 bits.
+// All but the last eight digits of two numbers of more than 64 bits where these are the same, and the last eight of each.
 #[inline(always)]
 fn wide_near(first: u128, second: u128) -> Option<(u64, u64, u64)>
     ensures front { IfSome result (λ near. 0 < near.0) }
@@ -110,7 +110,7 @@ fn wide_near(first: u128, second: u128) -> Option<(u64, u64, u64)>
     Some((front as u64, eight as u64, other as u64))
 }
 
-// The same of any two numbers.
+// All but the last eight digits of any two numbers where these are the same, and the last eight of each.
 #[inline(always)]
 fn near(first: u128, second: u128) -> Option<(u64, u64, u64)>
     ensures front { IfSome result (λ near. 0 < near.0) }

@@ -96,7 +96,7 @@ fn add_parts(line: &mut LineBuffer, parts: &[Part<'_>]) -> bool
     true
 }
 
-/// Writes parts, one after another. At a fault a front of their text is written.
+/// Writes parts, one after another. At a fault a prefix of their text is written.
 pub fn put_parts<W: Write>(writer: &mut W, parts: &[Part<'_>]) -> Result<(), WriteFault>
     ensures { Writes result (W.contents writer.old) (W.contents writer.new) (flat_map text_of parts.now) }
 {

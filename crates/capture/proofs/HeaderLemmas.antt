@@ -62,7 +62,7 @@ header_fault_is known Read kind p = tt
 header_fault_is known Write kind p = absurd cc
 header_fault_is known Memory kind p = absurd cc
 
--- a format that a header tells, and what is left behind it
+-- a format that a header has, and what is left behind it
 pub header_read : (known after : Option (List ℕ)) (header : List ℕ) (n : ℕ) (format : Format) → Consumes known after (take n header) → 24 ≤ n → length header ≡ 24 → Ok format ≡ header_format header
     → IfSome known (λ octets. (format_of octets ≡ Ok format) × (after ≡ Some (drop 24 octets)))
 header_read None after header n format took long len is = tt
@@ -81,6 +81,6 @@ header_short (Some octets) (Some rest) header n took short end =
     let few : length octets < 24 = omega (arith, short, ap length took, length-append (take n header) rest, length-take n header, ap length end) in
     rw (lt-ltb _ _ few) refl
 
--- a fault of a header is no wanting memory
+-- a fault of a header is not a lack of memory
 pub not_memory : (f : CapFault) → IsTrue (is_header_fault f) → f ≡ Memory → ⊥
 not_memory f kind is = let memory : IsTrue (is_header_fault Memory) = rw is at kind in cc

@@ -28,7 +28,7 @@ pub record Left (R : Type 0) : Type 0 where
 abbrev pub left : {R A : Type 0} → CaptureReader R A → Left R
 left r = record { format = r.format; number = r.number; in_hand = held r.window; source = r.source; ended = r.ended }
 
--- the octets that are still to come, where the source tells
+-- the octets that are still to come, where the source says
 abbrev pub octets_left : {R : Type 0} → (R → Option (List ℕ)) → Left R → Option (List ℕ)
 octets_left remaining l = prepend_known l.in_hand (remaining l.source)
 
@@ -37,7 +37,7 @@ abbrev pub IsNewReader : {R : Type 0} → (R → Option (List ℕ)) → Option (
 IsNewReader remaining known l = (l.number ≡ 0) × (l.ended ≡ None) × (l.in_hand ≡ [])
     × IfSome known (λ octets. (format_of octets ≡ Ok l.format) × (remaining l.source ≡ Some (drop 24 octets)))
 
--- the octets in hand end before the next record does, so that they don't tell the next answer
+-- the octets in hand end before the next record does, so they don't decide the next answer
 abbrev pub IsWanting : {R : Type 0} → Left R → Type 0
 IsWanting l = fault_at l.format l.number l.in_hand ≡ Some ShortRecord
 

@@ -33,7 +33,7 @@ format_with octets (Some format) =
     else if not (u32_at format.endian (drop 20 octets) == 1) then Err BadLink
     else Ok format
 
--- the format that the 24 octets tell, or what is wrong with them
+-- the format that the 24 octets have, or what is wrong with them
 abbrev pub header_format : List ℕ → Result Format CapFault
 header_format octets = format_with octets (format_by_magic octets)
 
@@ -49,7 +49,7 @@ is_header_fault BadVersion = true
 is_header_fault BadLink = true
 is_header_fault _ = false
 
--- why there is no reader of these octets: the fault of the header, or a read failed, or memory was wanting behind a good header
+-- why there is no reader of these octets: the fault of the header, or a read failed, or it ran out of memory after a good header
 abbrev pub IsHeaderFault : Option (List ℕ) → CapFault → Type 0
 IsHeaderFault known Read = ⊤
 IsHeaderFault known Memory = IfSome known (λ octets. IsOk (format_of octets))

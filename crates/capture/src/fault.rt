@@ -25,6 +25,6 @@ pub enum CapFault {
     Read,
     /// A write failed or took nothing. It isn't tried again.
     Write,
-    /// Memory was wanting.
+    /// Out of memory.
     Memory,
 }

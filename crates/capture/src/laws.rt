@@ -20,7 +20,7 @@ pub fn spelling_law()
 {}
 
 /// The law that calls of `next`, however many, answer the records that the octets still to come are, one by one, and from then on
-/// their end; or a front of those answers and then, from a read that fails on, `Read`.
+/// their end; or a prefix of those answers and then, from a read that fails on, `Read`.
 pub fn answers_law<R: Read, A: Allocator>(reader: &CaptureReader<R, A>)
     ensures { AnswersRecords R.remaining (left reader.now) }
 {}

@@ -58,7 +58,7 @@ written {T} {S} {f} t z reading (Some script) p q x y old new e taken =
     let P : Result T RunFault → Type 0 = λ r. IsDrawn r old new (reading script).fault in
     subst P (sym e) taken.0
 
--- where memory is wanting nothing is written
+-- when out of memory nothing is written
 pub without_memory : {T S : Type 0} {f : Result T RunFault} (o : Option S) (first : S → Option (ℕ × ScriptFault)) (old : Option (List ℕ)) → f ≡ Err Faults.Memory
     → IfSome o (λ s. IsDrawn f old old (first s))
 without_memory None first old e = tt

@@ -21,7 +21,7 @@ abbrev pub fault_in : (List (List ℕ) → Result Command TcFault) → List ℕ 
 fault_in read input = (reading_of read (script_of input)).fault
 
 -- A script with this fault, or with none, was drawn: at Ok, and where a write failed, it has no fault; at a script's fault that is the first of
--- the script; and at a script's fault, at a failed read, and where memory is wanting, nothing was written.
+-- the script; and at a script's fault, at a failed read, and when out of memory, nothing was written.
 abbrev pub IsDrawn : {T : Type 0} → Result T RunFault → Option (List ℕ) → Option (List ℕ) → Option (ℕ × ScriptFault) → Type 0
 IsDrawn (Ok x) old new first = first ≡ None
 IsDrawn (Err (Faults.Script number fault)) old new first = (first ≡ Some (number, fault)) × Keeps old new
@@ -37,7 +37,7 @@ IsDrawnOut (Err Faults.Read) old new first = ⊤
 IsDrawnOut (Err Faults.Write) old new first = ⊤
 IsDrawnOut (Err Faults.Memory) old new first = ⊤
 
--- The end of a run on good values: the status and the told text are those of a result of the run, which is that of the script; what the writer
+-- The end of a run on good values: the status and the reported text are those of a result of the run, which is that of the script; what the writer
 -- got, with what no write let out, is what it had where the script has a fault; and all is let out but after a failed write.
 pub record IsPictureEnding (input : Option (List ℕ)) (ended : Ended) (old got : Option (List ℕ)) (errors_old errors_new : Option (List ℕ)) : Type 0 where
   pub run : Result (Unit {0}) RunFault
@@ -47,7 +47,7 @@ pub record IsPictureEnding (input : Option (List ℕ)) (ended : Ended) (old got 
   pub let_out : (unwritten ≡ []) ⊎ (run ≡ Err Faults.Write)
   pub drawn : (read : List (List ℕ) → Result Command TcFault) → IsReader read → IfSome input (λ octets. IsDrawnOut run old (append_known got unwritten) (fault_in read octets))
 
--- By the settings and the options: a bad value is told, and nothing is drawn; else the run of the input ends.
+-- By the settings and the options: a bad value is reported, and nothing is drawn; else the run of the input ends.
 abbrev pub IsDrawEnding : Result Setup BadValue → Result DrawOptions BadValue → Option (List ℕ) → Ended → (old got errors_old errors_new : Option (List ℕ)) → Type 0
 IsDrawEnding (Err value) options input ended old got errors_old errors_new = IsRefusal value ended old got errors_old errors_new
 IsDrawEnding (Ok setup) (Err value) input ended old got errors_old errors_new = IsRefusal value ended old got errors_old errors_new

@@ -50,7 +50,7 @@ pub const HEIGHT: u32 = BOTTOM + 58;
 /// fonts.
 pub const HALF_CHARACTER: u64 = 350;
 
-/// The window of a picture, its width, and the rate and the mtu that it tells.
+/// The window of a picture, its width, and the rate and the mtu that it shows.
 #[derive(Clone, Copy, Debug)]
 pub struct Page {
     /// The time that is shown, and the width of that part of the picture.

@@ -87,7 +87,7 @@ fn take_command<A: Allocator>(
     }
 }
 
-// Takes what a line says, if it says something. What is wrong with a line that begins with `tc` is told by a run of the script, and isn't
+// Takes what a line says, if it says something. What is wrong with a line that begins with `tc` is reported by a run of the script, and isn't
 // drawn.
 fn take_line<A: Allocator>(
     port: &mut RunningPort<A>,
@@ -201,7 +201,7 @@ fn draw_lines<A: Allocator, B: Allocator, R: Read + Drop, W: Write>(
     Ok(())
 }
 
-// The same, with nothing drawn yet.
+// Runs the input and writes its picture, with nothing drawn yet.
 fn draw_course<B: Allocator, R: Read + Drop, W: Write>(
     alloc: &Global,
     port: &mut RunningPort<Global>,
@@ -218,7 +218,7 @@ fn draw_course<B: Allocator, R: Read + Drop, W: Write>(
     draw_lines(port, bands, &mut course, lines, writer, settings, options)
 }
 
-// The same, with no bands yet.
+// Runs the input and writes its picture, with no bands yet.
 fn draw_bands<B: Allocator, R: Read + Drop, W: Write>(
     alloc: &Global,
     port: &mut RunningPort<Global>,
@@ -234,7 +234,7 @@ fn draw_bands<B: Allocator, R: Read + Drop, W: Write>(
     draw_course(alloc, port, &mut bands, lines, writer, settings, options)
 }
 
-// The same, on a new port.
+// Runs the input and writes its picture, on a new port.
 fn draw_port<B: Allocator, R: Read + Drop, W: Write>(
     alloc: &Global,
     lines: &mut LineReader<R, B>,
@@ -255,8 +255,8 @@ fn draw_port<B: Allocator, R: Read + Drop, W: Write>(
     draw_bands(alloc, &mut port, lines, writer, settings, options)
 }
 
-/// Runs a script to its end, and writes the picture of its run. At the first fault of the script, at a failed read, and where memory is wanting,
-/// nothing is written; at a failed write a front of the picture.
+/// Runs a script to its end, and writes the picture of its run. At the first fault of the script, at a failed read, and when out of memory,
+/// nothing is written; at a failed write a prefix of the picture.
 pub fn draw<R: Read + Drop, W: Write>(
     alloc: Global,
     reader: R,

@@ -88,7 +88,7 @@ fn join_in<A: Allocator>(rows: &mut [Row<A>; 9], row: u8, gap: u128)
     rows[row as usize].join(gap);
 }
 
-// The same in each row.
+// Neighbours in each row that are closer to one another than a gap, in picoseconds, are joined.
 fn join_rows<A: Allocator>(rows: &mut [Row<A>; 9], gap: u128)
     ensures { (row : ℕ) → row < ROWS → row_at rows.new row ≡ joined_at gap (row_at rows.old row) }
 {

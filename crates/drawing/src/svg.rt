@@ -14,7 +14,7 @@ use picture::{Bands, tick_step, unit_of};
 use std::alloc::Allocator;
 use std::io::Write;
 
-/// How the parts of the picture look: told apart by lightness and by form, so that they are in black and white too; and light on dark where the
+/// How the parts of the picture look: set apart by lightness and by form, so that they are in black and white too; and light on dark where the
 /// reader asks for that.
 const STYLE: &[u8] = b"<style>
 svg{background:#fff}
@@ -253,7 +253,7 @@ fn put_row<A: Allocator, W: Write>(
     put_drops(writer, page, top, shapes.drops(row))
 }
 
-/// Writes the picture of these bands and shapes. At a fault a front of it is written.
+/// Writes the picture of these bands and shapes. At a fault a prefix of it is written.
 pub fn put_picture<A: Allocator, W: Write>(
     writer: &mut W,
     page: &Page,

@@ -1,4 +1,4 @@
-//! Tests of `drawing`, by its public calls: what stands in the text of a picture.
+//! Tests of `drawing`, by its public calls.
 #![tactic(auto)]
 
 #[cfg(test)]

@@ -1,4 +1,4 @@
-//! A port inside another program: a schedule is built and installed, two frames arrive, the clock runs, and each start is told.
+//! A port inside another program: a schedule is built and installed, two frames arrive, the clock runs, and each start is reported.
 #![tactic(auto)]
 
 use abstract_port::{Answer, Change, Command, Event};

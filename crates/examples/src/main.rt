@@ -97,7 +97,7 @@ fn agrees<R: Files + AllocGlobal>(
     Ok(answers_with(rt, script.as_bytes(), answers.as_bytes(), summary))
 }
 
-/// Whether an example of a check is told with the octets that lie beside it, at 1000 Mb/s, with windows or without.
+/// Whether an example of a check is reported with the octets that lie beside it, at 1000 Mb/s, with windows or without.
 fn check_agrees<R: Files + AllocGlobal>(
     rt: &R,
     schedules: &str,

@@ -301,7 +301,7 @@ time_told cyc cycle starts i c whole are l m =
     ∙ (ap (λ n. cond (ltb c i) (length_of cyc - n + get_or starts c 0) (get_or starts c 0 - n)) from
     ∙ ap (λ n. cond (ltb c i) (length_of cyc - length_of (take i cyc) + n) (n - length_of (take i cyc))) upto)
 
--- what a table tells where a slot is
+-- what a table says where a slot is
 told_there : (cyc : List Slot) (table : Table) (class i : ℕ) → table.cycle ≡ length_of cyc → AreStarts cyc table.starts → i < length cyc → (all : Bool) → is_open_in_all cyc class ≡ all → (all ≡ false → Closes cyc class i (closing_at table.closing i class))
     → cond all Always (Lasts (time_to table.cycle table.starts i (closing_at table.closing i class))) ≡ told_stay (cond all None (Some (run_of (drop i cyc ++ cyc) class)))
 told_there cyc table class i whole are l true is row = refl

@@ -71,7 +71,7 @@ stay_told cycle i class = if nat_lt i (length cycle) then told_stay (stay cycle 
 abbrev pub HasStays : List Slot → Table → Type 0
 HasStays cycle table = (class i : ℕ) → class < CLASSES → stay_at table class i ≡ stay_told cycle i class
 
--- what a table tells stands in the places of its slots
+-- what a table says stands in the places of its slots
 pub record IsWithin (table : Table) : Type 0 where
   pub few : table.shown ≤ MAX_ENTRIES
   pub listed : (class i : ℕ) → class < CLASSES → i < table.shown → opens table.always class ≡ false → closing_at table.closing i class < table.shown

@@ -1,4 +1,4 @@
-//! Schedules: a gate control list with its times, and what it tells of open time.
+//! Schedules: a gate control list with its times, and what it says about open time.
 ghost use Rattle.std.specs.Prelude.{◌≡◌, ◌<◌, ◌≤◌, ◌+◌, ◌^◌, OnErr, OnOk, Some, length, max, slice_get, sum_by};
 ghost use Rattle.gate_list.specs.Closed.{closed_plan};
 ghost use Rattle.gate_list.specs.Gate.{Plan, IsPlan, IsSchedule, in_ps, prefix, change_of, boundary_from, plan_with, plan_fault, ok_unless, least_interval, first_shorter, keeps_apart, is_apart_in};
@@ -224,7 +224,7 @@ impl Schedule {
         copy_plan(other, self);
     }
 
-    /// The same schedule in a place of its own.
+    /// A copy of this schedule.
     pub fn copied(&self) -> Schedule
         ensures { result ≡ self.now }
     {

@@ -199,7 +199,7 @@ fn copy_places(from: &[u8; PLACES], count: usize, rows: &mut [u8; PLACES])
     rows[..count].copy_from_slice(&from[..count]);
 }
 
-/// What a table tells is written where another one is kept: of its places those that it uses.
+/// What a table says is written where another one is kept: of its places those that it uses.
 pub(crate) fn copy_table(from: &Table, table: &mut Table)
     requires { IsWithin from.now }
     ensures stays { (class i : ℕ) → class < CLASSES → stay_at table.new class i ≡ stay_at from.now class i }

@@ -16,7 +16,7 @@ fn schedule_of(rt: &impl Abort, entries: &[Entry], cycle_ns: u64) -> Schedule {
     Schedule::new(&list, 0, cycle_ns, 0, rate).expect(rt, "a schedule")
 }
 
-/// The stay that a row tells.
+/// The stay that a row says.
 fn stay_in(rt: &impl Abort, schedule: &Schedule, i: usize, class: usize) -> Stay {
     assert!(rt; i < schedule.len());
     assert!(rt; class < 8);

@@ -1,9 +1,7 @@
 //! Each growth refused in turn, until a run meets none: once that growth alone, and once all from it on. Of what is answered then and
-//! of what was written before, nothing is left open but how much was written. A body that always answers `Memory` fails each of these
-//! tests, since the last runs meet no refusal.
+//! of what was written before, nothing is left open but how much was written. A body that always answers `Memory` comes
+//! out otherwise than it should, since the last runs meet no refusal.
 
-#[cfg(test)]
-use super::rows::make_given;
 use super::rows::{Given, Job, Replaying, Runs, hundred_frames};
 use abstract_port::{Answer, Event, Start};
 use capture::{CapFault, CaptureReader};
@@ -16,8 +14,6 @@ use replay::ReplayFault;
 use script::RunFault;
 use std::alloc::Global;
 use std::io;
-#[cfg(test)]
-use std::test::Fail;
 use wire_time::Frame;
 
 /// The heap of the run with this number: each growth has two runs, one in which it alone is refused, and one with all behind it.
@@ -42,11 +38,6 @@ pub fn queue(alloc: Global) -> Runs {
     runs
 }
 
-#[test]
-fn a_queue_wants_its_room(rt: HostRuntime) {
-    assert_eq!(rt; queue(rt.alloc()), Runs::right(2, 4));
-}
-
 /// A new port.
 pub fn port(given: &Given, alloc: Global) -> Runs {
     let mut runs = Runs::none();
@@ -59,11 +50,6 @@ pub fn port(given: &Given, alloc: Global) -> Runs {
     runs
 }
 
-#[test]
-fn a_port_wants_the_room_of_eight_queues(rt: HostRuntime) {
-    assert_eq!(rt; port(&make_given(&rt), rt.alloc()), Runs::right(16, 4));
-}
-
 /// A new reader of lines.
 pub fn line_reader(alloc: Global) -> Runs {
     let mut runs = Runs::none();
@@ -74,11 +60,6 @@ pub fn line_reader(alloc: Global) -> Runs {
         runs.count(refused, fails == refused);
     }
     runs
-}
-
-#[test]
-fn a_line_reader_wants_its_room(rt: HostRuntime) {
-    assert_eq!(rt; line_reader(rt.alloc()), Runs::right(4, 4));
 }
 
 /// A new reader of a capture of a hundred frames.
@@ -94,11 +75,6 @@ pub fn capture_reader(alloc: Global) -> Runs {
         runs.count(refused, fault == refused.then_some(CapFault::Memory));
     }
     runs
-}
-
-#[test]
-fn a_capture_reader_wants_the_room_of_a_record(rt: HostRuntime) {
-    assert_eq!(rt; capture_reader(rt.alloc()), Runs::right(2, 4));
 }
 
 /// Forty frames of class 0 that arrive at once, and a clock event by which all have left.
@@ -179,7 +155,7 @@ fn run_of_forty(
     Some((refused, taken, stopped && goes_on))
 }
 
-/// Forty frames through a port. Where memory is wanting, the events that are left go on as if nothing had happened, also where it is
+/// Forty frames through a port. When out of memory, the events that are left go on as if nothing had happened, also where it is
 /// wanting between two starts of one clock event. A body that always says that it took no event fails, since the last runs want none.
 pub fn run_of_events(given: &Given, alloc: Global) -> Runs {
     let Ok(events) = forty_frames(alloc) else {
@@ -195,14 +171,6 @@ pub fn run_of_events(given: &Given, alloc: Global) -> Runs {
         before = taken;
     }
     runs
-}
-
-#[test]
-fn a_run_goes_on_where_it_stopped(rt: HostRuntime) {
-    assert_eq!(rt;
-        run_of_events(&make_given(&rt), rt.alloc()),
-        Runs::right(12, 4)
-    );
 }
 
 /// Runs a job until no growth is refused.
@@ -221,24 +189,6 @@ pub fn of_job(given: &Given, alloc: Global, job: Job) -> Runs {
     runs
 }
 
-#[test]
-fn a_script_of_one_frame(rt: HostRuntime) {
-    let runs = of_job(&make_given(&rt), rt.alloc(), Job::OneFrame);
-    assert_eq!(rt; runs, Runs::right(20, 10));
-}
-
-#[test]
-fn a_script_with_a_full_queue(rt: HostRuntime) {
-    let runs = of_job(&make_given(&rt), rt.alloc(), Job::FullQueue);
-    assert_eq!(rt; runs, Runs::right(20, 10));
-}
-
-#[test]
-fn a_check_of_two_schedules(rt: HostRuntime) {
-    let runs = of_job(&make_given(&rt), rt.alloc(), Job::TwoSchedules);
-    assert_eq!(rt; runs, Runs::right(4, 26));
-}
-
 /// Runs a replay until no growth is refused.
 pub fn of_replay(given: &Given, alloc: Global, replaying: &Replaying) -> Runs {
     let mut runs = Runs::none();
@@ -254,20 +204,4 @@ pub fn of_replay(given: &Given, alloc: Global, replaying: &Replaying) -> Runs {
         runs.count(refused, told && front);
     }
     runs
-}
-
-#[test]
-fn a_replay_of_two_frames(rt: HostRuntime) -> Result<(), Fail> {
-    let replaying = Replaying::two_frames(rt.alloc())?;
-    let runs = of_replay(&make_given(&rt), rt.alloc(), &replaying);
-    assert_eq!(rt; runs, Runs::right(42, 58));
-    Ok(())
-}
-
-#[test]
-fn a_replay_of_a_hundred_frames(rt: HostRuntime) -> Result<(), Fail> {
-    let replaying = Replaying::hundred_frames(rt.alloc())?;
-    let runs = of_replay(&make_given(&rt), rt.alloc(), &replaying);
-    assert_eq!(rt; runs, Runs::right(40, 60));
-    Ok(())
 }

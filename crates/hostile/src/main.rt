@@ -1,15 +1,10 @@
-//! Hostile use, by public calls: memory, reads and writes refused in turn, and truncated and malicious input. The tests assert what comes
-//! of each run; the program makes those with refusals once more, and prints how many there are.
+//! Hostile use, by public calls: memory, reads and writes refused in turn. Each run is compared with what has to come of it, and the program
+//! prints how many there are, and how many came out otherwise.
 #![tactic(auto)]
 
 mod growths;
-#[cfg(test)]
-mod inputs;
-#[cfg(test)]
-mod random;
 mod rows;
 mod streams;
-#[cfg(test)]
 mod telling;
 
 use rows::{Given, Job, Replaying, Runs};
@@ -110,11 +105,13 @@ fn reads_and_writes(
     ]
 }
 
-/// What is printed: the growths of each call, and its reads and writes.
+/// What is printed: the growths of each call, its reads and writes, the reads of a header, and the calls that say that they are out of memory.
 #[derive(Clone, Copy)]
 struct Counts {
     growths: [(&'static str, Runs); 10],
     streams: [(&'static str, (Runs, Runs)); 5],
+    header: Runs,
+    told: Runs,
 }
 
 /// Makes all runs.
@@ -126,6 +123,8 @@ fn count_all(given: &Given, alloc: Global) -> io::Result<Counts> {
     Ok(Counts {
         growths: each_growth(given, alloc, &replays),
         streams: reads_and_writes(given, alloc, &replays),
+        header: streams::reads_of_a_header(alloc, replays.hundred.capture.as_slice()),
+        told: telling::of_each_call(given, alloc)?,
     })
 }
 
@@ -166,6 +165,20 @@ fn main(rt: HostRuntime) -> io::Result<()> {
     let counts = count_all(&given, rt.alloc())?;
     let mut all = print_growths(&rt, &counts)?;
     all.add(print_streams(&rt, &counts)?);
+    print_runs(
+        &rt,
+        "the header of a capture",
+        "a read turned",
+        counts.header,
+    )?;
+    print_runs(
+        &rt,
+        "the text of each job",
+        "each growth refused",
+        counts.told,
+    )?;
+    all.add(counts.header);
+    all.add(counts.told);
     print_runs(&rt, "in all", "one refused or turned", all)?;
     println!(rt; "{} of them came out otherwise than they should", all.wrong)
 }

@@ -1,17 +1,11 @@
-//! What the tests feed: jobs over lines, replays, and settings.
+//! What is fed: jobs over lines, replays, and settings.
 
 use capture::{CAPTURE_END, CaptureWriter};
-#[cfg(test)]
-use replay::say_replay_fault;
 use replay::{ReplayFault, Unwatched, replay};
 use schedule_check::{CheckSettings, check};
-#[cfg(test)]
-use script::say_fault;
 use script::{RunFault, Settings, run_script};
 use std::alloc::{Allocator, Global};
 use std::io::{self, Read, Write};
-#[cfg(test)]
-use std::process::Abort;
 use test_streams::{BOTH_LEFT, BOTH_TOLD, TWO_RECORDS};
 use wire_time::Rate;
 
@@ -39,7 +33,7 @@ queues 1@0 1@1 2@2 base-time 1528743495910289987 sched-entry S 01 300000 sched-e
 clockid CLOCK_TAI\n\
 tc qdisc replace dev eth0 root taprio num_tc 8 map 0 1 2 3 4 5 6 7 sched-entry S 01 300000 sched-entry S 03 300000\n";
 
-/// What is told of them at 1 Gb/s.
+/// What is reported of them at 1 Gb/s.
 const TOLD: &[u8] = b"apart 0 1 2\napart 2 3 4 5 6 7\n";
 
 /// The moment that replays are run to, in picoseconds.
@@ -119,30 +113,6 @@ impl Given {
     }
 }
 
-/// What all runs are given.
-#[cfg(test)]
-pub fn make_given(rt: &impl Abort) -> Given {
-    Given::new().expect(rt, "settings")
-}
-
-/// The same settings with another moment to run to.
-#[cfg(test)]
-pub fn settings(rt: &impl Abort, until: Option<u128>) -> Settings {
-    Settings::new(make_given(rt).rate, 1500, 2, until).expect(rt, "settings")
-}
-
-/// How schedules are checked.
-#[cfg(test)]
-pub fn as_told(rt: &impl Abort) -> CheckSettings {
-    make_given(rt).checked
-}
-
-/// Settings that run to behind all frames.
-#[cfg(test)]
-pub fn to_the_end(rt: &impl Abort) -> Settings {
-    make_given(rt).to_the_end
-}
-
 /// A capture of a hundred untagged frames of 60 octets, from 2 s on one every 10 microseconds.
 pub fn hundred_frames(alloc: Global) -> io::Result<Vec<u8>> {
     let mut octets = Vec::new(alloc);
@@ -168,21 +138,11 @@ pub struct Replayed {
 
 /// A replay of a capture in memory, without script lines.
 pub fn replay_in_memory(alloc: Global, capture: &[u8], settings: Settings) -> Replayed {
-    replay_with_lines(alloc, b"", capture, settings)
-}
-
-/// A replay of a script and a capture in memory.
-pub fn replay_with_lines(
-    alloc: Global,
-    lines: &[u8],
-    capture: &[u8],
-    settings: Settings,
-) -> Replayed {
     let mut report = Vec::new(alloc);
     let mut written = Vec::new(alloc);
     let result = replay(
         alloc,
-        lines,
+        b"".as_slice(),
         capture,
         &mut written,
         &mut report,
@@ -194,26 +154,6 @@ pub fn replay_with_lines(
         report,
         capture: written,
     }
-}
-
-/// Whether this is what the program says of how a script or a check ended: nothing where it met no fault.
-#[cfg(test)]
-pub fn is_said(alloc: Global, outcome: Result<(), RunFault>, text: &[u8]) -> bool {
-    let mut said = Vec::new(alloc);
-    if let Err(fault) = outcome {
-        say_fault(&fault, &mut said);
-    }
-    said.as_slice() == text
-}
-
-/// Whether this is what the program says of how a replay ended: nothing where it met no fault.
-#[cfg(test)]
-pub fn is_said_of_replay(alloc: Global, outcome: Result<(), ReplayFault>, text: &[u8]) -> bool {
-    let mut said = Vec::new(alloc);
-    if let Err(fault) = outcome {
-        say_replay_fault(&fault, &mut said);
-    }
-    said.as_slice() == text
 }
 
 /// A replay that meets no fault: the capture that is read, the report, and the capture that is written.
@@ -271,7 +211,7 @@ impl Replaying {
         )
     }
 
-    /// Whether what was written is a front of what is to be written, and all of it where the replay met no fault.
+    /// Whether what was written is a prefix of what is to be written, and all of it where the replay met no fault.
     pub fn is_front(&self, departures: &[u8], report: &[u8], whole: bool) -> bool {
         self.departures.as_slice().starts_with(departures)
             && self.report.as_slice().starts_with(report)
@@ -307,16 +247,6 @@ impl Runs {
             met: 0,
             free: 0,
             wrong: 1,
-        }
-    }
-
-    /// All came out as they should.
-    #[cfg(test)]
-    pub fn right(met: u32, free: u32) -> Runs {
-        Runs {
-            met,
-            free,
-            wrong: 0,
         }
     }
 

@@ -1,21 +1,12 @@
 //! Reads and writes that fail, in turn, once or for ever, are cut short to one octet, or give or take nothing, until a run meets none of
-//! it. A body that always answers `Read` or `Write` fails each of these tests, since the last runs meet nothing.
+//! it. A body that always answers `Read` or `Write` comes out otherwise than it should, since the last runs meet nothing.
 
 use super::rows::{Given, Job, Replaying, Runs, replay_in_memory};
-#[cfg(test)]
-use super::rows::{hundred_frames, make_given};
-#[cfg(test)]
 use capture::{CapFault, CaptureReader};
 use replay::ReplayFault;
 use script::RunFault;
 use std::alloc::Global;
-#[cfg(test)]
-use std::process::Abort;
-#[cfg(test)]
-use std::test::Fail;
-#[cfg(test)]
-use test_streams::Pieces;
-use test_streams::{Tally, Turn, TurningReader, TurningWriter, nth_turn};
+use test_streams::{Pieces, Tally, Turn, TurningReader, TurningWriter, nth_turn};
 
 /// One piece is all that is asked for.
 const WHOLE: usize = usize::MAX;
@@ -23,12 +14,6 @@ const WHOLE: usize = usize::MAX;
 /// How many runs there are where so many calls are met in four ways each, and four more.
 pub fn runs_for(calls: u32) -> u32 {
     calls.saturating_mul(4).saturating_add(4)
-}
-
-/// What those runs meet.
-#[cfg(test)]
-fn four_each(calls: u32) -> Runs {
-    Runs::right(calls.saturating_mul(4), 4)
 }
 
 /// Whether a job over these lines comes out so, and is answered so.
@@ -80,16 +65,6 @@ pub fn pieces_of_input(job: Job) -> [(usize, u32); 2] {
     [(WHOLE, 2), (1, job.input().len().min(1000) as u32 + 1)]
 }
 
-#[test]
-fn each_read_of_a_job(rt: HostRuntime) {
-    for job in [Job::OneFrame, Job::FullQueue, Job::TwoSchedules] {
-        for (piece, reads) in pieces_of_input(job) {
-            let runs = reads_of(&make_given(&rt), rt.alloc(), job, piece, runs_for(reads));
-            assert_eq!(rt; runs, four_each(reads));
-        }
-    }
-}
-
 /// A run of a job whose writer does something else at one call: whether it came to that call, and came out as it should.
 fn write_in_turn(given: &Given, alloc: Global, job: Job, piece: usize, run: u32) -> (bool, bool) {
     let (at, turn) = nth_turn(run);
@@ -125,16 +100,6 @@ pub fn pieces_of_output(job: Job) -> [(usize, u32); 2] {
         Job::TwoSchedules => 13,
     };
     [(WHOLE, parts), (1, job.output().len().min(1000) as u32)]
-}
-
-#[test]
-fn each_write_of_a_job(rt: HostRuntime) {
-    for job in [Job::OneFrame, Job::FullQueue, Job::TwoSchedules] {
-        for (piece, writes) in pieces_of_output(job) {
-            let runs = writes_of(&make_given(&rt), rt.alloc(), job, piece, runs_for(writes));
-            assert_eq!(rt; runs, four_each(writes));
-        }
-    }
 }
 
 /// Whether the replay of a capture comes out so, and writes this.
@@ -201,33 +166,8 @@ pub fn reads_of_capture(
 /// octet.
 pub const PIECES_OF_TWO_FRAMES: [(usize, u32); 2] = [(WHOLE, 3), (1, 93)];
 
-/// The same of a hundred frames: the header, what is behind it, and the end; and the header and then record by record.
+/// Pieces in which the capture of a hundred frames is read, and how many reads those are: the header, what is behind it, and the end; and the header and then record by record.
 pub const PIECES_OF_A_HUNDRED_FRAMES: [(usize, u32); 2] = [(WHOLE, 3), (76, 102)];
-
-/// Each read of a replay's capture meets what it should.
-#[cfg(test)]
-fn assert_reads<R: Abort + AllocGlobal>(rt: &R, replaying: &Replaying, pieces: [(usize, u32); 2]) {
-    let given = make_given(rt);
-    for (piece, reads) in pieces {
-        let most = runs_for(reads);
-        let runs = reads_of_capture(&given, rt.alloc(), replaying, piece, most);
-        assert_eq!(rt; runs, four_each(reads));
-    }
-}
-
-#[test]
-fn each_read_of_two_frames(rt: HostRuntime) -> Result<(), Fail> {
-    let replaying = Replaying::two_frames(rt.alloc())?;
-    assert_reads(&rt, &replaying, PIECES_OF_TWO_FRAMES);
-    Ok(())
-}
-
-#[test]
-fn each_read_of_a_hundred_frames(rt: HostRuntime) -> Result<(), Fail> {
-    let replaying = Replaying::hundred_frames(rt.alloc())?;
-    assert_reads(&rt, &replaying, PIECES_OF_A_HUNDRED_FRAMES);
-    Ok(())
-}
 
 /// A run of a replay one of whose writers does something else at one call: whether it came to that call, and came out as it should.
 fn write_of_replay(
@@ -283,50 +223,20 @@ pub fn writes_of_replay(
 /// How many writes the report of two frames takes, and how many the output capture.
 pub const WRITES_OF_TWO_FRAMES: [(bool, u32); 2] = [(true, 4), (false, 5)];
 
-/// The same of a hundred frames.
+/// How many writes the report of a hundred frames takes, and how many the output capture.
 pub const WRITES_OF_A_HUNDRED_FRAMES: [(bool, u32); 2] = [(true, 200), (false, 201)];
 
-/// Each write of both outputs of a replay meets what it should.
-#[cfg(test)]
-fn assert_writes<R: Abort + AllocGlobal>(rt: &R, replaying: &Replaying, outputs: [(bool, u32); 2]) {
-    let given = make_given(rt);
-    for (of_report, writes) in outputs {
-        let most = runs_for(writes);
-        let runs = writes_of_replay(&given, rt.alloc(), replaying, of_report, most);
-        assert_eq!(rt; runs, four_each(writes));
-    }
-}
-
-#[test]
-fn each_write_of_two_frames(rt: HostRuntime) -> Result<(), Fail> {
-    let replaying = Replaying::two_frames(rt.alloc())?;
-    assert_writes(&rt, &replaying, WRITES_OF_TWO_FRAMES);
-    Ok(())
-}
-
-#[test]
-fn each_write_of_a_hundred_frames(rt: HostRuntime) -> Result<(), Fail> {
-    let replaying = Replaying::hundred_frames(rt.alloc())?;
-    assert_writes(&rt, &replaying, WRITES_OF_A_HUNDRED_FRAMES);
-    Ok(())
-}
-
-/// What a capture reader answers one of whose reads of an octet fails, in a run with this number: each read has two, once and for ever.
-#[cfg(test)]
-fn fault_of_header(alloc: Global, capture: &[u8], run: u32) -> Option<CapFault> {
-    let mut reader = Pieces::new(capture, 1);
-    reader.fails_at = run / 2;
-    reader.recovers = run % 2 == 0;
-    CaptureReader::new(alloc, reader).err()
-}
-
-/// A capture reader whose first reads fail answers that, and one whose reads don't reads on.
-#[test]
-fn each_read_of_a_header(rt: HostRuntime) -> Result<(), Fail> {
-    let capture = hundred_frames(rt.alloc())?;
+/// All runs of a new reader of a capture that gets an octet at a time, of which one read fails: each of the first 24, once and for ever.
+/// One whose reads don't fail reads on.
+pub fn reads_of_a_header(alloc: Global, capture: &[u8]) -> Runs {
+    let mut runs = Runs::none();
     for run in 0..60u32 {
-        let fault = fault_of_header(rt.alloc(), capture.as_slice(), run);
-        assert_eq!(rt; fault, (run / 2 < 24).then_some(CapFault::Read));
+        let mut reader = Pieces::new(capture, 1);
+        reader.fails_at = run / 2;
+        reader.recovers = run % 2 == 0;
+        let fault = CaptureReader::new(alloc, reader).err();
+        let fails = run / 2 < 24;
+        runs.count(fails, fault == fails.then_some(CapFault::Read));
     }
-    Ok(())
+    runs
 }

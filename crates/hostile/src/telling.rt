@@ -1,13 +1,12 @@
-//! Where memory is wanting, each of the calls that the program makes ends with status 4 and its text, and nothing is answered.
+//! When out of memory, each of the calls that the program makes ends with status 4 and its text, and nothing is answered.
 
-use super::rows::{Job, to_the_end};
+use super::rows::{Given, Job, Runs};
 use refusing_heap::RefusingHeap;
 use replay::{Inputs, Outputs, Unwatched, answer_replay};
 use schedule_check::answer_check;
 use script::{Ended, Settings, Values, answer_script};
 use std::alloc::Global;
 use std::io::{self, BufWriter};
-use std::test::Fail;
 use test_streams::TWO_RECORDS;
 use traffic::answer_streams;
 
@@ -17,7 +16,7 @@ const OUT_OF_MEMORY: Ended = Ended {
     told: true,
 };
 
-/// What is told.
+/// What is reported.
 const TEXT: &[u8] = b"taprio_port: out of memory\n";
 
 /// No option is given.
@@ -37,12 +36,12 @@ fn no_heap(alloc: Global) -> RefusingHeap<Global> {
     RefusingHeap::new(alloc, 0, false)
 }
 
-/// Whether a call ended so, told it, and answered nothing.
+/// Whether a call ended so, reported it, and answered nothing.
 fn is_told(ended: Ended, errors: &[u8], answers: &[u8]) -> bool {
     ended == OUT_OF_MEMORY && errors == TEXT && answers.is_empty()
 }
 
-/// Whether a script tells it.
+/// Whether a script reports it.
 fn script_tells(alloc: Global) -> io::Result<bool> {
     let answers = BufWriter::new(alloc, Vec::new(alloc))?;
     let heap = no_heap(alloc);
@@ -52,13 +51,7 @@ fn script_tells(alloc: Global) -> io::Result<bool> {
     Ok(is_told(ended, &errors, &written))
 }
 
-#[test]
-fn of_a_script(rt: HostRuntime) -> Result<(), Fail> {
-    assert!(rt; script_tells(rt.alloc())?);
-    Ok(())
-}
-
-/// Whether a check tells it.
+/// Whether a check reports it.
 fn check_tells(alloc: Global) -> io::Result<bool> {
     let answers = BufWriter::new(alloc, Vec::new(alloc))?;
     let heap = no_heap(alloc);
@@ -68,13 +61,7 @@ fn check_tells(alloc: Global) -> io::Result<bool> {
     Ok(is_told(ended, &errors, &written))
 }
 
-#[test]
-fn of_a_check(rt: HostRuntime) -> Result<(), Fail> {
-    assert!(rt; check_tells(rt.alloc())?);
-    Ok(())
-}
-
-/// Whether a table of streams tells it.
+/// Whether a table of streams reports it.
 fn table_tells(alloc: Global) -> io::Result<bool> {
     let answers = BufWriter::new(alloc, Vec::new(alloc))?;
     let heap = no_heap(alloc);
@@ -84,13 +71,7 @@ fn table_tells(alloc: Global) -> io::Result<bool> {
     Ok(is_told(ended, &errors, &written))
 }
 
-#[test]
-fn of_a_table_of_streams(rt: HostRuntime) -> Result<(), Fail> {
-    assert!(rt; table_tells(rt.alloc())?);
-    Ok(())
-}
-
-/// Whether a replay tells it.
+/// Whether a replay reports it.
 fn replay_tells(alloc: Global, settings: Settings) -> io::Result<bool> {
     let inputs = Inputs {
         script: b"".as_slice(),
@@ -113,8 +94,12 @@ fn replay_tells(alloc: Global, settings: Settings) -> io::Result<bool> {
     Ok(is_told(ended, &errors, &report) && departures.is_empty())
 }
 
-#[test]
-fn of_a_replay(rt: HostRuntime) -> Result<(), Fail> {
-    assert!(rt; replay_tells(rt.alloc(), to_the_end(&rt))?);
-    Ok(())
+/// All four calls.
+pub fn of_each_call(given: &Given, alloc: Global) -> io::Result<Runs> {
+    let mut runs = Runs::none();
+    runs.count(true, script_tells(alloc)?);
+    runs.count(true, check_tells(alloc)?);
+    runs.count(true, table_tells(alloc)?);
+    runs.count(true, replay_tells(alloc, given.to_the_end)?);
+    Ok(runs)
 }

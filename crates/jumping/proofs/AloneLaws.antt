@@ -143,7 +143,7 @@ searched_lone slots list lone needs from before r found =
     (subst (λ (p : Option Accepted). Searched (mask_in (stretches_from (Some (accepted_list list)) (cons_some p (cons_some slots.commands.announced [])))) needs from before r) (sym lone.pending)
     (subst (λ (x : Option Accepted). Searched (mask_in (stretches_from (Some (accepted_list list)) (cons_some None (cons_some x [])))) needs from before r) (sym lone.announced) found))
 
--- and so it tells whether a class stays open
+-- and so it says whether a class stays open
 pub open_lone : (slots : Standing) (list : AcceptedList) → IsLoneList slots list → (class from d : ℕ) (a : Bool) → a ≡ open_while (shows_alone list) class from d → a ≡ open_while (mask_in (stretches_from slots.commands.in_force (cons_some slots.commands.pending (cons_some slots.commands.announced [])))) class from d
 open_lone slots list lone class from d a is =
     subst (λ (f : Option Accepted). a ≡ open_while (mask_in (stretches_from f (cons_some slots.commands.pending (cons_some slots.commands.announced [])))) class from d) (sym lone.in_force)

@@ -1,4 +1,4 @@
-//! The search in a list that no other command follows: what it shows repeats for ever, so that one cycle tells of all.
+//! The search in a list that no other command follows: what it shows repeats for ever, so that one cycle decides all.
 ghost use Rattle.std.specs.Prelude.{◌≡◌, ℕ, ◌+◌, ◌*◌, ◌<◌, ◌≤◌, IfSome, Some, None, true, false, All, length, min, slice_get};
 ghost use Rattle.std.specs.Option.{ForSome};
 ghost use Rattle.wire_time.specs.Moment.{greatest_moment};
@@ -96,7 +96,7 @@ impl LoneSearch<'_> {
         false
     }
 
-    /// Whether some class fits where the list stands so at a moment. Where none of those with a need is open, their masks tell.
+    /// Whether some class fits where the list stands so at a moment. Where none of those with a need is open, their masks decide.
     fn fits_at(&self, from: u128, position: &Position) -> bool
         requires alone { IsAlone self.now }
         requires stands { IsPlaced self.now.list.now.schedule self.now.list.now.change None from position.now }

@@ -107,7 +107,7 @@ fn lone_list(slots: &Slots) -> Option<&AcceptedList>
 }
 
 /// Whether a class stays open from now on, by the commands that count. Where no other command is to come, which is mostly so, the list
-/// in force tells it. Apart, so that the loop over the classes stays small: mostly a class is shut now, or needs less than what is left
+/// in force decides. Apart, so that the loop over the classes stays small: mostly a class is shut now, or needs less than what is left
 /// up to the next edge.
 #[inline(never)]
 fn stays_open_from_now(slots: &Slots, resumed: &Option<Position>, need: Need) -> bool

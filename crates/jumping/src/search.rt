@@ -103,8 +103,8 @@ struct ListSearch<'a> {
 }
 
 impl ListSearch<'_> {
-    /// Whether some class fits where a list stands so at a moment. Where nothing follows it, its position tells, and no leg is made:
-    /// a leg is as large as all that is looked at. Else the mask tells first whether one is worth making.
+    /// Whether some class fits where a list stands so at a moment. Where nothing follows it, its position decides, and no leg is made:
+    /// a leg is as large as all that is looked at. Else the mask shows first whether one is worth making.
     fn fits_at(&self, leg: &ListedLeg<'_>, from: u128, position: &Position) -> bool
         requires ready { AreReady (Listed (record leg.now { from = from; position = position.now })) self.now.rest.now }
         requires unended { ForSome leg.now.until (λ u. from < u) }

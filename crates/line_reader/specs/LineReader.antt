@@ -48,7 +48,7 @@ progress_of r = record { octets = r.line.items; first = r.first; breaks = r.brea
 abbrev pub script_within : {R A : Type 0} → (R → Option (List ℕ)) → LineReader R A → Option Script
 script_within remaining r = option_map (script_from (progress_of r)) (octets_left remaining r.source)
 
--- between lines: the lines to come, where the reader tells
+-- between lines: the lines to come, where the reader says
 abbrev pub script_ahead : {R A : Type 0} → (R → Option (List ℕ)) → LineReader R A → Option Script
 script_ahead remaining r = option_map (script_from (fresh r.breaks)) (octets_left remaining r.source)
 
@@ -64,7 +64,7 @@ abbrev pub script_after : {R A : Type 0} → (R → Option (List ℕ)) → Optio
 script_after remaining None r = script_ahead remaining r
 script_after remaining (Some ended) r = script_behind remaining (answer_of ended) r
 
--- the lines to come, where the reader tells
+-- the lines to come, where the reader says
 abbrev pub script_left : {R A : Type 0} → (R → Option (List ℕ)) → LineReader R A → Option Script
 script_left remaining r = script_after remaining r.ended r
 

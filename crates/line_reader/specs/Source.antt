@@ -6,7 +6,7 @@ use Rattle.line_reader.specs.declared.source.Source.{Source}
 abbrev pub ahead : {R A : Type 0} → Source R A → List ℕ
 ahead s = drop s.at (take s.filled s.chunk.items)
 
--- what is still to come, where the reader tells
+-- what is still to come, where the reader says
 abbrev pub octets_left : {R A : Type 0} → (R → Option (List ℕ)) → Source R A → Option (List ℕ)
 octets_left remaining s = option_map (λ xs. ahead s ++ (if s.ended then [] else xs)) (remaining s.reader)
 

@@ -79,7 +79,7 @@ impl<A: Allocator> ClassOctets<A> {
         self.lengths.len() < self.lengths.capacity()
     }
 
-    /// Puts a frame of `original` octets, of which these are kept, at the end. Where memory is wanting, nothing changes.
+    /// Puts a frame of `original` octets, of which these are kept, at the end. When out of memory, nothing changes.
     pub fn put(&mut self, original: u32, octets: &[u8]) -> Result<(), AllocError>
     where
         A: Clone,

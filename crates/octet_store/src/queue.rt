@@ -32,7 +32,7 @@ impl<A: Allocator> OctetQueue<A> {
         }
     }
 
-    // Makes room for so many octets more behind those that are held, which move to the front. Where memory is wanting, nothing changes.
+    // Makes room for so many octets more behind those that are held, which move to the front. When out of memory, nothing changes.
     #[inline(never)]
     fn pull(&mut self, more: usize) -> Result<(), AllocError>
     where
@@ -56,7 +56,7 @@ impl<A: Allocator> OctetQueue<A> {
         Ok(())
     }
 
-    /// Puts octets at the end. Where memory is wanting, none is put.
+    /// Puts octets at the end. When out of memory, none is put.
     pub fn put(&mut self, new: &[u8]) -> Result<(), AllocError>
     where
         A: Clone,

@@ -130,7 +130,7 @@ impl<A: Allocator> OctetStore<A> {
         has_room_in(&self.classes, class)
     }
 
-    /// Puts a frame of `original` octets, of which these are kept, at the end of its class, 0 to 7. Where memory is wanting, the store
+    /// Puts a frame of `original` octets, of which these are kept, at the end of its class, 0 to 7. When out of memory, the store
     /// is left as it was.
     pub fn put(&mut self, class: u8, original: u32, octets: &[u8]) -> Result<(), AllocError>
     where

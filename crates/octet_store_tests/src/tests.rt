@@ -21,7 +21,7 @@ pub fn original_of(seed: u32) -> u32 {
     u32::MAX - seed
 }
 
-/// Puts the frame of a seed, of which so many octets are kept. False: its class has no room, or memory was wanting.
+/// Puts the frame of a seed, of which so many octets are kept. False: its class has no room, or memory ran out.
 pub fn put<A: Allocator + Clone>(
     store: &mut OctetStore<A>,
     class: u8,

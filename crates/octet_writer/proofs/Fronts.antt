@@ -27,7 +27,7 @@ sent_more {a} {b} c x rest s e p = record {
   parts = s.parts ∙ ap (λ t. s.done ++ t) e ∙ sym (append_assoc s.done x rest);
 }
 
--- a front of the next part, and not all of it
+-- a prefix of the next part, and not all of it
 pub sent_short : {a b : Option (List ℕ)} {text left : List ℕ} (c : Option (List ℕ)) (x rest : List ℕ) → Sent a b text left → left ≡ x ++ rest → FallsShort b c x → FallsShort a c text
 sent_short {a} {b} c x rest s e (back, some, t) = (
   back ++ rest,
@@ -39,7 +39,7 @@ sent_short {a} {b} c x rest s e (back, some, t) = (
   },
 )
 
--- what falls short is a front
+-- what falls short is a prefix
 pub front_of_short : (a b : Option (List ℕ)) (text : List ℕ) → FallsShort a b text → AppendsFront a b text
 front_of_short a b text (left, some, sent) = (left, sent)
 
@@ -52,6 +52,6 @@ pub sent_last : {T E : Type 0} {a b : Option (List ℕ)} {text left : List ℕ} 
 sent_last (Ok x) c s p = sent_all (sent_more c _ [] s (sym (append-nil _)) p) refl
 sent_last (Err x) c s p = sent_short c _ [] s (sym (append-nil _)) p
 
--- the exit of a `?` of a call that wrote a front of the next part
+-- the exit of a `?` of a call that wrote a prefix of the next part
 pub sent_exit : {T E : Type 0} {y : E} {a b : Option (List ℕ)} {text left : List ℕ} {r : Result T E} (c : Option (List ℕ)) (x rest : List ℕ) → r ≡ Err y → Sent a b text left → left ≡ x ++ rest → FallsShort b c x → Writes r a c text
 sent_exit {T} {E} {y} {a} {b} {text} {left} {r} c x rest h s e p = let P : Result T E → Type 0 = λ q. Writes q a c text in subst P (sym h) (sent_short c x rest s e p)

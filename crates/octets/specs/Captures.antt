@@ -1,4 +1,4 @@
--- What a replay over memory tells, and what it leaves in the three slices that it is lent.
+-- What a replay over memory reports, and what it leaves in the three slices that it is lent.
 use Rattle.std.specs.Prelude.{◌≡◌, ◌<◌, ◌⊎◌, List, ℕ, [], length, Option, Some, None, Result, Ok, Err}
 use Rattle.replay.specs.Outcome.{Outcome}
 use Rattle.replay.specs.Texts.{replay_status, replay_text}
@@ -8,7 +8,7 @@ use Rattle.script.specs.declared.settings.BadValue.{BadValue}
 use Rattle.octets.specs.Slices.{IsPut}
 use Rattle.octets.specs.declared.captures.ReplayRan.{ReplayRan}
 
--- 1. What is told
+-- 1. What is reported
 
 -- a status, both outputs, and the text of a fault, which is empty where there is none
 pub record ToldReplay : Type 0 where
@@ -58,13 +58,13 @@ pub record Outputs : Type 0 where
 abbrev pub outputs : List ℕ → List ℕ → List ℕ → Outputs
 outputs report departures fault = record { report = report; departures = departures; fault = fault }
 
--- how long each text is, is told
+-- how long each text is, is reported
 pub record TellsLengths (told : ToldReplay) (ran : ReplayRan) : Type 0 where
   pub report : ran.report ≡ length told.report
   pub departures : ran.departures ≡ length told.departures
   pub fault : ran.fault ≡ length told.fault
 
--- all is told: each stands at the front of its slice
+-- all is reported: each stands at the front of its slice
 pub record IsWholeReplay (told : ToldReplay) (ran : ReplayRan) (old new : Outputs) : Type 0 where
   pub status : ran.status ≡ told.status
   pub report : IsPut old.report new.report told.report
@@ -76,14 +76,14 @@ pub record IsWholeReplay (told : ToldReplay) (ran : ReplayRan) (old new : Output
 abbrev pub Lacks : ToldReplay → Outputs → Type 0
 Lacks told old = (length old.report < length told.report) ⊎ ((length old.departures < length told.departures) ⊎ (length old.fault < length told.fault))
 
--- A slice has too little room: nothing is written, and how much room all want is told.
+-- A slice has too little room: nothing is written, and how much room all want is reported.
 pub record HasNoRoomFor (told : ToldReplay) (ran : ReplayRan) (old new : Outputs) : Type 0 where
   pub status : ran.status ≡ 5
   pub lacking : Lacks told old
   pub lengths : TellsLengths told ran
   pub kept : new ≡ old
 
--- Memory was wanting: nothing is written.
+-- Out of memory: nothing is written.
 pub record HasNoReplayMemory (ran : ReplayRan) (old new : Outputs) : Type 0 where
   pub ended : ran ≡ record { report = 0; departures = 0; fault = 0; status = 4 }
   pub kept : new ≡ old

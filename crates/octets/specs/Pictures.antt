@@ -1,4 +1,4 @@
--- What a drawing over memory tells, and what it leaves in the two slices that it is lent.
+-- What a drawing over memory reports, and what it leaves in the two slices that it is lent.
 use Rattle.std.specs.Prelude.{List, ℕ, [], Option, Some, None, Result, Ok, Err, decimal, option_map}
 use Rattle.abstract_port.specs.declared.Command.{Command}
 use Rattle.drawing.specs.Ending.{fault_in}
@@ -23,12 +23,12 @@ abbrev pub drawn_with : List ℕ → Option (ℕ × ScriptFault) → Outcome
 drawn_with picture None = record { text = picture; fault = None }
 drawn_with picture (Some fault) = record { text = []; fault = Some fault }
 
--- Some picture of a script is told, or its first fault. What a picture's text is, is not said here.
+-- Some picture of a script is reported, or its first fault. What a picture's text is, is not said here.
 abbrev pub Draws : List ℕ → Ran → Slices → Slices → Type 0
 Draws script ran old new =
     (picture : List ℕ) × ((read : List (List ℕ) → Result Command TcFault) → IsReader read → Answers (told_of (drawn_with picture (fault_in read script))) ran old new)
 
--- by the settings and the options: the first bad value is told, and nothing is drawn
+-- by the settings and the options: the first bad value is reported, and nothing is drawn
 abbrev pub DrawsWith : Result Setup BadValue → Result DrawOptions BadValue → List ℕ → Ran → Slices → Slices → Type 0
 DrawsWith (Err value) options script ran old new = Answers (refused value) ran old new
 DrawsWith (Ok settings) (Err value) script ran old new = Answers (refused value) ran old new

@@ -1,4 +1,4 @@
--- What a call over memory tells, and what it leaves in the two slices that it is lent.
+-- What a call over memory reports, and what it leaves in the two slices that it is lent.
 use Rattle.std.specs.Prelude.{◌≡◌, ◌<◌, ◌⊎◌, List, ℕ, [], ◌++◌, drop, length, Option, Some, None, Result, Ok, Err}
 use Rattle.script.specs.Outcome.{Outcome}
 use Rattle.script.specs.Texts.{fault_text, value_text}
@@ -7,7 +7,7 @@ use Rattle.script.specs.declared.faults.ScriptFault.{ScriptFault}
 use Rattle.script.specs.declared.settings.BadValue.{BadValue}
 use Rattle.octets.specs.declared.answering.Ran.{Ran}
 
--- 1. What is told
+-- 1. What is reported
 
 -- a status, an output, and the text of a fault, which is empty where there is none
 pub record Told : Type 0 where
@@ -53,7 +53,7 @@ pub record Slices : Type 0 where
 abbrev pub slices : List ℕ → List ℕ → Slices
 slices output fault = record { output = output; fault = fault }
 
--- all is told: the output and the text of the fault stand at the front of their slices
+-- all is reported: the output and the text of the fault stand at the front of their slices
 pub record IsWhole (told : Told) (ran : Ran) (old new : Slices) : Type 0 where
   pub status : ran.status ≡ told.status
   pub output : IsPut old.output new.output told.output
@@ -61,7 +61,7 @@ pub record IsWhole (told : Told) (ran : Ran) (old new : Slices) : Type 0 where
   pub fault : IsPut old.fault new.fault told.fault
   pub fault_length : ran.fault ≡ length told.fault
 
--- A slice has too little room: nothing is written, and how much room both want is told.
+-- A slice has too little room: nothing is written, and how much room both want is reported.
 pub record HasNoRoom (told : Told) (ran : Ran) (old new : Slices) : Type 0 where
   pub status : ran.status ≡ 5
   pub lacking : (length old.output < length told.output) ⊎ (length old.fault < length told.fault)
@@ -69,7 +69,7 @@ pub record HasNoRoom (told : Told) (ran : Ran) (old new : Slices) : Type 0 where
   pub fault_length : ran.fault ≡ length told.fault
   pub kept : new ≡ old
 
--- Memory was wanting: nothing is written.
+-- Out of memory: nothing is written.
 pub record HasNoMemory (ran : Ran) (old new : Slices) : Type 0 where
   pub ended : ran ≡ record { output = 0; fault = 0; status = 4 }
   pub kept : new ≡ old

@@ -1,4 +1,4 @@
--- What is told of a table of streams and a script.
+-- What is reported of a table of streams and a script.
 use Rattle.std.specs.Prelude.{List, ℕ, [], Option, Some, None}
 use Rattle.traffic.specs.Ending.{streams_status, streams_text}
 use Rattle.traffic.specs.Outcome.{Outcome}

@@ -1,4 +1,4 @@
-//! What is told of an input comes into slices.
+//! What is reported of an input comes into slices.
 
 ghost use Rattle.std.specs.Prelude.{◌≡◌, ◌≤◌, List, ℕ, Some, [], length};
 ghost use Rattle.octets.specs.Slices.{Answers, HasNoMemory, IsPut, refused, slices, told_of};
@@ -7,15 +7,15 @@ ghost use Rattle.script.specs.Outcome.{Outcome, Runs};
 use script::{BadValue, RunFault, say_fault, say_value};
 use std::alloc::Allocator;
 
-/// How a call ended, and how many octets there are of what it tells. C sees it as it stands.
+/// How a call ended, and how many octets there are of what it reports. C sees it as it stands.
 #[repr(C)]
 #[derive(Clone, Copy, Debug, PartialEq, Eq)]
 pub struct Ran {
     /// How many octets the output has: those that are written, and at status 5 those that want room.
     pub output: usize,
-    /// The same of the text of the fault.
+    /// How many octets the text of the fault has, or wants.
     pub fault: usize,
-    /// 0 done, 2 a value is refused, 3 the input is, 4 memory was wanting, 5 a slice has too little room.
+    /// 0 done, 2 a value is refused, 3 the input is, 4 out of memory, 5 a slice has too little room.
     pub status: u8,
 }
 
@@ -44,7 +44,7 @@ pub fn put_told(status: u8, text: &[u8], said: &[u8], output: &mut [u8], fault: 
     ran
 }
 
-/// The end where memory was wanting: nothing is written.
+/// The end when out of memory: nothing is written.
 pub fn out_of_memory() -> Ran
     ensures { result ≡ record { output = 0; fault = 0; status = 4 } }
 {
@@ -76,7 +76,7 @@ pub fn end_in_memory<A: Allocator>(
     put_told(ended.status, written, said.as_slice(), output, fault)
 }
 
-/// Tells a bad value: its text comes into the slice of faults, and no output is written.
+/// Reports a bad value: its text comes into the slice of faults, and no output is written.
 pub fn refuse_value<A: Allocator>(
     alloc: &A,
     value: BadValue,

@@ -18,17 +18,17 @@ use replay::{ReplayFault, Unwatched, replay, say_replay_fault};
 use script::{BadValue, Settings, say_value};
 use std::alloc::Allocator;
 
-/// How a replay ended, and how many octets there are of what it tells. C sees it as it stands.
+/// How a replay ended, and how many octets there are of what it reports. C sees it as it stands.
 #[repr(C)]
 #[derive(Clone, Copy, Debug, PartialEq, Eq)]
 pub struct ReplayRan {
     /// How many octets the report has: those that are written, and at status 5 those that want room.
     pub report: usize,
-    /// The same of the capture of the frames that leave.
+    /// How many octets the capture of the frames that leave has, or wants.
     pub departures: usize,
-    /// The same of the text of the fault.
+    /// How many octets the text of the fault has, or wants.
     pub fault: usize,
-    /// 0 done, 2 a value is refused, 3 an input is, 4 memory was wanting, 5 a slice has too little room.
+    /// 0 done, 2 a value is refused, 3 an input is, 4 out of memory, 5 a slice has too little room.
     pub status: u8,
 }
 
@@ -59,7 +59,7 @@ fn put_replay(
     ran
 }
 
-// The end where memory was wanting: nothing is written.
+// The end when out of memory: nothing is written.
 fn replay_out_of_memory() -> ReplayRan
     ensures { result ≡ record { report = 0; departures = 0; fault = 0; status = 4 } }
 {
@@ -102,7 +102,7 @@ fn end_replay<A: Allocator>(
     )
 }
 
-// Tells a bad value.
+// Reports a bad value.
 fn refuse_replay<A: Allocator>(
     alloc: &A,
     value: BadValue,

@@ -2,7 +2,7 @@
 //!
 //! Each call answers how it ended (`Ran`). At status 0 the whole output stands at the front of its slice, at 3 what an input with a fault
 //! gives, and at 2 and 3 the text of the fault stands at the front of its own slice; what lies behind is as it was. At 5 a slice has too
-//! little room, and at 4 memory was wanting: nothing is written then.
+//! little room, and at 4 out of memory: nothing is written then.
 #![tactic(auto)]
 
 mod answering;

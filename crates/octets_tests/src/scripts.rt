@@ -1,7 +1,7 @@
 //! Scripts in memory.
 
 use crate::lent::{DOTS, USUAL, has, room_for};
-use octets::{PortValues, Ran, run_octets};
+use octets::{Ran, run_octets};
 use refusing_heap::RefusingHeap;
 use std::test::Fail;
 
@@ -39,102 +39,6 @@ fn an_empty_script_has_no_answers(rt: HostRuntime) -> Result<(), Fail> {
             status: 0,
         }
     );
-    Ok(())
-}
-
-#[test]
-fn runs_to_the_moment_and_ends_with_a_summary(rt: HostRuntime) -> Result<(), Fail> {
-    let (mut output, mut fault) = (DOTS, DOTS);
-    let values = PortValues {
-        until: Some(672_000),
-        summary: true,
-        ..USUAL
-    };
-    let script = b"frame 1 5 60";
-    let ran = run_octets(&rt.alloc(), values, script, &mut output, &mut fault);
-    let text: &[u8] = b"queued 1 class 5\nstart 1 class 5 at 0 end 672000\n\
-summary class 5 queued 1 sent 1 dropped 0 octets 60 least 0 mean 0 greatest 0 most 1\n\
-summary wire busy 672000 ppm 1000000\n";
-    assert_eq!(rt;
-        ran,
-        Ran {
-            output: text.len(),
-            fault: 0,
-            status: 0,
-        }
-    );
-    assert!(rt; has(&output, text));
-    Ok(())
-}
-
-#[test]
-fn a_fault_of_a_line_comes_after_the_answers_before_it(rt: HostRuntime) -> Result<(), Fail> {
-    let (mut output, mut fault) = (DOTS, DOTS);
-    let script = b"frame 1 0 60\nclock 1000000\nclok 5\nframe 2 0 60\n";
-    let ran = run_octets(&rt.alloc(), USUAL, script, &mut output, &mut fault);
-    let text: &[u8] = b"taprio_port: script line 3: UnknownLine\n";
-    assert_eq!(rt;
-        ran,
-        Ran {
-            output: ANSWERS.len(),
-            fault: text.len(),
-            status: 3,
-        }
-    );
-    assert!(rt; has(&output, ANSWERS));
-    assert!(rt; has(&fault, text));
-    Ok(())
-}
-
-/// In the order in which the program judges them.
-#[test]
-fn bad_values_are_told(rt: HostRuntime) -> Result<(), Fail> {
-    let rows: [(PortValues, &[u8]); 4] = [
-        (
-            PortValues {
-                rate: 1001,
-                mtu: 67,
-                ..USUAL
-            },
-            b"taprio_port: bad value of --rate\n",
-        ),
-        (
-            PortValues {
-                mtu: 67,
-                room: 0,
-                ..USUAL
-            },
-            b"taprio_port: bad value of --mtu\n",
-        ),
-        (
-            PortValues {
-                room: 4097,
-                ..USUAL
-            },
-            b"taprio_port: bad value of --room\n",
-        ),
-        (
-            PortValues {
-                until: Some(9_223_372_036_854_775_807_001),
-                ..USUAL
-            },
-            b"taprio_port: bad value of --until\n",
-        ),
-    ];
-    for (values, text) in rows {
-        let (mut output, mut fault) = (DOTS, DOTS);
-        let ran = run_octets(&rt.alloc(), values, SCRIPT, &mut output, &mut fault);
-        assert_eq!(rt;
-            ran,
-            Ran {
-                output: 0,
-                fault: text.len(),
-                status: 2,
-            }
-        );
-        assert!(rt; has(&output, b""));
-        assert!(rt; has(&fault, text));
-    }
     Ok(())
 }
 

@@ -29,7 +29,7 @@ not_busy : (waits : Option Accepted) → busy_by waits ≡ None → waits ≡ No
 not_busy None e = refl
 not_busy (Some a) e = cc
 
--- a plan's fault, as a port tells it
+-- a plan's fault, as a port says it
 abbrev told : Option PlanFault → Option Refused
 told (Some fault) = Some (Schedule fault)
 told None = None

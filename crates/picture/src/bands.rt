@@ -31,7 +31,7 @@ fn two_classes<A: Allocator + Clone>(
     Ok((first, second))
 }
 
-/// Eight classes without bands: two by two, so that few are given back where memory is wanting.
+/// Eight classes without bands: two by two, so that few are given back when out of memory.
 fn no_classes<A: Allocator + Clone>(alloc: &A) -> Result<[ClassBands<A>; 8], AllocError>
     ensures { IfOk result (λ classes. classes ≡ no_classes) }
 {
@@ -80,7 +80,7 @@ fn join_in<A: Allocator>(classes: &mut [ClassBands<A>; 8], class: u8, gap: u128)
     classes[class as usize].join(gap)
 }
 
-/// The same of each class.
+/// The bands of each class are joined at a gap, in picoseconds.
 fn join_all<A: Allocator>(classes: &mut [ClassBands<A>; 8], gap: u128)
     ensures { (class : ℕ) → class < CLASSES → class_at classes.new class ≡ bands_joined gap (class_at classes.old class) }
 {

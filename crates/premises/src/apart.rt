@@ -125,7 +125,7 @@ pub fn is_kept_apart<G: Gates, A: Allocator>(
 }
 
 /// Whether the law of separation speaks of the class and these events, on a new port of this rate with stepped gates, an mtu of
-/// 1500 octets and room for 128 frames a class. It is refused only where memory is wanting.
+/// 1500 octets and room for 128 frames a class. It is refused only when out of memory.
 pub fn separated(
     alloc: Global,
     rate: Rate,

@@ -87,8 +87,8 @@ fn is_told<W: Write>(text: &str, writer: &mut W) -> bool {
     writer.write_all(text.as_bytes()).is_ok() && writer.flush().is_ok()
 }
 
-/// Tells why the words are refused on `errors`, or the help that they ask for through `answers`. The status is 2, for help 0, and 4
-/// where memory is wanting.
+/// Reports why the words are refused on `errors`, or the help that they ask for through `answers`. The status is 2, for help 0, and 4
+/// when out of memory.
 fn answer_refusal<B: Allocator, W: Write + Drop, E: Write>(
     alloc: Global,
     error: &Error,

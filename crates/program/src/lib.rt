@@ -19,7 +19,7 @@ use std::io::{BufWriter, IsTerminal, Write};
 use std::process::ExitCode;
 pub use streaming::streams_given;
 
-/// How the program ends where memory is wanting before it has begun.
+/// How the program ends when out of memory before it has begun.
 fn end_without_memory<E: Write>(errors: &mut E) -> Ended {
     say_fault(&RunFault::Memory, errors)
 }

@@ -85,7 +85,7 @@ struct Word {
     help: &'static str,
 }
 
-/// A job of the program, with the words that it understands, in the order in which its help tells of them.
+/// A job of the program, with the words that it understands, in the order in which its help lists them.
 #[derive(Clone, Copy)]
 struct Job {
     name: &'static str,
@@ -130,14 +130,14 @@ const SUMMARY: Word = Word {
     given: Given::Flag,
     name: "summary",
     value: "",
-    help: "Tell at the end what each class and the wire came to",
+    help: "Report at the end how long the frames of each class waited, and how long the wire was busy",
 };
 
 const PROGRESS: Word = Word {
     given: Given::Flag,
     name: "progress",
     value: "",
-    help: "Say on standard error how far the replay has come, also where that is no terminal",
+    help: "Report progress on standard error, also where that is no terminal",
 };
 
 const SCRIPT: Word = Word {
@@ -158,21 +158,21 @@ const OUT: Word = Word {
     given: Given::File,
     name: "out",
     value: "OUT",
-    help: "The file for the capture of what leaves, made or emptied",
+    help: "The file for the capture of what leaves, created or overwritten",
 };
 
 const WINDOWS: Word = Word {
     given: Given::Flag,
     name: "windows",
     value: "",
-    help: "Tell for how long each class is open and closed, and its longest frame",
+    help: "Report for how long each class is open and closed, and its longest frame",
 };
 
 const LINES: Word = Word {
     given: Given::Value,
     name: "with",
     value: "SCRIPT",
-    help: "A file with a script, whose lines are put in among the frames, each at its moment",
+    help: "A file with a script whose lines are put among the frames, each at its moment",
 };
 
 const FROM: Word = Word {
@@ -219,7 +219,7 @@ const JOBS: [Job; 5] = [
     },
     Job {
         name: "check",
-        about: "Tells of the schedule commands on standard input which classes they keep apart",
+        about: "Reports which classes the schedule commands on standard input keep apart",
         words: &[RATE, WINDOWS],
     },
     Job {
@@ -257,6 +257,7 @@ fn command_of<'a>(alloc: Global, job: &Job) -> Result<Command<'a>, AllocError> {
 /// What the program understands.
 pub fn command<'a>(alloc: Global) -> Result<Command<'a>, AllocError> {
     let mut program = Command::new(alloc, "taprio_port")
+        .version("0.1.0")
         .about("An IEEE 802.1Qbv time-aware transmit port")
         .subcommand_required(true);
     for job in &JOBS {

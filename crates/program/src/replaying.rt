@@ -71,7 +71,7 @@ fn open_all<'a, F: Files>(files: &F, matches: &ArgMatches<'a>) -> Result<Opened<
     })
 }
 
-/// Tells a path that can't be opened, and gives the writer of the answers back. Nothing is answered.
+/// Reports a path that can't be opened, and gives the writer of the answers back. Nothing is answered.
 pub fn end_unopened<B: Allocator, W: Write + Drop, E: Write>(
     path: &str,
     answers: BufWriter<W, B>,

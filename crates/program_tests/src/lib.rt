@@ -1,11 +1,5 @@
-//! Tests of `program`: words and scripts, with what its two outputs get.
+//! Tests of `program`: what needs a clock that is lent, and what the library draws. All else of it is seen on the built program.
 #![tactic(auto)]
 
-#[cfg(test)]
-mod cases;
-#[cfg(test)]
-mod faults;
-#[cfg(test)]
-mod pictures;
 #[cfg(test)]
 mod tests;

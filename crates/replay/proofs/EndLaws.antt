@@ -31,7 +31,7 @@ use Rattle.replay.proofs.RunLaws.{after, later_port, later_seen, parts}
 use Rattle.replay.proofs.SeenLaws.{seen_of}
 use Rattle.replay.proofs.Sends.{both_exit, both_last, both_more, both_none, both_then}
 
--- ---- what is told, and then what is left
+-- ---- what is reported, and then what is left
 
 joined-assoc : (x y z : Output) → joined (joined x y) z ≡ joined x (joined y z)
 joined-assoc x y z =
@@ -42,18 +42,18 @@ end-same : (q p : AbstractPort) (o : Option Observed) → q ≡ settled p → en
 end-same q p o is = ap (λ (x : AbstractPort). end_of x o) is ∙ ap (λ (t : List ℕ). record { report = t; capture = [] }) (end-settled p o)
 
 module _ {T : Type 0} (r : Result T Stop) (es : List Entry) where
-  -- all is told, and then what is left
+  -- all is reported, and then what is left
   pub told_whole : {U : Type 0} {x : U} (rs : List Request) (s u : State) (v : Got) → Answers {T = U} es (Ok x) rs s u → PutsBoth r u.got v (end_of u.port u.seen) → PutsBoth r s.got v (told_to_end es rs s.port s.seen)
   told_whole rs s u v a n =
       both_then r v (told_to_end es rs s.port s.seen) (end_of u.port u.seen)
       (ap (λ (l : Output). joined (output es (responses_of rs s.port)) l) (sym (ap (λ o. end_of u.port o) a.seen ∙ end-same u.port (after rs s.port) (seen_of rs s.port s.seen) a.port)))
       a.out n
 
-  -- the exit of a call that failed in what is told
+  -- the exit of a call that failed in what is reported
   pub told_exit : {U : Type 0} {y : Stop} (rs : List Request) (s u : State) → r ≡ Err y → Answers {T = U} es (Err y) rs s u → PutsBoth r s.got u.got (told_to_end es rs s.port s.seen)
   told_exit rs s u is a = both_exit r u.got (output es (responses_of rs s.port)) (end_of (after rs s.port) (seen_of rs s.port s.seen)) is (both_none s.got _) refl a.out
 
-  -- some is told, and then more
+  -- some is reported, and then more
   pub told_then : {U : Type 0} {x : U} (xs ys : List Request) (s t : State) (v : Got) → IsSoundPort s.port → Answers {T = U} es (Ok x) xs s t → PutsBoth r t.got v (told_to_end es ys t.port t.seen) → PutsBoth r s.got v (told_to_end es (xs ++ ys) s.port s.seen)
   told_then xs ys s t v sound a n =
       both_then r v (told_to_end es (xs ++ ys) s.port s.seen) (told_to_end es ys t.port t.seen)

@@ -40,7 +40,7 @@ when_known (Some x) P f = f x refl
 pub known_at : {X : Type 0} (o : Option X) (x : X) (P : X → Type 0) → o ≡ Some x → IfSome o P → P x
 known_at o x P e h = subst (λ o. IfSome o P) e h
 
--- memory was wanting before anything was read
+-- out of memory before anything was read
 pub memory_wanting : (T : Type 0) (r : Result T ReplayFault) (old : Got) (o : Outcome) → r ≡ Err Faults.Memory → Ends r old old o
 memory_wanting T r old o is = subst (λ (q : Result T ReplayFault). Ends q old old o) (sym is) (o.output, both_none old o.output)
 

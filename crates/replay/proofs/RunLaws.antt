@@ -1,4 +1,4 @@
--- What is told of requests, and of more after them.
+-- What is reported of requests, and of more after them.
 use Rattle.std.specs.List.{flat_map}
 use Rattle.std.proofs.Common.{◌≡◌, ℕ, List, [], ◌∷◌, ◌++◌, map, Result, Ok, Err, refl, sym, ap, ◌∙◌, append_assoc, append-nil, subst}
 use Rattle.std.proofs.lemmas.Grind.{flat_map-append}
@@ -37,7 +37,7 @@ responses-append (Asks event ∷ xs) ys p =
     ap (λ (x : List Response). map Gave a.0 ++ x) (responses-append xs ys a.1) ∙ sym (append_assoc (map Gave a.0) (responses_of xs a.1) (responses_of ys (after xs a.1)))
 responses-append (NoCommand fault ∷ xs) ys p = ap (λ (x : List Response). Faulted fault ∷ x) (responses-append xs ys p)
 
--- what is past changes nothing that is told
+-- what is past changes nothing that is reported
 pub responses-settled : (requests : List Request) (p : AbstractPort) → IsTimely p → responses_of requests (settled p) ≡ responses_of requests p
 responses-settled [] p fit = refl
 responses-settled (Asks event ∷ rest) p fit =
@@ -58,7 +58,7 @@ output-append es xs ys =
 pub answers_none : {T : Type 0} (x : T) (es : List Entry) (s : State) → IsSoundPort s.port → Keeps es s → Answers {T = T} es (Ok x) [] s s
 answers_none x es s sound k = record { port = sym (settled-current s.port sound.current); keeps = k; seen = sym (seen-nil s.port s.seen); out = both_all x (both_none s.got nothing) refl }
 
--- the parts of what is told, where the port after the first is known
+-- the parts of what is reported, where the port after the first is known
 module _ (es : List Entry) (s t : State) (sound : IsSoundPort s.port) (xs ys : List Request) (is : t.port ≡ settled (after xs s.port)) where
   fit : IsTimely (after xs s.port)
   fit = timely-after (events_of xs) s.port (timely-sound s.port sound)

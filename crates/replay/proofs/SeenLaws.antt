@@ -1,4 +1,4 @@
--- What is seen of requests, of more after them, and of what is told of one.
+-- What is seen of requests, of more after them, and of what is reported of one.
 use Rattle.std.proofs.Common.{◌≡◌, ℕ, List, [], ◌∷◌, ◌++◌, Option, Some, None, refl, sym, ap, ◌∙◌}
 use Rattle.abstract_port.specs.AbstractPort.{AbstractPort, settled}
 use Rattle.abstract_port.specs.Answers.{answers_to, port_after}

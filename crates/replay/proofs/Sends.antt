@@ -32,7 +32,7 @@ sent_last {a} {b} c l s t = record {
   parts = s.parts ∙ ap (λ u. s.done ++ u) t.parts ∙ sym (append_assoc s.done t.done l);
 }
 
--- what is sent of a front is sent of the whole
+-- what is sent of a prefix is sent of the whole
 sent_front : {a b : Option (List ℕ)} {x left : List ℕ} (whole rest : List ℕ) → whole ≡ x ++ rest → Sent a b x left → Sent a b whole (left ++ rest)
 sent_front {a} {b} {x} {left} whole rest e s = record { done = s.done; appended = s.appended; parts = e ∙ ap (λ u. u ++ rest) s.parts ∙ append_assoc s.done left rest }
 
@@ -74,7 +74,7 @@ both_exit {T} {T'} {f} {g} {whole} {left} {y} r h x rest is s e p = record {
       omega (arith, some, length-append p.left.report rest.report, length-append p.left.capture rest.capture);
 }
 
--- the exit of a call that wrote nothing, and doesn't tell of a failed write
+-- the exit of a call that wrote nothing, and reports no failed write
 pub both_stop : {T : Type 0} {f g : Got} {whole left : Output} {y : Stop} (r : Result T Stop) → r ≡ Err y → (y ≡ Stops.Write → ⊥) → SentBoth f g whole left → PutsBoth r f g whole
 both_stop {T} {f} {g} {whole} {left} {y} r is other s = record { left = left; sent = s; all = never _ is; short = λ w. absurd (other (let both : Err y ≡ r = sym is in cc)) }
 
@@ -131,7 +131,7 @@ report_whole {T} {a} {b} {x} y c p = record {
   short = λ w. cc;
 }
 
--- an output capture alone: whole, and a front of it
+-- an output capture alone: whole, and a prefix of it
 pub capture_whole : {T : Type 0} {c d : Option (List ℕ)} {rec : List ℕ} (y : T) (report : Option (List ℕ)) → Appends c d rec
     → PutsBoth (Ok y) (record { report = report; capture = c }) (record { report = report; capture = d }) (record { report = []; capture = rec })
 capture_whole {T} {c} {d} {rec} y report p = record {

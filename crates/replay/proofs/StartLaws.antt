@@ -176,7 +176,7 @@ module _ (s t : State) (x : Start) (is : Leaves s.port x t.port) (given : t.stor
       ∙ sym (map-set g s.port.queues x.class is.rest)
       ∙ ap (λ qs. map g qs) (sym is.after)
 
--- the outputs of the starts, of which the first is told from the store
+-- the outputs of the starts, of which the first is reported from the store
 pub starts-kept : (s : State) (q : AbstractPort) (upto : ℕ) (later : s.port.now ≤ upto) (after : q ≡ settled (next_start s.port upto).1) (sound : IsSoundPort s.port) (x : Start) (e : (next_start s.port upto).0 ≡ Some x) (es : List Entry) → Keeps es s
     → output es (map Gave (map Answered.Start (starts_until s.port upto).0))
     ≡ joined (record { report = answer_lines (Answered.Start x); capture = start_record x.at (first_kept s.store x.class) }) (output es (map Gave (map Answered.Start (starts_until q upto).0)))

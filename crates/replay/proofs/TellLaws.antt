@@ -1,4 +1,4 @@
--- What is told of one request.
+-- What is reported of one request.
 use Rattle.std.specs.Prelude.{OnOk, nat_lt, if◌then◌else◌}
 use Rattle.std.specs.List.{flat_map}
 use Rattle.std.specs.Io.KnownBytes.{Appends}
@@ -56,7 +56,7 @@ clock_on m p h within =
 
 -- ---- requests that change no queue, and start no frame
 
--- what is told of a request has no record, and no queue changes
+-- what is reported of a request has no record, and no queue changes
 pub record IsSilent (es : List Entry) (r : Request) (p : AbstractPort) : Type 0 where
   pub told : flat_map (response_record es) (responses_to r p).0 ≡ []
   pub queues : (responses_to r p).1.queues ≡ p.queues
@@ -109,7 +109,7 @@ one_told es r p silent =
     ∙ ap (λ (t : List ℕ). record { report = lines_of (responses_to r p).0; capture = t }) silent.told
 
 module _ (es : List Entry) (r : Request) (p q : AbstractPort) (w : Stored) (n o : Option Observed) (a b c : Option (List ℕ)) (silent : IsSilent es r p) where
-  -- what is told of it is written
+  -- what is reported of it is written
   pub told_line : {T : Type 0} (y : T) → Appends a b (lines_of (responses_to r p).0) → q ≡ settled (responses_to r p).1 → o ≡ noted_by r p n → Keeps es (at p w n a c) → Answers {T = T} es (Ok y) (r ∷ []) (at p w n a c) (at q w o b c)
   told_line {T} y text port seen keeps = record {
     port = port ∙ one_after r p;
@@ -118,7 +118,7 @@ module _ (es : List Entry) (r : Request) (p q : AbstractPort) (w : Stored) (n o 
     out = subst (λ (x : Output). PutsBoth {T = T} (Ok y) (got a c) (got b c) x) (sym (one_told es r p silent)) (report_whole y c text);
   }
 
-  -- a front of it is
+  -- a prefix of it is
   pub told_short : {T : Type 0} {y : Stop} (x : Result T Stop) → x ≡ Err y → FallsShort a b (lines_of (responses_to r p).0) → Answers {T = T} es x (r ∷ []) (at p w n a c) (at q w o b c)
   told_short x is text = record {
     port = never _ is;

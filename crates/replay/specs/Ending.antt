@@ -21,7 +21,7 @@ abbrev pub ended_status : {T : Type 0} → Result T ReplayFault → ℕ
 ended_status (Ok x) = 0
 ended_status (Err fault) = replay_status fault
 
--- what is told of a replay: nothing where there is no fault
+-- what is reported of a replay: nothing where there is no fault
 abbrev pub ended_text : {T : Type 0} → Result T ReplayFault → List ℕ
 ended_text (Ok x) = []
 ended_text (Err fault) = replay_text fault
@@ -30,7 +30,7 @@ ended_text (Err fault) = replay_text fault
 abbrev pub with_unwritten : Got → Output → Got
 with_unwritten got unwritten = record { report = append_known got.report unwritten.report; capture = append_known got.capture unwritten.capture }
 
--- what is written where both outputs go through buffers: after a failed write a front of each, which the buffers' octets end
+-- what is written where both outputs go through buffers: after a failed write a prefix of each, which the buffers' octets end
 abbrev pub EndsOut : {T : Type 0} → Result T ReplayFault → Got → Got → Outcome → Type 0
 EndsOut (Err Faults.Write) old new whole = (left : Output) × SentBoth old new whole.output left
 EndsOut (Ok x) old new whole = Ends (Ok x) old new whole
@@ -40,8 +40,8 @@ EndsOut (Err (Faults.Capture number fault)) old new whole = Ends {T = ⊤} (Err 
 EndsOut (Err Faults.Read) old new whole = Ends {T = ⊤} (Err Faults.Read) old new whole
 EndsOut (Err Faults.Memory) old new whole = Ends {T = ⊤} (Err Faults.Memory) old new whole
 
--- The end of a replay: the status and the told text are those of its result; what the writers got, with what no write let out, is
--- what definitions over the octets of both inputs say, or after a fault of a call's a front of each; and all is let out but after a
+-- The end of a replay: the status and the reported text are those of its result; what the writers got, with what no write let out, is
+-- what definitions over the octets of both inputs say, or after a fault of a call's a prefix of each; and all is let out but after a
 -- failed write.
 pub record IsReplayEnding (s : Setup) (script capture : Option (List ℕ)) (ended : Ended) (old got : Got) (errors_old errors_new : Option (List ℕ)) : Type 0 where
   pub run : Result (Unit {0}) ReplayFault

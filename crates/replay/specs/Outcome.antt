@@ -54,7 +54,7 @@ header = record { report = []; capture = written_header }
 abbrev pub end_of : AbstractPort → Option Observed → Output
 end_of p o = record { report = end_lines p o; capture = [] }
 
--- what is told of requests, and then how many frames are left, and the summary
+-- what is reported of requests, and then how many frames are left, and the summary
 abbrev pub told_to_end : List Entry → List Request → AbstractPort → Option Observed → Output
 told_to_end entries requests p o =
     let events = events_of requests in joined (output entries (responses_of requests p)) (end_of (port_after events p) (noted_after events p o))
@@ -64,7 +64,7 @@ abbrev pub end_fault : ℕ → End → Option ReplayFault
 end_fault number Whole = None
 end_fault number (Broken fault) = Some (Faults.Capture number fault)
 
--- what is told of all that a script asks and of the records, from a new port: the header, the answers, how many frames are left, and the
+-- what is reported of all that a script asks and of the records, from a new port: the header, the answers, how many frames are left, and the
 -- summary where one is wanted
 abbrev pub outcome_whole : Setup → List Request → List Entry → End → Outcome
 outcome_whole s script entries last =
@@ -114,7 +114,7 @@ pub record AppendsBoth (old new : Got) (whole : Output) : Type 0 where
   pub report : Appends old.report new.report whole.report
   pub capture : Appends old.capture new.capture whole.capture
 
--- At Ok, and at a fault of the inputs, both outputs are written whole, and the fault is theirs; at the other faults a front of each,
+-- At Ok, and at a fault of the inputs, both outputs are written whole, and the fault is theirs; at the other faults a prefix of each,
 -- and after a failed write not all of both.
 abbrev pub Ends : {T : Type 0} → Result T ReplayFault → Got → Got → Outcome → Type 0
 Ends (Ok x) old new whole = (whole.fault ≡ None) × AppendsBoth old new whole.output

@@ -1,4 +1,4 @@
--- The report and the output capture of what is told.
+-- The report and the output capture of what is reported.
 use Rattle.std.specs.Prelude.{◌≡◌, ◌<◌, ◌+◌, ◌++◌, ℕ, List, [], Option, Result, Err, OnOk, length, slice_index_or}
 use Rattle.std.specs.List.{flat_map}
 use Rattle.abstract_port.specs.declared.Answer.{Answer}
@@ -11,7 +11,7 @@ use Rattle.script.specs.Responses.{Response, Gave, Faulted, lines_of}
 use Rattle.replay.specs.declared.faults.Stop.{Stop}
 use Rattle.replay.specs.declared.faults.Stop.TheVariants as Stops
 
--- 1. What is told, as two outputs
+-- 1. What is reported, as two outputs
 
 -- a report, and an output capture without its header
 pub record Output : Type 0 where
@@ -43,12 +43,12 @@ abbrev pub answer_record : List Entry → Answer → List ℕ
 answer_record entries (Answered.Start s) = start_record s.at (kept_in entries s.id)
 answer_record entries _ = []
 
--- the same of what is told
+-- the same of what is reported
 abbrev pub response_record : List Entry → Response → List ℕ
 response_record entries (Gave answer) = answer_record entries answer
 response_record entries (Faulted fault) = []
 
--- the lines of what is told, and the records of its starts
+-- the lines of what is reported, and the records of its starts
 abbrev pub output : List Entry → List Response → Output
 output entries responses = record { report = lines_of responses; capture = flat_map (response_record entries) responses }
 
@@ -63,12 +63,12 @@ pub record Got : Type 0 where
 abbrev pub got : Option (List ℕ) → Option (List ℕ) → Got
 got report capture = record { report = report; capture = capture }
 
--- of each output a front was appended, and `left` is still to come
+-- of each output a prefix was appended, and `left` is still to come
 pub record SentBoth (old new : Got) (whole left : Output) : Type 0 where
   pub report : Sent old.report new.report whole.report left.report
   pub capture : Sent old.capture new.capture whole.capture left.capture
 
--- of each output a front was appended: at Ok all, and after a failed write not all of both
+-- of each output a prefix was appended: at Ok all, and after a failed write not all of both
 module _ {T : Type 0} where
   pub record PutsBoth (r : Result T Stop) (old new : Got) (whole : Output) : Type 0 where
     pub left : Output

@@ -40,7 +40,7 @@ Keeps entries s = s.store.kept ≡ map (map (λ (f : Frame). kept_in entries f.i
 abbrev pub first_kept : Stored → ℕ → Kept
 first_kept s class = slice_index_or (kept_at s.kept class) 0 (kept 0 [])
 
--- what is asked is answered: the outputs got what is told, the port and its store are where that leaves them, and what is seen is noted
+-- what is asked is answered: the outputs got what is reported, the port and its store are where that leaves them, and what is seen is noted
 module _ {T : Type 0} where
   pub record Answers (entries : List Entry) (r : Result T Stop) (requests : List Request) (s t : State) : Type 0 where
     pub port : OnOk r (t.port ≡ settled (port_after (events_of requests) s.port))

@@ -31,7 +31,7 @@ pub enum ReplayFault {
     /// A write failed, or took nothing.
     #[error("a write failed")]
     Write,
-    /// Memory was wanting.
+    /// Out of memory.
     #[error("out of memory")]
     Memory,
 }
@@ -43,7 +43,7 @@ pub enum Stop {
     Read,
     /// A write failed, or took nothing.
     Write,
-    /// Memory was wanting.
+    /// Out of memory.
     Memory,
 }
 

@@ -13,7 +13,7 @@ ghost use Rattle.replay.specs.Sources.{MergeLaw};
 
 use separation::separation;
 
-/// What is told of a script and a capture are the abstract port's answers to the events of both. In each report every `start` line
+/// What is reported of a script and a capture is the abstract port's answers to the events of both. In each report every `start` line
 /// has its gate open from its start to its end, by the history of its time and by that at the end; no two frames are on the wire at
 /// once; and the `count` lines are the counts over the events before them.
 pub fn faithful()

@@ -39,7 +39,7 @@ fn let_out<W: Write + Drop, V: Write + Drop, A: Allocator, B: Allocator>(
     run
 }
 
-// Tells how a replay ended: a fault's text, where there is one, and the status.
+// Reports how a replay ended: a fault's text, where there is one, and the status.
 fn say_replay<E: Write>(run: Result<(), ReplayFault>, errors: &mut E) -> Ended
     ensures status { result.status ≡ ended_status run }
     ensures told { IsTold result.told (E.contents errors.old) (E.contents errors.new) (ended_text run) }
@@ -72,7 +72,7 @@ pub struct Outputs<W: Write + Drop, V: Write + Drop, A: Allocator, B: Allocator>
 }
 
 /// Runs a script and a capture with settings, the text of a fault on `errors`; and gives the writers of the report and of the
-/// output capture back. What was written is let out before a fault is told, the report first; after a failed write no other is tried.
+/// output capture back. What was written is let out before a fault is reported, the report first; after a failed write no other is tried.
 pub fn answer_replay<
     A: Allocator,
     B: Allocator,

@@ -62,7 +62,7 @@ fn found(number: u32, fault: CapFault) -> Result<Option<(u32, CapFault)>, Stop>
     }
 }
 
-/// Runs the records that are to come, each after the lines up to its moment, and tells who watches of each; later lines are left. The
+/// Runs the records that are to come, each after the lines up to its moment, and calls who watches for each; later lines are left. The
 /// number of the record at which the capture ends with a fault, and the fault.
 pub fn run_records<
     A: Allocator + Clone,

@@ -192,7 +192,7 @@ fn begin<A: Allocator + Clone, W: Write>(
 /// settings want one.
 ///
 /// A read or a write that fails, or takes nothing, isn't tried again. Nothing that is kept grows with the capture: of a script its
-/// lines are kept, and of a capture the octets of the frames that wait, and where a summary is wanted when they came. Who watches is told of
+/// lines are kept, and of a capture the octets of the frames that wait, and where a summary is wanted when they came. Who watches is called for
 /// each record once it is taken.
 pub fn replay<A: Allocator, R: Read + Drop, S: Read + Drop, W: Write, V: Write, P: Watch>(
     alloc: A,

@@ -40,7 +40,7 @@ pub struct Sending<A: Allocator = Global> {
     pub writer: CaptureWriter,
 }
 
-// Writes an answer to an event that is taken at this moment, noted where a summary is wanted. At a fault a front of it is written.
+// Writes an answer to an event that is taken at this moment, noted where a summary is wanted. At a fault a prefix of it is written.
 // Apart, since an answer is large, and those to most events are written without one.
 #[inline(never)]
 fn put_noted<A: Allocator, V: Write>(
@@ -56,7 +56,7 @@ fn put_noted<A: Allocator, V: Write>(
     put_answer(report, answer)
 }
 
-// The same of a frame that starts.
+// Writes the start of a frame, noted where a summary is wanted. At a fault a prefix of it is written.
 fn put_noted_start<A: Allocator, V: Write>(
     summary: &mut Option<Summary<A>>,
     now: u128,
@@ -70,7 +70,7 @@ fn put_noted_start<A: Allocator, V: Write>(
     answer_text::put_start(report, start)
 }
 
-// The same of a frame that arrives.
+// Writes what becomes of a frame that arrives, noted where a summary is wanted. At a fault a prefix of it is written.
 fn put_noted_arrival<A: Allocator, V: Write>(
     summary: &mut Option<Summary<A>>,
     now: u128,
@@ -112,7 +112,7 @@ fn put_record<A: Allocator, W: Write>(
     }
 }
 
-// Tells a start, as an answer to an event that is taken at this moment, writes the first record that is kept of its class, and gives it up.
+// Reports a start, as an answer to an event that is taken at this moment, writes the first record that is kept of its class, and gives it up.
 #[inline(always)]
 fn put_start<A: Allocator, W: Write, V: Write>(
     sending: &mut Sending<A>,
@@ -159,7 +159,7 @@ fn put_starts<A: Allocator, W: Write, V: Write>(
     }
 }
 
-/// Takes a clock event, and writes what is told of it.
+/// Takes a clock event, and writes what is reported of it.
 pub fn put_clock<A: Allocator, W: Write, V: Write>(
     sending: &mut Sending<A>,
     moment: u128,

@@ -1,20 +1,16 @@
 //! Memory, reads and writes that fail, and what is told of it.
 
 use crate::tests::{
-    END, PRIORITY_3, PRIORITY_5, REPORT, Record, Replayed, TWO_CAPTURED, capture_of, is_front_and,
-    replay_of, settings,
+    END, REPORT, Replayed, TWO_CAPTURED, is_front_and, replay_of, settings, three_captured,
 };
-use capture::CapFault;
 use linked_list_allocator::LocalHeap;
 use refusing_heap::RefusingHeap;
-use replay::{
-    Inputs, Outputs, ReplayFault, Unwatched, answer_replay, replay, say_replay_fault, say_unopened,
-};
-use script::{Ended, ScriptFault, Settings};
+use replay::{ReplayFault, Unwatched, replay};
+use script::Settings;
 use std::alloc::Global;
-use std::io::{self, BufWriter, Write};
+use std::io::Write;
 use std::test::Fail;
-use test_streams::{BOTH_LEFT, FIRST_LEFT, FIRST_TOLD, Narrow, Pieces};
+use test_streams::{BOTH_LEFT, Narrow, Pieces};
 
 /// A growth of a replay that is refused.
 #[derive(Clone, Copy)]
@@ -216,13 +212,6 @@ fn the_report_ends_where_the_capture_fails(rt: HostRuntime) {
     }
 }
 
-/// The two frames, and one behind them.
-const THREE_FRAMES: [Record; 3] = [
-    (2_000_500_000_000, 60, &PRIORITY_3),
-    (2_000_400_000_000, 60, &PRIORITY_5),
-    (3_000_000_000_000, 60, &PRIORITY_3),
-];
-
 /// Whether a replay of these records tells the two frames, the third and a failed read.
 fn tells_before_a_failed_read(alloc: Global, records: Pieces<'_>, settings: Settings) -> bool {
     let ended = replay_of(alloc, alloc, b"".as_slice(), records, settings);
@@ -235,184 +224,9 @@ fn tells_before_a_failed_read(alloc: Global, records: Pieces<'_>, settings: Sett
 #[test]
 fn what_comes_before_a_failed_read_is_told(rt: HostRuntime) -> Result<(), Fail> {
     let settings = settings(Some(4_000_000_000_000)).ok_or("settings")?;
-    let capture = capture_of(rt.alloc(), &THREE_FRAMES)?;
+    let capture = three_captured(rt.alloc())?;
     let mut records = Pieces::new(capture.as_slice(), 1);
     records.fails_at = 126;
     assert!(rt; tells_before_a_failed_read(rt.alloc(), records, settings));
     Ok(())
-}
-
-/// How a replay in memory ended, what it wrote, and the text of a fault.
-#[derive(Drop)]
-struct Answered {
-    ended: Ended,
-    report: Vec<u8>,
-    departures: Vec<u8>,
-    errors: Vec<u8>,
-}
-
-/// Answers to a capture without a script, run to behind the two frames.
-fn answer_in_memory(alloc: Global, capture: &[u8], settings: Settings) -> io::Result<Answered> {
-    let inputs = Inputs {
-        script: b"".as_slice(),
-        capture,
-    };
-    let outputs = Outputs {
-        report: BufWriter::new(alloc, Vec::new(alloc))?,
-        departures: BufWriter::new(alloc, Vec::new(alloc))?,
-    };
-    let mut errors = Vec::new(alloc);
-    let (ended, report, departures) = answer_replay(
-        alloc,
-        settings,
-        inputs,
-        outputs,
-        &mut errors,
-        &mut Unwatched,
-    );
-    Ok(Answered {
-        ended,
-        report,
-        departures,
-        errors,
-    })
-}
-
-/// In what the answer to a capture differs from the status, the report, the output capture and the text of a fault that are wanted. Empty
-/// where it doesn't.
-fn answer_differs_in(
-    alloc: Global,
-    capture: &[u8],
-    status: u8,
-    report: &[u8],
-    departures: &[u8],
-    errors: &[u8],
-) -> &'static str {
-    let Some(settings) = settings(END) else {
-        return "settings";
-    };
-    let Ok(got) = answer_in_memory(alloc, capture, settings) else {
-        return "memory";
-    };
-    if got.ended != (Ended { status, told: true }) {
-        "status"
-    } else if got.report.as_slice() != report {
-        "report"
-    } else if got.departures.as_slice() != departures {
-        "output capture"
-    } else if got.errors.as_slice() != errors {
-        "errors"
-    } else {
-        ""
-    }
-}
-
-/// What was written is let out before a fault is told, and the status is the fault's.
-#[test]
-fn both_outputs_are_let_out(rt: HostRuntime) {
-    let differs = answer_differs_in(rt.alloc(), &TWO_CAPTURED, 0, REPORT, &BOTH_LEFT, b"");
-    assert!(rt; differs.is_empty(), "{differs}");
-    let text = b"taprio_port: capture record 1: ShortRecord\n";
-    let front = &TWO_CAPTURED[..68];
-    let differs = answer_differs_in(rt.alloc(), front, 3, FIRST_TOLD, &FIRST_LEFT, text);
-    assert!(rt; differs.is_empty(), "{differs} of a front");
-}
-
-/// Whether a failed write is told where there is room for so many octets of the report and of the output capture, and whether all of the
-/// latter's room is left where the report has not enough.
-fn is_failed_write_told(alloc: Global, of_report: usize, of_departures: usize) -> io::Result<bool> {
-    let Some(settings) = settings(END) else {
-        return Ok(false);
-    };
-    let mut report_room = [0u8; 1000];
-    let mut departures_room = [0u8; 1000];
-    let inputs = Inputs {
-        script: b"".as_slice(),
-        capture: TWO_CAPTURED.as_slice(),
-    };
-    let outputs = Outputs {
-        report: BufWriter::new(alloc, &mut report_room[..of_report.min(1000)])?,
-        departures: BufWriter::new(alloc, &mut departures_room[..of_departures.min(1000)])?,
-    };
-    let mut errors = Vec::new(alloc);
-    let (ended, _report, left) = answer_replay(
-        alloc,
-        settings,
-        inputs,
-        outputs,
-        &mut errors,
-        &mut Unwatched,
-    );
-    Ok(
-        ended.status == 4
-            && errors.as_slice() == b"taprio_port: write failed\n".as_slice()
-            && (of_report == 1000 || left.len() == of_departures),
-    )
-}
-
-/// A writer that is full when the buffers are let out: the write fails, and no other is tried.
-#[test]
-fn a_failed_last_write_is_told(rt: HostRuntime) -> Result<(), Fail> {
-    assert!(rt; is_failed_write_told(rt.alloc(), 5, 1000)?);
-    assert!(rt; is_failed_write_told(rt.alloc(), 1000, 5)?);
-    Ok(())
-}
-
-/// The exit status and the text of each fault.
-static FAULTS: [(ReplayFault, u8, &[u8]); 7] = [
-    (
-        ReplayFault::Until,
-        2,
-        b"taprio_port: bad value of --until\n",
-    ),
-    (
-        ReplayFault::Script(7, ScriptFault::FrameInReplay),
-        3,
-        b"taprio_port: script line 7: FrameInReplay\n",
-    ),
-    (
-        ReplayFault::Capture(0, CapFault::BadMagic),
-        3,
-        b"taprio_port: capture header: BadMagic\n",
-    ),
-    (
-        ReplayFault::Capture(12, CapFault::ShortRecord),
-        3,
-        b"taprio_port: capture record 12: ShortRecord\n",
-    ),
-    (ReplayFault::Read, 4, b"taprio_port: read failed\n"),
-    (ReplayFault::Write, 4, b"taprio_port: write failed\n"),
-    (ReplayFault::Memory, 4, b"taprio_port: out of memory\n"),
-];
-
-/// Whether a fault is told by this text and ends with this status.
-fn is_said(alloc: Global, fault: &ReplayFault, status: u8, text: &[u8]) -> bool {
-    let mut got = Vec::new(alloc);
-    let ended = say_replay_fault(fault, &mut got);
-    ended == (Ended { status, told: true }) && got.as_slice() == text
-}
-
-#[test]
-fn says_faults(rt: HostRuntime) {
-    for (fault, status, text) in &FAULTS {
-        assert!(rt; is_said(rt.alloc(), fault, *status, text), "{fault:?}");
-    }
-}
-
-/// Whether a path that can't be opened is told by this text.
-fn is_path_said(alloc: Global, path: &str, text: &[u8]) -> bool {
-    let mut got = Vec::new(alloc);
-    let ended = say_unopened(path, &mut got);
-    let wanted = Ended {
-        status: 4,
-        told: true,
-    };
-    ended == wanted && got.as_slice() == text
-}
-
-/// A path that can't be opened is told as it was given.
-#[test]
-fn says_an_unopened_path(rt: HostRuntime) {
-    let text = b"taprio_port: cannot open no/such file\n";
-    assert!(rt; is_path_said(rt.alloc(), "no/such file", text));
 }

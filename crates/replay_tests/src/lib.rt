@@ -1,9 +1,7 @@
-//! Tests of `replay`, by its public calls.
+//! Tests of `replay`, by its public calls: what no text on the built program shows.
 #![tactic(auto)]
 
 #[cfg(test)]
 mod failing;
-#[cfg(test)]
-mod long;
 #[cfg(test)]
 mod tests;

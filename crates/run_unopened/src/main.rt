@@ -1,4 +1,4 @@
-//! The transmit port as a program: reads a script, and answers line by line.
+//! The transmit port as a program: a replay whose capture isn't there.
 #![tactic(auto)]
 
 use std::process::ExitCode;

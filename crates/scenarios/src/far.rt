@@ -176,7 +176,7 @@ fn ports_answer_alike_from_the_beginning_on(rt: HostRuntime) {
     }
 }
 
-/// The same from 275 ms before the greatest moment up to it.
+/// Clock events up to 137 ms apart, from 275 ms before the greatest moment up to it.
 #[test]
 fn ports_answer_alike_up_to_the_greatest_moment(rt: HostRuntime) {
     let reach = Reach {

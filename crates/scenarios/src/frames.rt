@@ -60,7 +60,7 @@ fn command_of(happens: &Happens<'_>) -> Option<Command> {
     }
 }
 
-/// What happens as an event; nothing where its command is wanting.
+/// What happens as an event; nothing where it has no command.
 fn event_of<'a>(happens: &Happens<'_>, command: &'a Option<Command>) -> Option<Event<'a>> {
     Some(match *happens {
         Schedule(..) | Deletion => match command {
@@ -99,7 +99,7 @@ fn answers_to(alloc: Global, happens: &[Happens<'_>]) -> Option<Vec<Answer>> {
     Some(answers)
 }
 
-/// Whether an answer tells just so.
+/// Whether an answer says just so.
 fn tells(answer: &Answer, told: &Told) -> bool {
     let want = match *told {
         Taken(change) => Answer::Installed(change),
@@ -109,7 +109,7 @@ fn tells(answer: &Answer, told: &Told) -> bool {
     *answer == want
 }
 
-/// Whether answers tell just so, one by one.
+/// Whether answers say just so, one by one.
 fn tell(answers: &[Answer], told: &[Told]) -> bool {
     for (i, one) in told.iter().enumerate() {
         match answers.get(i) {

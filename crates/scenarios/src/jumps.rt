@@ -279,7 +279,7 @@ fn changes_are_found_from_afar(rt: HostRuntime) {
     assert_eq!(rt; start_at_changes(rt.alloc(), &CHANGES), Ok(()));
 }
 
-/// The same with 256 entries, all but the last of 1 us. The cycle that is cut begins 30 of them.
+/// Changes are found from afar in lists of 256 entries, all but the last of 1 us. The cycle that is cut begins 30 of them.
 const LONG_CHANGES: [Change; 3] = [
     Change {
         many: 256,

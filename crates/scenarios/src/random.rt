@@ -59,7 +59,7 @@ fn stays_for<G: Gates>(gates: &G, class: u8, stay: Stay) -> bool
     }
 }
 
-/// Whether a row tells for each class how long it stays open from now on.
+/// Whether a row says for each class how long it stays open from now on.
 fn tells_open_time<G: Gates>(gates: &G, row: &Row) -> bool
     requires { G.is_sound gates.now }
 {
@@ -71,7 +71,7 @@ fn tells_open_time<G: Gates>(gates: &G, row: &Row) -> bool
     true
 }
 
-/// Whether each row of a random schedule tells the open time that the gates show from the entry's start on.
+/// Whether each row of a random schedule says the open time that the gates show from the entry's start on.
 pub fn rows_tell_open_time<G: Gates + Drop>(seed: u64) -> bool {
     let mut numbers = Numbers::new(seed);
     let mut again = numbers;

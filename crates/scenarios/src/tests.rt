@@ -369,7 +369,7 @@ fn with_two_classes() -> Option<Command> {
     replace(&[entry(1, 100_000)], 20_000, Some(map))
 }
 
-/// Whether frames that wait are told and started so when a map comes.
+/// Whether frames that wait are reported and started so when a map comes.
 fn keep_their_class(alloc: Global) -> Option<bool> {
     let mut port = gigabit_port::<Plain>(alloc, 128)?;
     let command = with_two_classes()?;
@@ -558,7 +558,7 @@ fn goes_on(alloc: Global, size: usize, events: &[Event<'_>], want: &[Answer]) ->
     }
 }
 
-/// Whether memory was wanting, and whether it was enough, each at some size. Or the first size with which the answers come out
+/// Whether there was too little memory, and whether there was enough, each at some size. Or the first size with which the answers come out
 /// otherwise.
 fn go_on(alloc: Global) -> Result<(bool, bool), usize> {
     let Some(command) = closed_then_open() else {

@@ -18,7 +18,7 @@ use Rattle.script.specs.declared.faults.RunFault.TheVariants as Faults
 use Rattle.schedule_check.specs.Checked.{checked_in, checked_of, is_command, with_verdict}
 
 module _ (read : List (List ℕ) → Result Command TcFault) (told : Result Command TcFault → List ℕ) where
-  -- What is told of known lines is what is written and what the lines to come give.
+  -- What is reported of known lines is what is written and what the lines to come give.
   abbrev pub Goes : Option Script → Option (List ℕ) → Option (List ℕ) → Option Script → Type 0
   Goes None old new left = Unit {0}
   Goes (Some all) old new None = ⊥
@@ -48,7 +48,7 @@ module _ (read : List (List ℕ) → Result Command TcFault) (told : Result Comm
         let Q : Outcome → Type 0 = λ o. Sent old now (checked_in read told all).text o.text × ((checked_in read told all).fault ≡ o.fault) in
         subst P (sym left) (subst Q (with_line script rest (Ok false) is e) g)
 
-    -- what is told of a command is written
+    -- what is reported of a command is written
     pub goes_on : (all : Option Script) (old now new : Option (List ℕ)) (s t : Option Script)
         → Goes all old now s → Advances s (Ok true) number line t → is_command (words_of line) ≡ Ok true → Appends now new verdict → Goes all old new t
     goes_on None old now new s t g a e w = tt
@@ -58,7 +58,7 @@ module _ (read : List (List ℕ) → Result Command TcFault) (told : Result Comm
         let P : Option Script → Type 0 = λ u. Goes (Some all) old new u in
         subst P (sym left) (sent_more new verdict _ g.0 (ap (λ x. x.text) same) w, g.1 ∙ ap (λ x. x.fault) same)
 
-    -- a front of it is written
+    -- a prefix of it is written
     pub goes_no_further : {T : Type 0} {f : Result T RunFault} (all : Option Script) (old now new : Option (List ℕ)) (s t : Option Script)
         → Goes all old now s → Advances s (Ok true) number line t → is_command (words_of line) ≡ Ok true → FallsShort now new verdict → f ≡ Err Faults.Write
         → IfSome all (λ script. Runs f old new (checked_in read told script))

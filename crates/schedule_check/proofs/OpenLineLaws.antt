@@ -1,4 +1,4 @@
--- Which classes are told of, and their lines one after another.
+-- Which classes are reported on, and their lines one after another.
 use Rattle.std.proofs.Common.{◌≡◌, ◌<◌, ◌≤◌, ℕ, zero, suc, ◌+◌, ◌-◌, ◌%◌, true, false, cond, List, [], ◌++◌, Option, inl, inr, sym, ap, ◌∙◌, subst, arith, mod-lt, mod-eq_of_lt}
 use Rattle.std.proofs.lemmas.Bool.{cases_Bool, cases_lt}
 use Rattle.gate_list.specs.Gate.{Plan, in_ps, mask_at, opens}

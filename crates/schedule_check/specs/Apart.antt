@@ -1,4 +1,4 @@
--- What is told of a schedule command: the classes that its schedule keeps apart from all others, and what it gives each class.
+-- What is reported of a schedule command: the classes that its schedule keeps apart from all others, and what it gives each class.
 use Rattle.std.specs.Prelude.{◌+◌, List, ℕ, zero, suc, [], ◌∷◌, ◌++◌, Bool, Option, Some, None, Result, Ok, Err, decimal, codes, if◌then◌else◌}
 use Rattle.std.specs.List.{concat, flat_map}
 use Rattle.wire_time.specs.declared.TheConstants.{CLASSES}
@@ -56,7 +56,7 @@ schedule_lines None windows tell c =
 abbrev pub change_lines : Teller → CheckSettings → Change → List ℕ
 change_lines tell s c = schedule_lines (plan_fault s.rate (plan_asked c)) s.windows (tell s.rate (plan_asked c)) c
 
--- What is told of a line that begins with tc: it is no command, or what is told of the command. A deletion keeps nothing apart, and has
+-- What is reported of a line that begins with tc: it is no command, or what is reported of the command. A deletion keeps nothing apart, and has
 -- no windows.
 abbrev pub verdict_lines : Teller → CheckSettings → Result Command TcFault → List ℕ
 verdict_lines tell s (Err fault) = tc_fault_line fault

@@ -1,4 +1,4 @@
--- What is told of the lines of schedule commands, and the fault that ends them.
+-- What is reported of the lines of schedule commands, and the fault that ends them.
 use Rattle.std.specs.Prelude.{List, ℕ, [], ◌∷◌, ◌++◌, Bool, true, false, Some, None, Result, Ok, Err, codes, if◌then◌else◌}
 use Rattle.std.specs.Str.{bytes_eq}
 use Rattle.words.specs.Words.{words_of}
@@ -18,20 +18,20 @@ abbrev pub is_command : List (List ℕ) → Result Bool ScriptFault
 is_command [] = Ok false
 is_command (w ∷ ws) = if is_comment w then Ok false else if bytes_eq w (codes "tc") then Ok true else Err UnknownLine
 
--- a line before what is told of the rest
+-- a line before what is reported of the rest
 abbrev pub with_verdict : ℕ → Result Bool ScriptFault → List ℕ → Outcome → Outcome
 with_verdict number (Err fault) verdict rest = record { text = []; fault = Some (number, fault) }
 with_verdict number (Ok false) verdict rest = rest
 with_verdict number (Ok true) verdict rest = record { text = verdict ++ rest.text; fault = rest.fault }
 
--- what is told of lines, by what is told of each that begins with tc
+-- what is reported of lines, by what is reported of each that begins with tc
 abbrev pub checked_in : (List (List ℕ) → Result Command TcFault) → (Result Command TcFault → List ℕ) → Script → Outcome
 checked_in read told End = record { text = []; fault = None }
 checked_in read told (Broken number limit) = record { text = []; fault = Some (number, limit_fault limit) }
 checked_in read told (Line number octets rest) =
     with_verdict number (is_command (words_of octets)) (told (read (words_of octets))) (checked_in read told rest)
 
--- what is told of the octets of an input
+-- what is reported of the octets of an input
 abbrev pub checked_of : (List (List ℕ) → Result Command TcFault) → (Result Command TcFault → List ℕ) → List ℕ → Outcome
 checked_of read told input = checked_in read told (script_of input)
 

@@ -47,7 +47,7 @@ fn fault_here<A: Allocator, R: Read + Drop>(
     RunFault::Script(lines.line_number(), fault)
 }
 
-// Tells of the lines that are to come.
+// Reports on the lines that are to come.
 fn check_lines<A: Allocator, R: Read + Drop, W: Write>(
     lines: &mut LineReader<R, A>,
     writer: &mut W,
@@ -68,12 +68,12 @@ fn check_lines<A: Allocator, R: Read + Drop, W: Write>(
     Ok(())
 }
 
-/// Reads schedule commands to the end of the input, and tells of each at the line rate: its fault where it is no command; the
+/// Reads schedule commands to the end of the input, and reports on each at the line rate: its fault where it is no command; the
 /// refusal of its schedule; or `apart` with the classes that the schedule keeps apart, in rising order, of those that the
 /// command's map has, or of all eight where it gives no map; a deletion keeps none apart. Where windows are asked for, a line
 /// follows for each of these classes that the schedule ever opens, of what it gives the class.
 ///
-/// Lines without words and comments are skipped; any other line is an `UnknownLine`, which ends the call after what is told of the
+/// Lines without words and comments are skipped; any other line is an `UnknownLine`, which ends the call after what is reported of the
 /// lines before it. A read or a write that fails, or takes nothing, isn't tried again.
 pub fn check<A: Allocator, R: Read + Drop, W: Write>(
     alloc: A,

@@ -13,7 +13,7 @@ use std::alloc::Allocator;
 use std::io::{BufWriter, Read, Write};
 
 /// Checks the schedules that `reader` gives at the rate of this value in Mb/s, 1000 where none is given, with windows or without, through
-/// `answers`, with the text of a fault on `errors`; and gives the writer of the answers back. What was told is let out before a fault is; after a failed
+/// `answers`, with the text of a fault on `errors`; and gives the writer of the answers back. What was reported is let out before a fault is; after a failed
 /// write no other is tried. Where the value is bad nothing is read.
 pub fn answer_check<A: Allocator, B: Allocator, R: Read, W: Write + Drop, E: Write>(
     alloc: A,

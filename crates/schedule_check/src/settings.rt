@@ -2,11 +2,11 @@
 
 use wire_time::Rate;
 
-/// The line rate that schedules are judged at, and what is told of them.
+/// The line rate that schedules are judged at, and what is reported of them.
 #[derive(Clone, Copy, Debug, PartialEq, Eq)]
 pub struct CheckSettings {
     /// The line rate.
     pub rate: Rate,
-    /// Whether what a schedule gives each class is told beside the classes that it keeps apart.
+    /// Whether what a schedule gives each class is reported beside the classes that it keeps apart.
     pub windows: bool,
 }

@@ -1,4 +1,4 @@
-//! What is told of a schedule command.
+//! What is reported of a schedule command.
 
 ghost use Rattle.std.specs.Prelude.{◌≡◌, ◌<◌, ◌≤◌, ◌+◌, ◌++◌, ℕ, List, None, Result};
 ghost use Rattle.arrayvec.specs.ArrayVec.{array_vec_len};
@@ -97,7 +97,7 @@ fn put_apart<W: Write>(writer: &mut W, classes: &[u8]) -> Result<(), WriteFault>
     }
 }
 
-// Tells of an accepted schedule: the classes that it keeps apart and, where windows are asked for, what it gives each class.
+// Reports on an accepted schedule: the classes that it keeps apart and, where windows are asked for, what it gives each class.
 fn put_schedule<W: Write>(
     writer: &mut W,
     settings: CheckSettings,
@@ -114,7 +114,7 @@ fn put_schedule<W: Write>(
     put_asked(writer, settings, change, count)
 }
 
-// Tells of a change: the refusal of its schedule, or what the schedule promises.
+// Reports on a change: the refusal of its schedule, or what the schedule promises.
 fn put_change<W: Write>(
     writer: &mut W,
     settings: CheckSettings,
@@ -136,7 +136,7 @@ fn put_change<W: Write>(
     }
 }
 
-// Writes what is told of a command, or of a line that is none.
+// Writes what is reported of a command, or of a line that is none.
 fn put_verdict<W: Write>(
     writer: &mut W,
     settings: CheckSettings,
@@ -152,7 +152,7 @@ fn put_verdict<W: Write>(
     }
 }
 
-/// Writes what is told of a line that begins with `tc`, by settings. At a fault a front of that is written.
+/// Writes what is reported of a line that begins with `tc`, by settings. At a fault a prefix of that is written.
 pub fn put_line<W: Write>(
     writer: &mut W,
     settings: CheckSettings,

@@ -90,7 +90,7 @@ fn put_windows<W: Write>(
 }
 
 /// Writes, where windows are asked for, a line for each class below a number that is ever open, of what the schedule of a change gives it.
-/// At a fault a front of them is written.
+/// At a fault a prefix of them is written.
 pub fn put_asked<W: Write>(
     writer: &mut W,
     settings: CheckSettings,

@@ -12,7 +12,7 @@ use Rattle.script.specs.declared.faults.Ended.{Ended}
 use Rattle.script.specs.declared.faults.RunFault.{RunFault}
 use Rattle.script.specs.declared.faults.RunFault.TheVariants as Faults
 
--- known octets that stay leave what was appended, and a front of it, as they were
+-- known octets that stay leave what was appended, and a prefix of it, as they were
 pub appends_kept : (a b c : Option (List ℕ)) (text : List ℕ) → Appends a b text → Keeps b c → Appends a c text
 appends_kept None b c text p k = tt
 appends_kept (Some x) None c text p k = absurd p
@@ -22,7 +22,7 @@ appends_kept (Some x) (Some y) (Some z) text p k = k ∙ p
 pub sent_kept : (a b c : Option (List ℕ)) (text left : List ℕ) → Sent a b text left → Keeps b c → Sent a c text left
 sent_kept a b c text left s k = record { done = s.done; appended = appends_kept a b c s.done s.appended k; parts = s.parts }
 
--- what was appended whole is a front with nothing left
+-- what was appended whole is a prefix with nothing left
 pub sent_whole : (a b : Option (List ℕ)) (text : List ℕ) → Appends a b text → Sent a b text []
 sent_whole a b text p = record { done = text; appended = p; parts = sym (append-nil text) }
 

@@ -161,7 +161,7 @@ module _ (read : List (List ℕ) → Result Command TcFault) where
       → IsRunning until p0 o0 all old now s q o → Advances s (Ok true) number line t → request_of read line ≡ Ok None → IsRunning until p0 o0 all old now t q o
   goes_past until p0 o0 number line q o all old now s t i a e = record { behind = i.behind; stands = i.stands; goes = skipped_line until p0 o0 number line i.behind o all old now s t i.goes a e }
 
-  -- a front of the answers to a line is written
+  -- a prefix of the answers to a line is written
   front_of_line : {T : Type 0} {f : Result T RunFault} (until : Option ℕ) (p0 : AbstractPort) (o0 : Option Observed) (number : ℕ) (line : List ℕ) (p : AbstractPort) (o : Option Observed) (all : Option Script) (old now new : Option (List ℕ)) (s t : Option Script) (r : Request)
       → Goes until p0 o0 all old now s p o → Advances s (Ok true) number line t → request_of read line ≡ Ok (Some r) → FallsShort now new (lines_of (responses_to r p).0) → f ≡ Err Faults.Write
       → IfSome all (λ script. Runs f old new (outcome_from read until script p0 o0))

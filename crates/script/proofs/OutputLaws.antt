@@ -1,4 +1,4 @@
--- What is written for a script, request by request, and the answers that it tells.
+-- What is written for a script, request by request, and the answers that it reports.
 use Rattle.std.proofs.Common.{◌≡◌, ◌≤◌, ℕ, List, [], ◌∷◌, ◌++◌, map, Option, Some, None, Result, refl, sym, ap, ◌∙◌, append_assoc}
 use Rattle.abstract_port.specs.AbstractPort.{AbstractPort}
 use Rattle.abstract_port.specs.Answers.{answers_to, answers_of, port_after}
@@ -58,7 +58,7 @@ outcome-more until r rest p o =
     ∙ ap (λ x. (lines_of told ++ lines_of (responses_of asked q)) ++ end_unless rest.fault (port_after (events_of asked) q) x) (noted-more r asked p o)
     ∙ append_assoc (lines_of told) (lines_of (responses_of asked q)) (end_unless rest.fault (port_after (events_of asked) q) later))
 
--- ---- the answers that are told
+-- ---- the answers that are reported
 
 answers_in-answers : (answers : List Answer) (rest : List Response) → answers_in (map Gave answers ++ rest) ≡ answers ++ answers_in rest
 answers_in-answers [] rest = refl

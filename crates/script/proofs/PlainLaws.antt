@@ -1,4 +1,4 @@
--- What a line says that is written as most lines are: its numbers are told at once.
+-- What a line says that is written as most lines are: its numbers are read at once.
 use Rattle.std.proofs.Common.{◌≡◌, ◌≤◌, ◌^◌, ◌-◌, ℕ, Bool, true, false, cond, List, [], ◌∷◌, None, Some, Option, Ok, Err, Result, codes, length, refl, ap, ◌∙◌, arith}
 use Rattle.std.specs.Str.{bytes_eq}
 use Rattle.std.proofs.lemmas.Bool.{le-leb, le-ltb}

@@ -33,22 +33,22 @@ rate_where_good None = Err Values.Rate
 abbrev pub rate_given : Option (List ℕ) → Result ℕ BadValue
 rate_given rate = rate_where_good (rate_in (unwrap_or rate (codes "1000")))
 
--- whether a text was told: all of it was written; or not all of it, but a front
+-- whether a text was reported: all of it was written; or not all of it, but a prefix
 abbrev pub IsTold : Bool → Option (List ℕ) → Option (List ℕ) → List ℕ → Type 0
 IsTold true old new text = Appends old new text
 IsTold false old new text = FallsShort old new text
 
--- the exit status of a run, and what is told of it: nothing where there is no fault
+-- the exit status of a run, and what is reported of it: nothing where there is no fault
 abbrev pub run_status : {T : Type 0} → Result T RunFault → ℕ
 run_status (Ok x) = 0
 run_status (Err fault) = status_of fault
 
--- what is told of a run: nothing where there is no fault
+-- what is reported of a run: nothing where there is no fault
 abbrev pub run_text : {T : Type 0} → Result T RunFault → List ℕ
 run_text (Ok x) = []
 run_text (Err fault) = fault_text fault
 
--- what is written where the answers go through a buffer: after a failed write a front, which the buffer's octets end
+-- what is written where the answers go through a buffer: after a failed write a prefix, which the buffer's octets end
 abbrev pub RunsOut : {T : Type 0} → Result T RunFault → Option (List ℕ) → Option (List ℕ) → Outcome → Type 0
 RunsOut (Err Faults.Write) old new whole = AppendsFront old new whole.text
 RunsOut (Ok x) old new whole = Runs (Ok x) old new whole
@@ -60,8 +60,8 @@ RunsOut (Err Faults.Memory) old new whole = Runs {T = ⊤} (Err Faults.Memory) o
 abbrev pub Whole : Type 0
 Whole = (List (List ℕ) → Result Command TcFault) → List ℕ → Outcome
 
--- The end of a run on good settings: the status and the told text are those of a result of the run; what the writer got, with
--- what no write let out, is what is to be written for the octets, or after a fault of the call's a front of it; and all is let out but
+-- The end of a run on good settings: the status and the reported text are those of a result of the run; what the writer got, with
+-- what no write let out, is what is to be written for the octets, or after a fault of the call's a prefix of it; and all is let out but
 -- after a failed write.
 pub record IsRunEnding (whole : Whole) (input : Option (List ℕ)) (ended : Ended) (old got : Option (List ℕ)) (errors_old errors_new : Option (List ℕ)) : Type 0 where
   pub run : Result (Unit {0}) RunFault
@@ -71,14 +71,14 @@ pub record IsRunEnding (whole : Whole) (input : Option (List ℕ)) (ended : Ende
   pub let_out : (unwritten ≡ []) ⊎ (run ≡ Err Faults.Write)
   pub wrote : (read : List (List ℕ) → Result Command TcFault) → IsReader read → IfSome input (λ octets. RunsOut run old (append_known got unwritten) (whole read octets))
 
--- An end before anything is answered: the status of this number, this text is told, and the writer has got what it had, with what no write let out.
+-- An end before anything is answered: the status of this number, this text is reported, and the writer has got what it had, with what no write let out.
 pub record IsUnanswered (number : ℕ) (text : List ℕ) (ended : Ended) (old got : Option (List ℕ)) (errors_old errors_new : Option (List ℕ)) : Type 0 where
   pub status : ended.status ≡ number
   pub told : IsTold ended.told errors_old errors_new text
   pub unwritten : List ℕ
   pub wrote : append_known got unwritten ≡ old
 
--- the end where a value is bad: status 2, and its text is told
+-- the end where a value is bad: status 2, and its text is reported
 abbrev pub IsRefusal : BadValue → Ended → (old got errors_old errors_new : Option (List ℕ)) → Type 0
 IsRefusal value ended old got errors_old errors_new = IsUnanswered 2 (value_text value) ended old got errors_old errors_new
 

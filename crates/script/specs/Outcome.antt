@@ -99,7 +99,7 @@ outcome_from read until script p o = outcome_after until (reading_of read script
 abbrev pub outcome_of : (List (List ℕ) → Result Command TcFault) → Setup → List ℕ → Outcome
 outcome_of read s input = outcome_from read s.until (script_of input) (new_port s.rate s.mtu s.room) (watched s.summary s.room)
 
--- At Ok and at a script's fault the whole output is written, and the fault is the script's; at the other faults a front of
+-- At Ok and at a script's fault the whole output is written, and the fault is the script's; at the other faults a prefix of
 -- the output, and after a failed write not all of it.
 abbrev pub Runs : {T : Type 0} → Result T RunFault → Option (List ℕ) → Option (List ℕ) → Outcome → Type 0
 Runs (Ok x) old new whole = (whole.fault ≡ None) × Appends old new whole.text
@@ -110,7 +110,7 @@ Runs (Err Faults.Memory) old new whole = AppendsFront old new whole.text
 
 -- 3. What holds of every output
 
--- The answers among what is told are those of the abstract port to the events of the script, and such a run keeps what every
+-- The answers among what is reported are those of the abstract port to the events of the script, and such a run keeps what every
 -- run of a new port keeps: each start by an open gate, one frame on the wire at a time, counters that are the counts.
 pub record IsFaithful (requests : List Request) (p : AbstractPort) : Type 0 where
   pub answers : answers_in (responses_of requests p) ≡ answers_of (events_of requests) p

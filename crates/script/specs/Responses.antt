@@ -1,4 +1,4 @@
--- What is told of the requests of a script: the abstract port's answers to its events, with the faults of tc lines at their
+-- What is reported of the requests of a script: the abstract port's answers to its events, with the faults of tc lines at their
 -- places.
 use Rattle.std.specs.Prelude.{◌+◌, ◌==◌, List, ℕ, zero, suc, [], ◌∷◌, ◌++◌, Option, Some, None, length, map, if◌then◌else◌}
 use Rattle.std.specs.List.{flat_map}
@@ -18,7 +18,7 @@ pub data Response : Type 0 where
   Gave : Answer → Response
   Faulted : TcFault → Response
 
--- what is told of a request, and the port after it
+-- what is reported of a request, and the port after it
 abbrev pub responses_to : Request → AbstractPort → List Response × AbstractPort
 responses_to (Asks event) p = let answers = answers_to event p in (map Gave answers.0, answers.1)
 responses_to (NoCommand fault) p = (Faulted fault ∷ [], p)
@@ -39,13 +39,13 @@ events_of [] = []
 events_of (Asks event ∷ rest) = event ∷ events_of rest
 events_of (NoCommand fault ∷ rest) = events_of rest
 
--- the answers among what is told
+-- the answers among what is reported
 abbrev pub answers_in : List Response → List Answer
 answers_in [] = []
 answers_in (Gave answer ∷ rest) = answer ∷ answers_in rest
 answers_in (Faulted fault ∷ rest) = answers_in rest
 
--- the lines of what is told
+-- the lines of what is reported
 abbrev pub response_lines : Response → List ℕ
 response_lines (Gave answer) = answer_lines answer
 response_lines (Faulted fault) = tc_fault_line fault

@@ -72,7 +72,7 @@ fn put_each_start<A: Allocator, W: Write>(
     Ok(())
 }
 
-// The same where it may be known that there are none.
+// Runs to a moment and writes the starts before it, where it may be known that there are none.
 #[inline(always)]
 fn put_starts<A: Allocator, W: Write>(
     port: &mut RunningPort<A>,
@@ -153,7 +153,7 @@ fn put_clock<A: Allocator, W: Write>(
     }
 }
 
-/// Takes an event, and writes the answers to it as they come, each noted where a summary is wanted. At a fault a front of them is
+/// Takes an event, and writes the answers to it as they come, each noted where a summary is wanted. At a fault a prefix of them is
 /// written.
 #[inline(always)]
 pub fn put_answers<A: Allocator, W: Write>(
@@ -194,7 +194,7 @@ fn put_command<A: Allocator, W: Write>(
     }
 }
 
-/// Takes a line that begins with `tc`, and writes what is told of it. At a fault a front of that is written. Apart, since its
+/// Takes a line that begins with `tc`, and writes what is reported of it. At a fault a prefix of that is written. Apart, since its
 /// locals are large.
 #[inline(never)]
 pub fn put_tc<A: Allocator, W: Write>(

@@ -33,7 +33,7 @@ pub enum ScriptFault {
     ClockTooLate,
 }
 
-/// Why a run ended early. What was written is then a front of the right output, and all of it at a script's fault.
+/// Why a run ended early. What was written is then a prefix of the right output, and all of it at a script's fault.
 #[derive(Clone, Copy, Debug, PartialEq, Eq, Error)]
 pub enum RunFault {
     /// The line of this number, counted in physical lines from 1, has this fault.
@@ -45,7 +45,7 @@ pub enum RunFault {
     /// A write failed, or took nothing.
     #[error("a write failed")]
     Write,
-    /// Memory was wanting.
+    /// Out of memory.
     #[error("out of memory")]
     Memory,
 }
@@ -169,7 +169,7 @@ fn status_of(fault: RunFault) -> u8
 pub struct Ended {
     /// 0 done, 2 a value is refused, 3 the input is, 4 a read, a write or memory failed.
     pub status: u8,
-    /// Whether all of the text was written; else a front of it was.
+    /// Whether all of the text was written; else a prefix of it was.
     pub told: bool,
 }
 

@@ -11,7 +11,7 @@ fn are_four(octets: [u8; 4], text: [u8; 4]) -> bool
     u32::from_le_bytes(octets) == u32::from_le_bytes(text)
 }
 
-// The same of two.
+// Whether two octets are those of a text.
 #[inline(always)]
 fn are_two(octets: [u8; 2], text: [u8; 2]) -> bool
     ensures { result ≡ true → octets ≡ text }
@@ -31,7 +31,7 @@ pub(crate) fn behind_frame(line: &[u8]) -> Option<&[u8]>
     }
 }
 
-// The same of `clock`.
+// What comes after `clock` and a space, where a line begins with them.
 #[inline(always)]
 pub(crate) fn behind_clock(line: &[u8]) -> Option<&[u8]>
     ensures { IfSome result (λ rest. line.now ≡ codes "clock " ++ rest.now) }

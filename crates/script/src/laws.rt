@@ -10,7 +10,7 @@ ghost use Rattle.wire_time.specs.declared.TheConstants.{MIN_MTU, MIN_PS_PER_OCTE
 
 use separation::separation;
 
-/// What is told of a script are the abstract port's answers to its events. In each output every `start` line has its gate open
+/// What is reported of a script is the abstract port's answers to its events. In each output every `start` line has its gate open
 /// from its start to its end, by the history of its time and by that at the script's end; no two frames are on the wire at
 /// once; and the `count` lines are the counts over the events before them.
 pub fn faithful()

@@ -96,7 +96,7 @@ fn let_out<W: Write + Drop, B: Allocator>(
     run
 }
 
-// Tells how a run ended: a fault's text, where there is one, and the status.
+// Reports how a run ended: a fault's text, where there is one, and the status.
 fn say_run<E: Write>(run: Result<(), RunFault>, errors: &mut E) -> Ended
     ensures status { result.status ≡ run_status run }
     ensures told { IsTold result.told (E.contents errors.old) (E.contents errors.new) (run_text run) }
@@ -111,7 +111,7 @@ fn say_run<E: Write>(run: Result<(), RunFault>, errors: &mut E) -> Ended
 }
 
 /// Ends a run whose answers went through `answers`: lets out what was answered, also before a fault, but after a failed write; then
-/// tells the fault on `errors`, where there is one; and gives the writer of the answers back. What the run has written is then what
+/// reports the fault on `errors`, where there is one; and gives the writer of the answers back. What the run has written is then what
 /// the writer has got, with what no write let out.
 pub fn end_run<B: Allocator, W: Write + Drop, E: Write>(
     run: Result<(), RunFault>,
@@ -128,7 +128,7 @@ pub fn end_run<B: Allocator, W: Write + Drop, E: Write>(
     (ended, writer)
 }
 
-/// Tells a bad value on `errors`, and gives the writer of the answers back. Nothing is answered.
+/// Reports a bad value on `errors`, and gives the writer of the answers back. Nothing is answered.
 pub fn end_with_value<B: Allocator, W: Write + Drop, E: Write>(
     value: BadValue,
     answers: BufWriter<W, B>,
@@ -142,7 +142,7 @@ pub fn end_with_value<B: Allocator, W: Write + Drop, E: Write>(
 }
 
 /// Answers the script that `reader` gives, by these values, through `answers`, with the text of a fault on `errors`; and gives
-/// the writer of the answers back. What was answered is let out before a fault is told; after a failed write no other is tried.
+/// the writer of the answers back. What was answered is let out before a fault is reported; after a failed write no other is tried.
 pub fn answer_script<A: Allocator, B: Allocator, R: Read, W: Write + Drop, E: Write>(
     alloc: A,
     values: Values<'_>,

@@ -39,7 +39,7 @@ fn plain_clock(mut words: Words<'_>) -> Option<u128>
     Some(moment)
 }
 
-// The same of a line that is written otherwise. Apart, since it is seldom.
+// A clock line that is written otherwise. A function of its own, since it is seldom called.
 #[inline(never)]
 fn read_any_clock(mut words: Words<'_>) -> Result<Event<'static>, ScriptFault>
     ensures { result ≡ clock_event (words_left words.entry) }
@@ -194,7 +194,8 @@ pub fn read_tc(line: &[u8]) -> Result<Command, TcFault>
     read_command(line)
 }
 
-// The same in place of another answer: where that one has a list (`closed_command`), the list is written over.
+// Puts the command that a line is, or its first fault, in place of another answer: where that one has a list (`closed_command`), the list
+// is written over.
 pub(crate) fn read_tc_into(line: &[u8], answer: &mut Result<Command, TcFault>)
     ensures { (read : List (List ℕ) → Result Command TcFault) → IsReader read → answer.new ≡ read (words_of line.now) }
 {

@@ -148,7 +148,7 @@ impl Settings {
         })
     }
 
-    /// The same settings, with a summary at the end or without one.
+    /// These settings, with a summary at the end or without one.
     pub fn with_summary(self, wanted: bool) -> Settings
         ensures { result ≡ with_summary wanted self }
     {

@@ -144,7 +144,7 @@ impl<A: Allocator> Summary<A> {
         self.busy.saturating_sub(self.free.saturating_sub(now))
     }
 
-    /// Writes the line of a class, 0 to 7, with what it has counted, where it had frames. At a fault a front of it is written.
+    /// Writes the line of a class, 0 to 7, with what it has counted, where it had frames. At a fault a prefix of it is written.
     pub fn put_class<W: Write>(
         &self,
         class: u8,
@@ -158,7 +158,7 @@ impl<A: Allocator> Summary<A> {
         put_class_text(class, counters, &seen.waits(), seen.most(), writer)
     }
 
-    /// Writes the line of the wire, up to this moment, in picoseconds. At a fault a front of it is written.
+    /// Writes the line of the wire, up to this moment, in picoseconds. At a fault a prefix of it is written.
     pub fn put_wire<W: Write>(&self, now: u128, writer: &mut W) -> Result<(), WriteFault>
         requires { now ≤ greatest_moment }
         ensures { Writes result (W.contents writer.old) (W.contents writer.new) (wire_text now self.now) }

@@ -77,7 +77,7 @@ fn see_start<A: Allocator>(summary: &mut Summary<A>, now: u128, start: &Start)
     summary.see(now, &Answer::Start(*start));
 }
 
-/// Takes note of a frame that starts, which a port tells at this moment, in picoseconds, where a summary is wanted.
+/// Takes note of a frame that starts, which a port reports at this moment, in picoseconds, where a summary is wanted.
 pub fn note_start<A: Allocator>(summary: &mut Option<Summary<A>>, now: u128, start: &Start)
     ensures { summary.new ≡ noted now (Answers.Start start.now) summary.old }
 {

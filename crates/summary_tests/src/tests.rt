@@ -141,7 +141,7 @@ fn not_wanted(rt: HostRuntime) -> Result<(), Fail> {
     Ok(())
 }
 
-/// All memory is taken at the beginning, and a heap that is too small is told.
+/// All memory is taken at the beginning, and a heap that is too small is reported.
 #[test]
 fn fixed_memory(rt: HostRuntime) -> Result<(), Fail> {
     let small = LocalHeap::new(rt.alloc(), 4096)?;

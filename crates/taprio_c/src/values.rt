@@ -62,7 +62,7 @@ fn moment_of(low: u64, high: u64) -> u128
     u128::from(high) * TWO_TO_64 + u128::from(low)
 }
 
-// The same where there is one.
+// The moment of two halves, where there is one.
 fn moment_where(is_there: u64, low: u64, high: u64) -> Option<u128>
     ensures { result ≡ moment_where is_there low high }
 {

@@ -46,7 +46,7 @@ two_digits high low a b first second few less =
     ∙ (ap (λ o. option_and_then (λ d. Some ((0 * 16 + a) * 16 + d)) o) second ∙ ap (λ n. Some (n * 16 + b)) front) in
     ap (number_in 16 255) plain ∙ (ap (at_most 255) value ∙ within 255 (a * 16 + b) (omega arith))
 
--- ---- an interval that can be told at once
+-- ---- an interval that can be read at once
 
 pub told_at_once : (place : ℕ) (left rest : List Word) (n : ℕ) → n ≤ 2 ^ 32 - 1 → ((most : ℕ) → first_number most left ≡ Some (at_most most (Some n))) → rest ≡ behind_first left
     → value_at SchedEntry (number_in 10 (2 ^ 32 - 1)) place left ≡ Ok (n, rest)

@@ -16,7 +16,7 @@ use Rattle.tc_reader.specs.Capped.{capped_with, with_read, capped}
 use Rattle.tc_reader.specs.Reads.{Reads, given_by}
 use Rattle.tc_reader.proofs.RunLemmas.{take-push, ok_is}
 
--- ---- what is capped tells what was given
+-- ---- what is capped says what was given
 
 is_some-map : {X Y : Type 0} (f : X → Y) (o : Option X) → is_some (option_map f o) ≡ is_some o
 is_some-map f None = refl

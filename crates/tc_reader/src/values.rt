@@ -124,7 +124,7 @@ fn take_plain_mask(words: &mut Words<'_>) -> Option<u8>
     two_digits(high, low)
 }
 
-// The next word as an interval, where it can be told at once. Else None.
+// The next word as an interval, where it can be read at once. Else None.
 #[inline]
 fn take_plain_interval(words: &mut Words<'_>) -> Option<u32>
     ensures value { IfSome result (λ n. value_at Opt.SchedEntry (number_in 10 (2 ^ 32 - 1)) (words_taken words.old) (words_left words.old) ≡ Ok (n, words_left words.new)) }

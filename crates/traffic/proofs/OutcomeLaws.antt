@@ -43,7 +43,7 @@ unread {T} {f} fault (Some lines) (Some others) before turns old h e =
     let P : Result T StreamsFault → Type 0 = λ r. Runs r old old (outcome_in (table_of lines) others) in
     subst P (sym e) (unwritten T fault (table_of lines) before turns others old h)
 
--- memory is wanting before anything is read
+-- out of memory before anything is read
 pub refused : {T : Type 0} {f : Result T StreamsFault} (table script old : Option (List ℕ)) → f ≡ Err Faults.Memory → IfSome table (λ octets. IfSome script (λ others. Runs f old old (outcome_of octets others)))
 refused None script old e = tt
 refused (Some octets) None old e = tt

@@ -107,7 +107,7 @@ module _ (number : ℕ) (line : List ℕ) where
       let P : Result T StreamsFault → Type 0 = λ x. ReadsTable x (table_of all) old new in
       subst P (sym h) tt
 
--- memory is wanting
+-- out of memory
 pub memory : {T : Type 0} {f : Result T StreamsFault} (all : Option Script) (old new : List Turn) → f ≡ Err Faults.Memory → IfSome all (λ script. ReadsTable f (table_of script) old new)
 memory None old new e = tt
 memory {T} {f} (Some all) old new e =

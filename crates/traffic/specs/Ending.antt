@@ -33,12 +33,12 @@ abbrev pub ended_status : {T : Type 0} → Result T StreamsFault → ℕ
 ended_status (Ok x) = 0
 ended_status (Err fault) = streams_status fault
 
--- what is told of a run: nothing where there is no fault
+-- what is reported of a run: nothing where there is no fault
 abbrev pub ended_text : {T : Type 0} → Result T StreamsFault → List ℕ
 ended_text (Ok x) = []
 ended_text (Err fault) = streams_text fault
 
--- what is written where the output goes through a buffer: after a failed write a front, which the buffer's octets end
+-- what is written where the output goes through a buffer: after a failed write a prefix, which the buffer's octets end
 abbrev pub RunsOut : {T : Type 0} → Result T StreamsFault → Option (List ℕ) → Option (List ℕ) → Outcome → Type 0
 RunsOut (Err Faults.Write) old new whole = AppendsFront old new whole.text
 RunsOut (Ok x) old new whole = Runs (Ok x) old new whole
@@ -47,8 +47,8 @@ RunsOut (Err (Faults.Script number fault)) old new whole = Runs {T = ⊤} (Err (
 RunsOut (Err Faults.Read) old new whole = Runs {T = ⊤} (Err Faults.Read) old new whole
 RunsOut (Err Faults.Memory) old new whole = Runs {T = ⊤} (Err Faults.Memory) old new whole
 
--- The end of a run: the status and the told text are those of its result; what the writer got, with what no write let out, is what is to be
--- written for the octets of the table and of the script, or after a fault of a call's a front of it; and all is let out but after a failed
+-- The end of a run: the status and the reported text are those of its result; what the writer got, with what no write let out, is what is to be
+-- written for the octets of the table and of the script, or after a fault of a call's a prefix of it; and all is let out but after a failed
 -- write.
 pub record IsStreamsEnding (table script : Option (List ℕ)) (ended : Ended) (old got errors_old errors_new : Option (List ℕ)) : Type 0 where
   pub run : Result (Unit {0}) StreamsFault

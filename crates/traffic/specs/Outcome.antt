@@ -41,7 +41,7 @@ outcome_in table script = outcome_unless table.fault table.streams script
 abbrev pub outcome_of : List ℕ → List ℕ → Outcome
 outcome_of table script = outcome_in (table_of (script_of table)) (script_of script)
 
--- At Ok and at the fault of an input the whole output is written, and the fault is that one; at the other faults a front of the output, and
+-- At Ok and at the fault of an input the whole output is written, and the fault is that one; at the other faults a prefix of the output, and
 -- after a failed write not all of it.
 abbrev pub Runs : {T : Type 0} → Result T StreamsFault → Option (List ℕ) → Option (List ℕ) → Outcome → Type 0
 Runs (Ok x) old new whole = (whole.fault ≡ None) × Appends old new whole.text

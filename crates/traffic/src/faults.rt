@@ -16,7 +16,7 @@ use std::alloc::AllocError;
 use std::io::Write;
 use thiserror::Error;
 
-/// Why a run on a table of streams and a script ended early. What was written is then a front of the right output, and all of it at the
+/// Why a run on a table of streams and a script ended early. What was written is then a prefix of the right output, and all of it at the
 /// fault of a line.
 #[derive(Clone, Copy, Debug, PartialEq, Eq, Error)]
 pub enum StreamsFault {
@@ -32,7 +32,7 @@ pub enum StreamsFault {
     /// A write failed, or took nothing.
     #[error("a write failed")]
     Write,
-    /// Memory was wanting.
+    /// Out of memory.
     #[error("out of memory")]
     Memory,
 }

@@ -31,7 +31,7 @@ fn let_out<W: Write + Drop, B: Allocator>(
     run
 }
 
-// Tells how a run ended: a fault's text, where there is one, and the status.
+// Reports how a run ended: a fault's text, where there is one, and the status.
 fn say_run<E: Write>(run: Result<(), StreamsFault>, errors: &mut E) -> Ended
     ensures status { result.status ≡ ended_status run }
     ensures told { IsTold result.told (E.contents errors.old) (E.contents errors.new) (ended_text run) }
@@ -46,7 +46,7 @@ fn say_run<E: Write>(run: Result<(), StreamsFault>, errors: &mut E) -> Ended
 }
 
 /// Writes the script of the table of streams that `reader` gives through `answers`, with the lines of `script` among the frames, and with the
-/// text of a fault on `errors`; and gives the writer of the answers back. What was written is let out before a fault is told; after a failed
+/// text of a fault on `errors`; and gives the writer of the answers back. What was written is let out before a fault is reported; after a failed
 /// write no other is tried.
 pub fn answer_streams<
     A: Allocator,

@@ -88,7 +88,7 @@ pub fn write_frames_before<W: Write>(
 }
 
 /// Writes the frames of streams that are to come, by moment, each as a line of a script, with a clock line before the first of each
-/// moment, unless it is the moment whose clock line is written already. At a fault a front of it is written.
+/// moment, unless it is the moment whose clock line is written already. At a fault a prefix of it is written.
 pub fn write_frames<W: Write>(
     writer: &mut W,
     turns: &mut [Turn],

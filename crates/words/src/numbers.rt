@@ -24,7 +24,7 @@ const SHORT_DIGITS: usize = 19;
 // How many decimal digits surely make a number of 128 bits.
 const LONG_DIGITS: usize = 38;
 
-// The decimal digit that an octet is. In a word of the machine, where it is counted, one comparison tells.
+// The decimal digit that an octet is. In a word of the machine, where it is counted, one comparison shows it.
 #[inline(always)]
 fn decimal_digit(octet: u8) -> Option<u64>
     ensures digit { result ≡ digit_in 10 octet }
@@ -53,7 +53,7 @@ fn array_run(octets: &[u8; SHORT_DIGITS]) -> (u64, usize)
     (value, end)
 }
 
-// The same of fewer octets than an array has.
+// The number that the decimal digits at the front of fewer octets than an array has are, and how many these are.
 fn few_run(octets: &[u8]) -> (u64, usize)
     requires { length octets.now < SHORT_DIGITS }
     ensures within { result.1 ≤ length octets.now }
@@ -154,7 +154,7 @@ fn run_on(octets: &[u8; FRONT], front: u64, from: usize) -> (u64, usize)
     (total, end)
 }
 
-// The same from its front, read eight digits at a time.
+// The number that the digits at the front of an array are, at most 19 of them, read eight at a time.
 #[inline(always)]
 fn eights_run(octets: &[u8; FRONT]) -> (u64, usize)
     ensures few { result.1 ≤ SHORT_DIGITS }
@@ -171,7 +171,7 @@ fn eights_run(octets: &[u8; FRONT]) -> (u64, usize)
     run_on(octets, first * 100_000_000 + second, 16)
 }
 
-// The same as `short_run`, where most numbers are long.
+// What `short_run` answers, made for numbers of which most are long.
 #[inline(always)]
 fn front_run(octets: &[u8]) -> (u64, usize)
     ensures within { result.1 ≤ length octets.now }
@@ -199,7 +199,8 @@ pub fn front_short(octets: &[u8]) -> Option<(u64, &[u8])>
     Some((number, rest))
 }
 
-/// The same of at most 38 digits.
+/// The number that the decimal digits at the front of octets are, one digit or more and at most 38, and what comes behind them. None
+/// where there is no digit.
 #[inline(always)]
 pub fn front_number(octets: &[u8]) -> Option<(u128, &[u8])>
     ensures { IfSome result (λ x. BeginsWithNumber octets.now x.0 x.1.now) }
@@ -212,7 +213,7 @@ pub fn front_number(octets: &[u8]) -> Option<(u128, &[u8])>
     Some((number, rest))
 }
 
-// The same as far as they surely fit 128 bits, from the number that the first of them are.
+// The number that the digits at the front are, as far as they surely fit 128 bits, from the number that the first of them are.
 #[inline(always)]
 fn long_run(front: u64, octets: &[u8]) -> (u128, usize)
     requires within { SHORT_DIGITS ≤ length octets.now }

@@ -43,7 +43,7 @@ fn is_ordinary_at(octets: &[u8], place: usize) -> bool
     place < octets.len() && is_ordinary(octets[place])
 }
 
-// Goes on in a word from an octet that is no blank, and past all that can be told to be none by themselves.
+// Goes on in a word from an octet that is no blank, and past all that are known to be none by themselves.
 fn word_on(octets: &[u8], place: usize) -> usize
     requires { starts_blank (drop place octets.now) ≡ false }
     ensures onward { place < result }
@@ -184,7 +184,8 @@ fn split_number(octets: &[u8]) -> Option<(u128, &[u8])>
     Some((number, behind))
 }
 
-// The same of at most 19 digits, which surely fit 64 bits.
+// The number that the first word is, where it has at most 19 digits, which surely fit 64 bits, and no blanks about it but spaces; and
+// what comes after it.
 #[inline]
 fn split_short(octets: &[u8]) -> Option<(u64, &[u8])>
     ensures number { IfSome result (λ x. (most : ℕ) → first_number most (words_of octets.now) ≡ Some (at_most most (Some x.0))) }
@@ -329,7 +330,7 @@ impl<'a> Words<'a> {
         Some(number(word, most))
     }
 
-    /// The number that the next word is, where it can be told at once: it has decimal digits alone, at most 19 of them, and no blanks
+    /// The number that the next word is, where it can be read at once: it has decimal digits alone, at most 19 of them, and no blanks
     /// about it but spaces. Else None, and nothing changes.
     #[inline]
     pub fn next_short(&mut self) -> Option<u64>
@@ -343,7 +344,8 @@ impl<'a> Words<'a> {
         Some(number)
     }
 
-    /// The same of at most 38 digits.
+    /// The number that the next word is, where it can be read at once: it has decimal digits alone, at most 38 of them, and no blanks
+    /// about it but spaces. Else None, and nothing changes.
     #[inline]
     pub fn next_plain(&mut self) -> Option<u128>
         ensures number { IfSome result (λ n. (most : ℕ) → first_number most (words_left self.old) ≡ Some (at_most most (Some n))) }

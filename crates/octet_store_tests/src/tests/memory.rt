@@ -1,4 +1,4 @@
-//! What is left where memory is wanting.
+//! What is left when out of memory.
 
 use super::{octets_of, put, takes};
 use linked_list_allocator::LocalHeap;

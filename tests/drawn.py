@@ -1,0 +1,56 @@
+"""Pictures: those of the examples, which lie beside them, and what a picture doesn't have."""
+import pathlib
+
+from rows import Row, run, shown
+
+EXAMPLES = pathlib.Path(__file__).resolve().parent.parent / "examples"
+
+# The input of a picture, the picture, and the options.
+PICTURES = [
+    ("first.script", "first.svg", []),
+    ("priorities.script", "priorities.svg", []),
+    ("schedule.script", "schedule.svg", ["--to", "60000000"]),
+    ("manual.script", "manual.svg", ["--from", "1528743495910000000000", "--to", "1528743495913000000000"]),
+    ("guard_band.script", "guard_band.svg", ["--from", "100000000", "--to", "130000000"]),
+    ("extension.script", "extension.svg", ["--from", "3000000000", "--to", "6000000000"]),
+    ("summary.script", "summary.svg", []),
+    ("planned.script", "planned.svg", ["--to", "60000000"]),
+    ("machine.script", "machine.svg", ["--to", "1000000000"]),
+    ("apart.schedules", "apart.svg", ["--from", "1528743495910000000000", "--to", "1528743495913000000000"]),
+    ("windows.schedules", "windows.svg", ["--from", "1528743495910000000000", "--to", "1528743495913000000000"]),
+]
+
+
+def rows():
+    """Each picture of an example."""
+    return [
+        Row(
+            f"examples/{picture}",
+            ["draw", *options],
+            (EXAMPLES / script).read_bytes(),
+            output=(EXAMPLES / picture).read_bytes(),
+        )
+        for script, picture, options in PICTURES
+    ]
+
+
+def case_a_command_with_a_fault_is_passed_over(program):
+    """A command that is refused is drawn like one that was not given, and the run goes on."""
+    without = run(program, ["draw"], b"frame 1 0 60\nclock 50000000\n")
+    ran = run(program, ["draw"], b"tc qdisc replace\nframe 1 0 60\nclock 50000000\n")
+    assert (without.status, without.errors, ran.status, ran.errors) == (0, b"", 0, b""), (without, ran)
+    assert without.output == ran.output, shown(ran.output)
+
+
+def case_what_no_option_says_is_what_the_help_says(program):
+    """A picture without options is the one with the options' defaults."""
+    script = b"""\
+tc qdisc replace dev eth0 root taprio num_tc 1 map 0 0 0 0 0 0 0 0 queues 1@0 base-time 0 sched-entry S 01 100000
+frame 1 0 60
+frame 2 0 60
+clock 50000000
+"""
+    words = ["draw", "--rate", "1000", "--mtu", "1500", "--room", "128", "--from", "0", "--width", "1200"]
+    without, ran = run(program, ["draw"], script), run(program, words, script)
+    assert (without.status, ran.status) == (0, 0) and without.output == ran.output
+    assert without.output.startswith(b"<svg "), shown(without.output)
