@@ -19,7 +19,7 @@ SECONDS = 120
 README_LINES = 120
 LINE_LENGTH = 120
 LEFT_OUT = {"out", ".git", "crates", "__pycache__"}
-NOTE = re.compile(r"^taprio_port: this build is not proved on this machine.*\n", re.MULTILINE)
+NOTE = re.compile(r"^taprio_port: (?:this build is )?not proved on this machine.*\n", re.MULTILINE)
 FENCE = re.compile(r"^( *)(```+|~~~+)(.*)$")
 LINK = re.compile(r"!?\[(?:[^\]\[]|\[[^\]]*\])*\]\(\s*<?([^)\s>]+)>?(?:\s+\"[^\"]*\")?\s*\)")
 ONLY_A_LINK = re.compile(r"^\s*(?:[-*] )?!?\[[^\]]*\]\(\S+\)\W*$|^\s*\[[^\]]+\]: \S+$|^\s*<?https?://\S+>?$")
@@ -298,14 +298,16 @@ def case_the_man_page_is_in_step(program):
     jobs = set(re.findall(r"^  ([a-z]+)  ", help_of(), re.MULTILINE))
     page = (ROOT / "docs/taprio_port.1").read_text(encoding="utf-8").replace("\\-", "-")
     faults = []
+    of_macros = lambda text: options(" ".join(re.findall(r"^\.(?:BI?|BR) .*$", text, re.MULTILINE)))
     sections = dict(re.findall(r"^\.SS ([a-z]+)$\n(.*?)(?=^\.S[SH]|\Z)", page, re.MULTILINE | re.DOTALL))
     faults += [f"docs/taprio_port.1: it has no part `.SS {job}`" for job in sorted(jobs - sections.keys())]
     faults += [f"docs/taprio_port.1: there is no job {job}" for job in sorted(sections.keys() - jobs)]
-    for job in sorted(jobs & sections.keys()):
-        there = options(help_of() if job == "help" else help_of(job)) - {"--help"}
-        here = options(" ".join(re.findall(r"^\.(?:BI?|BR) .*$", sections[job], re.MULTILINE))) - {"--help"}
-        faults += [f"docs/taprio_port.1: {job} has {word}, and the page has not" for word in sorted(there - here)]
-        faults += [f"docs/taprio_port.1: {job} has no {word}, and the page says so" for word in sorted(here - there)]
+    general = re.search(r"^\.SH OPTIONS\n(.*?)(?=^\.SH)", page, re.MULTILINE | re.DOTALL)
+    parts = [("the program", options(help_of()), of_macros(general[1] if general else ""))]
+    parts += [(job, options(help_of(job)) - {"--help"}, of_macros(sections[job])) for job in sorted(jobs & sections.keys() - {"help"})]
+    for name, there, here in parts:
+        faults += [f"docs/taprio_port.1: {name} has {word}, and the page has not" for word in sorted(there - here)]
+        faults += [f"docs/taprio_port.1: {name} has no {word}, and the page says so" for word in sorted(here - there)]
     told(faults)
 
 
