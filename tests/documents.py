@@ -19,7 +19,7 @@ SECONDS = 120
 README_LINES = 120
 LINE_LENGTH = 120
 LEFT_OUT = {"out", ".git", "crates", "__pycache__"}
-NOTE = re.compile(r"^taprio_port: this build is not proved on this machine.*\n", re.MULTILINE)
+NOTE = re.compile(r"^taprio_port: (?:this build is )?not proved on this machine.*\n", re.MULTILINE)
 FENCE = re.compile(r"^( *)(```+|~~~+)(.*)$")
 LINK = re.compile(r"!?\[(?:[^\]\[]|\[[^\]]*\])*\]\(\s*<?([^)\s>]+)>?(?:\s+\"[^\"]*\")?\s*\)")
 ONLY_A_LINK = re.compile(r"^\s*(?:[-*] )?!?\[[^\]]*\]\(\S+\)\W*$|^\s*\[[^\]]+\]: \S+$|^\s*<?https?://\S+>?$")
@@ -86,13 +86,15 @@ def told(faults):
 
 
 def case_links_resolve(program):
-    """Each relative link leads to a file, and to a heading of it where it has an anchor."""
+    """Each relative link leads to a file, and to a heading of it where it has an anchor; and through no symbolic link."""
     faults = []
     for page in pages():
         for number, path, anchor in links(page):
             target = ROOT / page if not path else ROOT / page.parent / path
             if not target.exists():
                 faults.append(f"{page}:{number}: {path} is not there")
+            elif os.path.realpath(target) != os.path.normpath(target):
+                faults.append(f"{page}:{number}: {path} leads through a symbolic link, which a page on the web does not follow")
             elif anchor and target.suffix == ".md" and anchor not in slugs(target.resolve().relative_to(ROOT)):
                 faults.append(f"{page}:{number}: {path}#{anchor}: there is no such heading")
     told(faults)
@@ -106,9 +108,10 @@ def case_the_index_has_each_page(program):
 
 
 def case_the_readme_is_short(program):
-    """README.md has at most 120 lines."""
-    count = len((ROOT / "README.md").read_text(encoding="utf-8").splitlines())
-    told([f"README.md: {count} lines, and {README_LINES} at most are wanted"] if count > README_LINES else [])
+    """README.md has at most 120 lines, each of less than 120 characters."""
+    lines = (ROOT / "README.md").read_text(encoding="utf-8").splitlines()
+    faults = [f"README.md: {len(lines)} lines, and {README_LINES} at most are wanted"] if len(lines) > README_LINES else []
+    told(faults + [f"README.md:{number}: {len(line)} characters" for number, line in enumerate(lines, 1) if len(line) >= LINE_LENGTH])
 
 
 def spec_lines(path):
@@ -295,14 +298,16 @@ def case_the_man_page_is_in_step(program):
     jobs = set(re.findall(r"^  ([a-z]+)  ", help_of(), re.MULTILINE))
     page = (ROOT / "docs/taprio_port.1").read_text(encoding="utf-8").replace("\\-", "-")
     faults = []
+    of_macros = lambda text: options(" ".join(re.findall(r"^\.(?:BI?|BR) .*$", text, re.MULTILINE)))
     sections = dict(re.findall(r"^\.SS ([a-z]+)$\n(.*?)(?=^\.S[SH]|\Z)", page, re.MULTILINE | re.DOTALL))
     faults += [f"docs/taprio_port.1: it has no part `.SS {job}`" for job in sorted(jobs - sections.keys())]
     faults += [f"docs/taprio_port.1: there is no job {job}" for job in sorted(sections.keys() - jobs)]
-    for job in sorted(jobs & sections.keys()):
-        there = options(help_of() if job == "help" else help_of(job)) - {"--help"}
-        here = options(" ".join(re.findall(r"^\.(?:BI?|BR) .*$", sections[job], re.MULTILINE))) - {"--help"}
-        faults += [f"docs/taprio_port.1: {job} has {word}, and the page has not" for word in sorted(there - here)]
-        faults += [f"docs/taprio_port.1: {job} has no {word}, and the page says so" for word in sorted(here - there)]
+    general = re.search(r"^\.SH OPTIONS\n(.*?)(?=^\.SH)", page, re.MULTILINE | re.DOTALL)
+    parts = [("the program", options(help_of()), of_macros(general[1] if general else ""))]
+    parts += [(job, options(help_of(job)) - {"--help"}, of_macros(sections[job])) for job in sorted(jobs & sections.keys() - {"help"})]
+    for name, there, here in parts:
+        faults += [f"docs/taprio_port.1: {name} has {word}, and the page has not" for word in sorted(there - here)]
+        faults += [f"docs/taprio_port.1: {name} has no {word}, and the page says so" for word in sorted(here - there)]
     told(faults)
 
 
