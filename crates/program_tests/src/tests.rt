@@ -1,8 +1,9 @@
 //! Words and an input, with what is said of how far a replay has come, and a picture.
 
 use drawing::{DrawOptions, draw};
+use job::Ended;
 use program::{Progress, answer_words};
-use script::{Ended, Settings};
+use script::Settings;
 use std::alloc::Global;
 use std::cell::Cell;
 use std::io::{self, BufWriter};

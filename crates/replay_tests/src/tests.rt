@@ -1,7 +1,8 @@
 //! Two frames, and what comes out.
 
-use replay::{ReplayFault, Unwatched, Watch, replay, say_replay_fault};
-use script::{Ended, Settings};
+use job::{Ended, say_fault};
+use replay::{ReplayFault, ReplayInput, Unwatched, Watch, replay};
+use script::Settings;
 use std::alloc::{Allocator, Global};
 use std::io::{self, Read};
 use std::test::Fail;
@@ -116,7 +117,7 @@ const UNTIL: &[u8] = b"taprio_port: bad value of --until\n";
 /// Whether that is what is told of the fault, with the status of a value.
 fn is_until_said(alloc: Global) -> bool {
     let mut text = Vec::new(alloc);
-    let ended = say_replay_fault(&ReplayFault::Until, &mut text);
+    let ended = say_fault(&ReplayFault::Input(ReplayInput::Until), &mut text);
     let wanted = Ended {
         status: 2,
         told: true,
@@ -131,7 +132,7 @@ fn too_late_differs_in(alloc: Global) -> &'static str {
     };
     let (script, capture) = (b"x\n".as_slice(), b"".as_slice());
     let got = replay_of(alloc, alloc, script, capture, settings);
-    if got.result != Err(ReplayFault::Until) {
+    if got.result != Err(ReplayFault::Input(ReplayInput::Until)) {
         "result"
     } else if !got.report.is_empty() || !got.capture.is_empty() {
         "output"

@@ -1,7 +1,8 @@
 //! Readers and writers that fail, and heaps that are too small.
 
+use job::{Ended, say_fault};
 use linked_list_allocator::LocalHeap;
-use script::{Ended, RunFault, Settings, Values, answer_script, run_script, say_fault};
+use script::{RunFault, Settings, Values, answer_script, run_script};
 use std::alloc::Global;
 use std::io::{self, BufWriter, Write};
 use std::process::Abort;
