@@ -1,6 +1,6 @@
 //! Scripts in memory.
 
-use crate::lent::{DOTS, USUAL, has, room_for};
+use crate::memory::lent::{DOTS, USUAL, has, room_for};
 use octets::{Ran, run_octets};
 use refusing_heap::RefusingHeap;
 use std::test::Fail;

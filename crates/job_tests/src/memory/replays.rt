@@ -1,6 +1,6 @@
 //! Scripts and captures in memory.
 
-use crate::lent::{DOTS, USUAL, has, room_for};
+use crate::memory::lent::{DOTS, USUAL, has, room_for};
 use octets::{PortValues, ReplayRan, replay_octets};
 use std::test::Fail;
 use test_streams::{BOTH_LEFT, BOTH_TOLD, TWO_RECORDS, cut_capture};

@@ -1,5 +1,5 @@
 use Rattle.std.proofs.Common.{◌≤◌}
-use Rattle.schedule_check_tests.proofs.random.seen_of.Given as goal
+use Rattle.job_tests.proofs.random.seen_of.Given as goal
 
 abbrev pub invariant-loop-step : goal.invariant-loop-step
 invariant-loop-step g l = g.G.Gates.is_sound l.gates × (g.G.Gates.moment l.gates ≤ l.last)

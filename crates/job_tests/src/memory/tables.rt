@@ -1,6 +1,6 @@
 //! Tables of streams in memory.
 
-use crate::lent::{DOTS, has};
+use crate::memory::lent::{DOTS, has};
 use octets::{Ran, streams_octets};
 use std::test::Fail;
 

@@ -1,6 +1,6 @@
 //! Pictures in memory.
 
-use crate::lent::{DOTS, USUAL, has};
+use crate::memory::lent::{DOTS, USUAL, has};
 use octets::{PictureValues, Ran, draw_octets};
 use std::test::Fail;
 

@@ -1,6 +1,6 @@
 //! Schedule commands in memory.
 
-use crate::lent::{DOTS, has};
+use crate::memory::lent::{DOTS, has};
 use octets::{Ran, check_octets};
 use std::test::Fail;
 

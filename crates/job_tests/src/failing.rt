@@ -1,6 +1,6 @@
 //! Memory, reads and writes that fail, and what is told of it.
 
-use crate::tests::{
+use crate::replays::{
     END, REPORT, Replayed, TWO_CAPTURED, is_front_and, replay_of, settings, three_captured,
 };
 use linked_list_allocator::LocalHeap;

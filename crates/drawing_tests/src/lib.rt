@@ -1,5 +1,0 @@
-//! Tests of `drawing`, by its public calls.
-#![tactic(auto)]
-
-#[cfg(test)]
-mod tests;

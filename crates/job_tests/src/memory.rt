@@ -1,0 +1,8 @@
+//! The jobs over memory: what is written into slices, and what is not.
+
+mod checks;
+mod lent;
+mod pictures;
+mod replays;
+mod scripts;
+mod tables;

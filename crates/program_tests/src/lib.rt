@@ -1,5 +1,0 @@
-//! Tests of `program`: what needs a clock that is lent, and what the library draws. All else of it is seen on the built program.
-#![tactic(auto)]
-
-#[cfg(test)]
-mod tests;
