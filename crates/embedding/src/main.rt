@@ -1,14 +1,11 @@
 //! A port inside another program: a schedule is built and installed, two frames arrive, the clock runs, and each start is reported.
 #![tactic(auto)]
 
-use abstract_port::{Answer, Change, Command, Event};
-use class_map::ClassMap;
-use gate_list::{Entry, GateList};
-use jumping::Jumping;
-use port::Port;
 use std::alloc::Global;
 use std::io;
-use wire_time::{Frame, Rate};
+use taprio::{
+    Answer, Change, ClassMap, Command, Entry, Event, Frame, GateList, Jumping, Port, Rate,
+};
 
 /// Class 7 alone for 20 microseconds, then all others for 80, over and over; each priority from 0 to 7 is its own class.
 fn schedule() -> Option<Command> {
