@@ -34,6 +34,7 @@ verdict_fits p f class mtu e = by_class p f class (class_for p f.priority) mtu e
 pub verdict_is : (p : AbstractPort) (f : Frame) (class : ℕ) (v : Result ℕ Dropped) → class_for p f.priority ≡ Some class → v ≡ verdict_in p class (sdu_of f) → v ≡ verdict p f
 verdict_is p f class v e is = is ∙ ap (verdict_with p f) (sym e)
 
+-- A frame that is queued takes the wire for the lead at most.
 pub fits_on : (v : Result ℕ Dropped) (p : AbstractPort) (f : Frame) → 42 ≤ p.mtu → v ≡ verdict p f → OnOk v (occupancy_of p.ps f.len ≤ lead_of p.ps p.mtu)
 fits_on (Ok class) p f mtu is = verdict_fits p f class mtu (sym is)
 fits_on (Err why) p f mtu is = tt

@@ -73,6 +73,7 @@ module _ (m : ℕ) (p q : AbstractPort) (sound : IsSoundPort p) (forward : (ltb 
 
 -- ---- the first starts
 
+-- The first starts of a clock event change neither the history nor the rate, and time goes on.
 pub first-keeps : (starts : List Start) (upto : ℕ) (p q : AbstractPort) → AreFirst starts upto p q → (q.history ≡ p.history) × (p.now ≤ q.now) × (q.ps ≡ p.ps)
 first-keeps [] upto p q e = (ap (λ x. x.history) e, subst (λ (x : AbstractPort). p.now ≤ x.now) (sym e) (le_refl p.now), ap (λ x. x.ps) e)
 first-keeps (s ∷ rest) upto p q (is, e) =
@@ -82,6 +83,7 @@ first-keeps (s ∷ rest) upto p q (is, e) =
 pub first-timely : (starts : List Start) (upto : ℕ) (p q : AbstractPort) → AreFirst starts upto p q → IsTimely p → IsTimely q
 first-timely starts upto p q e fit = let k = first-keeps starts upto p q e in timely-later p q fit k.0 k.1 k.2
 
+-- The first starts with the next one after them are first starts.
 pub first-more : (starts : List Start) (upto : ℕ) (p q : AbstractPort) (s : Start) → AreFirst starts upto p q → (next_start q upto).0 ≡ Some s → AreFirst (starts ++ s ∷ []) upto p (next_start q upto).1
 first-more [] upto p q s e is = (ap (λ x. (next_start x upto).0) (sym e) ∙ is, ap (λ x. (next_start x upto).1) e)
 first-more (t ∷ rest) upto p q s (first, e) is = (first, first-more rest upto (next_start p upto).1 q s e is)
@@ -98,6 +100,7 @@ first-alike (s ∷ rest) upto x q k alike (is, e) =
 kept-alike : (x : AbstractPort) → IsTimely x → Alike x.now x.history (kept x.history x.now)
 kept-alike x fit = λ i from needs. sym (first_choice-kept 0 x.now x.history fit.rising fit.past i needs from)
 
+-- First starts of a settled port are first starts of the port.
 pub first-settled : (starts : List Start) (upto : ℕ) (x q : AbstractPort) → IsTimely x → AreFirst starts upto (settled x) q → (y : AbstractPort) × AreFirst starts upto x y × (settled q ≡ settled y)
 first-settled starts upto x q fit e =
     let there = first-alike starts upto x q (kept x.history x.now) (kept-alike x fit) e in
@@ -131,6 +134,7 @@ partly_none (Clock m) p = (refl, λ l. absurd (omega arith))
 partly_none Query p = (refl, refl)
 partly_none (Count class) p = (refl, refl)
 
+-- A run of an event begins with no answer given.
 pub going_begins : (event : Event) (old : List Answer) (p : AbstractPort) → IsSoundPort p → Going event old p (Some event) old p
 going_begins event old p sound = record {
   answers = refl;
@@ -224,9 +228,11 @@ on_err_of (Err e) P h = h
 
 -- at the end
 module _ (event : Event) (old : List Answer) (p : AbstractPort) (asked : Option Event) (new : List Answer) (q : AbstractPort) (going : Going event old p asked new q) where
+  -- Where nothing is left to ask, all answers to the event were given.
   pub gone_answers : asked ≡ None → new ≡ old ++ (answers_to event p).0
   gone_answers is = sym (append-nil new) ∙ (ap (λ a. new ++ (answers_left a q).0) (sym is) ∙ going.answers)
 
+  -- Where nothing is left to ask, the port is where the event leaves it, settled.
   pub gone_port : asked ≡ None → IsSoundPort q → q ≡ settled (answers_to event p).1
   gone_port is sound = sym (settled-current q sound.current) ∙ (ap (λ a. settled (answers_left a q).1) (sym is) ∙ going.port)
 
@@ -241,6 +247,7 @@ partly-rate (Clock m) starts p q h = (first-keeps starts m p q h.0).2
 partly-rate Query starts p q h = ap (λ x. x.ps) h.1
 partly-rate (Count class) starts p q h = ap (λ x. x.ps) h.1
 
+-- What is left to ask of an event goes on from the answers that were given.
 pub gone_begun : (event : Event) (old : List Answer) (p : AbstractPort) (asked : Option Event) (new : List Answer) (q : AbstractPort) → Going event old p asked new q → (e : Event) → asked ≡ Some e → IsBegun event old p new q
 gone_begun event old p asked new q going e is =
     let s = gone_stopped event old p asked new q going e is in
@@ -255,7 +262,7 @@ gone_begun event old p asked new q going e is =
 
 -- ---- a run that stops
 
--- the same of the port whose kept port it is
+-- A part of an event's run on a kept port is that part of its run on the port that was kept from.
 partly-settled : (event : Event) (starts : List Start) (x q : AbstractPort) → IsTimely x → IsPartly event starts (settled x) q → (y : AbstractPort) × IsPartly event starts x y × (settled q ≡ settled y)
 partly-settled (Arrive f) starts x q fit h = (x, (h.0, refl), ap settled h.1 ∙ forgets x x fit refl (le_refl x.now))
 partly-settled (Install c) starts x q fit h = (x, (h.0, refl), ap settled h.1 ∙ forgets x x fit refl (le_refl x.now))
@@ -268,6 +275,7 @@ stopped-settled event old x new q fit s =
     let y = partly-settled event s.starts x s.behind fit s.partly in
     record { starts = s.starts; answers = s.answers; behind = y.0; partly = y.1; port = s.port ∙ y.2 }
 
+-- A run of events that stops in one of them has given the answers to those before it, and a part of its.
 pub run_stops : (taken : ℕ) (events : List Event) (old new : List Answer) (p q : AbstractPort) → IsTimely p → HasRun taken events old p new q
     → (event : Event) → taken < length events → event ≡ get_or events taken event → (more : List Answer) (r : AbstractPort) → IsStopped event new q more r → StopsAt taken events old p more r
 run_stops taken events old new p q fit so_far event within is_event more r s = record {

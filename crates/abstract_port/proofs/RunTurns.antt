@@ -54,6 +54,7 @@ turns_by (suc n) upto p few = go (next_start p upto).0 refl (turns_by n upto (ne
           wire = ap (λ x. x.1.free) is ∙ (rest.wire ∙ (ap (λ f. wire_after f (starts_until q upto).0) free ∙ ap (λ x. wire_after p.free x.0) (sym is)));
         }
 
+-- the law of the starts of a clock event
 pub turns : TurnLaw
 turns p upto = turns_by (waiting p + 1) upto p (omega arith)
 
@@ -133,6 +134,7 @@ wired (Clock m) p = record { apart = clock_apart (ltb m p.now || ltb greatest_mo
 wired Query p = quiet Query p refl refl
 wired (Count class) p = quiet (Count class) p (count_starts (ltb class 8) class p) refl
 
+-- the law of the wire in a run
 pub wires : WireLaw
 wires p [] = tt
 wires p (event ∷ rest) =
@@ -187,6 +189,7 @@ told_event (Clock m) p = told_clock (ltb m p.now || ltb greatest_moment m) m p
 told_event Query p = refl
 told_event (Count class) p = told_count (ltb class 8) class p
 
+-- the law of what is counted and what is answered
 pub telling : ToldLaw
 telling p [] = refl
 telling p (event ∷ rest) =

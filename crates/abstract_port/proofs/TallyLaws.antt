@@ -27,9 +27,11 @@ use Rattle.abstract_port.proofs.StartsLaws.{starts_until-some, starts_until-none
 pub same_capped : (n : ℕ) → n ≤ greatest_count → n ≡ add_capped n 0
 same_capped n l = omega arith
 
+-- Two counts that are added one after another are added at once.
 pub add_twice : (n a b : ℕ) → add_capped (add_capped n a) b ≡ add_capped n (a + b)
 add_twice n a b = omega arith
 
+-- A count is at most the greatest u64.
 pub capped_within : (n a : ℕ) → add_capped n a ≤ greatest_count
 capped_within n a = omega arith
 
@@ -234,5 +236,6 @@ module _ (k : Counter) (class : ℕ) where
       grows_on p (answers_to event p).1 (port_after rest (answers_to event p).1) (happened event p) (happenings rest (answers_to event p).1) first
       (grows_run rest (answers_to event p).1 (omega (arith, longer)) (grows_within p (answers_to event p).1 (happened event p) first))
 
+-- the law of the counters of a class
 pub counting : CountingLaw
 counting k class p events within least = (grows_run k class events p within least).value

@@ -60,11 +60,13 @@ started_or : (p : AbstractPort) (m : ℕ) (s : Start) (o : Option ℕ) (later : 
 started_or p m s None later chosen next e = started_later p m (m + 1) s later.1 (omega arith) (next e)
 started_or p m s (Some class) later chosen next e = started_head p m class s (queue_of p class) chosen refl e
 
+-- A start that a scan finds is as the abstract port says, by a gate that is open up to its end.
 pub scan-started : (p : AbstractPort) (m left : ℕ) (s : Start) → (scan p m left).0 ≡ Some s → Started p m s (scan p m left).1
 unfolding scan
 scan-started p m zero s e = absurd (cc)
 scan-started p m (suc left) s e = started_or p m s (choice p m) (scan p (m + 1) left) refl (scan-started p (m + 1) left s) e
 
+-- The next start is when the wire is free, by a gate that is open up to its end.
 pub next_start-started : (p : AbstractPort) (upto : ℕ) (s : Start) → (next_start p upto).0 ≡ Some s → Started p p.now s (next_start p upto).1
 next_start-started p upto s e = scan-started p p.now (upto - p.now) s e
 
@@ -78,6 +80,7 @@ none_or p m (Some class) later chosen next e = go (queue_of p class) refl e
     go [] is e = refl
     go (f ∷ rest) is e = absurd (cc)
 
+-- A scan that finds no start changes the moment alone.
 pub scan-none_started : (p : AbstractPort) (m left : ℕ) → (scan p m left).0 ≡ None → (scan p m left).1 ≡ record p { now = (scan p m left).1.now }
 unfolding scan
 scan-none_started p m zero e = refl

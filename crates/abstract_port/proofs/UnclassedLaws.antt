@@ -79,6 +79,7 @@ happens (Count d) p least = grows_none p p [] least refl refl
 within : (p q : AbstractPort) (hs : List Happening) → Grows p q hs → q.no_class ≤ greatest_count
 within p q hs g = let most = capped_within p.no_class (sum_by unclassed hs) in omega (arith, g, most)
 
+-- the law of the count of frames without a class
 pub unclassing : UnclassedLaw
 unclassing p [] least = grows_none p p [] least refl refl
 unclassing p (event ∷ rest) least =

@@ -15,7 +15,7 @@ abbrev pub accepted_in : AcceptedCommand → Accepted
 accepted_in (Install list) = record { lead = list.lead; change = list.change; plan = Some list.schedule }
 accepted_in (Delete lead) = deletion_at lead
 
--- the command that is lent, if any
+-- the borrowed command, if any
 abbrev pub command_of : Option (Bor AcceptedCommand) → Option Accepted
 command_of lent = option_map (λ (c : Bor AcceptedCommand). accepted_in c.now) lent
 

@@ -12,6 +12,6 @@ ResumesBy in_force (Some pending) None position = Unit {0}
 ResumesBy in_force (Some pending) (Some announced) position =
     is_in_time pending (announced ∷ []) ≡ false → Stands in_force (Some announced) announced.lead position
 
--- the same of the commands that count
+-- the list in force stands as it has to for a replacement of the pending command, by the commands that count
 abbrev pub Resumes : Commands → Option Position → Type 0
 Resumes c position = ResumesBy c.in_force c.pending c.announced position

@@ -70,7 +70,7 @@ abbrev pub option_position : Option AcceptedCommand → Option Position
 option_position None = None
 option_position (Some command) = position_in command
 
--- the same of a command that is lent
+-- the position that a borrowed command carries, if there is a command
 abbrev pub position_lent : Option (Bor AcceptedCommand) → Option Position
 position_lent None = None
 position_lent (Some command) = position_in command.now

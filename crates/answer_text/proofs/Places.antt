@@ -18,7 +18,7 @@ none_past xs i e = elim (slice_get_cases xs i).1 [
 pub nothing_at : {A : Type 0} (f : A → List ℕ) (xs : List A) (i : ℕ) → length xs ≤ i → flat_map f (drop i xs) ≡ flat_map f (drop (i + 1) xs)
 nothing_at f xs i past = ap (flat_map f) (drop_of_length-le xs past ∙ sym (drop_of_length-le xs (omega arith)))
 
--- the same in a prefix of the list
+-- an item of a list stands at its place in a prefix that is long enough
 pub get_in_front : {A : Type 0} (n : ℕ) (xs : List A) (i : ℕ) (x : A) → i < n → slice_get xs i ≡ Some x → slice_get (take n xs) i ≡ Some x
 get_in_front n xs i x h e =
     let within = slice_get_within xs i x e in

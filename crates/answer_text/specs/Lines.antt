@@ -71,7 +71,7 @@ answer_lines Answered.BadClass = []
 abbrev pub left_line : ℕ → ℕ → List ℕ
 left_line class frames = concat (codes "left class " ∷ decimal class ∷ codes " frames " ∷ decimal frames ∷ codes "\n" ∷ [])
 
--- the word or the number behind a name
+-- the word or the number after a name
 abbrev pub detail_text : Option (List ℕ) → Option ℕ → List ℕ
 detail_text (Some word) place = codes " " ++ word
 detail_text None place = number_text place

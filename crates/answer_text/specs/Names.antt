@@ -1,4 +1,4 @@
--- The names in answer lines, and the numbers that stand behind some of them.
+-- The names in answer lines, and the numbers that stand after some of them.
 use Rattle.std.specs.Prelude.{List, ℕ, Option, Some, None, codes}
 use Rattle.gate_list.specs.declared.PlanFault.{PlanFault}
 use Rattle.gate_list.specs.declared.PlanFault.TheVariants.{IntervalTooShort, CycleTooShort, CycleTooLong, ExtensionTooLong, BaseTooLate}
@@ -48,7 +48,7 @@ refused_name (SduTooLarge class) = codes "SduTooLarge"
 refused_name (Schedule fault) = plan_fault_name fault
 refused_name (Busy lead_moment) = codes "Busy"
 
--- the number behind the name: of a class, or of an entry
+-- the number after the name: of a class, or of an entry
 abbrev pub refused_number : Refused → Option ℕ
 refused_number MapMissing = None
 refused_number MapChanged = None
@@ -86,14 +86,14 @@ tc_fault_name (TcFaults.Map fault) = map_fault_name fault
 tc_fault_name (TcFaults.Ranges fault) = queue_fault_name fault
 tc_fault_name (TcFaults.Gates fault) = gate_fault_name fault
 
--- the word behind the name, where the fault names an option
+-- the word after the name, where the fault names an option
 abbrev pub tc_fault_word : TcFault → Option (List ℕ)
 tc_fault_word (TcFaults.MissingWord option) = Some (word_of option)
 tc_fault_word (TcFaults.Repeated option) = Some (word_of option)
 tc_fault_word (TcFaults.Unsupported option) = Some (word_of option)
 tc_fault_word _ = None
 
--- the place behind the name: the number of a word of the line, from 0
+-- the place after the name: the number of a word of the line, from 0
 abbrev pub tc_fault_place : TcFault → Option ℕ
 tc_fault_place (TcFaults.UnknownOption place) = Some place
 tc_fault_place (TcFaults.BadNumber place) = Some place

@@ -19,11 +19,11 @@ pub const NUMBER_CAPACITY: usize = 40;
 /// The first number of nine digits.
 pub const EIGHT_DIGITS: u64 = 100_000_000;
 
-// The two digits of each number below 100, one after another.
+/// The two digits of each number below 100, one after another.
 static PAIRS: [u8; 200] =
     *b"00010203040506070809101112131415161718192021222324252627282930313233343536373839404142434445464748495051525354555657585960616263646566676869707172737475767778798081828384858687888990919293949596979899";
 
-// Puts the last two digits of a number before what ends a line from `end` on, and answers where they begin.
+/// Puts the last two digits of a number before what ends a line from `end` on, and answers where they begin.
 #[inline(always)]
 fn pair_before(pair: u64, line: &mut Line, end: usize) -> usize
     requires pair { pair < 100 }
@@ -40,7 +40,7 @@ fn pair_before(pair: u64, line: &mut Line, end: usize) -> usize
     end - 2
 }
 
-// Puts the last four digits of a number before what ends a line from `end` on, and answers where they begin.
+/// Puts the last four digits of a number before what ends a line from `end` on, and answers where they begin.
 #[inline(always)]
 fn four_before(four: u64, line: &mut Line, end: usize) -> usize
     requires four { four < 10000 }
@@ -99,7 +99,7 @@ pub fn octet_before(number: u8, line: &mut Line, end: usize) -> usize
     write_digits(u64::from(number), line, end)
 }
 
-// Puts a number of more than 64 bits in decimal before what ends a line from `end` on, and answers where the line begins then.
+/// Puts a number of more than 64 bits in decimal before what ends a line from `end` on, and answers where the line begins then.
 #[inline(never)]
 fn long_before(number: u128, line: &mut Line, end: usize) -> usize
     requires room { NUMBER_CAPACITY ≤ end }

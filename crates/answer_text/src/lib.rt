@@ -1,4 +1,7 @@
 //! The text of a port's answers, and the writing of text.
+//!
+//! The text is defined in specs/Lines.antt and specs/Reports.antt; `put_answer` and its neighbours promise to write
+//! it.
 #![tactic(auto)]
 
 mod digits;

@@ -11,7 +11,7 @@ use class_map::{MapFault, QueueFault};
 use gate_list::{GateFault, PlanFault};
 use tc_reader::TcFault;
 
-// The most octets of the name of a reason why a frame was dropped.
+/// The most octets of the name of a reason why a frame was dropped.
 const DROPPED_CAPACITY: usize = 7;
 
 /// Puts the name of the reason why a frame was dropped before what ends a line from `end` on, and answers where the line begins then.
@@ -65,7 +65,7 @@ pub fn refused_name(why: Refused) -> &'static [u8]
     }
 }
 
-/// The number that stands behind that name, if it has one.
+/// The number that stands after that name, if it has one.
 pub fn refused_number(why: Refused) -> Option<u128>
     ensures { result ≡ refused_number why }
 {
@@ -124,7 +124,7 @@ pub fn tc_fault_name(fault: TcFault) -> &'static [u8]
     }
 }
 
-/// The option word that stands behind that name, if one does.
+/// The option word that stands after that name, if one does.
 pub fn tc_fault_word(fault: TcFault) -> Option<&'static [u8]>
     ensures { option_map (λ word. word.now) result ≡ tc_fault_word fault }
 {
@@ -136,7 +136,7 @@ pub fn tc_fault_word(fault: TcFault) -> Option<&'static [u8]>
     }
 }
 
-/// The place that stands behind that name, if one does.
+/// The place that stands after that name, if one does.
 pub fn tc_fault_place(fault: TcFault) -> Option<u128>
     ensures { result ≡ tc_fault_place fault }
 {

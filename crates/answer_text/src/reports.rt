@@ -18,7 +18,7 @@ fn put_class<W: Write>(writer: &mut W, class: u8) -> Result<(), WriteFault>
     put_parts(writer, &[Part::Text(b" "), Part::Number(u128::from(class))])
 }
 
-// The class of each priority.
+/// The class of each priority.
 fn put_map<W: Write>(writer: &mut W, map: &ClassMap) -> Result<(), WriteFault>
     ensures { Writes result (W.contents writer.old) (W.contents writer.new) (map_text map.now) }
 {
@@ -46,7 +46,7 @@ fn put_range<W: Write>(writer: &mut W, range: (u16, u16)) -> Result<(), WriteFau
     )
 }
 
-// The range of each class.
+/// The range of each class.
 fn put_ranges<W: Write>(writer: &mut W, queues: &Queues) -> Result<(), WriteFault>
     ensures { Writes result (W.contents writer.old) (W.contents writer.new) (ranges_text queues.now) }
 {
@@ -98,7 +98,7 @@ fn put_classes<W: Write>(
     }
 }
 
-// All gates open from a change on.
+/// All gates open from a change on.
 fn put_open<W: Write>(writer: &mut W, place: &[u8], change: u128) -> Result<(), WriteFault>
     ensures { Writes result (W.contents writer.old) (W.contents writer.new) (open_text place.now change) }
 {
@@ -113,7 +113,7 @@ fn put_open<W: Write>(writer: &mut W, place: &[u8], change: u128) -> Result<(), 
     )
 }
 
-// A list of entries from a change on.
+/// A list of entries from a change on.
 fn put_list<W: Write>(writer: &mut W, place: &[u8], installed: &Installed) -> Result<(), WriteFault>
     ensures { Writes result (W.contents writer.old) (W.contents writer.new) (list_text place.now installed.now) }
 {

@@ -12,7 +12,7 @@ use itoa::write_digits;
 /// The octets of a line that two moments may take.
 pub const SPAN_CAPACITY: usize = 85;
 
-// Two numbers, each by itself.
+/// Two numbers, each by itself.
 #[inline(never)]
 fn apart_before(first: u128, second: u128, line: &mut Line, end: usize) -> usize
     requires room { SPAN_CAPACITY ≤ end }
@@ -26,7 +26,7 @@ fn apart_before(first: u128, second: u128, line: &mut Line, end: usize) -> usize
     number_before(first, line, middle)
 }
 
-// The digits of a number, from `from` on, by a copy of a length that is known.
+/// The digits of a number, from `from` on, by a copy of a length that is known.
 #[inline(always)]
 fn copy_before(digits: &[u8; SHORT_CAPACITY], from: usize, line: &mut Line, end: usize) -> usize
     requires from { from ≤ SHORT_CAPACITY }
@@ -38,7 +38,7 @@ fn copy_before(digits: &[u8; SHORT_CAPACITY], from: usize, line: &mut Line, end:
     text_before(digits, line, end) + from
 }
 
-// Two numbers that differ in their last eight digits alone.
+/// Two numbers that differ in their last eight digits alone.
 fn near_before(front: u64, first: u64, second: u64, line: &mut Line, end: usize) -> usize
     requires front { 0 < front }
     requires first { first < EIGHT_DIGITS }
@@ -59,7 +59,7 @@ fn near_before(front: u64, first: u64, second: u64, line: &mut Line, end: usize)
     copy_before(&digits, from, line, middle)
 }
 
-// All but the last eight digits of a number. A hundred million is 256 times 390,625.
+/// All but the last eight digits of a number. A hundred million is 256 times 390,625.
 #[inline]
 fn front_of(number: u128) -> u128
     ensures { result ≡ number / EIGHT_DIGITS }
@@ -72,7 +72,7 @@ fn front_of(number: u128) -> u128
     }
 }
 
-// All but the last eight digits of two numbers where these are the same, and the last eight of each.
+/// All but the last eight digits of two numbers where these are the same, and the last eight of each.
 #[inline(always)]
 fn short_near(first: u64, second: u64) -> Option<(u64, u64, u64)>
     requires ordered { first ≤ second }
@@ -90,7 +90,7 @@ fn short_near(first: u64, second: u64) -> Option<(u64, u64, u64)>
     Some((front, eight, other))
 }
 
-// All but the last eight digits of two numbers of more than 64 bits where these are the same, and the last eight of each.
+/// All but the last eight digits of two numbers of more than 64 bits where these are the same, and the last eight of each.
 #[inline(always)]
 fn wide_near(first: u128, second: u128) -> Option<(u64, u64, u64)>
     ensures front { IfSome result (λ near. 0 < near.0) }
@@ -110,7 +110,7 @@ fn wide_near(first: u128, second: u128) -> Option<(u64, u64, u64)>
     Some((front as u64, eight as u64, other as u64))
 }
 
-// All but the last eight digits of any two numbers where these are the same, and the last eight of each.
+/// All but the last eight digits of any two numbers where these are the same, and the last eight of each.
 #[inline(always)]
 fn near(first: u128, second: u128) -> Option<(u64, u64, u64)>
     ensures front { IfSome result (λ near. 0 < near.0) }

@@ -10,7 +10,7 @@ use itoa::Buffer;
 use octet_writer::{WriteFault, put};
 use std::io::Write;
 
-// Writes a number in decimal.
+/// Writes a number in decimal.
 fn put_number<W: Write>(writer: &mut W, number: u128) -> Result<(), WriteFault>
     ensures { Writes result (W.contents writer.old) (W.contents writer.new) (decimal number) }
 {
@@ -50,7 +50,7 @@ fn put_part<W: Write>(writer: &mut W, part: Part<'_>) -> Result<(), WriteFault>
     }
 }
 
-// Writes parts by a call or more for each.
+/// Writes parts by a call or more for each.
 fn put_each<W: Write>(writer: &mut W, parts: &[Part<'_>]) -> Result<(), WriteFault>
     ensures { Writes result (W.contents writer.old) (W.contents writer.new) (flat_map text_of parts.now) }
 {
@@ -60,13 +60,13 @@ fn put_each<W: Write>(writer: &mut W, parts: &[Part<'_>]) -> Result<(), WriteFau
     Ok(())
 }
 
-// The octets of a line that is put together before it is written.
+/// The octets of a line that is put together before it is written.
 const PARTS_CAPACITY: usize = 256;
 
-// A line that is put together, to be written by one call.
+/// A line that is put together, to be written by one call.
 type LineBuffer = ArrayVec<u8, PARTS_CAPACITY>;
 
-// Adds a part to a line, if it fits.
+/// Adds a part to a line, if it fits.
 fn add_part(line: &mut LineBuffer, part: Part<'_>) -> bool
     ensures { result ≡ true → line.new.items ≡ line.old.items ++ text_of part.entry }
 {
@@ -84,7 +84,7 @@ fn add_part(line: &mut LineBuffer, part: Part<'_>) -> bool
     }
 }
 
-// Adds parts to a line, one after another, if all fit.
+/// Adds parts to a line, one after another, if all fit.
 fn add_parts(line: &mut LineBuffer, parts: &[Part<'_>]) -> bool
     ensures { result ≡ true → line.new.items ≡ line.old.items ++ flat_map text_of parts.now }
 {

@@ -30,7 +30,7 @@ unique format number octets (e ∷ es) end p (x ∷ fs) last q =
     let rest = unique format (number + 1) (rest_after format octets) es end p.2 fs last q.2 in
     (let one = q.1 ∙ sym p.1 in let more = rest.0 in cc, rest.1)
 
--- a reading of octets of which the first record's fault is known, from one of what is behind it
+-- a reading of octets of which the first record's fault is known, from one of what comes after it
 one_more : (format : Format) (number : ℕ) (octets : List ℕ) (fault : Option CapFault) → fault_at format number octets ≡ fault → octets ≢ []
     → ((es : List Entry) × (end : End) × AreRecords format (number + 1) (rest_after format octets) es end)
     → (es : List Entry) × (end : End) × AreRecords format number octets es end

@@ -62,7 +62,7 @@ header_fault_is known Read kind p = tt
 header_fault_is known Write kind p = absurd cc
 header_fault_is known Memory kind p = absurd cc
 
--- a format that a header has, and what is left behind it
+-- a format that a header has, and what is left after it
 pub header_read : (known after : Option (List ℕ)) (header : List ℕ) (n : ℕ) (format : Format) → Consumes known after (take n header) → 24 ≤ n → length header ≡ 24 → Ok format ≡ header_format header
     → IfSome known (λ octets. (format_of octets ≡ Ok format) × (after ≡ Some (drop 24 octets)))
 header_read None after header n format took long len is = tt

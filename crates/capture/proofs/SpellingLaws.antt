@@ -20,7 +20,7 @@ use Rattle.capture.proofs.WriterLemmas.{length-spelled_record_header}
 use Rattle.capture.specs.Spelling.{spelled_header, spelled_record_header, spelled_record, spelled_records, rounded, AreWithin, IsSpelling}
 use Rattle.capture.specs.declared.format.TheConstants.{MAX_RECORDS, MAX_RECORD_OCTETS}
 
--- a number that is spelled is read back, and what stands behind it follows
+-- a number that is spelled is read back, and what comes after it follows
 u32_at-octets : (e : Endian) (x : ℕ) (rest : List ℕ) → x < 4294967296 → u32_at e (u32_octets e x ++ rest) ≡ x
 u32_at-octets Big x rest fits = big_from-bytes 4 x rest ∙ mod-eq_of_lt fits
 u32_at-octets Little x rest fits = little_from-bytes 4 0 x rest ∙ ap (λ (k : ℕ). k % 4294967296) (div-one x) ∙ mod-eq_of_lt fits
@@ -72,7 +72,7 @@ fractions-fit : (r : Resolution) → fractions_of r < 4294967296
 fractions-fit Micros = omega arith
 fractions-fit Nanos = omega arith
 
--- the record with this header, of the octets behind it
+-- the record with this header, of the octets after it
 abbrev entry_with : Format → RecordHeader → List ℕ → Entry
 entry_with format h behind = record { moment = moment_of format h; captured = h.captured; original = h.original; octets = take h.captured behind }
 

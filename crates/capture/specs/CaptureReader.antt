@@ -32,7 +32,7 @@ left r = record { format = r.format; number = r.number; in_hand = held r.window;
 abbrev pub octets_left : {R : Type 0} → (R → Option (List ℕ)) → Left R → Option (List ℕ)
 octets_left remaining l = prepend_known l.in_hand (remaining l.source)
 
--- a reader behind the header of these octets
+-- a reader after the header of these octets
 abbrev pub IsNewReader : {R : Type 0} → (R → Option (List ℕ)) → Option (List ℕ) → Left R → Type 0
 IsNewReader remaining known l = (l.number ≡ 0) × (l.ended ≡ None) × (l.in_hand ≡ [])
     × IfSome known (λ octets. (format_of octets ≡ Ok l.format) × (remaining l.source ≡ Some (drop 24 octets)))

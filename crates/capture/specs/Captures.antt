@@ -9,7 +9,7 @@ use Rattle.capture.specs.FileHeader.{format_of}
 use Rattle.capture.specs.Records.{Entry, entry_at, rest_after, fault_at}
 use Rattle.capture.specs.CaptureReader.{Left, octets_left, again, Next}
 
--- behind so many records these come, one after another, and then this end
+-- after so many records these come, one after another, and then this end
 abbrev pub AreRecords : Format → ℕ → List ℕ → List Entry → End → Type 0
 AreRecords format number octets [] Whole = octets ≡ []
 AreRecords format number octets [] (Broken fault) = (octets ≢ []) × (fault_at format number octets ≡ Some fault)

@@ -1,4 +1,4 @@
--- The frame that a record is of (IEEE Std 802.1Q-2018, 9.3 to 9.6: a tag stands behind the two addresses).
+-- The frame that a record is of (IEEE Std 802.1Q-2018, 9.3 to 9.6: a tag stands after the two addresses).
 use Rattle.std.specs.Prelude.{ℕ, ◌/◌, List, length, max, Bool, ◌&&◌, ◌==◌, nat_le, slice_index, if◌then◌else◌}
 use Rattle.wire_time.specs.declared.Frame.{Frame}
 use Rattle.capture.specs.declared.record.Record.{Record}

@@ -80,6 +80,6 @@ entry_at format octets = record {
   octets = take (header_at format octets).captured (drop 16 octets);
 }
 
--- the octets behind it
+-- the octets after it
 abbrev pub rest_after : Format → List ℕ → List ℕ
 rest_after format octets = drop (16 + (header_at format octets).captured) octets

@@ -8,7 +8,7 @@ use crate::reader::CaptureReader;
 use std::alloc::Allocator;
 use std::io::Read;
 
-/// The law that octets behind a header have one reading as records and an end, and no two.
+/// The law that octets after a header have one reading as records and an end, and no two.
 pub fn one_reading_law()
     ensures { HasOneReading }
 {}

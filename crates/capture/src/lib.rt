@@ -1,4 +1,7 @@
 //! Classic pcap files (pcap-savefile(5)): captures of Ethernet frames, read record by record, and written.
+//!
+//! The format is defined in specs/FileHeader.antt, specs/Records.antt and specs/Captures.antt; the contracts of
+//! `CaptureReader` and `CaptureWriter` cite it.
 #![tactic(auto)]
 
 mod fault;

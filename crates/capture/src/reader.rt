@@ -40,7 +40,7 @@ pub struct CaptureReader<R, A: Allocator = Global> {
     ended: Option<End>,
 }
 
-// Reads until so many octets are held, and no further. False: the input ends before.
+/// Reads until so many octets are held, and no further. False: the input ends before.
 fn fetch<R: Read, A: Allocator>(
     window: &mut Window<A>,
     source: &mut R,
@@ -64,7 +64,7 @@ fn fetch<R: Read, A: Allocator>(
     Ok(true)
 }
 
-// The next record, which the window then has given, or None at the end of the input.
+/// The next record, which the window then has given, or None at the end of the input.
 fn read_record<R: Read, A: Allocator>(
     window: &mut Window<A>,
     source: &mut R,

@@ -21,7 +21,7 @@ pub struct Record<'a> {
     pub octets: &'a [u8],
 }
 
-// The priority in the customer tag, if one stands there whole.
+/// The priority in the customer tag, if one stands there whole.
 fn tag_priority(octets: &[u8]) -> Option<u8>
     ensures { result ≡ (if is_tagged octets.now then Some (slice_index octets.now 14 / 32) else None) }
 {
@@ -34,8 +34,8 @@ fn tag_priority(octets: &[u8]) -> Option<u8>
 
 /// The frame that a record is of.
 ///
-/// Its length is the longer of the two lengths. It is tagged where at least 16 octets are captured and 81 00 stands behind the
-/// addresses; its priority is then the three high bits behind that. Any other frame has priority 0, also one that was captured
+/// Its length is the longer of the two lengths. It is tagged where at least 16 octets are captured and 81 00 stands after the
+/// addresses; its priority is then the three high bits after that. Any other frame has priority 0, also one that was captured
 /// up to its tag alone and one with a service tag (88 a8).
 pub fn frame_of(record: &Record<'_>, id: u64) -> Frame
     ensures { result ≡ frame_of (entry record.now) id }

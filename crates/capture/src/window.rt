@@ -91,7 +91,7 @@ impl<A: Allocator> Window<A> {
         self.end = end - start;
     }
 
-    /// Reads once, into all the room there is behind what is held.
+    /// Reads once, into all the room there is after what is held.
     pub fn fill<R: Read>(&mut self, reader: &mut R) -> io::Result<usize>
         requires { self.old.start + length (held self.old) < ROOM }
         ensures octets { Keeps (prepend_known (held self.old) (R.remaining reader.old)) (prepend_known (held self.new) (R.remaining reader.new)) }

@@ -26,7 +26,7 @@ pub struct CaptureWriter {
     failed: bool,
 }
 
-// Writes all of the octets, by as many writes as it takes.
+/// Writes all of the octets, by as many writes as it takes.
 #[inline(always)]
 fn put_whole<W: Write>(writer: &mut W, octets: &[u8]) -> Result<(), CapFault>
     ensures octets { Writes result (W.contents writer.old) (W.contents writer.new) octets.now }
@@ -51,7 +51,7 @@ fn file_header() -> [u8; FILE_HEADER]
     header
 }
 
-// Whole seconds of a moment, and the picoseconds behind them. A second has 4096 times 244,140,625 picoseconds.
+/// Whole seconds of a moment, and the picoseconds after them. A second has 4096 times 244,140,625 picoseconds.
 #[inline(always)]
 fn split(moment: u128) -> (u32, u64)
     requires { moment < CAPTURE_END }

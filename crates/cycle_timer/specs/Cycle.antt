@@ -15,7 +15,7 @@ begun_at start length = record { started = start; next_start = start + length; l
 abbrev pub fired : Cycle → Cycle
 fired c = begun_at c.next_start c.length
 
--- the same cycle, cut or drawn out to a change
+-- a cycle whose end is moved to a change, so that it is cut or drawn out
 abbrev pub retargeted : Cycle → ℕ → Cycle
 retargeted c change = record { started = c.started; next_start = change; length = c.length }
 

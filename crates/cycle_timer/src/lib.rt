@@ -1,4 +1,6 @@
 //! When the cycles of a schedule start: the Cycle Timer (IEEE Std 802.1Q-2018, 8.6.9.1).
+//!
+//! The contract is that of each call of `CycleTimer`, in the terms of specs/Cycle.antt.
 #![tactic(auto)]
 
 ghost use Rattle.std.specs.Prelude.{◌≡◌, ℕ, ◌+◌, ◌*◌, ◌<◌, ◌≤◌};

@@ -39,7 +39,7 @@ module _ (law : IsSettling) (q p : AbstractPort) (s : StandsFor q p) where
       ∙ ap (λ class. seen_all p.now class (answers_to e q).0 x) (same-class e)
       ∙ ap (λ answers. seen_all p.now (class_at e p) answers x) (event-answers law q p s e)
 
-  -- a request draws the same of the port that runs and of the abstract one behind it
+  -- a request draws the same of the port that runs and of the abstract one that it stands for
   pub same-drawn : (r : Request) (x : Course) → seen_by r q x ≡ seen_by r p x
   same-drawn (Asks event) x = event-drawn event x
   same-drawn (NoCommand fault) x = refl
@@ -56,7 +56,7 @@ module _ (read : List (List ℕ) → Result Command TcFault) where
   GoesOn p0 x0 (Some all) None p x = ⊥
   GoesOn p0 x0 (Some all) (Some script) p x = Goes p0 x0 all script p x
 
-  -- the state of a run: some abstract port stands behind the port that runs
+  -- the state of a run: the port that runs stands for some abstract port
   pub record IsTaking (p0 : AbstractPort) (x0 : Course) (all left : Option Script) (q : AbstractPort) (x : Course) : Type 0 where
     pub behind : AbstractPort
     pub stands : StandsFor q behind

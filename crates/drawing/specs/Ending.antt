@@ -31,7 +31,7 @@ IsDrawn (Err Faults.Read) old new first = Keeps old new
 IsDrawn (Err Faults.Write) old new first = first ≡ None
 IsDrawn (Err Faults.Memory) old new first = Keeps old new
 
--- the same of a picture that goes through a buffer, whose last octets may fail to go out after any run
+-- what a run leaves of a picture that goes through a buffer, whose last octets may fail to go out after any run
 abbrev pub IsDrawnOut : {T : Type 0} → Result T (Fault BadLine) → Option (List ℕ) → Option (List ℕ) → Option BadLine → Type 0
 IsDrawnOut (Ok x) old new first = first ≡ None
 IsDrawnOut (Err (Faults.Input bad)) old new first = (first ≡ Some bad) × Keeps old new

@@ -18,7 +18,7 @@ with_arrival moment w = if nat_lt (length w.moments) w.room then record w { mome
 abbrev pub without_first : Waiting → Waiting
 without_first w = record w { moments = drop 1 w.moments }
 
--- the same of eight classes
+-- nothing waits in any of the eight classes
 abbrev pub none_wait : ℕ → List Waiting
 none_wait room = none_waits room ∷ none_waits room ∷ none_waits room ∷ none_waits room ∷ none_waits room ∷ none_waits room ∷ none_waits room ∷ none_waits room ∷ []
 

@@ -49,7 +49,7 @@ impl<A: Allocator> ClassArrivals<A> {
     }
 }
 
-// Eight classes of which no frame waits.
+/// Eight classes of which no frame waits.
 fn classes_of<A: Allocator + Clone>(
     alloc: &A,
     room: usize,
@@ -68,7 +68,7 @@ fn classes_of<A: Allocator + Clone>(
     ])
 }
 
-// A frame of a class came.
+/// A frame of a class came.
 fn put_in<A: Allocator>(classes: &mut [ClassArrivals<A>; 8], class: u8, moment: u128)
     requires { class < 8 }
     ensures { classes.new ≡ slice_set classes.old class (with_arrival moment (waiting_in classes.old class)) }
@@ -76,7 +76,7 @@ fn put_in<A: Allocator>(classes: &mut [ClassArrivals<A>; 8], class: u8, moment: 
     classes[class as usize].put(moment);
 }
 
-// The first frame of a class waits no more.
+/// The first frame of a class waits no more.
 fn take_from<A: Allocator>(classes: &mut [ClassArrivals<A>; 8], class: u8) -> Option<u128>
     requires { class < 8 }
     ensures first { result ≡ slice_get (waiting_in classes.old class).moments 0 }

@@ -48,7 +48,7 @@ impl<A: Allocator> Course<A> {
         })
     }
 
-    // A frame starts.
+    /// A frame starts.
     fn see_start(&mut self, start: &Start)
         ensures { self.new ≡ started start.now self.old }
     {

@@ -14,7 +14,7 @@ use std::alloc::Allocator;
 /// How many shapes a picture shows at most as they are.
 pub const MOST_APART: usize = 20_000;
 
-// How many bands there are in all rows.
+/// How many bands there are in all rows.
 fn count_bands<A: Allocator>(bands: &Bands<A>) -> usize
     ensures value { result ≡ bands_to WIRE bands.now.classes }
     ensures within { result ≤ WIRE * MOST_SHAPES }

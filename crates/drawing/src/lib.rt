@@ -1,4 +1,7 @@
 //! Draws the run of a script as an SVG picture: a row for each class with its open time, its frames and how long they wait, and a row for the wire.
+//!
+//! What is drawn is defined in specs/Course.antt and specs/Taken.antt; `take` promises it of the drawn run. How a
+//! run ends is specs/Ending.antt; no contract says what the SVG text is.
 #![tactic(auto)]
 
 mod arrivals;

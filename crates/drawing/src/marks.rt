@@ -113,12 +113,12 @@ pub fn digits(number: u128) -> u32
     40
 }
 
-// Whether a bar of this width, in hundredths of a pixel, has room for the number of a frame.
+/// Whether a bar of this width, in hundredths of a pixel, has room for the number of a frame.
 fn has_room(width: u64, id: u64) -> bool {
     400 + 600 * u64::from(digits(u128::from(id))) <= width
 }
 
-// Writes the number of a frame in the middle of its bar.
+/// Writes the number of a frame in the middle of its bar.
 fn put_id<W: Write>(writer: &mut W, middle: u64, top: u32, id: u64) -> Result<(), WriteFault>
     requires { top ≤ BOTTOM }
 {
@@ -136,7 +136,7 @@ fn put_id<W: Write>(writer: &mut W, middle: u64, top: u32, id: u64) -> Result<()
     )
 }
 
-// Writes the bar of a frame, or of frames that are joined, and its number where there is room.
+/// Writes the bar of a frame, or of frames that are joined, and its number where there is room.
 fn put_bar<W: Write>(writer: &mut W, page: &Page, top: u32, shape: &Shape) -> Result<(), WriteFault>
     requires { top ≤ BOTTOM }
 {
@@ -168,7 +168,7 @@ pub fn put_bars<W: Write>(
     Ok(())
 }
 
-// Writes the wait of a frame: a line from its arrival, which is marked where it lies within the window, to its start.
+/// Writes the wait of a frame: a line from its arrival, which is marked where it lies within the window, to its start.
 fn put_wait<W: Write>(
     writer: &mut W,
     page: &Page,
@@ -246,7 +246,7 @@ pub fn put_drops<W: Write>(
     Ok(())
 }
 
-// Writes the name of a change above its line: the number of its command, or that changes are joined.
+/// Writes the name of a change above its line: the number of its command, or that changes are joined.
 fn put_change_name<W: Write>(
     writer: &mut W,
     page: &Page,

@@ -66,7 +66,7 @@ impl DrawOptions {
     }
 }
 
-// The number of a word, at most `greatest`; where there is no word, this one.
+/// The number of a word, at most `greatest`; where there is no word, this one.
 fn number_or(greatest: u128, default: u128, value: Option<&str>) -> Option<u128>
     requires { default ≤ greatest }
     ensures value { result ≡ number_or greatest default (option_map (λ text. text.now) value.entry) }
@@ -78,7 +78,7 @@ fn number_or(greatest: u128, default: u128, value: Option<&str>) -> Option<u128>
     }
 }
 
-// The end of a picture, after its beginning, if one is given; the outer None is a bad value.
+/// The end of a picture, after its beginning, if one is given; the outer None is a bad value.
 fn end_in(from: u128, value: Option<&str>) -> Option<Option<u128>>
     ensures { result ≡ end_in from (option_map (λ text. text.now) value.entry) }
 {
@@ -91,7 +91,7 @@ fn end_in(from: u128, value: Option<&str>) -> Option<Option<u128>>
     }
 }
 
-// A number that is a width, in pixels.
+/// A number that is a width, in pixels.
 fn width_where(number: Option<u128>) -> Option<u32>
     requires { IfSome number (λ n. n ≤ MAX_WIDTH) }
     ensures { result ≡ width_where number }

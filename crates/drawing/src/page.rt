@@ -10,7 +10,7 @@ use wire_time::Rate;
 /// Where time begins, in pixels from the left.
 pub const LEFT: u32 = 64;
 
-/// What is left free behind the end of time, in pixels.
+/// What is left free after the end of time, in pixels.
 pub const RIGHT: u32 = 32;
 
 /// Where the row of class 7 begins, in pixels from above.

@@ -30,7 +30,7 @@ use std::alloc::{Allocator, Global};
 use std::io::{Read, Write};
 use wire_time::{MAX_MOMENT, lead};
 
-// The class of a frame that comes.
+/// The class of a frame that comes.
 fn class_at<A: Allocator>(port: &RunningPort<A>, event: &Event<'_>) -> Option<u8>
     ensures { result ≡ class_at event.now port.now.port }
 {
@@ -54,7 +54,7 @@ pub fn take<A: Allocator>(port: &mut RunningPort<A>, course: &mut Course<A>, eve
     }
 }
 
-// The bands go on to where the port is.
+/// The bands go on to where the port is.
 fn follow<A: Allocator>(port: &RunningPort<A>, bands: &mut Bands<A>) {
     let now = port.now();
     if bands.now() <= now {
@@ -62,7 +62,7 @@ fn follow<A: Allocator>(port: &RunningPort<A>, bands: &mut Bands<A>) {
     }
 }
 
-// Gives the port a command, and draws when it comes into force.
+/// Gives the port a command, and draws when it comes into force.
 fn take_command<A: Allocator>(
     port: &mut RunningPort<A>,
     bands: &mut Bands<A>,
@@ -87,8 +87,8 @@ fn take_command<A: Allocator>(
     }
 }
 
-// Takes what a line says, if it says something. What is wrong with a line that begins with `tc` is reported by a run of the script, and isn't
-// drawn.
+/// Takes what a line says, if it says something. What is wrong with a line that begins with `tc` is reported by a run of the script, and isn't
+/// drawn.
 fn take_line<A: Allocator>(
     port: &mut RunningPort<A>,
     bands: &mut Bands<A>,
@@ -116,7 +116,7 @@ fn take_line<A: Allocator>(
     Ok(())
 }
 
-// Runs the lines that are to come.
+/// Runs the lines that are to come.
 fn take_lines<A: Allocator, B: Allocator, R: Read + Drop>(
     port: &mut RunningPort<A>,
     bands: &mut Bands<A>,
@@ -138,14 +138,14 @@ fn take_lines<A: Allocator, B: Allocator, R: Read + Drop>(
     Ok(())
 }
 
-// The last moment of the run: now, or the end of the last frame.
+/// The last moment of the run: now, or the end of the last frame.
 fn last_moment<A: Allocator>(port: &RunningPort<A>, course: &Course<A>) -> u128
     ensures { result ≤ greatest_moment }
 {
     port.now().max(course.last()).min(MAX_MOMENT)
 }
 
-// Runs to the end of the picture of a run that ends at this moment, unless that is past, and ends the bands.
+/// Runs to the end of the picture of a run that ends at this moment, unless that is past, and ends the bands.
 fn end<A: Allocator>(
     port: &mut RunningPort<A>,
     bands: &mut Bands<A>,
@@ -160,7 +160,7 @@ fn end<A: Allocator>(
     bands.end();
 }
 
-// Writes the picture of a run that ends at this moment.
+/// Writes the picture of a run that ends at this moment.
 fn put_run<A: Allocator, W: Write>(
     bands: &mut Bands<A>,
     course: &mut Course<A>,
@@ -181,7 +181,7 @@ fn put_run<A: Allocator, W: Write>(
     put_picture(writer, &page, bands, course.shapes())
 }
 
-// Runs the lines of a script, and writes the picture of what happens.
+/// Runs the lines of a script, and writes the picture of what happens.
 fn draw_lines<A: Allocator, B: Allocator, R: Read + Drop, W: Write>(
     port: &mut RunningPort<A>,
     bands: &mut Bands<A>,
@@ -201,7 +201,7 @@ fn draw_lines<A: Allocator, B: Allocator, R: Read + Drop, W: Write>(
     Ok(())
 }
 
-// Runs the input and writes its picture, with nothing drawn yet.
+/// Runs the input and writes its picture, with nothing drawn yet.
 fn draw_course<B: Allocator, R: Read + Drop, W: Write>(
     alloc: &Global,
     port: &mut RunningPort<Global>,
@@ -218,7 +218,7 @@ fn draw_course<B: Allocator, R: Read + Drop, W: Write>(
     draw_lines(port, bands, &mut course, lines, writer, settings, options)
 }
 
-// Runs the input and writes its picture, with no bands yet.
+/// Runs the input and writes its picture, with no bands yet.
 fn draw_bands<B: Allocator, R: Read + Drop, W: Write>(
     alloc: &Global,
     port: &mut RunningPort<Global>,
@@ -234,7 +234,7 @@ fn draw_bands<B: Allocator, R: Read + Drop, W: Write>(
     draw_course(alloc, port, &mut bands, lines, writer, settings, options)
 }
 
-// Runs the input and writes its picture, on a new port.
+/// Runs the input and writes its picture, on a new port.
 fn draw_port<B: Allocator, R: Read + Drop, W: Write>(
     alloc: &Global,
     lines: &mut LineReader<R, B>,

@@ -14,7 +14,7 @@ use std::alloc::{AllocError, Allocator};
 use std::marker::Model;
 use wire_time::MAX_MOMENT;
 
-// A frame, from one moment to another, both in picoseconds.
+/// A frame, from one moment to another, both in picoseconds.
 fn shape_of(from: u128, to: u128, id: u64) -> Shape
     ensures { result ≡ shape_of from to id }
 {
@@ -24,14 +24,14 @@ fn shape_of(from: u128, to: u128, id: u64) -> Shape
     }
 }
 
-// A row in which nothing is drawn.
+/// A row in which nothing is drawn.
 fn empty_row<A: Allocator + Clone>(alloc: &A) -> Result<Row<A>, AllocError>
     ensures { IfOk result (λ row. row ≡ no_shapes) }
 {
     Row::new(alloc.clone()?)
 }
 
-// Nine rows in which nothing is drawn.
+/// Nine rows in which nothing is drawn.
 fn empty_rows<A: Allocator + Clone>(alloc: &A) -> Result<[Row<A>; 9], AllocError>
     ensures { IfOk result (λ rows. rows ≡ empty_rows) }
 {
@@ -48,7 +48,7 @@ fn empty_rows<A: Allocator + Clone>(alloc: &A) -> Result<[Row<A>; 9], AllocError
     ])
 }
 
-// One shape more in a row, where something of it is shown.
+/// One shape more in a row, where something of it is shown.
 fn draw_in<A: Allocator>(view: View, rows: &mut [Row<A>; 9], row: u8, shape: Shape)
     requires row { row < ROWS }
     requires within { shape.span.from ≤ greatest_moment }
@@ -59,7 +59,7 @@ fn draw_in<A: Allocator>(view: View, rows: &mut [Row<A>; 9], row: u8, shape: Sha
     }
 }
 
-// What is drawn in a row.
+/// What is drawn in a row.
 fn shapes_in<A: Allocator>(rows: &[Row<A>; 9], row: u8) -> &[Shape]
     requires { row < ROWS }
     ensures value { result.now ≡ (row_at rows.now row).shapes }
@@ -68,7 +68,7 @@ fn shapes_in<A: Allocator>(rows: &[Row<A>; 9], row: u8) -> &[Shape]
     rows[row as usize].shapes()
 }
 
-// How many shapes there are in all rows.
+/// How many shapes there are in all rows.
 fn count_in<A: Allocator>(rows: &[Row<A>; 9]) -> usize
     ensures value { result ≡ shapes_to ROWS rows.now }
     ensures within { result ≤ ROWS * MOST_SHAPES }
@@ -80,7 +80,7 @@ fn count_in<A: Allocator>(rows: &[Row<A>; 9]) -> usize
     count
 }
 
-// Neighbours in one row that are closer to one another than a gap, in picoseconds, are joined.
+/// Neighbours in one row that are closer to one another than a gap, in picoseconds, are joined.
 fn join_in<A: Allocator>(rows: &mut [Row<A>; 9], row: u8, gap: u128)
     requires { row < ROWS }
     ensures { rows.new ≡ slice_set rows.old row (joined_at gap (row_at rows.old row)) }
@@ -88,7 +88,7 @@ fn join_in<A: Allocator>(rows: &mut [Row<A>; 9], row: u8, gap: u128)
     rows[row as usize].join(gap);
 }
 
-// Neighbours in each row that are closer to one another than a gap, in picoseconds, are joined.
+/// Neighbours in each row that are closer to one another than a gap, in picoseconds, are joined.
 fn join_rows<A: Allocator>(rows: &mut [Row<A>; 9], gap: u128)
     ensures { (row : ℕ) → row < ROWS → row_at rows.new row ≡ joined_at gap (row_at rows.old row) }
 {
@@ -97,7 +97,7 @@ fn join_rows<A: Allocator>(rows: &mut [Row<A>; 9], gap: u128)
     }
 }
 
-// Whether a start is drawn: its class has a row, and its moment is at most the greatest.
+/// Whether a start is drawn: its class has a row, and its moment is at most the greatest.
 fn is_drawn(start: &Start) -> bool
     ensures value { result ≡ is_drawn start.now }
     ensures within { result ≡ true → (start.now.class < WIRE) × (start.now.at ≤ greatest_moment) }
@@ -105,7 +105,7 @@ fn is_drawn(start: &Start) -> bool
     start.class < WIRE && start.at <= MAX_MOMENT
 }
 
-// A frame that came at this moment, in picoseconds, waited up to its start, unless it started at once.
+/// A frame that came at this moment, in picoseconds, waited up to its start, unless it started at once.
 fn draw_wait<A: Allocator>(view: View, rows: &mut [Row<A>; 9], came: u128, start: &Start)
     requires class { start.now.class < WIRE }
     requires within { start.now.at ≤ greatest_moment }
@@ -116,7 +116,7 @@ fn draw_wait<A: Allocator>(view: View, rows: &mut [Row<A>; 9], came: u128, start
     }
 }
 
-// A frame has the wire, drawn in the row of its class and in the wire's.
+/// A frame has the wire, drawn in the row of its class and in the wire's.
 fn draw_frame<A: Allocator>(view: View, rows: &mut [Row<A>; 9], start: &Start)
     requires class { start.now.class < WIRE }
     requires within { start.now.at ≤ greatest_moment }
@@ -127,7 +127,7 @@ fn draw_frame<A: Allocator>(view: View, rows: &mut [Row<A>; 9], start: &Start)
     draw_in(view, rows, WIRE, shape);
 }
 
-// The row of a class, or the wire's where there is none.
+/// The row of a class, or the wire's where there is none.
 fn row_of(class: Option<u8>) -> u8
     ensures row { result ≡ row_of class }
     ensures within { result < ROWS }

@@ -41,7 +41,7 @@ text{fill:#e6e6e6}
 </style>
 ";
 
-// Writes what the picture is called: its rate and its mtu.
+/// Writes what the picture is called: its rate and its mtu.
 fn put_name<W: Write>(writer: &mut W, page: &Page) -> Result<(), WriteFault> {
     put_parts(
         writer,
@@ -55,7 +55,7 @@ fn put_name<W: Write>(writer: &mut W, page: &Page) -> Result<(), WriteFault> {
     )
 }
 
-// Writes the head of the picture: its size, its name and how its parts look.
+/// Writes the head of the picture: its size, its name and how its parts look.
 fn put_head<W: Write>(writer: &mut W, page: &Page) -> Result<(), WriteFault> {
     let width = Part::Number(u128::from(page.width()));
     let height = Part::Number(u128::from(HEIGHT));
@@ -88,7 +88,7 @@ fn put_head<W: Write>(writer: &mut W, page: &Page) -> Result<(), WriteFault> {
     put(writer, b"</text>\n")
 }
 
-// The step of the axis, in picoseconds, such that the labels of its ticks stand apart.
+/// The step of the axis, in picoseconds, such that the labels of its ticks stand apart.
 fn axis_step(page: &Page) -> u128
     ensures { 0 < result }
 {
@@ -101,7 +101,7 @@ fn axis_step(page: &Page) -> u128
     tick_step(length, most as u32).max(step).max(1)
 }
 
-// Writes a tick of the axis at this place, with its line through the rows.
+/// Writes a tick of the axis at this place, with its line through the rows.
 fn put_tick<W: Write>(
     writer: &mut W,
     page: &Page,
@@ -127,7 +127,7 @@ fn put_tick<W: Write>(
     )
 }
 
-// Writes the axis of time: a tick at each multiple of a round number of a unit.
+/// Writes the axis of time: a tick at each multiple of a round number of a unit.
 fn put_axis<W: Write>(writer: &mut W, page: &Page) -> Result<(), WriteFault> {
     let step = axis_step(page);
     let unit = unit_of(step);
@@ -147,7 +147,7 @@ fn put_axis<W: Write>(writer: &mut W, page: &Page) -> Result<(), WriteFault> {
     Ok(())
 }
 
-// Writes the names of the rows.
+/// Writes the names of the rows.
 fn put_names<W: Write>(writer: &mut W) -> Result<(), WriteFault> {
     for class in 0..8u8 {
         put_parts(
@@ -171,7 +171,7 @@ fn put_names<W: Write>(writer: &mut W) -> Result<(), WriteFault> {
     )
 }
 
-// Writes the text of a part of the legend, at this pixel from the left.
+/// Writes the text of a part of the legend, at this pixel from the left.
 fn put_legend_text<W: Write>(writer: &mut W, x: u64, text: &[u8]) -> Result<(), WriteFault> {
     put_parts(
         writer,
@@ -187,7 +187,7 @@ fn put_legend_text<W: Write>(writer: &mut W, x: u64, text: &[u8]) -> Result<(), 
     )
 }
 
-// Writes a path of the legend, that begins at this pixel from the left and at its line.
+/// Writes a path of the legend, that begins at this pixel from the left and at its line.
 fn put_legend_path<'a, W: Write>(
     writer: &mut W,
     look: &'a [u8],
@@ -209,7 +209,7 @@ fn put_legend_path<'a, W: Write>(
     )
 }
 
-// Writes what the parts of the picture mean.
+/// Writes what the parts of the picture mean.
 fn put_legend<W: Write>(writer: &mut W) -> Result<(), WriteFault> {
     let left = u64::from(LEFT);
     put_rect(
@@ -238,7 +238,7 @@ fn put_legend<W: Write>(writer: &mut W) -> Result<(), WriteFault> {
     put_legend_text(writer, left + 298, b"change")
 }
 
-// Writes what is drawn in a row.
+/// Writes what is drawn in a row.
 fn put_row<A: Allocator, W: Write>(
     writer: &mut W,
     page: &Page,

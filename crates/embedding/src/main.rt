@@ -1,4 +1,6 @@
 //! A port inside another program: a schedule is built and installed, two frames arrive, the clock runs, and each start is reported.
+//!
+//! An example: it has no contract, and its output is compared with the file beside it.
 #![tactic(auto)]
 
 use std::alloc::Global;

@@ -1,5 +1,7 @@
 //! Runs and draws each example script, the worked scripts and the examples of checks, of a table of streams and of a replay, and says whether their
 //! answers are those that lie beside them.
+//!
+//! It has no contract: it is a test.
 #![tactic(auto)]
 
 use drawing::{DrawOptions, draw};
@@ -125,7 +127,7 @@ fn streams_agree<R: Files + AllocGlobal>(rt: &R) -> io::Result<bool> {
     Ok(written.is_ok() && got.as_slice() == script.as_slice())
 }
 
-/// Whether the example of a replay gives the report and the capture that lie beside it, run to 2 ms, and behind the report a summary where
+/// Whether the example of a replay gives the report and the capture that lie beside it, run to 2 ms, and after the report a summary where
 /// one is asked for.
 fn replay_agrees<R: Files + AllocGlobal>(rt: &R, summary: bool) -> io::Result<bool> {
     let script = fs::read(rt, "machine.script")?;
@@ -180,7 +182,7 @@ fn picture_agrees<R: Files + AllocGlobal>(
     Ok(drawn.is_ok() && got.as_slice() == picture.as_slice())
 }
 
-/// The words behind the name of an example.
+/// The words after the name of an example.
 fn told(agrees: bool) -> &'static str {
     if agrees {
         "answers as it should"

@@ -105,7 +105,7 @@ closes_before cyc class i c l opened next = record {
     apart : true ≡ false → ⊥
     apart e = cc
 
--- where a slot closes the class, what comes behind it doesn't count
+-- where a slot closes the class, what comes after it doesn't count
 run_front : (xs ys : List Slot) (class : ℕ) → is_open_in_all xs class ≡ false → run_of (xs ++ ys) class ≡ run_of xs class
 run_front [] ys class some = cc
 run_front (s ∷ xs) ys class some = by (opens s.mask class) some (run_front xs ys class)
@@ -257,7 +257,7 @@ closes_next cyc class i last (e ∷ es) within are round =
 
 -- ---- rows that go round
 
--- as soon as one of the entries in front closes the class, what comes behind doesn't count
+-- as soon as one of the entries in front closes the class, what comes after it doesn't count
 pub front_open : (es : List Entry) (class k : ℕ) → all_open (take k es) class ≡ false → all_open es class ≡ false
 front_open es class zero some = cc
 front_open [] class (suc k) some = some

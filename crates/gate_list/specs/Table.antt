@@ -49,7 +49,7 @@ abbrev pub GoesRound : List Entry → ℕ → List ℕ → Type 0
 GoesRound entries class rows =
     (i : ℕ) → i < length entries → closing_at rows i class ≡ next_shut (drop i entries) class i (next_shut entries class 0 0)
 
--- the same by a list of when the slots begin
+-- the time from the start of a slot to the start of another, by a list of when the slots begin
 abbrev pub time_to : ℕ → List ℕ → ℕ → ℕ → ℕ
 time_to cycle starts i c =
     if nat_lt c i then cycle - slice_index starts i + slice_index starts c

@@ -1,4 +1,7 @@
 //! Gate control lists and schedules.
+//!
+//! The definitions are specs/Gate.antt, specs/Open.antt and specs/Stay.antt, their laws specs/Laws.antt; the
+//! contracts of `GateList` and `Schedule` cite them.
 #![tactic(auto)]
 
 ghost use Rattle.std.specs.Prelude.{◌≡◌, ◌<◌, ◌≤◌, ◌==◌, OnErr, OnOk, length};

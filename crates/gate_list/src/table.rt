@@ -27,7 +27,7 @@ pub(crate) struct Table {
     closing: [u8; PLACES],
 }
 
-/// How many places the rows of all slots take, and the row behind them, in which the first slot comes again.
+/// How many places the rows of all slots take, and the row after them, in which the first slot comes again.
 const PLACES: usize = CLASSES * (MAX_ENTRIES + 1);
 
 /// How long an entry lasts, in picoseconds.
@@ -96,7 +96,7 @@ fn one_of(first: bool, here: u8, there: u8) -> u8
     (here & kept) | (there & !kept)
 }
 
-/// What closes each class from a slot of this mask on, by the row behind it, is written.
+/// What closes each class from a slot of this mask on, by the row after it, is written.
 #[inline(always)]
 fn put_row(slot: usize, mask: u8, bits: &[u8; CLASSES], rows: &mut [u8; PLACES])
     requires few { slot < MAX_ENTRIES }
@@ -110,7 +110,7 @@ fn put_row(slot: usize, mask: u8, bits: &[u8; CLASSES], rows: &mut [u8; PLACES])
     }
 }
 
-/// The rows of the slots of some entries, by the row behind them, are written. Apart, and by a copy of the bits, so that the compiler
+/// The rows of the slots of some entries, by the row after them, are written. Apart, and by a copy of the bits, so that the compiler
 /// takes all classes at once.
 #[inline(never)]
 fn put_rows(entries: &[Entry], bits: &[u8; CLASSES], rows: &mut [u8; PLACES])
@@ -142,7 +142,7 @@ pub(crate) fn closed_table() -> Table
     }
 }
 
-/// The row behind the slots is written: it is that of the first slot.
+/// The row after the slots is written: it is that of the first slot.
 #[inline(always)]
 fn put_first(slot: usize, rows: &mut [u8; PLACES])
     requires few { slot ≤ MAX_ENTRIES }
@@ -153,7 +153,7 @@ fn put_first(slot: usize, rows: &mut [u8; PLACES])
     }
 }
 
-/// The rows of all slots of a cycle, with the row behind them, are written; the answer is the classes that all slots open.
+/// The rows of all slots of a cycle, with the row after them, are written; the answer is the classes that all slots open.
 fn put_closing(entries: &[Entry], rows: &mut [u8; PLACES]) -> u8
     requires few { length entries.now ≤ MAX_ENTRIES }
     ensures all { (class : ℕ) → class < CLASSES → opens result class ≡ all_open entries.now class }

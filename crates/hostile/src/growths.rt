@@ -16,7 +16,7 @@ use std::alloc::Global;
 use std::io;
 use wire_time::Frame;
 
-/// The heap of the run with this number: each growth has two runs, one in which it alone is refused, and one with all behind it.
+/// The heap of the run with this number: each growth has two runs, one in which it alone is refused, and one with all after it.
 fn heap_of(alloc: Global, run: u64) -> RefusingHeap<Global> {
     RefusingHeap::new(alloc, run / 2, run % 2 == 0)
 }
@@ -92,7 +92,7 @@ fn forty_frames(alloc: Global) -> io::Result<Vec<Event<'static>>> {
     Ok(events)
 }
 
-/// The start of the frame with this number at 1 Gb/s, behind those with lower ones.
+/// The start of the frame with this number at 1 Gb/s, after those with lower ones.
 fn start(id: u64) -> Answer {
     let at = u128::from(id).saturating_mul(672_000);
     Answer::Start(Start {
@@ -118,7 +118,7 @@ fn have_all_left(answers: &[Answer]) -> bool {
     true
 }
 
-/// Whether a port goes on with the events that are left as if nothing had happened, behind the answers that it has given.
+/// Whether a port goes on with the events that are left as if nothing had happened, after the answers that it has given.
 fn goes_on(
     alloc: Global,
     port: &mut Port<Jumping>,
@@ -156,7 +156,7 @@ fn run_of_forty(
 }
 
 /// Forty frames through a port. When out of memory, the events that are left go on as if nothing had happened, also where it is
-/// wanting between two starts of one clock event. A body that always says that it took no event fails, since the last runs want none.
+/// lacking between two starts of one clock event. A body that always says that it took no event fails, since the last runs want none.
 pub fn run_of_events(given: &Given, alloc: Global) -> Runs {
     let Ok(events) = forty_frames(alloc) else {
         return Runs::failed();

@@ -1,5 +1,7 @@
 //! Hostile use, by public calls: memory, reads and writes refused in turn. Each run is compared with what has to come of it, and the program
 //! prints how many there are, and how many came out otherwise.
+//!
+//! It has no contract: it is a test.
 #![tactic(auto)]
 
 mod growths;

@@ -15,7 +15,7 @@ const ONE_FRAME: &[u8] = b"frame 1 0 60\nclock 1000000\n";
 /// What is answered to it.
 const LEFT_AT_ONCE: &[u8] = b"queued 1 class 0\nstart 1 class 0 at 0 end 672000\n";
 
-/// With room for two frames a class: three frames come behind a closed gate, which opens 100 microseconds later.
+/// With room for two frames a class: three frames come before a closed gate, which opens 100 microseconds later.
 const CLOSED_GATE: &[u8] =
     b"tc qdisc replace dev eth0 root taprio num_tc 8 map 0 1 2 3 4 5 6 7 base-time 20000 \
 sched-entry S 00 100000 sched-entry S 01 100000\nclock 20000000\nframe 1 0 60\nframe 2 0 60\nframe 3 0 60\nclock 121000000\ncount 0\n";
@@ -44,7 +44,7 @@ const END: u128 = 3_000_000_000_000;
 pub enum Job {
     /// A script of one frame.
     OneFrame,
-    /// A script with a full queue behind a closed gate.
+    /// A script with a full queue before a closed gate.
     FullQueue,
     /// The check of two schedules.
     TwoSchedules,
@@ -89,9 +89,9 @@ impl Job {
 pub struct Given {
     /// The rate.
     pub rate: Rate,
-    /// How scripts are run, to no moment behind them.
+    /// How scripts are run, to no moment after them.
     pub settings: Settings,
-    /// How captures are replayed, to behind all frames.
+    /// How captures are replayed, to a moment after all frames.
     pub to_the_end: Settings,
     /// How schedules are checked: without windows.
     pub checked: CheckSettings,
@@ -250,7 +250,7 @@ impl Runs {
         }
     }
 
-    /// Counts a run. One that meets something behind one that met nothing is wrong.
+    /// Counts a run. One that meets something after one that met nothing is wrong.
     pub fn count(&mut self, met: bool, is_right: bool) {
         if !met {
             self.free = self.free.saturating_add(1);

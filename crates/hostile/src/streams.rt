@@ -162,11 +162,12 @@ pub fn reads_of_capture(
     runs
 }
 
-/// Pieces in which the capture of two frames is read, and how many reads those are: the header, what is behind it, and the end; and octet by
+/// Pieces in which the capture of two frames is read, and how many reads those are: the header, what comes after it, and the end; and octet by
 /// octet.
 pub const PIECES_OF_TWO_FRAMES: [(usize, u32); 2] = [(WHOLE, 3), (1, 93)];
 
-/// Pieces in which the capture of a hundred frames is read, and how many reads those are: the header, what is behind it, and the end; and the header and then record by record.
+/// Pieces in which the capture of a hundred frames is read, and how many reads those are: the header, what comes after
+/// it, and the end; and the header and then record by record.
 pub const PIECES_OF_A_HUNDRED_FRAMES: [(usize, u32); 2] = [(WHOLE, 3), (76, 102)];
 
 /// A run of a replay one of whose writers does something else at one call: whether it came to that call, and came out as it should.

@@ -54,13 +54,13 @@ module _ {I : Type 0} (old mid out : Option (List ℕ)) (whole : Outcome I) (k :
   out_by before run (inl same) w = subst (λ r. RunsOut r old out whole) (sym same) (same_out before w)
   out_by before run (inr failed) w = subst (λ r. RunsOut r old out whole) (sym failed) (front_out before w)
 
--- the same by the octets of an input, where they are known
+-- where the octets of an input are known, what a run has written is let out, by the run's result or that of a last write that failed
 pub out_of_input : {I X : Type 0} (input : Option X) (whole : X → Outcome I) (old mid out : Option (List ℕ)) (before run : Result (Unit {0}) (Fault I)) → Keeps mid out → IsOrFails run before
     → IfSome input (λ octets. Runs before old mid (whole octets)) → IfSome input (λ octets. RunsOut run old out (whole octets))
 out_of_input None whole old mid out before run k same w = tt
 out_of_input (Some octets) whole old mid out before run k same w = out_by old mid out (whole octets) k before run same w
 
--- the same of two inputs
+-- where the octets of two inputs are known, what a run has written is let out, by the run's result or that of a last write that failed
 pub out_of_inputs : {I X Y : Type 0} (first : Option X) (second : Option Y) (whole : X → Y → Outcome I) (old mid out : Option (List ℕ)) (before run : Result (Unit {0}) (Fault I)) → Keeps mid out → IsOrFails run before
     → IfSome first (λ x. IfSome second (λ y. Runs before old mid (whole x y))) → IfSome first (λ x. IfSome second (λ y. RunsOut run old out (whole x y)))
 out_of_inputs None second whole old mid out before run k same w = tt

@@ -14,7 +14,7 @@ use Rattle.job.specs.Outcome.{Outcome, Runs}
 use Rattle.job.specs.declared.fault.Fault.{Fault}
 use Rattle.job.specs.declared.fault.Fault.TheVariants as Faults
 
--- what a line gives, and then the lines behind it
+-- what a line gives, and then the lines after it
 abbrev pub behind : {I : Type 0} → List ℕ → Outcome I → Outcome I
 behind text whole = record { text = text ++ whole.text; fault = whole.fault }
 

@@ -19,7 +19,7 @@ Runs (Err Faults.Read) old new whole = AppendsFront old new whole.text
 Runs (Err Faults.Write) old new whole = FallsShort old new whole.text
 Runs (Err Faults.Memory) old new whole = AppendsFront old new whole.text
 
--- the same where the output goes through a buffer: after a failed write a prefix, which the buffer's octets end
+-- what the output of a run has more where it goes through a buffer: after a failed write a prefix, which the buffer's octets end
 abbrev pub RunsOut : {I T : Type 0} → Result T (Fault I) → Option (List ℕ) → Option (List ℕ) → Outcome I → Type 0
 RunsOut (Ok x) old new whole = (whole.fault ≡ None) × Appends old new whole.text
 RunsOut (Err (Faults.Input fault)) old new whole = (whole.fault ≡ Some fault) × Appends old new whole.text

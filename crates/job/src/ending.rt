@@ -12,7 +12,7 @@ use crate::telling::{Ended, say_run};
 use std::alloc::Allocator;
 use std::io::{BufWriter, Write};
 
-// Lets out what was written, also before a fault, unless a write failed already: no write is tried again.
+/// Lets out what was written, also before a fault, unless a write failed already: no write is tried again.
 fn let_out<I: Copy, W: Write + Drop, B: Allocator>(
     run: Result<(), Fault<I>>,
     answers: &mut BufWriter<W, B>,

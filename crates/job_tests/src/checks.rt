@@ -18,11 +18,11 @@ tc qdisc del dev eth0 root\n\
 tc qdisc replace dev eth0 root taprio sched-entry S 01 479\n\
 tc qdisc replace dev eth0 root taprio base-time 0\n";
 
-/// What is told of them.
+/// What is reported of them.
 const TOLD: &[u8] =
     b"apart 0 1 2\napart 2 3 4 5 6 7\napart none\nrefused IntervalTooShort 0\ntc-fault NoEntries\n";
 
-/// What is told of them with windows.
+/// What is reported of them with windows.
 const TOLD_WITH_WINDOWS: &[u8] = b"apart 0 1 2\n\
 window class 0 open 300000000 closed 700000000 share 300000000 of 1000000000 frame 37476\n\
 window class 1 open 300000000 closed 700000000 share 300000000 of 1000000000 frame 37476\n\
@@ -80,7 +80,7 @@ fn stops_at_each_read(rt: HostRuntime) -> Result<(), Fail> {
     Ok(())
 }
 
-/// Each write in turn fails, or takes nothing: what was taken before is a front of what is told.
+/// Each write in turn fails, or takes nothing: what was taken before is a front of what is reported.
 #[test]
 fn stops_at_each_write(rt: HostRuntime) -> Result<(), Fail> {
     for room in 0..=TOLD_WITH_WINDOWS.len() {

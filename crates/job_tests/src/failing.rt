@@ -1,4 +1,4 @@
-//! Memory, reads and writes that fail, and what is told of it.
+//! Memory, reads and writes that fail, and what is reported of it.
 
 use crate::replays::{
     END, REPORT, Replayed, TWO_CAPTURED, is_front_and, replay_of, settings, three_captured,
@@ -17,7 +17,7 @@ use test_streams::{BOTH_LEFT, Narrow, Pieces};
 struct Refused {
     /// Whether the replay came to it.
     met: bool,
-    /// Whether it was told, or all went well without it.
+    /// Whether it was reported, or all went well without it.
     right: bool,
     /// Whether nothing was written.
     silent: bool,
@@ -36,7 +36,7 @@ fn run_refused(alloc: Global, settings: Settings, number: u64) -> Refused {
     }
 }
 
-/// How many growths a replay asks for, and how many of them leave both outputs empty where they are refused. Each that is refused is told;
+/// How many growths a replay asks for, and how many of them leave both outputs empty where they are refused. Each that is refused is reported;
 /// else the number of the one that isn't.
 fn growths_of(alloc: Global, settings: Settings) -> Result<(u64, u64), u64> {
     let mut silent = 0u64;
@@ -65,7 +65,7 @@ fn sums_up_in_memory_that_is_taken_first(rt: HostRuntime) -> Result<(), Fail> {
     Ok(())
 }
 
-/// Whether a replay of the two frames told all, or this fault and a front of the rest.
+/// Whether a replay of the two frames reported all, or this fault and a front of the rest.
 fn is_told(ended: &Replayed, fault: ReplayFault) -> bool {
     if ended.result.is_ok() {
         return ended.report.as_slice() == REPORT
@@ -75,7 +75,7 @@ fn is_told(ended: &Replayed, fault: ReplayFault) -> bool {
     ended.result == Err(fault) && fronts
 }
 
-/// Whether a heap of so many octets is enough for a replay of the two frames and a line; none where what is answered or told is wrong.
+/// Whether a heap of so many octets is enough for a replay of the two frames and a line; none where what is answered or reported is wrong.
 fn is_enough(alloc: Global, octets: usize) -> Option<bool> {
     let settings = settings(END)?;
     let heap = LocalHeap::new(alloc, octets).ok()?;
@@ -96,7 +96,7 @@ fn refuses_each_growth(rt: HostRuntime) {
     assert_eq!(rt; enough, Some(true));
 }
 
-/// Whether a replay of the two frames and a line tells all, or a failed read and a front of the rest.
+/// Whether a replay of the two frames and a line reports all, or a failed read and a front of the rest.
 fn are_read(alloc: Global, script: Pieces<'_>, capture: Pieces<'_>) -> bool {
     let Some(settings) = settings(END) else {
         return false;
@@ -162,7 +162,7 @@ fn replay_to<W: Write, V: Write>(
     )
 }
 
-/// Whether a replay of the two frames is as it should be where each output has room for so many octets: it tells all, or a failed write and
+/// Whether a replay of the two frames is as it should be where each output has room for so many octets: it reports all, or a failed write and
 /// a front of the rest, which isn't all.
 fn is_written(alloc: Global, room: usize, recovers: bool) -> bool {
     let Some(settings) = settings(END) else {
@@ -186,7 +186,7 @@ fn stops_at_each_write(rt: HostRuntime) {
     }
 }
 
-/// Whether a replay of the two frames tells this where its output capture has room for so many octets alone.
+/// Whether a replay of the two frames reports this where its output capture has room for so many octets alone.
 fn tells_before(alloc: Global, room: usize, told: &[u8]) -> bool {
     let Some(settings) = settings(END) else {
         return false;
@@ -212,7 +212,7 @@ fn the_report_ends_where_the_capture_fails(rt: HostRuntime) {
     }
 }
 
-/// Whether a replay of these records tells the two frames, the third and a failed read.
+/// Whether a replay of these records reports the two frames, the third and a failed read.
 fn tells_before_a_failed_read(alloc: Global, records: Pieces<'_>, settings: Settings) -> bool {
     let ended = replay_of(alloc, alloc, b"".as_slice(), records, settings);
     ended.result == Err(ReplayFault::Read)
@@ -220,7 +220,7 @@ fn tells_before_a_failed_read(alloc: Global, records: Pieces<'_>, settings: Sett
         && ended.capture.as_slice() == BOTH_LEFT.as_slice()
 }
 
-/// A read that fails behind the last whole record ends a replay after what the records before it give.
+/// A read that fails after the last whole record ends a replay after what the records before it give.
 #[test]
 fn what_comes_before_a_failed_read_is_told(rt: HostRuntime) -> Result<(), Fail> {
     let settings = settings(Some(4_000_000_000_000)).ok_or("settings")?;

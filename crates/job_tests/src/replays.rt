@@ -9,7 +9,7 @@ use std::test::Fail;
 use test_streams::BOTH_LEFT;
 use wire_time::Rate;
 
-/// What is told of the two frames where all gates are open: the second comes no earlier than the first, and goes first.
+/// What is reported of the two frames where all gates are open: the second comes no earlier than the first, and goes first.
 pub const REPORT: &[u8] = b"queued 0 class 3\nqueued 1 class 5\n\
 start 1 class 5 at 2000500000000 end 2000500672000\nstart 0 class 3 at 2000500672000 end 2000501344000\n";
 
@@ -29,7 +29,7 @@ const THIRD_RECORD: [u8; 34] = [
     2, 0, 0, 0, 0, 2, 2, 0, 0, 0, 0, 1, 0x81, 0, 0x60, 5, 8, 0,
 ];
 
-/// The capture with this record behind the two.
+/// The capture with this record after the two.
 pub fn three_captured(alloc: Global) -> io::Result<Vec<u8>> {
     let mut octets = Vec::from_slice(alloc, &TWO_CAPTURED)?;
     octets.extend_from_slice(&THIRD_RECORD)?;
@@ -41,7 +41,7 @@ pub fn settings(until: Option<u128>) -> Option<Settings> {
     Settings::new(Rate::from_mbps(1000).ok()?, 1500, 128, until).ok()
 }
 
-/// A moment behind all that comes of the two frames, in picoseconds.
+/// A moment after all that comes of the two frames, in picoseconds.
 pub const END: Option<u128> = Some(3_000_000_000_000);
 
 /// What a replay answers, its report, and its output capture.
@@ -78,12 +78,12 @@ pub fn replay_of<A: Allocator, R: Read + Drop, S: Read + Drop>(
     }
 }
 
-/// Whether octets are a front and what stands behind it.
+/// Whether octets are a front and what comes after it.
 pub fn is_front_and(octets: &[u8], front: &[u8], behind: &[u8]) -> bool {
     octets.starts_with(front) && &octets[front.len().min(octets.len())..] == behind
 }
 
-/// What is told of the two frames where they stay.
+/// What is reported of the two frames where they stay.
 const STAYING: &[u8] =
     b"queued 0 class 3\nqueued 1 class 5\nleft class 3 frames 1\nleft class 5 frames 1\n";
 
@@ -111,10 +111,10 @@ fn frames_stay_without_an_end(rt: HostRuntime) {
     assert_eq!(rt; endless_differs_in(rt.alloc()), "");
 }
 
-/// What is told of a moment to run to that is refused.
+/// What is reported of a moment to run to that is refused.
 const UNTIL: &[u8] = b"taprio_port: bad value of --until\n";
 
-/// Whether that is what is told of the fault, with the status of a value.
+/// Whether that is what is reported of the fault, with the status of a value.
 fn is_until_said(alloc: Global) -> bool {
     let mut text = Vec::new(alloc);
     let ended = say_fault(&ReplayFault::Input(ReplayInput::Until), &mut text);
@@ -149,7 +149,7 @@ fn a_moment_that_no_capture_can_say(rt: HostRuntime) {
     assert_eq!(rt; too_late_differs_in(rt.alloc()), "");
 }
 
-/// Sees how often it is told how far a replay has come, and what it was told last.
+/// Sees how often a replay reports how far it has come, and what it reported last.
 #[derive(Drop)]
 struct Seen {
     calls: u32,

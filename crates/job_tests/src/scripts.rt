@@ -44,7 +44,7 @@ fn usual(rt: &impl Abort) -> Settings {
     Settings::new(rate, 1500, 128, None).expect(rt, "settings")
 }
 
-/// Whether octets are a front and what stands behind it.
+/// Whether octets are a front and what comes after it.
 fn is_front_and(octets: &[u8], front: &[u8], behind: &[u8]) -> bool {
     octets.starts_with(front) && &octets[front.len().min(octets.len())..] == behind
 }
@@ -126,7 +126,7 @@ fn stops_at_each_write(rt: HostRuntime) {
     }
 }
 
-/// Where no text can be written, it is not told, and the status stays.
+/// Where no text can be written, it is not reported, and the status stays.
 #[test]
 fn says_nothing_where_no_write_is_taken(rt: HostRuntime) {
     let mut writer = Narrow {
@@ -157,7 +157,7 @@ const NONE: Values<'static> = Values {
 const FRAMES: &[u8] =
     b"frame 1 0 60\nframe 2 0 60\nclock 1000001\nframe 3 0 60\nframe 4 5 1514\nclock 20000000\n";
 
-/// What is told of them, without a summary.
+/// What is reported of them, without a summary.
 const FRAMES_TOLD: &[u8] =
     b"queued 1 class 0\nqueued 2 class 0\nstart 1 class 0 at 0 end 672000\nstart 2 class 0 at 672000 end 1344000\nqueued 3 class 0\nqueued 4 class 5\nstart 4 class 5 at 1344000 end 13648000\nstart 3 class 0 at 13648000 end 14320000\n";
 
@@ -192,7 +192,7 @@ const FAILED: Ended = Ended {
     told: true,
 };
 
-/// Whether a failed read is told, and what was answered before it let out.
+/// Whether a failed read is reported, and what was answered before it let out.
 fn is_failed_read_told(alloc: Global) -> io::Result<bool> {
     let mut reader = Pieces::new(b"frame 1 0 60\nframe 2 0 60\n", 1);
     reader.fails_at = 14;
@@ -206,7 +206,7 @@ fn is_failed_read_told(alloc: Global) -> io::Result<bool> {
     )
 }
 
-/// Whether a failed write is told, and is the last.
+/// Whether a failed write is reported, and is the last.
 fn is_failed_write_told(alloc: Global) -> io::Result<bool> {
     let mut reader = SCRIPT;
     let narrow = Once {
@@ -225,7 +225,7 @@ fn is_failed_write_told(alloc: Global) -> io::Result<bool> {
     )
 }
 
-/// What was answered before a failed read is let out before the fault is told; a write that fails is the last.
+/// What was answered before a failed read is let out before the fault is reported; a write that fails is the last.
 #[test]
 fn lets_out_before_a_fault(rt: HostRuntime) -> Result<(), Fail> {
     assert!(rt; is_failed_read_told(rt.alloc())?);
@@ -233,7 +233,7 @@ fn lets_out_before_a_fault(rt: HostRuntime) -> Result<(), Fail> {
     Ok(())
 }
 
-/// Whether a first read that fails once is told, and nothing is answered.
+/// Whether a first read that fails once is reported, and nothing is answered.
 fn is_told_at_once(alloc: Global, settings: Settings) -> bool {
     let mut reader = Pieces::new(SCRIPT, usize::MAX);
     reader.fails_at = 0;

@@ -44,7 +44,7 @@ struct Outcome {
 }
 
 impl Outcome {
-    /// Whether all went well, and that is all that is told.
+    /// Whether all went well, and that is all that is reported.
     fn is_well(&self) -> bool {
         self.ended.status == 0 && self.ended.told && self.errors.is_empty()
     }
@@ -126,11 +126,11 @@ fn says_how_far_it_has_come(rt: HostRuntime) -> Result<(), Fail> {
     Ok(())
 }
 
-/// A script of two frames behind a schedule.
+/// A script of two frames after a schedule.
 const SCRIPT: &[u8] =
     b"tc qdisc replace dev eth0 root taprio num_tc 1 map 0 0 0 0 0 0 0 0 queues 1@0 base-time 0 sched-entry S 01 100000\nframe 1 0 60\nframe 2 0 60\nclock 50000000\n";
 
-/// Words that ask for a picture of another width than the usual one, behind the beginning.
+/// Words that ask for a picture of another width than the usual one, after the beginning.
 const DRAW: [&str; 6] = ["taprio_port", "draw", "--from", "1000000", "--width", "640"];
 
 /// The picture that they ask for, at 1000 Mb/s, an mtu of 1500 octets and room for 128 frames a class.

@@ -46,7 +46,7 @@ up_to (Some until) before = min until before
 abbrev pub most_visits : Stretch → ℕ
 most_visits stretch = 4 * entry_count stretch.plan + 1
 
--- the same of stretches, one after another
+-- how many visits a search of some stretches, one after another, makes at most
 abbrev pub most_in : List Stretch → ℕ
 most_in [] = 0
 most_in (stretch ∷ rest) = most_visits stretch + most_in rest

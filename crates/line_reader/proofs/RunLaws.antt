@@ -34,7 +34,7 @@ after_run (Some xs) tail octets run back front first breaks parts unbroken short
     ∙ ap (script_from (record { octets = octets; first = first; breaks = breaks })) (append_assoc run back (tail xs))
     ∙ run_within octets run (back ++ tail xs) first breaks unbroken short few))
 
--- the line and what stands behind its line feed
+-- the line and what comes after its line feed
 line_parts : (n : ℕ) (octets : List ℕ) → EndsLine octets n → octets ≡ take n octets ++ (10 ∷ drop (n + 1) octets)
 line_parts n octets is =
     sym (take-append-drop n octets)

@@ -68,7 +68,7 @@ run_within octets (b ∷ bs) rest first breaks unbroken short few =
 
 -- ---- joined lines
 
--- a line feed behind a backslash joins
+-- a line feed after a backslash joins
 joins_backslash : (octets : List ℕ) → joins (octets ++ 92 ∷ []) ≡ true
 joins_backslash octets =
     let n : length (octets ++ 92 ∷ []) - 1 ≡ length octets = omega (arith, length-append octets (92 ∷ [])) in
@@ -130,7 +130,7 @@ text_within octets (j ∷ js) last rest first breaks fronts unbroken short few =
     ∙ ap (λ o. script_from (record { octets = o; first = first; breaks = (breaks + 1) + length js }) rest) all
     ∙ ap (λ n. script_from (record { octets = octets ++ (front_text (j ∷ js) ++ last); first = first; breaks = n }) rest) count
 
--- a line and the line feed behind it
+-- a line and the line feed after it
 whole_line : (line : SpelledLine) (rest : List ℕ) (breaks : ℕ) → IsSpelled line → breaks + physical_lines line ≤ MAX_LINES
     → script_from (fresh breaks) (line_text line ++ (10 ∷ rest)) ≡ Line (breaks + 1) (line_text line) (script_from (fresh (breaks + physical_lines line)) rest)
 whole_line line rest breaks is few =
@@ -139,7 +139,7 @@ whole_line line rest breaks is few =
     ∙ line_end (line_text line) rest (breaks + 1) (breaks + length line.joined) is.unjoined (omega arith)
     ∙ ap (λ n. Line (breaks + 1) (line_text line) (script_from (fresh n) rest)) count
 
--- lines before what comes behind them
+-- lines before what comes after them
 lines_before : (breaks : ℕ) (lines : List SpelledLine) (rest : List ℕ) → AreSpelled lines → breaks + all_physical_lines lines ≤ MAX_LINES
     → script_from (fresh breaks) (spelled lines ++ rest) ≡ numbered (breaks + 1) lines (script_from (fresh (breaks + all_physical_lines lines)) rest)
 lines_before breaks [] rest are few = (let same : breaks ≡ breaks + 0 = omega arith in ap (λ n. script_from (fresh n) rest) same)

@@ -25,11 +25,11 @@ how_ended r = r.ended
 abbrev pub in_hand : {R A : Type 0} → LineReader R A → List ℕ
 in_hand r = ahead r.source
 
--- the number of the first physical line of the line behind
+-- the number of the first physical line of the next line
 abbrev pub next_number : {R A : Type 0} → LineReader R A → ℕ
 next_number r = r.breaks + 1
 
--- so many octets are a whole line, and the line feed behind them ends it
+-- so many octets are a whole line, and the line feed after them ends it
 pub record EndsLine (octets : List ℕ) (n : ℕ) : Type 0 where
   pub within : n < length octets
   pub ended : get_or octets n 0 ≡ 10
@@ -52,7 +52,7 @@ script_within remaining r = option_map (script_from (progress_of r)) (octets_lef
 abbrev pub script_ahead : {R A : Type 0} → (R → Option (List ℕ)) → LineReader R A → Option Script
 script_ahead remaining r = option_map (script_from (fresh r.breaks)) (octets_left remaining r.source)
 
--- behind an answer: at a failed read the line so far and what was to come
+-- after an answer: at a failed read the line so far and what was to come
 abbrev pub script_behind : {R A : Type 0} → (R → Option (List ℕ)) → Result Bool LineFault → LineReader R A → Option Script
 script_behind remaining (Ok true) r = script_ahead remaining r
 script_behind remaining (Ok false) r = Some End

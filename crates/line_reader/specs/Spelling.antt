@@ -4,7 +4,7 @@ use Rattle.std.specs.List.{list_all}
 use Rattle.line_reader.specs.Script.{Script, End, Line, joins, script_of}
 use Rattle.line_reader.specs.declared.lines.TheConstants.{MAX_LINE_OCTETS, MAX_LINES}
 
--- a physical line to which the next one is joined: what stands before the backslash, and whether a CR stands behind it
+-- a physical line to which the next one is joined: what stands before the backslash, and whether a CR stands after it
 pub record JoinedLine : Type 0 where
   pub front : List ℕ
   pub has_cr : Bool
@@ -43,7 +43,7 @@ abbrev pub AreSpelled : List SpelledLine → Type 0
 AreSpelled [] = Unit {0}
 AreSpelled (line ∷ rest) = IsSpelled line × AreSpelled rest
 
--- each line with a line feed behind it
+-- each line with a line feed after it
 abbrev pub spelled : List SpelledLine → List ℕ
 spelled [] = []
 spelled (line ∷ rest) = line_text line ++ (10 ∷ spelled rest)
@@ -57,7 +57,7 @@ abbrev pub all_physical_lines : List SpelledLine → ℕ
 all_physical_lines [] = 0
 all_physical_lines (line ∷ rest) = physical_lines line + all_physical_lines rest
 
--- the lines, each with the number of its first physical line, of which the first is given, and then what comes behind them
+-- the lines, each with the number of its first physical line, of which the first is given, and then what comes after them
 abbrev pub numbered : ℕ → List SpelledLine → Script → Script
 numbered number [] behind = behind
 numbered number (line ∷ rest) behind = Line number (line_text line) (numbered (number + physical_lines line) rest behind)

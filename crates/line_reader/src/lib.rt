@@ -1,4 +1,6 @@
 //! The lines of a script, as its octets come.
+//!
+//! The definitions are specs/Script.antt and specs/LineReader.antt; the contract of `LineReader` cites them.
 #![tactic(auto)]
 
 pub mod laws;

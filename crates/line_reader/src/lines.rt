@@ -44,7 +44,7 @@ impl From<ReadFault> for LineFault {
     }
 }
 
-// Whether a line feed after these octets joins the next physical line.
+/// Whether a line feed after these octets joins the next physical line.
 fn joins(octets: &[u8]) -> bool
     ensures { result ≡ joins octets.now }
 {
@@ -54,7 +54,7 @@ fn joins(octets: &[u8]) -> bool
     }
 }
 
-// The octets before the first line feed, at most `most` of them.
+/// The octets before the first line feed, at most `most` of them.
 fn unbroken_front(octets: &[u8], most: usize) -> &[u8]
     ensures front { result.now ≡ take (length result.now) octets.now }
     ensures unbroken { list_all (λ octet. not (octet == 10)) result.now ≡ true }
@@ -72,7 +72,7 @@ fn unbroken_front(octets: &[u8], most: usize) -> &[u8]
     }
 }
 
-// What each further call answers once the lines have ended.
+/// What each further call answers once the lines have ended.
 fn answer_of(ended: Result<(), LineFault>) -> Result<bool, LineFault>
     ensures { result ≡ answer_of ended }
 {
@@ -82,7 +82,7 @@ fn answer_of(ended: Result<(), LineFault>) -> Result<bool, LineFault>
     }
 }
 
-// How an answer ends the lines, if it does.
+/// How an answer ends the lines, if it does.
 fn ended_by(answer: Result<bool, LineFault>) -> Option<Result<(), LineFault>>
     ensures { result ≡ ended_by answer }
 {
@@ -153,7 +153,7 @@ impl<R: Read + Drop, A: Allocator> LineReader<R, A> {
         self.source.buffer()
     }
 
-    /// Goes past a line of so many octets that stands whole in hand, with the LF behind it, without taking it: what the reader stands
+    /// Goes past a line of so many octets that stands whole in hand, with the LF after it, without taking it: what the reader stands
     /// at stays. Where the lines have ended or the line passes a limit, it is refused, and nothing changes.
     #[inline(always)]
     pub fn pass_line(&mut self, length: usize) -> bool
@@ -175,7 +175,7 @@ impl<R: Read + Drop, A: Allocator> LineReader<R, A> {
         true
     }
 
-    // Takes the octets in hand up to a line feed or to the longest line. One by one they would do the same.
+    /// Takes the octets in hand up to a line feed or to the longest line. One by one they would do the same.
     fn take_unbroken(&mut self)
         ensures script { script_within R.remaining self.new ≡ script_within R.remaining self.old }
         ensures first { self.new.first ≡ self.old.first }
@@ -194,7 +194,7 @@ impl<R: Read + Drop, A: Allocator> LineReader<R, A> {
         self.source.consume(taken);
     }
 
-    // The next line, while the lines have not ended.
+    /// The next line, while the lines have not ended.
     fn next_line(&mut self) -> Result<bool, LineFault>
         ensures line { Advances (script_ahead R.remaining self.old) result
             (current_number self.new) (current_line self.new) (script_behind R.remaining result self.new) }

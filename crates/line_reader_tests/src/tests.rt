@@ -5,7 +5,7 @@ use std::cell::Cell;
 use std::io::{self, Read};
 use std::test::Fail;
 
-/// Gives a text in pieces and fails at the read of this number, from 0, once. It gives more behind each end, for ever.
+/// Gives a text in pieces and fails at the read of this number, from 0, once. It gives more after each end, for ever.
 #[derive(Drop)]
 struct Unsteady<'a> {
     text: &'a [u8],

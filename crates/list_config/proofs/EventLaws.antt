@@ -56,7 +56,7 @@ ltb_next t n other =
       | inr come ↦ le-ltb (n + 1) t (omega arith) ∙ sym (le-ltb n t come)
     ]
 
--- the same command is in force, or one comes
+-- a command comes at the next moment, or the one in force stays
 force_next : (h : List Accepted) (n : ℕ) → Any (ComesAt (n + 1)) h ⊎ (in_force h (n + 1) ≡ in_force h n)
 force_next [] n = inr refl
 force_next (a ∷ r) n =
@@ -87,7 +87,7 @@ latest_next (a ∷ r) n =
           | inr come ↦ latest_come a r (n + 1) (omega arith) ∙ (ap (λ x. option_or x (Some a)) same ∙ sym (latest_come a r n come))
         ]
 
--- the same command is pending, or one comes
+-- a command comes at the next moment, or the pending one stays
 pending_next : (h : List Accepted) (n : ℕ) → Any (ComesAt (n + 1)) h ⊎ (pending h (n + 1) ≡ pending h n)
 pending_next h n =
     elim (latest_next h n) [
@@ -171,6 +171,7 @@ module _ (plan : Plan) (start n : ℕ) (next : Option Accepted) (above : 0 < pla
       let one : cycle * (runs + 1) ≡ cycle * runs + cycle = (let e = mul_comm cycle runs in let f = mul_comm cycle (runs + 1) in omega arith) in
       boundary_is start cycle (runs + 1) (n + 1) (cycle_above plan above) (omega arith) (omega arith) ∙ (let same : start + cycle * (runs + 1) ≡ n + 1 = omega arith in same)
 
+  -- At the next moment an entry begins, or the plan shows what it shows now.
   pub planned_next : BeginsEntry (Some plan) start (n + 1) ⊎ (planned_mask plan start next (n + 1) ≡ planned_mask plan start next n)
   planned_next =
       elim (cases_lt (n + 1) (began + cycle)) [

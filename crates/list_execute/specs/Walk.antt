@@ -41,7 +41,7 @@ pub record ShowsHold (plan : Plan) (began : ℕ) (walk : Walk) : Type 0 where
   pub began_then : walk.began ≡ began
   pub held_is : walk.held ≡ Some (last_mask plan.entries)
 
--- the same walk in the hold of a plan
+-- a walk that is put into the hold of a plan: it shows the last mask
 abbrev pub in_hold : Plan → Walk → Walk
 in_hold plan walk = record walk { held = Some (last_mask plan.entries) }
 

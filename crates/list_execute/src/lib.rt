@@ -1,4 +1,6 @@
 //! What a gate control list shows, entry after entry: List Execute (IEEE Std 802.1Q-2018, 8.6.9.2).
+//!
+//! The contract is that of each call of `ListExecute`, in the terms of specs/Walk.antt.
 #![tactic(auto)]
 
 ghost use Rattle.std.specs.Prelude.{◌≡◌, ◌+◌, ◌-◌, ◌*◌, ◌<◌, ◌≤◌, ◌^◌, None, Some, IsSome, length, slice_get};

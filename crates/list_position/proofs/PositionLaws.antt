@@ -354,7 +354,7 @@ module _ (plan : Plan) (ok : IsSchedule plan) (start : ℕ) (held : Option ℕ) 
                   ap (open_while (λ i. last_mask plan.entries) class h) none ∙ (open_from (λ i. last_mask plan.entries) class h 0 (λ i from below. absurd (omega arith)) ∙ ap (λ b. b || opens (last_mask plan.entries) class) (sym (le-leb d (h - n) within))))
             ]
 
-    -- the same by what is known of the list up to the hold
+    -- the open time of a class across the hold, by what is known of the list up to the hold
     pub open_both : has_come held position.timer.started ≡ false → (h : ℕ) → held ≡ Some h → (class d e : ℕ) (listed : Bool) → e ≡ min d (h - n) → listed ≡ open_while (mask_since (Some plan) start None) class n e → open_while (mask_since (Some plan) start held) class n d ≡ (listed && (nat_le d (h - n) || opens (last_mask plan.entries) class))
     open_both off h is class d e listed at first =
         open_to_hold off h is class d

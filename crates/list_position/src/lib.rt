@@ -1,4 +1,6 @@
 //! Where a gate control list stands: its cycle, and the entry or the hold that it shows.
+//!
+//! The contract is that of each call of `Position`, in the terms of specs/Position.antt.
 #![tactic(auto)]
 
 ghost use Rattle.std.specs.Prelude.{◌≡◌, ℕ, Option, ◌+◌, ◌*◌, ◌<◌, ◌≤◌, Some, None, IsSome, false, true, length};

@@ -1,4 +1,6 @@
 //! The octets of frames that wait in the eight queues of a port, beside the queues: first in, first out in each class.
+//!
+//! The contract is that of each call of `OctetStore`, in the terms of specs/Stored.antt.
 #![tactic(auto)]
 
 mod class_octets;

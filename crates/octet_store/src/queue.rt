@@ -32,7 +32,7 @@ impl<A: Allocator> OctetQueue<A> {
         }
     }
 
-    // Makes room for so many octets more behind those that are held, which move to the front. When out of memory, nothing changes.
+    /// Makes room for so many octets more after those that are held, which move to the front. When out of memory, nothing changes.
     #[inline(never)]
     fn pull(&mut self, more: usize) -> Result<(), AllocError>
     where

@@ -1,4 +1,6 @@
 //! Writes octets whole, with a loop over `write` of its own: a write that fails or takes nothing isn't tried again.
+//!
+//! The contract is that of `put`, in the terms of specs/Writes.antt.
 #![tactic(auto)]
 
 ghost use Rattle.octet_writer.specs.Writes.{Writes};

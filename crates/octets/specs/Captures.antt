@@ -1,4 +1,4 @@
--- What a replay over memory reports, and what it leaves in the three slices that it is lent.
+-- What a replay over memory reports, and what it leaves in its three slices.
 use Rattle.std.specs.Prelude.{◌≡◌, ◌<◌, ◌⊎◌, List, ℕ, [], length, Result, Ok, Err}
 use Rattle.replay.specs.Outcome.{Outcome}
 use Rattle.replay.specs.Texts.{replay_telling}
@@ -43,7 +43,7 @@ pub record Outputs : Type 0 where
   pub departures : List ℕ
   pub fault : List ℕ
 
--- the same of three slices
+-- what stands in three slices, as a record
 abbrev pub outputs : List ℕ → List ℕ → List ℕ → Outputs
 outputs report departures fault = record { report = report; departures = departures; fault = fault }
 

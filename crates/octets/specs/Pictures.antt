@@ -1,4 +1,4 @@
--- What a drawing over memory reports, and what it leaves in the two slices that it is lent.
+-- What a drawing over memory reports, and what it leaves in its two slices.
 use Rattle.std.specs.Prelude.{List, ℕ, [], Option, Some, None, Result, Ok, Err, decimal, option_map}
 use Rattle.abstract_port.specs.declared.Command.{Command}
 use Rattle.drawing.specs.Ending.{fault_in}

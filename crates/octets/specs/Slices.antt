@@ -1,4 +1,4 @@
--- What a call over memory reports, and what it leaves in the two slices that it is lent.
+-- What a call over memory reports, and what it leaves in its two slices.
 use Rattle.std.specs.Prelude.{◌≡◌, ◌<◌, ◌⊎◌, List, ℕ, [], ◌++◌, drop, length, Option, Some, None, Result, Ok, Err}
 use Rattle.job.specs.Outcome.{Outcome}
 use Rattle.job.specs.Telling.{Telling}
@@ -49,7 +49,7 @@ pub record Slices : Type 0 where
   pub output : List ℕ
   pub fault : List ℕ
 
--- the same of two slices
+-- what stands in two slices, as a record
 abbrev pub slices : List ℕ → List ℕ → Slices
 slices output fault = record { output = output; fault = fault }
 

@@ -33,7 +33,7 @@ pub struct ReplayRan {
     pub status: u8,
 }
 
-// Puts both outputs and the text of a fault into their slices, where all have room, and none where one has not.
+/// Puts both outputs and the text of a fault into their slices, where all have room, and none where one has not.
 fn put_replay(
     status: u8,
     told: &[u8],
@@ -60,7 +60,7 @@ fn put_replay(
     ran
 }
 
-// The end when out of memory: nothing is written.
+/// The end when out of memory: nothing is written.
 fn replay_out_of_memory() -> ReplayRan
     ensures { result ≡ record { report = 0; departures = 0; fault = 0; status = 4 } }
 {
@@ -72,7 +72,7 @@ fn replay_out_of_memory() -> ReplayRan
     }
 }
 
-// Ends a replay that has written both outputs into memory.
+/// Ends a replay that has written both outputs into memory.
 fn end_replay<A: Allocator>(
     alloc: &A,
     run: Result<(), ReplayFault>,
@@ -103,7 +103,7 @@ fn end_replay<A: Allocator>(
     )
 }
 
-// Reports a bad value.
+/// Reports a bad value.
 fn refuse_replay<A: Allocator>(
     alloc: &A,
     value: BadValue,
@@ -129,7 +129,7 @@ fn refuse_replay<A: Allocator>(
     )
 }
 
-// Replays a script and a capture with settings.
+/// Replays a script and a capture with settings.
 fn replay_with<A: Allocator>(
     alloc: &A,
     settings: Settings,

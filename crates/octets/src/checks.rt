@@ -16,7 +16,7 @@ use schedule_check::{CheckSettings, check};
 use std::alloc::Allocator;
 use wire_time::Rate;
 
-// Checks schedule commands at a rate.
+/// Checks schedule commands at a rate.
 fn check_at<A: Allocator>(
     alloc: &A,
     rate: Rate,

@@ -41,7 +41,7 @@ pub fn options_at(values: PictureValues) -> Result<DrawOptions, BadValue>
     })
 }
 
-// Draws the run of a script.
+/// Draws the run of a script.
 fn draw_with(
     alloc: Global,
     settings: Settings,

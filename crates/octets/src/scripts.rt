@@ -14,7 +14,7 @@ use crate::values::{PortValues, settings_at};
 use script::{Settings, run_script};
 use std::alloc::Allocator;
 
-// Runs a script with settings.
+/// Runs a script with settings.
 fn run_with<A: Allocator>(
     alloc: &A,
     settings: Settings,

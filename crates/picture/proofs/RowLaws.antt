@@ -210,7 +210,7 @@ early_all gap (a ∷ rest) all = early_join gap a rest all.0 all.1
 pub row_put : (gap : ℕ) (xs : List Shape) (s : Shape) → IsRow xs → s.span.from ≤ greatest_moment → length (put gap xs s) ≤ MOST_SHAPES → IsRow (put gap xs s)
 row_put gap xs s row early few = record { few = few; early = early_put gap xs s row.early early }
 
--- the same where room is made
+-- a row with one shape more, for which near shapes are joined
 pub row_joined : (gap : ℕ) (xs : List Shape) (s : Shape) → IsRow xs → s.span.from ≤ greatest_moment → MOST_SHAPES < length (put gap xs s) → IsRow (join (wider (put gap xs s)) (put gap xs s))
 row_joined gap xs s row early many =
     let all = early_put gap xs s row.early early in

@@ -23,7 +23,7 @@ unfoldable pub join_from : ℕ → Shape → List Shape → List Shape
 join_from gap a [] = a ∷ []
 join_from gap a (b ∷ rest) = if is_near gap a b then join_from gap (joined a b) rest else a ∷ join_from gap b rest
 
--- the same of all shapes of a list
+-- a list of shapes with those that are near joined
 abbrev pub join : ℕ → List Shape → List Shape
 join gap [] = []
 join gap (a ∷ rest) = join_from gap a rest

@@ -1,4 +1,7 @@
 //! What a picture of a port's run shows: the times of its bands and bars, the rows that they lie in, and a time axis.
+//!
+//! The definitions are specs/Bands.antt, specs/Rows.antt and specs/Windows.antt; the contracts of `Bands`, `Row`
+//! and `Window` cite them.
 #![tactic(auto)]
 
 mod bands;

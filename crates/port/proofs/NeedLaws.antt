@@ -17,7 +17,7 @@ needs_set ps queues class frames needs same =
     ap (λ x. slice_set x class (head_need ps frames)) same
     ∙ sym (ap (map (head_need ps)) (map-set (λ q. q.frames) queues class (with_frames (queue_at queues class) frames)) ∙ map-set (head_need ps) (frames_of queues) class frames)
 
--- a frame behind those that wait
+-- a frame after those that wait
 head_behind : (ps : ℕ) (frames : List Frame) (f : Frame) → option_or (head_need ps frames) (Some (occupancy_of ps f.len)) ≡ head_need ps (frames ++ f ∷ [])
 head_behind ps [] f = refl
 head_behind ps (x ∷ rest) f = refl

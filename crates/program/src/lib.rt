@@ -2,6 +2,9 @@
 //!
 //! The exit status is 0 where all is done, 2 where the words are refused, 3 where the input is, and 4 where a read, a write
 //! or memory failed, or a file can't be opened. `run` lends the process's own streams; all else is over any reader, writers and files.
+//!
+//! The contracts of the calls over readers, writers and files cite the definitions of each job; what words say is
+//! specs/Given.antt.
 #![tactic(auto)]
 
 mod answering;

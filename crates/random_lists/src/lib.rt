@@ -1,4 +1,6 @@
 //! Numbers that look random, and short gate control lists made of them. Nothing but tests stands on them.
+//!
+//! The contracts say how large its numbers are.
 #![tactic(auto)]
 
 ghost use Rattle.std.specs.Prelude.{◌≤◌, ◌<◌, ◌+◌};

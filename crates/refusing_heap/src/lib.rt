@@ -1,4 +1,6 @@
 //! An allocator that refuses one growth, or all from one on. Nothing but tests stands on it.
+//!
+//! It has no contract.
 #![tactic(auto)]
 
 use std::alloc::{AllocError, Allocator};

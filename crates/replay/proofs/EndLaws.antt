@@ -117,7 +117,7 @@ broken_off T Stops.Memory old o other = (o.output, both_none old o.output)
 
 -- ---- the header before it
 
--- the same behind the header
+-- an outcome with the header of a capture before its records
 abbrev pub with_header : Outcome → Outcome
 with_header o = record { output = joined header o.output; fault = o.fault }
 

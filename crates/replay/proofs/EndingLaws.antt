@@ -93,11 +93,11 @@ module _ (s : Setup) (ended : Ended) (old mid out got : Got) (errors_old errors_
 pub nothing_left : (r d : List ℕ) → r ≡ [] → d ≡ [] → ◌≡◌ {A = Output} (record { report = r; capture = d }) nothing
 nothing_left r d e f = ap (λ (t : List ℕ). record { report = t; capture = d }) e ∙ ap (λ (t : List ℕ). record { report = []; capture = t }) f
 
--- the same of both, or a write failed
+-- nothing is left of both outputs, or a write failed
 pub out_both : (run : Result (Unit {0}) (Fault ReplayInput)) (r d : List ℕ) → ((r ≡ []) × (d ≡ [])) ⊎ (run ≡ Err Faults.Write) → ◌⊎◌ (◌≡◌ {A = Output} (record { report = r; capture = d }) nothing) (run ≡ Err Faults.Write)
 out_both run r d (inl e) = inl (nothing_left r d e.0 e.1)
 out_both run r d (inr e) = inr e
 
--- the same of both writers
+-- what both writers have got is equal where each has got the same
 pub both_same : (a a' b b' : Option (List ℕ)) → a ≡ a' → b ≡ b' → ◌≡◌ {A = Got} (record { report = a; capture = b }) (record { report = a'; capture = b' })
 both_same a a' b b' e f = ap (λ (t : Option (List ℕ)). record { report = t; capture = b }) e ∙ ap (λ (t : Option (List ℕ)). record { report = a'; capture = t }) f

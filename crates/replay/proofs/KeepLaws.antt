@@ -28,7 +28,7 @@ use Rattle.replay.specs.declared.kept_script.KeptLine.{KeptLine}
 use Rattle.replay.specs.declared.kept_script.KeptScript.{KeptScript}
 use Rattle.replay.specs.declared.kept_script.KeptLine.TheVariants.{Clock, Query, Count, Tc}
 
--- ---- octets behind those that are kept
+-- ---- octets after those that are kept
 
 range-append : (xs ys : List ℕ) (start finish : ℕ) → start ≤ finish → finish ≤ length xs → slice_range (xs ++ ys) start finish ≡ slice_range xs start finish
 range-append xs ys start finish order within =

@@ -52,7 +52,7 @@ module _ (read : List (List ℕ) → Result Command TcFault) (octets : List ℕ)
       ∙ ap (λ (rs : List Request). record { moment = kept_clock clock line; request = f line } ∷ timed_from (kept_clock clock line) rs) (sym (drop-map f (at + 1) lines))
       ∙ ap (λ (n : ℕ). record { moment = n; request = f line } ∷ timed_from n (drop (at + 1) (kept_requests read octets lines))) (sym is)
 
-  -- behind the last line
+  -- after the last line
   pub no-lines : (lines : List KeptLine) (at clock : ℕ) → length lines ≤ at → timed_from clock (drop at (kept_requests read octets lines)) ≡ []
   no-lines lines at clock over =
       let f = kept_request read octets in

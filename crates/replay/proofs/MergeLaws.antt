@@ -35,7 +35,7 @@ rising_records : (latest number : ℕ) (es : List Entry) → Come latest (came_f
 rising_records latest number [] = tt
 rising_records latest number (e ∷ es) = (omega arith, rising_records (max latest e.moment) (number + 1) es)
 
--- what may be taken behind something: nothing, or what may follow it
+-- what may be taken after something: nothing, or what may follow it
 abbrev Behind : Taken → List Taken → Type 0
 Behind x [] = Unit {0}
 Behind x (y ∷ rest) = MayFollow x y

@@ -131,7 +131,7 @@ asked all es = before_end all (came_from 0 0 es)
 
 module _ {R : Type 0} (remaining : R → Option (List ℕ)) (es : List Entry) (last : End) (reader after : Left R) (latest number : ℕ) (all lines : List Timed) (s t : State) (sound : IsSoundPort s.port)
     (st : Stands remaining es last reader latest number all lines s t) (begun : reader.ended ≡ None) where
-  -- a record is taken, behind the lines up to its moment
+  -- a record is taken, after the lines up to its moment
   module _ (e : Entry) (p : Next remaining reader (Ok (Some e)) after) (m : ℕ) (is : m ≡ max latest e.moment) where
     next : (rest : List Entry) × (st.rest ≡ e ∷ rest) × Comes remaining after rest last
     next = next_record remaining reader after st.rest last begun st.comes e p

@@ -92,7 +92,7 @@ comes_new remaining known l octets es last new is reads =
       are = subst (λ (f : Format). AreRecords f l.number (drop 24 octets) es last) same (subst (λ (n : ℕ). AreRecords reads.0 n (drop 24 octets) es last) (sym new.0) reads.1.1);
     }
 
--- the same outcome of a port, a script, a moment and what is seen that are those of the settings and the inputs
+-- The outcome of a port, a script, a moment and what is seen is that of the settings and the inputs, where the former are those of the latter.
 pub outcome_at : (s : Setup) (script kept : List Request) (es : List Entry) (last : End) (until : Option ℕ) (p : AbstractPort) (o : Option Observed) → kept ≡ script → until ≡ s.until → p ≡ new_port s.rate s.mtu s.room → o ≡ watched s.summary s.room
     → with_header (record { output = told_to_end es (all_requests kept es until) p o; fault = end_fault (length es) last }) ≡ outcome_whole s script es last
 outcome_at s script kept es last until p o a b d e =

@@ -20,12 +20,12 @@ IsScriptFault Faults.Write reading = ⊥
 IsScriptFault (Faults.Input Inputs.Until) reading = ⊥
 IsScriptFault (Faults.Input (Inputs.Capture number fault)) reading = ⊥
 
--- reading the rest of a script, behind what is kept: at Ok all that it asks is kept, and it has no fault
+-- reading the rest of a script, after what is kept: at Ok all that it asks is kept, and it has no fault
 abbrev pub ReadsRest : {T : Type 0} → Result T (Fault ReplayInput) → List Request → Reading → List Request → Type 0
 ReadsRest (Ok x) kept reading all = (reading.fault ≡ None) × (all ≡ kept ++ reading.requests)
 ReadsRest (Err fault) kept reading all = IsScriptFault fault reading
 
--- the same of a whole script
+-- what reading a whole script gives: at Ok all that it asks is kept, and it has no fault
 abbrev pub GivesScript : {A : Type 0} → (List (List ℕ) → Result Command TcFault) → Result (KeptScript A) (Fault ReplayInput) → Reading → Type 0
 GivesScript read (Ok script) reading = (reading.fault ≡ None) × (kept_requests read script.octets.items script.lines.items ≡ reading.requests)
 GivesScript read (Err fault) reading = IsScriptFault fault reading

@@ -24,7 +24,7 @@ IsKept-prop octets Query = Unit-prop
 IsKept-prop octets (Count class) = Unit-prop
 IsKept-prop octets (Tc start finish) = ×_prop le_prop le_prop
 
--- the same of each line
+-- each line is kept among these octets
 abbrev pub AreKept : List ℕ → List KeptLine → Type 0
 AreKept octets lines = All (IsKept octets) lines
 

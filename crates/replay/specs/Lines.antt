@@ -38,12 +38,12 @@ IsEarly Query = Unit {0}
 IsEarly (Count class) = Unit {0}
 IsEarly Tc = Unit {0}
 
--- the same, if anything is said
+-- a line, or its fault, where a line says something
 abbrev pub some_line : Result Line ScriptFault → Result (Option Line) ScriptFault
 some_line (Ok line) = Ok (Some line)
 some_line (Err fault) = Err fault
 
--- the same of a line, where it says anything
+-- the line that words say, where they say anything
 abbrev pub line_if_said : Result (Option Said) ScriptFault → Result (Option Line) ScriptFault
 line_if_said (Err fault) = Err fault
 line_if_said (Ok None) = Ok None
@@ -60,7 +60,7 @@ line_request command Query = Asks Events.Query
 line_request command (Count class) = Asks (Events.Count class)
 line_request command Tc = tc_request command
 
--- the same, if anything is asked
+-- the request that a line is, where it asks anything
 abbrev pub request_if : Result Command TcFault → Result (Option Line) ScriptFault → Result (Option Request) ScriptFault
 request_if command (Err fault) = Err fault
 request_if command (Ok None) = Ok None

@@ -75,7 +75,7 @@ outcome_whole s script entries last =
       fault = end_fault (length entries) last;
     }
 
--- the same by the capture
+-- the outcome by what was read of the capture, whose header may have a fault
 abbrev pub outcome_read : Setup → List Request → Result (List Entry × End) CapFault → Outcome
 outcome_read s script (Ok records) = outcome_whole s script records.0 records.1
 outcome_read s script (Err fault) = refused (Inputs.Capture 0 fault)
@@ -95,7 +95,7 @@ IsOpenFault known Faults.Write = ⊥
 IsOpenFault known (Faults.Input Inputs.Until) = ⊥
 IsOpenFault known (Faults.Input (Inputs.Script bad)) = ⊥
 
--- the same by the script, whose fault comes first
+-- the outcome by what was read of both inputs: a fault of the script comes first
 abbrev pub outcome_said : Setup → List Request → Option BadLine → Result (List Entry × End) CapFault → Outcome
 outcome_said s script None capture = outcome_read s script capture
 outcome_said s script (Some fault) capture = refused (Inputs.Script fault)

@@ -22,7 +22,7 @@ pub record Output : Type 0 where
 abbrev pub nothing : Output
 nothing = record { report = []; capture = [] }
 
--- one output behind the other
+-- one output after the other
 abbrev pub joined : Output → Output → Output
 joined x y = record { report = x.report ++ y.report; capture = x.capture ++ y.capture }
 
@@ -43,7 +43,7 @@ abbrev pub answer_record : List Entry → Answer → List ℕ
 answer_record entries (Answered.Start s) = start_record s.at (kept_in entries s.id)
 answer_record entries _ = []
 
--- the same of what is reported
+-- the record that a response gives the capture of departures, if any
 abbrev pub response_record : List Entry → Response → List ℕ
 response_record entries (Gave answer) = answer_record entries answer
 response_record entries (Faulted fault) = []
@@ -59,7 +59,7 @@ pub record Got : Type 0 where
   pub report : Option (List ℕ)
   pub capture : Option (List ℕ)
 
--- the same of two writers
+-- what two writers have got, as a record
 abbrev pub got : Option (List ℕ) → Option (List ℕ) → Got
 got report capture = record { report = report; capture = capture }
 

@@ -16,7 +16,7 @@ pub record Comes {R : Type 0} (remaining : R → Option (List ℕ)) (l : Left R)
   pub known : octets_left remaining l ≡ Some octets
   pub are : AreRecords l.format l.number octets entries last
 
--- how they end: with no fault, or with this one behind so many
+-- how they end: with no fault, or with this one after so many
 abbrev pub ending : List Entry → End → Option (ℕ × CapFault)
 ending entries Whole = None
 ending entries (Broken fault) = Some (length entries, fault)
@@ -25,7 +25,7 @@ ending entries (Broken fault) = Some (length entries, fault)
 abbrev pub EndsSo : List Entry → End → Option (ℕ × CapFault) → Type 0
 EndsSo entries last found = found ≡ ending entries last
 
--- a fault that was found behind so many records, or that a read failed
+-- a fault that was found after so many records, or that a read failed
 abbrev pub found : ℕ → CapFault → Result (Option (ℕ × CapFault)) Stop
 found number Read = Err Stops.Read
 found number fault = Ok (Some (number, fault))

@@ -22,7 +22,7 @@ pub record State : Type 0 where
   pub seen : Option Observed
   pub got : Got
 
--- the same of what runs
+-- the state of a replay that runs
 abbrev pub state : {A : Type 0} → Sending A → Option (List ℕ) → Option (List ℕ) → State
 state s report capture = record { port = s.port.port; store = s.store; seen = s.summary; got = record { report = report; capture = capture } }
 
@@ -48,7 +48,7 @@ module _ {T : Type 0} where
     pub seen : OnOk r (t.seen ≡ noted_after (events_of requests) s.port s.seen)
     pub out : PutsBoth r s.got t.got (output entries (responses_of requests s.port))
 
-  -- the same of the starts before a moment
+  -- What the starts before a moment leave: the port after them, what is seen, and what both outputs got.
   pub record AnswersStarts (entries : List Entry) (r : Result T Stop) (upto : ℕ) (s t : State) : Type 0 where
     pub port : OnOk r (t.port ≡ settled (starts_until s.port upto).1)
     pub keeps : OnOk r (Keeps entries t)

@@ -29,14 +29,14 @@ records_among [] = []
 records_among (FromScript line ∷ rest) = records_among rest
 records_among (FromCapture c ∷ rest) = c ∷ records_among rest
 
--- no moment is before the one that was taken last; and a line is never right behind a record of its moment, since it goes before
+-- no moment is before the one that was taken last; and a line never comes right after a record of its moment, since it goes before
 abbrev pub MayFollow : Taken → Taken → Type 0
 MayFollow (FromScript a) (FromScript b) = a.moment ≤ b.moment
 MayFollow (FromScript a) (FromCapture c) = a.moment ≤ c.moment
 MayFollow (FromCapture c) (FromScript b) = c.moment < b.moment
 MayFollow (FromCapture c) (FromCapture d) = c.moment ≤ d.moment
 
--- the same of each and the next
+-- each of a list may be followed by the next
 abbrev pub IsInOrder : List Taken → Type 0
 IsInOrder [] = Unit {0}
 IsInOrder (x ∷ []) = Unit {0}

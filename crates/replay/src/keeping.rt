@@ -19,7 +19,7 @@ use script::BadLine;
 use std::alloc::{AllocError, Allocator};
 use std::io::Read;
 
-// Puts the octets of a line behind those that are kept, and says where they lie.
+/// Puts the octets of a line after those that are kept, and says where they lie.
 fn keep_octets<A: Allocator>(
     script: &mut KeptScript<A>,
     octets: &[u8],
@@ -34,7 +34,7 @@ fn keep_octets<A: Allocator>(
     Ok(KeptLine::Tc { start, end })
 }
 
-// What is kept of a line, whose octets are kept only where it begins with `tc`.
+/// What is kept of a line, whose octets are kept only where it begins with `tc`.
 fn kept_line<A: Allocator>(
     script: &mut KeptScript<A>,
     line: Line,
@@ -54,7 +54,7 @@ fn kept_line<A: Allocator>(
     }
 }
 
-// Keeps a line.
+/// Keeps a line.
 fn keep<A: Allocator>(
     script: &mut KeptScript<A>,
     line: Line,
@@ -69,7 +69,7 @@ fn keep<A: Allocator>(
     Ok(())
 }
 
-// Keeps the lines that are to come, up to the first fault.
+/// Keeps the lines that are to come, up to the first fault.
 fn keep_lines<A: Allocator, B: Allocator, R: Read + Drop>(
     script: &mut KeptScript<A>,
     lines: &mut LineReader<R, B>,

@@ -1,4 +1,7 @@
 //! A script and a capture through the port, by moment: a report, and a capture of what left.
+//!
+//! The definition is specs/Outcome.antt, over specs/Merge.antt and specs/Outputs.antt; the contracts of `replay`
+//! and `answer_replay` cite it.
 #![tactic(auto)]
 
 mod cursor;

@@ -21,7 +21,7 @@ use std::alloc::Allocator;
 use std::io::Write;
 use tc_reader::laws::one_reader;
 
-// Answers a line of the script.
+/// Answers a line of the script.
 #[inline(never)]
 fn put_line<A: Allocator, B: Allocator, W: Write, V: Write>(
     sending: &mut Sending<A>,
@@ -64,7 +64,7 @@ fn put_line<A: Allocator, B: Allocator, W: Write, V: Write>(
     Ok(())
 }
 
-// The greatest clock number so far, this line's included.
+/// The greatest clock number so far, this line's included.
 fn kept_clock(clock: u128, line: KeptLine) -> u128
     ensures { result ≡ kept_clock clock line }
 {

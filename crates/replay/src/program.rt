@@ -15,7 +15,7 @@ use script::Settings;
 use std::alloc::Allocator;
 use std::io::{BufWriter, Read, Write};
 
-// Lets out what was written, the report first, also before a fault, unless a write failed already: no write is tried again.
+/// Lets out what was written, the report first, also before a fault, unless a write failed already: no write is tried again.
 fn let_out<W: Write + Drop, V: Write + Drop, A: Allocator, B: Allocator>(
     run: Result<(), ReplayFault>,
     report: &mut BufWriter<W, A>,

@@ -22,7 +22,7 @@ pub enum Line {
     Tc,
 }
 
-// Whether the first word of a line is `frame`.
+/// Whether the first word of a line is `frame`.
 fn begins_with_frame(line: &[u8]) -> bool
     ensures { result ≡ begins_with_frame (words_of line.now) }
 {
@@ -33,7 +33,7 @@ fn begins_with_frame(line: &[u8]) -> bool
     }
 }
 
-// What is said, where it is no frame, nor a moment that a capture can't say.
+/// What is said, where it is no frame, nor a moment that a capture can't say.
 fn line_said(said: Said) -> Result<Line, ScriptFault>
     ensures says { result ≡ line_said said }
     ensures early { IfOk result IsEarly }

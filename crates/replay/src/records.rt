@@ -29,7 +29,7 @@ use capture::{CapFault, CaptureReader, Record, frame_of};
 use std::alloc::Allocator;
 use std::io::{Read, Write};
 
-// Takes a record: a clock event at this moment, and the arrival of its frame.
+/// Takes a record: a clock event at this moment, and the arrival of its frame.
 #[inline(always)]
 fn take_record<A: Allocator + Clone, W: Write, V: Write>(
     sending: &mut Sending<A>,
@@ -52,7 +52,7 @@ fn take_record<A: Allocator + Clone, W: Write, V: Write>(
     put_arrival(sending, frame, record.original, record.octets, report)
 }
 
-// A fault with which the records of a capture end, or that a read failed.
+/// A fault with which the records of a capture end, or that a read failed.
 fn found(number: u32, fault: CapFault) -> Result<Option<(u32, CapFault)>, Stop>
     ensures { result ≡ found number fault }
 {

@@ -37,7 +37,7 @@ use std::alloc::Allocator;
 use std::io::{Read, Write};
 use summary::{Summary, summary_wanted};
 
-// Whether a moment is after the last that a capture can say.
+/// Whether a moment is after the last that a capture can say.
 fn is_too_late(until: Option<u128>) -> bool
     ensures { result ≡ is_too_late until }
 {
@@ -47,7 +47,7 @@ fn is_too_late(until: Option<u128>) -> bool
     }
 }
 
-// Runs to a moment, if there is one.
+/// Runs to a moment, if there is one.
 fn run_to<A: Allocator, W: Write, V: Write>(
     sending: &mut Sending<A>,
     until: Option<u128>,
@@ -66,8 +66,8 @@ fn run_to<A: Allocator, W: Write, V: Write>(
     }
 }
 
-// Answers the lines that are left, runs to the moment after the input, if there is one, and writes how many frames are left, and the
-// summary where one is wanted.
+/// Answers the lines that are left, runs to the moment after the input, if there is one, and writes how many frames are left, and the
+/// summary where one is wanted.
 fn finish<A: Allocator, B: Allocator, W: Write, V: Write>(
     sending: &mut Sending<A>,
     script: &KeptScript<B>,
@@ -89,7 +89,7 @@ fn finish<A: Allocator, B: Allocator, W: Write, V: Write>(
     Ok(())
 }
 
-// Runs the records and the lines, to the end of both.
+/// Runs the records and the lines, to the end of both.
 fn run<A: Allocator + Clone, B: Allocator, C: Allocator, R: Read, W: Write, V: Write, P: Watch>(
     sending: &mut Sending<A>,
     script: &KeptScript<B>,
@@ -126,7 +126,7 @@ fn run<A: Allocator + Clone, B: Allocator, C: Allocator, R: Read, W: Write, V: W
     }
 }
 
-// Why a capture is not opened.
+/// Why a capture is not opened.
 fn open_fault(fault: CapFault) -> ReplayFault
     ensures { result ≡ open_fault fault }
 {
@@ -137,7 +137,7 @@ fn open_fault(fault: CapFault) -> ReplayFault
     }
 }
 
-// Reads the file header of a capture.
+/// Reads the file header of a capture.
 fn open<A: Allocator, R: Read + Drop>(
     alloc: A,
     capture: R,
@@ -151,7 +151,7 @@ fn open<A: Allocator, R: Read + Drop>(
     }
 }
 
-// Makes a new port with its store, beside what is to be seen of it, and then writes the file header of the output capture.
+/// Makes a new port with its store, beside what is to be seen of it, and then writes the file header of the output capture.
 fn begin<A: Allocator + Clone, W: Write>(
     alloc: &A,
     settings: Settings,

@@ -40,8 +40,8 @@ pub struct Sending<A: Allocator = Global> {
     pub writer: CaptureWriter,
 }
 
-// Writes an answer to an event that is taken at this moment, noted where a summary is wanted. At a fault a prefix of it is written.
-// Apart, since an answer is large, and those to most events are written without one.
+/// Writes an answer to an event that is taken at this moment, noted where a summary is wanted. At a fault a prefix of it is written.
+/// Apart, since an answer is large, and those to most events are written without one.
 #[inline(never)]
 fn put_noted<A: Allocator, V: Write>(
     summary: &mut Option<Summary<A>>,
@@ -56,7 +56,7 @@ fn put_noted<A: Allocator, V: Write>(
     put_answer(report, answer)
 }
 
-// Writes the start of a frame, noted where a summary is wanted. At a fault a prefix of it is written.
+/// Writes the start of a frame, noted where a summary is wanted. At a fault a prefix of it is written.
 fn put_noted_start<A: Allocator, V: Write>(
     summary: &mut Option<Summary<A>>,
     now: u128,
@@ -70,7 +70,7 @@ fn put_noted_start<A: Allocator, V: Write>(
     answer_text::put_start(report, start)
 }
 
-// Writes what becomes of a frame that arrives, noted where a summary is wanted. At a fault a prefix of it is written.
+/// Writes what becomes of a frame that arrives, noted where a summary is wanted. At a fault a prefix of it is written.
 fn put_noted_arrival<A: Allocator, V: Write>(
     summary: &mut Option<Summary<A>>,
     now: u128,
@@ -85,7 +85,7 @@ fn put_noted_arrival<A: Allocator, V: Write>(
     answer_text::put_arrival(report, frame, verdict)
 }
 
-// Writes the first record that is kept of the class of a start, and gives it up.
+/// Writes the first record that is kept of the class of a start, and gives it up.
 #[inline(always)]
 fn put_record<A: Allocator, W: Write>(
     sending: &mut Sending<A>,
@@ -112,7 +112,7 @@ fn put_record<A: Allocator, W: Write>(
     }
 }
 
-// Reports a start, as an answer to an event that is taken at this moment, writes the first record that is kept of its class, and gives it up.
+/// Reports a start, as an answer to an event that is taken at this moment, writes the first record that is kept of its class, and gives it up.
 #[inline(always)]
 fn put_start<A: Allocator, W: Write, V: Write>(
     sending: &mut Sending<A>,
@@ -135,7 +135,7 @@ fn put_start<A: Allocator, W: Write, V: Write>(
     put_record(sending, start, capture)
 }
 
-// Writes the starts before `until`, as they come.
+/// Writes the starts before `until`, as they come.
 fn put_starts<A: Allocator, W: Write, V: Write>(
     sending: &mut Sending<A>,
     until: u128,

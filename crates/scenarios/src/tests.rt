@@ -148,7 +148,7 @@ fn with_limits(interval: u32, max_sdu: [u32; 8]) -> Option<Command> {
 }
 
 /// What a new port says in turn to a command without a map, one with a short interval, one with a large limit, a good one,
-/// the same again, and a deletion.
+/// that one again, and a deletion.
 fn said_in_order(alloc: Global) -> Option<[Option<Result<u128, Refused>>; 6]> {
     let mut port = gigabit_port::<Plain>(alloc, 1)?;
     Some([
@@ -395,7 +395,7 @@ fn waiting_frames_keep_their_class(rt: HostRuntime) {
     assert!(rt; keep_their_class(rt.alloc()) == Some(true));
 }
 
-/// A list of events on a port with room for two frames a class, behind a gate that opens later.
+/// A list of events on a port with room for two frames a class, before a gate that opens later.
 fn closed_at_first(command: &Command) -> [Event<'_>; 7] {
     [
         Event::Install(command),

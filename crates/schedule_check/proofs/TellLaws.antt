@@ -56,11 +56,11 @@ same_window ps plan class w v a b =
 -- ---- masks that repeat
 
 module _ (mask shown : ℕ → ℕ) (cycle class : ℕ) (above : 0 < cycle) (repeats : (m : ℕ) → mask m ≡ shown (m % cycle)) where
-  -- the same some cycles later
+  -- masks that repeat are equal some cycles later
   later : (k m : ℕ) → mask (cycle * k + m) ≡ mask m
   later k m = repeats (cycle * k + m) ∙ (ap shown (mul-add-mod_self_left cycle k m) ∙ sym (repeats m))
 
-  -- the same at the phase
+  -- masks that repeat are equal at the phase of a moment
   at_phase : (m : ℕ) → mask (m % cycle) ≡ mask m
   at_phase m = sym (later (m / cycle) (m % cycle)) ∙ ap mask (div-add-mod m cycle)
 
@@ -179,7 +179,7 @@ a_window ps plan class above =
       record { open_time = opened.1; closed_time = closed.1; share = refl; cycle = refl; longest_frame = frame.1 },
     )
 
--- the same, and any where there is no cycle
+-- a window of a class in a plan, and any window where there is no cycle
 told : (ps : ℕ) (plan : Plan) (class : ℕ) → (w : Window) × (0 < plan.cycle → IsWindow ps plan class w)
 told ps plan class = by (cases_lt 0 plan.cycle)
   where

@@ -52,7 +52,7 @@ schedule_lines (Some fault) windows tell c = refused_line (Schedule fault)
 schedule_lines None windows tell c =
     apart_line (classes_apart (class_count c.map) 0 (plan_asked c).entries) ++ asked_lines windows tell (class_count c.map)
 
--- the same by settings, with the function that says what a plan gives each class
+-- the lines of a change by settings, with the function that says what a plan gives each class
 abbrev pub change_lines : Teller → CheckSettings → Change → List ℕ
 change_lines tell s c = schedule_lines (plan_fault s.rate (plan_asked c)) s.windows (tell s.rate (plan_asked c)) c
 

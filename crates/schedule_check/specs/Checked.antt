@@ -37,6 +37,6 @@ checked_in read told (Line number octets rest) =
 abbrev pub checked_of : (List (List ℕ) → Result Command TcFault) → (Result Command TcFault → List ℕ) → List ℕ → Outcome BadLine
 checked_of read told input = checked_in read told (script_of input)
 
--- the same at a rate, with windows or without, as what is to be written
+-- what is reported of the octets of an input at a rate, with windows or without, as what is to be written
 abbrev pub whole_check : Teller → Bool → ℕ → Whole
 whole_check tell windows ps read input = checked_of read (verdict_lines tell (record { rate = ps; windows = windows })) input

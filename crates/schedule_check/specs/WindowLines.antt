@@ -29,7 +29,7 @@ window_line class w = concat (
     ∷ codes " frame " ∷ frame_text w.longest_frame
     ∷ codes "\n" ∷ [])
 
--- the same, where the class is ever open, and so for some part of a cycle
+-- the line of a class that is ever open, and so for some part of a cycle
 abbrev pub open_line : ℕ → Window → List ℕ
 open_line class w = if w.share == 0 then [] else window_line class w
 
@@ -38,7 +38,7 @@ unfoldable pub open_lines : (ℕ → Window) → ℕ → ℕ → List ℕ
 open_lines tell zero class = []
 open_lines tell (suc n) class = open_line class (tell class) ++ open_lines tell n (class + 1)
 
--- the same of the classes below a number, where windows are asked for
+-- the lines of the classes below a number that are ever open, where windows are asked for
 abbrev pub asked_lines : Bool → (ℕ → Window) → ℕ → List ℕ
 asked_lines true tell count = open_lines tell count 0
 asked_lines false tell count = []

@@ -36,7 +36,7 @@ pub record IsLongestOpen (mask : ℕ → ℕ) (class d : ℕ) : Type 0 where
   pub reached : (x : ℕ) × (open_while mask class x d ≡ true)
   pub most : (x e : ℕ) → open_while mask class x e ≡ true → e ≤ d
 
--- the same, or the class is open for ever
+-- a stay is the longest time that a class is open, or for ever where the class is always open
 abbrev pub IsOpenStay : (ℕ → ℕ) → ℕ → Stay → Type 0
 IsOpenStay mask class (Lasts d) = IsLongestOpen mask class d
 IsOpenStay mask class Always = (x d : ℕ) → open_while mask class x d ≡ true

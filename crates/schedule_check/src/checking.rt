@@ -21,7 +21,7 @@ use std::alloc::Allocator;
 use std::io::{Read, Write};
 use words::Words;
 
-// Whether a line is a schedule command. It is skipped where it has no words or is a comment.
+/// Whether a line is a schedule command. It is skipped where it has no words or is a comment.
 fn is_command(line: &[u8]) -> Result<bool, ScriptFault>
     ensures { result ≡ is_command (words_of line.now) }
 {
@@ -39,7 +39,7 @@ fn is_command(line: &[u8]) -> Result<bool, ScriptFault>
     }
 }
 
-// A fault of the line that was read last.
+/// A fault of the line that was read last.
 fn fault_here<A: Allocator, R: Read + Drop>(
     lines: &LineReader<R, A>,
     fault: ScriptFault,
@@ -49,7 +49,7 @@ fn fault_here<A: Allocator, R: Read + Drop>(
     RunFault::Input(BadLine::new(lines.line_number(), fault))
 }
 
-// Reports on the lines that are to come.
+/// Reports on the lines that are to come.
 fn check_lines<A: Allocator, R: Read + Drop, W: Write>(
     lines: &mut LineReader<R, A>,
     writer: &mut W,

@@ -26,7 +26,7 @@ use std::io::Write;
 use tc_reader::TcFault;
 use wire_time::CLASSES;
 
-// How many classes a change speaks of: those of its map, or all.
+/// How many classes a change speaks of: those of its map, or all.
 fn class_count(map: Option<ClassMap>) -> u8
     ensures count { result ≡ class_count map }
     ensures within { result ≤ CLASSES }
@@ -37,7 +37,7 @@ fn class_count(map: Option<ClassMap>) -> u8
     }
 }
 
-// Adds a class where a schedule keeps it apart.
+/// Adds a class where a schedule keeps it apart.
 fn add_apart(classes: &mut ArrayVec<u8, CLASSES>, schedule: &Schedule, class: u8)
     requires within { class < CLASSES }
     requires room { array_vec_len classes.old ≤ class }
@@ -49,7 +49,7 @@ fn add_apart(classes: &mut ArrayVec<u8, CLASSES>, schedule: &Schedule, class: u8
     }
 }
 
-// The classes below a count that a schedule keeps apart, in rising order.
+/// The classes below a count that a schedule keeps apart, in rising order.
 fn classes_apart(schedule: &Schedule, count: u8) -> ArrayVec<u8, CLASSES>
     requires { count ≤ CLASSES }
     ensures { result.items ≡ classes_apart count 0 schedule.now.entries }
@@ -61,14 +61,14 @@ fn classes_apart(schedule: &Schedule, count: u8) -> ArrayVec<u8, CLASSES>
     classes
 }
 
-// Writes a space and the number of a class.
+/// Writes a space and the number of a class.
 fn put_class<W: Write>(writer: &mut W, class: u8) -> Result<(), WriteFault>
     ensures { Writes result (W.contents writer.old) (W.contents writer.new) (class_word class) }
 {
     put_parts(writer, &[Part::Text(b" "), Part::Number(u128::from(class))])
 }
 
-// Writes a space and a number for each class.
+/// Writes a space and a number for each class.
 fn put_classes<W: Write>(writer: &mut W, classes: &[u8]) -> Result<(), WriteFault>
     ensures { Writes result (W.contents writer.old) (W.contents writer.new) (flat_map class_word classes.now) }
 {
@@ -78,7 +78,7 @@ fn put_classes<W: Write>(writer: &mut W, classes: &[u8]) -> Result<(), WriteFaul
     Ok(())
 }
 
-// Writes the line of some classes.
+/// Writes the line of some classes.
 fn put_some<W: Write>(writer: &mut W, classes: &[u8]) -> Result<(), WriteFault>
     ensures { Writes result (W.contents writer.old) (W.contents writer.new) (some_line classes.now) }
 {
@@ -87,7 +87,7 @@ fn put_some<W: Write>(writer: &mut W, classes: &[u8]) -> Result<(), WriteFault>
     put(writer, b"\n")
 }
 
-// Writes the line of classes that are kept apart.
+/// Writes the line of classes that are kept apart.
 fn put_apart<W: Write>(writer: &mut W, classes: &[u8]) -> Result<(), WriteFault>
     ensures { Writes result (W.contents writer.old) (W.contents writer.new) (apart_line classes.now) }
 {
@@ -97,7 +97,7 @@ fn put_apart<W: Write>(writer: &mut W, classes: &[u8]) -> Result<(), WriteFault>
     }
 }
 
-// Reports on an accepted schedule: the classes that it keeps apart and, where windows are asked for, what it gives each class.
+/// Reports on an accepted schedule: the classes that it keeps apart and, where windows are asked for, what it gives each class.
 fn put_schedule<W: Write>(
     writer: &mut W,
     settings: CheckSettings,
@@ -114,7 +114,7 @@ fn put_schedule<W: Write>(
     put_asked(writer, settings, change, count)
 }
 
-// Reports on a change: the refusal of its schedule, or what the schedule promises.
+/// Reports on a change: the refusal of its schedule, or what the schedule promises.
 fn put_change<W: Write>(
     writer: &mut W,
     settings: CheckSettings,
@@ -136,7 +136,7 @@ fn put_change<W: Write>(
     }
 }
 
-// Writes what is reported of a command, or of a line that is none.
+/// Writes what is reported of a command, or of a line that is none.
 fn put_verdict<W: Write>(
     writer: &mut W,
     settings: CheckSettings,

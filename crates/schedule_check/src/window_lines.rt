@@ -17,7 +17,7 @@ use gate_list::Stay;
 use std::io::Write;
 use wire_time::Rate;
 
-// A time, as a part of a line.
+/// A time, as a part of a line.
 fn time_part(time: Stay) -> Part<'static>
     ensures { text_of result ≡ time_text time }
 {
@@ -27,7 +27,7 @@ fn time_part(time: Stay) -> Part<'static>
     }
 }
 
-// The longest frame, as a part of a line.
+/// The longest frame, as a part of a line.
 fn frame_part(frame: Longest) -> Part<'static>
     ensures { text_of result ≡ frame_text frame }
 {
@@ -38,7 +38,7 @@ fn frame_part(frame: Longest) -> Part<'static>
     }
 }
 
-// Writes the line of a class.
+/// Writes the line of a class.
 fn put_window<W: Write>(writer: &mut W, class: u8, window: &Window) -> Result<(), WriteFault>
     ensures { Writes result (W.contents writer.old) (W.contents writer.new) (window_line class window.now) }
 {
@@ -62,7 +62,7 @@ fn put_window<W: Write>(writer: &mut W, class: u8, window: &Window) -> Result<()
     )
 }
 
-// Writes the line of a class that is ever open.
+/// Writes the line of a class that is ever open.
 fn put_if_open<W: Write>(writer: &mut W, class: u8, window: &Window) -> Result<(), WriteFault>
     ensures { Writes result (W.contents writer.old) (W.contents writer.new) (open_line class window.now) }
 {
@@ -72,7 +72,7 @@ fn put_if_open<W: Write>(writer: &mut W, class: u8, window: &Window) -> Result<(
     put_window(writer, class, window)
 }
 
-// Writes the lines of the classes below a number that are ever open.
+/// Writes the lines of the classes below a number that are ever open.
 fn put_windows<W: Write>(
     writer: &mut W,
     rate: Rate,

@@ -100,7 +100,7 @@ tag_plain : (tagged : Bool) → list_all is_plain (tag_text tagged) ≡ true
 tag_plain true = refl
 tag_plain false = refl
 
--- what stands behind a number and a space
+-- what comes after a number and a space
 abbrev frame_line : List ℕ → List ℕ → List ℕ → Bool → List ℕ
 frame_line a b d tagged = a ++ (32 ∷ (b ++ (32 ∷ (d ++ tag_text tagged))))
 

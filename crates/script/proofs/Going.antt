@@ -109,7 +109,7 @@ module _ (read : List (List ℕ) → Result Command TcFault) where
   Goes until p0 o0 (Some all) old new (Some script) p o =
       Sent old new (outcome_from read until all p0 o0).text (outcome_from read until script p o).text × ((outcome_from read until all p0 o0).fault ≡ (outcome_from read until script p o).fault)
 
-  -- the state of a run: some abstract port stands behind the port that runs
+  -- the state of a run: the port that runs stands for some abstract port
   pub record IsRunning (until : Option ℕ) (p0 : AbstractPort) (o0 : Option Observed) (all : Option Script) (old new : Option (List ℕ)) (left : Option Script) (q : AbstractPort) (o : Option Observed) : Type 0 where
     pub behind : AbstractPort
     pub stands : StandsFor q behind

@@ -29,7 +29,7 @@ pub no_words : (octets : List ℕ) → length octets ≡ 0 → words_of octets �
 no_words [] none = refl
 no_words (b ∷ bs) none = absurd (omega arith)
 
--- a moment with nothing behind it
+-- a moment with nothing after it
 pub plain_clock : (ws : List (List ℕ)) (moment : ℕ) → Says ws moment → behind_first ws ≡ [] → moment ≤ greatest_moment → clock_event ws ≡ Ok (Clock moment)
 plain_clock [] moment says none within = absurd (says_none moment says)
 plain_clock (w ∷ []) moment says none within =
@@ -40,7 +40,7 @@ tagged_by : (t tagged : Bool) (event : Bool → Result Event ScriptFault) → �
 tagged_by true tagged event is = (let same : true ≡ tagged = cc in ap event same)
 tagged_by false tagged event is = absurd cc
 
--- three numbers, and what stands behind them
+-- three numbers, and what comes after them
 three_words : (a b c : List ℕ) (ws : List (List ℕ)) (tagged : Bool) → tag_in ws ≡ Some tagged → frame_event (a ∷ b ∷ c ∷ ws) ≡ frame_in_words a b c tagged
 three_words a b c [] tagged is = (let same : false ≡ tagged = cc in ap (frame_in_words a b c) same)
 three_words a b c (t ∷ []) tagged is = tagged_by (bytes_eq t (codes "tagged")) tagged (frame_in_words a b c) is

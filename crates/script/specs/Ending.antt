@@ -19,7 +19,7 @@ use Rattle.script.specs.declared.settings.BadValue.TheVariants as Values
 abbrev pub settings_or_usual : ℕ → Option (List ℕ) → Option (List ℕ) → Option (List ℕ) → Option (List ℕ) → Result Setup BadValue
 settings_or_usual greatest rate mtu room until = settings_of (unwrap_or rate (codes "1000")) (unwrap_or mtu (codes "1500")) (unwrap_or room (codes "128")) until greatest
 
--- the same, with a summary where one is wanted
+-- the settings of the values that are given or usual, with a summary where one is wanted
 abbrev pub settings_given : ℕ → Option (List ℕ) → Option (List ℕ) → Option (List ℕ) → Option (List ℕ) → Bool → Result Setup BadValue
 settings_given greatest rate mtu room until summary = summarized summary (settings_or_usual greatest rate mtu room until)
 

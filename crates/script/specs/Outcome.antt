@@ -61,7 +61,7 @@ abbrev pub asked_with : Option ℕ → List Request → Option BadLine → List 
 asked_with until requests None = requests ++ clock_after until
 asked_with until requests (Some fault) = requests
 
--- the same of what lines say
+-- all that is asked by what lines say, with the clock event after them where there is no fault
 abbrev pub asked_in : Option ℕ → Reading → List Request
 asked_in until reading = asked_with until reading.requests reading.fault
 
@@ -101,6 +101,6 @@ pub record IsFaithful (requests : List Request) (p : AbstractPort) : Type 0 wher
   pub answers : answers_in (responses_of requests p) ≡ answers_of (events_of requests) p
   pub promises : KeepsPromises p (events_of requests)
 
--- the same of the output of an input
+-- The output of an input is faithful: its requests are asked of a new port with the settings.
 abbrev pub IsFaithfulTo : (List (List ℕ) → Result Command TcFault) → Setup → List ℕ → Type 0
 IsFaithfulTo read s input = IsFaithful (asked_in s.until (reading_of read (script_of input))) (new_port s.rate s.mtu s.room)

@@ -11,7 +11,7 @@ use Rattle.script.specs.Requests.{said_in}
 use Rattle.script.specs.declared.faults.ScriptFault.{ScriptFault}
 use Rattle.script.specs.declared.reading.Said.TheVariants as Says
 
--- what stands behind the numbers of a frame
+-- what comes after the numbers of a frame
 abbrev pub tag_text : Bool → List ℕ
 tag_text true = codes " tagged"
 tag_text false = []
@@ -20,7 +20,7 @@ tag_text false = []
 abbrev pub is_plain : ℕ → Bool
 is_plain octet = not (octet == 10) && not (octet == 13) && not (octet == 92)
 
--- octets that begin with words that ask an event, and a line feed behind them
+-- octets that begin with words that ask an event, and a line feed after them
 pub record BeginsWithEvent (event_of : List (List ℕ) → Result Event ScriptFault) (octets : List ℕ) (event : Event) (rest : List ℕ) : Type 0 where
   pub line : List ℕ
   pub parts : octets ≡ line ++ (10 ∷ rest)

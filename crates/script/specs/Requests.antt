@@ -21,7 +21,7 @@ abbrev pub clock_with : Option ℕ → Result Event ScriptFault
 clock_with None = Err BadNumber
 clock_with (Some m) = if nat_lt greatest_moment m then Err ClockTooLate else Ok (Clock m)
 
--- the same of words
+-- the event of the words after `clock`
 abbrev pub clock_event : List (List ℕ) → Result Event ScriptFault
 clock_event [] = Err WordCount
 clock_event (m ∷ []) = clock_with (number_in 10 (2 ^ 128 - 1) m)
@@ -34,12 +34,12 @@ frame_with None priority len tagged = Err BadNumber
 frame_with (Some id) None len tagged = Err BadNumber
 frame_with (Some id) (Some priority) None tagged = Err BadNumber
 
--- the same of words, each a number of its width
+-- the event of three words after `frame`, each a number of its width
 abbrev pub frame_in_words : List ℕ → List ℕ → List ℕ → Bool → Result Event ScriptFault
 frame_in_words id priority len tagged =
     frame_with (number_in 10 (2 ^ 64 - 1) id) (number_in 10 (2 ^ 8 - 1) priority) (number_in 10 (2 ^ 32 - 1) len) tagged
 
--- the same of all words
+-- the event of all words after `frame`
 abbrev pub frame_event : List (List ℕ) → Result Event ScriptFault
 frame_event (id ∷ priority ∷ len ∷ []) = frame_in_words id priority len false
 frame_event (id ∷ priority ∷ len ∷ tag ∷ []) = if bytes_eq tag (codes "tagged") then frame_in_words id priority len true else Err WordCount
@@ -48,7 +48,7 @@ frame_event (id ∷ priority ∷ []) = Err WordCount
 frame_event (id ∷ []) = Err WordCount
 frame_event [] = Err WordCount
 
--- whether a frame is tagged, by the words behind its numbers
+-- whether a frame is tagged, by the words after its numbers
 abbrev pub tag_in : List (List ℕ) → Option Bool
 tag_in [] = Some false
 tag_in (tag ∷ []) = if bytes_eq tag (codes "tagged") then Some true else None
@@ -64,7 +64,7 @@ abbrev pub count_with : Option ℕ → Result Event ScriptFault
 count_with None = Err BadNumber
 count_with (Some class) = Ok (Count class)
 
--- the same of words
+-- the event of the words after `count`
 abbrev pub count_event : List (List ℕ) → Result Event ScriptFault
 count_event [] = Err WordCount
 count_event (class ∷ []) = count_with (number_in 10 7 class)

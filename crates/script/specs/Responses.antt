@@ -28,7 +28,7 @@ abbrev pub noted_by : Request → AbstractPort → Option Observed → Option Ob
 noted_by (Asks event) p o = noted_at event p o
 noted_by (NoCommand fault) p o = o
 
--- the same of a list of requests, one after another
+-- the responses to a list of requests, one after another
 abbrev pub responses_of : List Request → AbstractPort → List Response
 responses_of [] p = []
 responses_of (request ∷ rest) p = (responses_to request p).0 ++ responses_of rest (responses_to request p).1
@@ -58,7 +58,7 @@ lines_of responses = flat_map response_lines responses
 abbrev pub left_text : ℕ → ℕ → List ℕ
 left_text class frames = if frames == 0 then [] else left_line class frames
 
--- the same of so many classes from one on
+-- how many frames each of so many classes from one on still has, where it has some
 unfoldable pub left_from : ℕ → ℕ → AbstractPort → List ℕ
 left_from zero class p = []
 left_from (suc n) class p = left_text class (length (queue_of p class)) ++ left_from n (class + 1) p
@@ -67,7 +67,7 @@ left_from (suc n) class p = left_text class (length (queue_of p class)) ++ left_
 abbrev pub left_lines : AbstractPort → List ℕ
 left_lines p = left_from 8 0 p
 
--- the same, and then the summary where one is wanted
+-- how many frames each class still has, and then the summary where one is wanted
 abbrev pub end_lines : AbstractPort → Option Observed → List ℕ
 end_lines p None = left_lines p
 end_lines p (Some o) = left_lines p ++ summary_lines p o

@@ -33,6 +33,6 @@ IsSeparatedBy requests p =
     (class : ℕ) → class < 8 → IsKeptApart class (events_of requests) p
     → lines_concerning class (events_of requests) p ≡ lines_concerning class (events_of (only_asked class requests p)) p
 
--- the same of the requests of an input on a new port
+-- the requests of an input are separated on a new port
 abbrev pub IsSeparatedIn : (List (List ℕ) → Result Command TcFault) → Setup → List ℕ → Type 0
 IsSeparatedIn read s input = IsSeparatedBy (asked_in s.until (reading_of read (script_of input))) (new_port s.rate s.mtu s.room)

@@ -56,11 +56,11 @@ settings_read (Some rate) (Some mtu) (Some room) (Some until) = Ok (record { rat
 abbrev pub settings_of : List ℕ → List ℕ → List ℕ → Option (List ℕ) → ℕ → Result Setup BadValue
 settings_of rate mtu room until greatest = settings_read (rate_in rate) (mtu_in mtu) (room_in room) (until_in greatest until)
 
--- the same settings, with a summary or without one
+-- settings with a summary or without one
 abbrev pub with_summary : Bool → Setup → Setup
 with_summary wanted s = record s { summary = wanted }
 
--- the same where there are settings
+-- settings with a summary or without one, or the value that is refused
 abbrev pub summarized : Bool → Result Setup BadValue → Result Setup BadValue
 summarized wanted (Ok s) = Ok (with_summary wanted s)
 summarized wanted (Err value) = Err value

@@ -32,7 +32,7 @@ option_name Values.Width = codes "--width"
 abbrev pub value_text : BadValue → List ℕ
 value_text value = concat (codes "taprio_port: bad value of " ∷ option_name value ∷ codes "\n" ∷ [])
 
--- the text of a line's fault, behind a beginning that names the input
+-- the text of a line's fault, after a beginning that names the input
 abbrev pub line_text : List ℕ → ℕ → ScriptFault → List ℕ
 line_text begin line fault = concat (begin ∷ decimal line ∷ codes ": " ∷ script_fault_name fault ∷ codes "\n" ∷ [])
 

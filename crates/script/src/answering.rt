@@ -31,7 +31,7 @@ use wire_time::{Frame, MAX_MOMENT};
 /// The port that runs. Another implementation of the gates takes the place of this one here.
 pub type RunningPort<A> = Port<Jumping, A>;
 
-// Takes a frame that arrives, and writes the answer.
+/// Takes a frame that arrives, and writes the answer.
 #[inline(always)]
 fn put_frame<A: Allocator, W: Write>(
     port: &mut RunningPort<A>,
@@ -50,7 +50,7 @@ fn put_frame<A: Allocator, W: Write>(
     put_arrival(writer, frame, verdict)
 }
 
-// Runs to a moment that is not refused, in picoseconds, and writes the starts before it as the port finds them.
+/// Runs to a moment that is not refused, in picoseconds, and writes the starts before it as the port finds them.
 fn put_each_start<A: Allocator, W: Write>(
     port: &mut RunningPort<A>,
     summary: &mut Option<Summary<A>>,
@@ -72,7 +72,7 @@ fn put_each_start<A: Allocator, W: Write>(
     Ok(())
 }
 
-// Runs to a moment and writes the starts before it, where it may be known that there are none.
+/// Runs to a moment and writes the starts before it, where it may be known that there are none.
 #[inline(always)]
 fn put_starts<A: Allocator, W: Write>(
     port: &mut RunningPort<A>,
@@ -94,7 +94,7 @@ fn put_starts<A: Allocator, W: Write>(
     put_each_start(port, summary, until, writer)
 }
 
-// Takes an event of any kind, and writes the answers to it as the port gives them. Apart, since its locals are large.
+/// Takes an event of any kind, and writes the answers to it as the port gives them. Apart, since its locals are large.
 #[inline(never)]
 fn put_each<A: Allocator, W: Write>(
     port: &mut RunningPort<A>,
@@ -116,7 +116,7 @@ fn put_each<A: Allocator, W: Write>(
     Ok(())
 }
 
-// Gives a command to the port, and writes the answer.
+/// Gives a command to the port, and writes the answer.
 fn put_install<A: Allocator, W: Write>(
     port: &mut RunningPort<A>,
     summary: &mut Option<Summary<A>>,
@@ -133,7 +133,7 @@ fn put_install<A: Allocator, W: Write>(
     put_installation(writer, answer)
 }
 
-// Takes a clock event, with its moment in picoseconds, and writes the answers to it.
+/// Takes a clock event, with its moment in picoseconds, and writes the answers to it.
 #[inline(always)]
 fn put_clock<A: Allocator, W: Write>(
     port: &mut RunningPort<A>,
@@ -175,7 +175,7 @@ pub fn put_answers<A: Allocator, W: Write>(
     }
 }
 
-// Gives a command to the port and writes its answer, or writes why there is none.
+/// Gives a command to the port and writes its answer, or writes why there is none.
 fn put_command<A: Allocator, W: Write>(
     port: &mut RunningPort<A>,
     summary: &mut Option<Summary<A>>,
@@ -216,7 +216,7 @@ pub fn put_tc<A: Allocator, W: Write>(
     put_command(port, summary, &answer, writer)
 }
 
-// Writes how many frames a class still has, where it has some.
+/// Writes how many frames a class still has, where it has some.
 fn put_left_in<A: Allocator, W: Write>(
     port: &RunningPort<A>,
     class: u8,

@@ -13,7 +13,7 @@ use std::alloc::Allocator;
 use std::io::Write;
 use summary::Summary;
 
-// Writes the line of a class, where it had frames.
+/// Writes the line of a class, where it had frames.
 fn put_class<A: Allocator, W: Write>(
     port: &RunningPort<A>,
     summary: &Summary<A>,
@@ -27,7 +27,7 @@ fn put_class<A: Allocator, W: Write>(
     summary.put_class(class, &counters, writer)
 }
 
-// Writes the lines of the classes that had frames, and that of the wire.
+/// Writes the lines of the classes that had frames, and that of the wire.
 fn put_summary<A: Allocator, W: Write>(
     port: &RunningPort<A>,
     summary: &Summary<A>,

@@ -78,7 +78,7 @@ fn script_fault_name(fault: ScriptFault) -> &'static [u8]
     }
 }
 
-/// Writes the text of a line's fault, behind a beginning that names the input.
+/// Writes the text of a line's fault, after a beginning that names the input.
 pub fn put_line_fault<W: Write>(
     writer: &mut W,
     begin: &[u8],

@@ -3,7 +3,7 @@
 ghost use Rattle.std.specs.Prelude.{◌≡◌, ◌++◌, IfSome, codes, true};
 ghost use Rattle.script.specs.Plain.{tag_text};
 
-// Whether four octets are those of a text.
+/// Whether four octets are those of a text.
 #[inline(always)]
 fn are_four(octets: [u8; 4], text: [u8; 4]) -> bool
     ensures { result ≡ true → octets ≡ text }
@@ -11,7 +11,7 @@ fn are_four(octets: [u8; 4], text: [u8; 4]) -> bool
     u32::from_le_bytes(octets) == u32::from_le_bytes(text)
 }
 
-// Whether two octets are those of a text.
+/// Whether two octets are those of a text.
 #[inline(always)]
 fn are_two(octets: [u8; 2], text: [u8; 2]) -> bool
     ensures { result ≡ true → octets ≡ text }
@@ -43,7 +43,7 @@ pub(crate) fn behind_clock(line: &[u8]) -> Option<&[u8]>
     }
 }
 
-// Whether a frame is tagged, and what comes behind that.
+// Whether a frame is tagged, and what comes after that.
 #[inline(always)]
 pub(crate) fn behind_tag(octets: &[u8]) -> (bool, &[u8])
     ensures { octets.now ≡ tag_text result.0 ++ result.1.now }

@@ -1,4 +1,7 @@
 //! Runs the lines of a script on a port, and writes what the port answers.
+//!
+//! The definition is specs/Outcome.antt, over specs/Requests.antt and specs/Responses.antt; the contracts of
+//! `run_script` and `answer_script` cite it.
 #![tactic(auto)]
 
 mod answering;

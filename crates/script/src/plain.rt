@@ -14,7 +14,7 @@ use std::io::Read;
 use wire_time::{Frame, MAX_MOMENT};
 use words::{front_number, front_short};
 
-// What comes after a space, where octets begin with it.
+/// What comes after a space, where octets begin with it.
 #[inline(always)]
 fn behind_space(octets: &[u8]) -> Option<&[u8]>
     ensures { IfSome result (λ rest. octets.now ≡ 32 ∷ rest.now) }
@@ -25,7 +25,7 @@ fn behind_space(octets: &[u8]) -> Option<&[u8]>
     }
 }
 
-// What comes after an LF, where octets begin with it.
+/// What comes after an LF, where octets begin with it.
 #[inline(always)]
 fn behind_feed(octets: &[u8]) -> Option<&[u8]>
     ensures { IfSome result (λ rest. octets.now ≡ 10 ∷ rest.now) }
@@ -36,7 +36,7 @@ fn behind_feed(octets: &[u8]) -> Option<&[u8]>
     }
 }
 
-// The frame that a line is, behind its first word, and what comes behind the line.
+/// The frame that a line is, after its first word, and what comes after the line.
 #[inline(always)]
 fn front_frame(octets: &[u8]) -> Option<(Frame, &[u8])>
     ensures { IfSome result (λ x. BeginsWithEvent frame_event octets.now (Arrive x.0) x.1.now) }
@@ -58,7 +58,7 @@ fn front_frame(octets: &[u8]) -> Option<(Frame, &[u8])>
     Some((frame, rest))
 }
 
-// The moment that a line is, behind its first word, and what comes behind the line.
+/// The moment that a line is, after its first word, and what comes after the line.
 #[inline(always)]
 fn front_clock(octets: &[u8]) -> Option<(u128, &[u8])>
     ensures { IfSome result (λ x. BeginsWithEvent clock_event octets.now (Clock x.0) x.1.now) }
@@ -71,7 +71,7 @@ fn front_clock(octets: &[u8]) -> Option<(u128, &[u8])>
     Some((moment, rest))
 }
 
-// The event that the first line asks, where it is a frame or a moment as most are written, and what comes behind the line.
+/// The event that the first line asks, where it is a frame or a moment as most are written, and what comes after the line.
 #[inline(always)]
 fn front_event(octets: &[u8]) -> Option<(Event<'static>, &[u8])>
     ensures { IfSome result (λ x. BeginsWithLine octets.now x.0 x.1.now) }

@@ -47,7 +47,7 @@ pub fn rate_given(rate: Option<&str>) -> Result<Rate, BadValue>
     }
 }
 
-// The settings of the values that are given, without a summary.
+/// The settings of the values that are given, without a summary.
 fn read_given(values: Values<'_>, greatest: u128) -> Result<Settings, BadValue>
     requires { greatest ≤ MAX_MOMENT }
     ensures { result ≡ settings_or_usual greatest (option_map (λ text. text.now) values.entry.rate) (option_map (λ text. text.now) values.entry.mtu) (option_map (λ text. text.now) values.entry.room) (option_map (λ text. text.now) values.entry.until) }

@@ -27,7 +27,7 @@ pub enum Said {
     Tc,
 }
 
-// A moment as most lines have it.
+/// A moment as most lines have it.
 #[inline]
 fn plain_clock(mut words: Words<'_>) -> Option<u128>
     ensures { IfSome result (λ moment. clock_event (words_left words.entry) ≡ Ok (Clock moment)) }
@@ -39,7 +39,7 @@ fn plain_clock(mut words: Words<'_>) -> Option<u128>
     Some(moment)
 }
 
-// A clock line that is written otherwise. A function of its own, since it is seldom called.
+/// A clock line that is written otherwise. A function of its own, since it is seldom called.
 #[inline(never)]
 fn read_any_clock(mut words: Words<'_>) -> Result<Event<'static>, ScriptFault>
     ensures { result ≡ clock_event (words_left words.entry) }
@@ -88,7 +88,7 @@ fn frame_of(
     }))
 }
 
-// Whether a frame is tagged, where what stands behind its numbers is as most lines have it.
+/// Whether a frame is tagged, where what comes after its numbers is as most lines have it.
 #[inline]
 fn plain_tag(octets: &[u8]) -> Option<bool>
     ensures { IfSome result (λ tagged. tag_in (words_of octets.now) ≡ Some tagged) }
@@ -100,7 +100,7 @@ fn plain_tag(octets: &[u8]) -> Option<bool>
     }
 }
 
-// A frame as most lines have it.
+/// A frame as most lines have it.
 #[inline]
 fn plain_frame(mut words: Words<'_>) -> Option<Frame>
     ensures { IfSome result (λ frame. frame_event (words_left words.entry) ≡ Ok (Arrive frame)) }
@@ -120,7 +120,7 @@ fn plain_frame(mut words: Words<'_>) -> Option<Frame>
     })
 }
 
-// Whether a frame is tagged, by the words behind its numbers.
+/// Whether a frame is tagged, by the words after its numbers.
 fn read_tag(mut words: Words<'_>) -> Option<bool>
     ensures { result ≡ tag_in (words_left words.entry) }
 {
@@ -133,7 +133,7 @@ fn read_tag(mut words: Words<'_>) -> Option<bool>
     Some(true)
 }
 
-// A frame that is written otherwise. Apart, since it is seldom.
+/// A frame that is written otherwise. Apart, since it is seldom.
 #[inline(never)]
 fn read_any_frame(mut words: Words<'_>) -> Result<Event<'static>, ScriptFault>
     ensures { result ≡ frame_event (words_left words.entry) }
@@ -203,7 +203,7 @@ pub(crate) fn read_tc_into(line: &[u8], answer: &mut Result<Command, TcFault>)
     read_command_into(line, answer);
 }
 
-// What a line says, whatever its first words and blanks are.
+/// What a line says, whatever its first words and blanks are.
 fn read_any_line(line: &[u8]) -> Result<Option<Said>, ScriptFault>
     ensures { result ≡ said_in line.now }
 {

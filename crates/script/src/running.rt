@@ -25,8 +25,8 @@ use std::alloc::Allocator;
 use std::io::{Read, Write};
 use summary::{Summary, summary_wanted};
 
-// Runs to the moment after the input, if there is one, and writes the answers, then how many frames are left, and the summary where
-// one is wanted.
+/// Runs to the moment after the input, if there is one, and writes the answers, then how many frames are left, and the summary where
+/// one is wanted.
 fn end<A: Allocator, W: Write>(
     port: &mut RunningPort<A>,
     summary: &mut Option<Summary<A>>,
@@ -44,7 +44,7 @@ fn end<A: Allocator, W: Write>(
     }
 }
 
-// Runs the lines that are to come, and the end.
+/// Runs the lines that are to come, and the end.
 fn run_lines<A: Allocator, B: Allocator, R: Read + Drop, W: Write>(
     port: &mut RunningPort<A>,
     summary: &mut Option<Summary<A>>,

@@ -17,6 +17,6 @@ IsIdle history needs from upto = (m : ℕ) → from ≤ m → m < upto → first
 abbrev pub IsStill : List Accepted → ℕ → Type 0
 IsStill history m = (pending history m ≡ None) × (announced history m ≡ None)
 
--- the same with other needs
+-- what is watched, with other needs
 abbrev pub with_needs : Watched → List (Option ℕ) → Watched
 with_needs w needs = record w { needs = needs }

@@ -127,7 +127,7 @@ impl<G: Gates> Lookout<G> {
         self.idle = self.moment;
     }
 
-    /// A frame that needs the wire for so long, in picoseconds, waits in a class from now on, behind those that do already.
+    /// A frame that needs the wire for so long, in picoseconds, waits in a class from now on, after those that do already.
     pub fn add_need(&mut self, class: u8, need: u128)
         requires class { class < 8 }
         requires within { need ≤ greatest_moment }

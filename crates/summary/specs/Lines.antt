@@ -28,7 +28,7 @@ class_line class c w most = concat (
     ∷ codes " most " ∷ decimal most
     ∷ codes "\n" ∷ [])
 
--- the same of a class that had frames
+-- the line of a class that had frames
 abbrev pub class_text : ℕ → Counters → ClassSeen → List ℕ
 class_text class c s = if c.accepted == 0 && dropped_of c == 0 then [] else class_line class c s.waits s.most
 
@@ -44,7 +44,7 @@ share_of busy now = if now == 0 then 0 else busy * 1000000 / now
 abbrev pub wire_line : ℕ → ℕ → List ℕ
 wire_line busy now = concat (codes "summary wire busy " ∷ decimal busy ∷ codes " ppm " ∷ decimal (share_of busy now) ∷ codes "\n" ∷ [])
 
--- the same of what is seen
+-- the line of the wire, by what is seen
 abbrev pub wire_text : ℕ → Observed → List ℕ
 wire_text now o = wire_line (busy_by now o) now
 

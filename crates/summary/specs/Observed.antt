@@ -62,7 +62,7 @@ abbrev pub starts_first : ℕ → List ℕ → ClassSeen → ClassSeen
 starts_first at [] c = c
 starts_first at (came ∷ rest) c = record c { arrivals = rest; waits = with_wait (at - came) c.waits }
 
--- the same, of the frames that wait
+-- the frame that waits longest starts at a moment, where a frame waits
 abbrev pub with_start : ℕ → ClassSeen → ClassSeen
 with_start at c = starts_first at c.arrivals c
 

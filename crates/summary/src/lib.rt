@@ -1,4 +1,6 @@
 //! What a run comes to: how long the frames of each class waited, and how long the wire was busy.
+//!
+//! The definitions are specs/Observed.antt and specs/Lines.antt; the contract of `Summary` cites them.
 #![tactic(auto)]
 
 mod class_summary;

@@ -11,7 +11,7 @@ use abstract_port::Counters;
 use answer_text::{Part, WriteFault, put_parts};
 use std::io::Write;
 
-// A number of picoseconds, or - where no frame has started.
+/// A number of picoseconds, or - where no frame has started.
 fn wait_part<'a>(waits: &Waits, number: u128) -> Part<'a>
     ensures { text_of result ≡ wait_text waits.now number }
 {
@@ -22,7 +22,7 @@ fn wait_part<'a>(waits: &Waits, number: u128) -> Part<'a>
     }
 }
 
-// The frames of a class that were dropped.
+/// The frames of a class that were dropped.
 fn dropped_of(counters: &Counters) -> u128
     ensures { result ≡ dropped_of counters.now }
 {
@@ -30,7 +30,7 @@ fn dropped_of(counters: &Counters) -> u128
     u128::from(runt) + u128::from(too_long) + u128::from(over_sdu) + u128::from(full)
 }
 
-// Writes the line of a class.
+/// Writes the line of a class.
 fn put_class_line<W: Write>(
     class: u8,
     counters: &Counters,
@@ -83,7 +83,7 @@ pub fn put_class_text<W: Write>(
     put_class_line(class, counters, waits, most, writer)
 }
 
-// The share of a time in parts per million, rounded down.
+/// The share of a time in parts per million, rounded down.
 fn share_of(busy: u128, now: u128) -> u128
     requires busy { busy ≤ now }
     requires within { now ≤ greatest_moment }

@@ -14,7 +14,7 @@ use std::alloc::{AllocError, Allocator, Global};
 use std::io::Write;
 use std::marker::Model;
 
-// Eight classes without frames.
+/// Eight classes without frames.
 fn classes_of<A: Allocator + Clone>(
     alloc: &A,
     room: usize,
@@ -33,7 +33,7 @@ fn classes_of<A: Allocator + Clone>(
     ])
 }
 
-// A frame of a class is queued at a moment.
+/// A frame of a class is queued at a moment.
 fn arrives_in<A: Allocator>(classes: &mut [ClassSummary<A>; 8], class: u8, now: u128)
     requires { class < 8 }
     ensures { classes.new ≡ slice_set classes.old class (with_arrival now (class_at classes.old class)) }
@@ -41,7 +41,7 @@ fn arrives_in<A: Allocator>(classes: &mut [ClassSummary<A>; 8], class: u8, now: 
     classes[class as usize].arrives(now);
 }
 
-// The first frame of a class starts at a moment.
+/// The first frame of a class starts at a moment.
 fn starts_in<A: Allocator>(classes: &mut [ClassSummary<A>; 8], class: u8, at: u128)
     requires { class < 8 }
     ensures { classes.new ≡ slice_set classes.old class (with_start at (class_at classes.old class)) }
@@ -49,7 +49,7 @@ fn starts_in<A: Allocator>(classes: &mut [ClassSummary<A>; 8], class: u8, at: u1
     classes[class as usize].starts(at);
 }
 
-// What is seen of a class.
+/// What is seen of a class.
 fn class_in<A: Allocator>(classes: &[ClassSummary<A>; 8], class: u8) -> &ClassSummary<A>
     requires { class < 8 }
     ensures { result.now ≡ class_at classes.now class }
@@ -95,7 +95,7 @@ impl<A: Allocator> Summary<A> {
         })
     }
 
-    // A frame of a class, if it is one, is queued at a moment.
+    /// A frame of a class, if it is one, is queued at a moment.
     fn see_queued(&mut self, class: u8, now: u128)
         ensures { self.new ≡ in_class class (with_arrival now) self.old }
     {
@@ -104,7 +104,7 @@ impl<A: Allocator> Summary<A> {
         }
     }
 
-    // The first frame of a class, if it is one, starts at a moment.
+    /// The first frame of a class, if it is one, starts at a moment.
     fn see_started(&mut self, class: u8, at: u128)
         ensures { self.new ≡ in_class class (with_start at) self.old }
     {
@@ -113,7 +113,7 @@ impl<A: Allocator> Summary<A> {
         }
     }
 
-    // A frame takes the wire.
+    /// A frame takes the wire.
     fn see_on_wire(&mut self, start: &Start)
         ensures { self.new ≡ on_wire start.now self.old }
     {
@@ -136,7 +136,7 @@ impl<A: Allocator> Summary<A> {
         }
     }
 
-    // For how long some frame has had the wire by a moment, in picoseconds.
+    /// For how long some frame has had the wire by a moment, in picoseconds.
     fn busy_by(&self, now: u128) -> u128
         ensures busy { result ≡ busy_by now self.now }
         ensures within { result ≤ now }

@@ -17,7 +17,7 @@ pub struct Waits {
 }
 
 impl Waits {
-    // The least wait with one more.
+    /// The least wait with one more.
     fn least_with(&self, wait: u128) -> u128
         ensures { result ≡ least_with wait self.now }
     {

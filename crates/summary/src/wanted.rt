@@ -37,7 +37,7 @@ pub fn note<A: Allocator>(summary: &mut Option<Summary<A>>, now: u128, answer: &
     }
 }
 
-// Takes note of what became of a frame. Apart, since mostly no summary is wanted, and an answer is large.
+/// Takes note of what became of a frame. Apart, since mostly no summary is wanted, and an answer is large.
 #[inline(never)]
 fn see_verdict<A: Allocator>(
     summary: &mut Summary<A>,
@@ -69,7 +69,7 @@ pub fn note_verdict<A: Allocator>(
     }
 }
 
-// Takes note of a frame that starts. Apart for the same reasons.
+/// Takes note of a frame that starts. Apart for the same reasons.
 #[inline(never)]
 fn see_start<A: Allocator>(summary: &mut Summary<A>, now: u128, start: &Start)
     ensures { summary.new ≡ seen now (Answers.Start start.now) summary.old }

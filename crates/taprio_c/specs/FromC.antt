@@ -13,7 +13,7 @@ is_wanted value = nat_lt 0 value
 abbrev pub moment_of : ℕ → ℕ → ℕ
 moment_of low high = high * 2 ^ 64 + low
 
--- the same where there is one
+-- the moment of two halves where C says that there is one
 abbrev pub moment_where : ℕ → ℕ → ℕ → Option ℕ
 moment_where is_there low high = if is_wanted is_there then Some (moment_of low high) else None
 

@@ -1,4 +1,6 @@
 //! The library as C calls it: one function for each of the program's jobs over memory, whose declarations are in `c/taprio.h`.
+//!
+//! The contract of each function is that of its job in `octets`; what C's values say is specs/FromC.antt.
 #![tactic(auto)]
 
 mod values;

@@ -55,14 +55,14 @@ pub fn is_wanted(value: u32) -> bool
     value != 0
 }
 
-// The moment of two halves.
+/// The moment of two halves.
 fn moment_of(low: u64, high: u64) -> u128
     ensures { result ≡ moment_of low high }
 {
     u128::from(high) * TWO_TO_64 + u128::from(low)
 }
 
-// The moment of two halves, where there is one.
+/// The moment of two halves, where there is one.
 fn moment_where(is_there: u64, low: u64, high: u64) -> Option<u128>
     ensures { result ≡ moment_where is_there low high }
 {

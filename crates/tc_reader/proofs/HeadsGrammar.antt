@@ -19,7 +19,7 @@ use Rattle.tc_reader.proofs.GrammarLemmas.{guard_not}
 abbrev pub End : Type 0
 End = Result (Option (List Word)) TcFault
 
--- what stands behind the heads
+-- what comes after the heads
 abbrev pub IsTail : Option (List Word) → List Word → Type 0
 IsTail None tail = tail ≡ []
 IsTail (Some rest) tail = tail ≡ codes "taprio" ∷ rest

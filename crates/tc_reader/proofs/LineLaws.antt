@@ -22,7 +22,7 @@ use Rattle.tc_reader.proofs.RunLemmas.{ok_is}
 use Rattle.tc_reader.proofs.GrammarLemmas.{bind_ok, Reads-take, Reads-again, Reads-one}
 use Rattle.tc_reader.proofs.HeadsGrammar.{End, is_word, heads_take, heads_again, heads_one}
 
--- what is said of the words behind the verb
+-- what is said of the words after the verb
 abbrev Behind : List Word → Result Command TcFault → Verb × List Word → Type 0
 Behind line result x = (heads : List Head) × (end : End) × ReadsHeads [] x.1 heads end × ReadsRest (length line) x.0 heads end result
 

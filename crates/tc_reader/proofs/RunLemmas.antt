@@ -55,7 +55,7 @@ unfolding run_at
 run_stops form value front place [] all is so_far = sym so_far ∙ rw append-nil refl
 run_stops form value front place (w ∷ ws) all is so_far = sym so_far ∙ rw (is, append-nil) refl
 
--- the same by one step of the code
+-- a run of values goes on with the value that one step of the code reads
 pub run_continues : {X : Type 0} (opt : Opt) (form : Word → Bool) (value : ℕ → Word → Option X) (front : List X) (place : ℕ) (ws rest : List Word) (x : X) (all : Result (List X × List Word) TcFault)
     → begins form ws ≡ true → value_at opt (value place) place ws ≡ Ok (x, rest) → with_front front (run_at form value place ws) ≡ all → with_front (front ++ x ∷ []) (run_at form value (place + 1) rest) ≡ all
 run_continues opt form value front place [] rest x all is read so_far = absurd cc

@@ -23,7 +23,7 @@ view g = record {
   limits = option_map (λ v. v.items) g.limits;
 }
 
--- the same, of which only so many values are capped as show that there are too many, or as count
+-- options with an item whose values are capped: only so many are kept as show that there are too many, or as count
 abbrev pub capped_with : Options → Item → Options
 capped_with g (priorities ns) = record g { priorities = Some (take KEPT_PRIORITIES ns) }
 capped_with g (ranges rs) = record g { ranges = Some (take KEPT_RANGES rs) }

@@ -57,7 +57,7 @@ AreQueueRanges (w ∷ ws) (r ∷ rs) = (range_of w ≡ Some r) × AreQueueRanges
 AreQueueRanges [] (r ∷ rs) = ⊥
 AreQueueRanges (w ∷ ws) [] = ⊥
 
--- the words behind the option word
+-- the words after the option word
 abbrev pub AreValues : Item → List Word → Type 0
 AreValues (num_tc n) ws = IsOne 255 ws n
 AreValues (priorities ns) ws = (0 < length ns) × AreNumbers 255 ws ns

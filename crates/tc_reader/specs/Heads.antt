@@ -50,7 +50,7 @@ head_at before w ws =
     else if bytes_eq w (codes "handle") then (if list_any is_handle before then Err (faults.Repeated Handle) else named handle Handle ws)
     else Err faults.NotTaprio
 
--- These heads stand there, and then the line ends, or goes on with `taprio` and the words behind it, or has its first fault.
+-- These heads stand there, and then the line ends, or goes on with `taprio` and the words after it, or has its first fault.
 abbrev pub ReadsHeads : List Head → List Word → List Head → Result (Option (List Word)) TcFault → Type 0
 ReadsHeads before [] [] end = end ≡ Ok None
 ReadsHeads before (w ∷ ws) [] end = MatchBool (bytes_eq w (codes "taprio")) (end ≡ Ok (Some ws)) ((f : TcFault) × (head_at before w ws ≡ Err f) × (end ≡ Err f))

@@ -26,7 +26,7 @@ abbrev pub verb_with_rest : Option Verb → List Word → Option (Verb × List W
 verb_with_rest None ws = None
 verb_with_rest (Some v) ws = Some (v, ws)
 
--- the verb, and the words behind it
+-- the verb, and the words after it
 abbrev pub verb_at : List Word → Option (Verb × List Word)
 verb_at (a ∷ b ∷ verb ∷ ws) = if bytes_eq a (codes "tc") && bytes_eq b (codes "qdisc") then verb_with_rest (verb_of verb) ws else None
 verb_at _ = None
@@ -39,7 +39,7 @@ replacement_of has_dev has_parent g = heads_missing has_dev has_parent >>= λ _.
 abbrev pub deletion_of : Bool → Bool → Result Command TcFault
 deletion_of has_dev has_parent = heads_missing has_dev has_parent >>= λ _. Ok commands.Delete
 
--- what the words behind `taprio` make of a line of so many words
+-- what the words after `taprio` make of a line of so many words
 abbrev pub ReadsOptions : ℕ → Bool → Bool → List Word → Result Command TcFault → Type 0
 ReadsOptions count has_dev has_parent ws result =
     (items : List Item) × (last : Option TcFault) × Reads no_options count ws items last

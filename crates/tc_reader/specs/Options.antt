@@ -95,7 +95,7 @@ abbrev pub begins : (Word → Bool) → List Word → Bool
 begins form [] = false
 begins form (w ∷ ws) = form w
 
--- the same, of one word or more
+-- the values of an option that takes one word or more
 unfoldable pub some_at : {X : Type 0} → Opt → (Word → Bool) → (ℕ → Word → Option X) → ℕ → List Word → Result (List X × List Word) TcFault
 some_at opt form value place ws = run_at form value place ws >>= λ found. if length found.0 == 0 then Err (faults.MissingWord opt) else Ok found
 

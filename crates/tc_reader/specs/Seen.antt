@@ -19,7 +19,7 @@ abbrev pub head_word : Opt → Seen → List Word → Result (Seen × List Word)
 head_word opt seen [] = Err (faults.MissingWord opt)
 head_word opt seen (w ∷ ws) = Ok (seen, ws)
 
--- the same of what was seen alone
+-- one word of the heads, by what was seen before it alone
 abbrev pub seen_at : Seen → Word → List Word → Result (Seen × List Word) TcFault
 seen_at s w ws =
     if bytes_eq w (codes "dev") then (if s.dev then Err (faults.Repeated Dev) else head_word Dev (record s { dev = true }) ws)
@@ -33,7 +33,7 @@ abbrev pub HeadTakes : {X : Type 0} → Seen → Word → List Word → Result X
 HeadTakes old w ws (Ok _) new rest = seen_at old w ws ≡ Ok (new, rest)
 HeadTakes old w ws (Err f) new rest = seen_at old w ws ≡ Err f
 
--- what stands behind the heads, where `taprio` ends them or the line does
+-- what comes after the heads, where `taprio` ends them or the line does
 abbrev pub behind_heads : Bool → List Word → Option (List Word)
 behind_heads true ws = Some ws
 behind_heads false ws = None

@@ -37,10 +37,10 @@ clock_names = codes "REALTIME" ∷ codes "MONOTONIC" ∷ codes "BOOTTIME" ∷ co
 abbrev pub is_clock : Word → Bool
 is_clock w = list_any (λ name. str_eq_ignore_ascii_case w name) clock_names
 
--- a size limit behind so many of them
+-- a size limit after so many of them
 abbrev pub limit_in : ℕ → Word → Option ℕ
 limit_in before w = if nat_lt before MAX_SDU_VALUES then number_in 10 (2 ^ 32 - 1) w else None
 
--- the same by places, where the first one stands at another
+-- a size limit by its place, where the first one stands at another
 abbrev pub limit_at : ℕ → ℕ → Word → Option ℕ
 limit_at first place = limit_in (place - first)

@@ -37,7 +37,7 @@ fn ranges_of(num_tc: u8, given: &CappedOptions) -> Result<Option<Queues>, TcFaul
     }
 }
 
-// The map and the ranges.
+/// The map and the ranges.
 fn classes_of(given: &CappedOptions) -> Result<(Option<ClassMap>, Option<Queues>), TcFault>
     ensures { let g = view given.now in result ≡ classes_of g.num_tc g.priorities g.ranges }
 {
@@ -61,7 +61,7 @@ fn classes_of(given: &CappedOptions) -> Result<(Option<ClassMap>, Option<Queues>
     }
 }
 
-// The limits of all classes, in octets, 0 for those that are missing.
+/// The limits of all classes, in octets, 0 for those that are missing.
 fn eight_limits(limits: &[u32]) -> [u32; CLASSES]
     ensures { result ≡ eight_limits limits.now }
 {
@@ -80,7 +80,7 @@ fn limits_of(given: &CappedOptions) -> Option<[u32; CLASSES]>
     }
 }
 
-// A change to a list that closes all classes, with no times.
+/// A change to a list that closes all classes, with no times.
 fn closed_change() -> Change
     ensures { result ≡ closed_change }
 {
@@ -102,7 +102,7 @@ pub fn closed_command() -> Command
     Command::Replace(closed_change())
 }
 
-// The change that the options give, with their map and ranges, takes the place of another one.
+/// The change that the options give, with their map and ranges, takes the place of another one.
 fn put_change(
     given: &CappedOptions,
     map: Option<ClassMap>,
@@ -127,8 +127,8 @@ fn put_change(
     Ok(())
 }
 
-// The command that the options give, with their map and ranges, where no list is written over. Apart, since it is seldom, and a
-// command is large.
+/// The command that the options give, with their map and ranges, where no list is written over. Apart, since it is seldom, and a
+/// command is large.
 #[inline(never)]
 fn put_command(
     given: &CappedOptions,

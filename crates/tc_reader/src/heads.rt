@@ -20,7 +20,7 @@ pub struct Seen {
     pub handle: bool,
 }
 
-// One head of the line.
+/// One head of the line.
 fn take_head(seen: &mut Seen, words: &mut Words<'_>, word: &[u8]) -> Result<(), TcFault>
     ensures head { HeadTakes seen.old word.now (words_left words.old) result seen.new (words_left words.new) }
     ensures moves { Moves words.old words.new }
@@ -54,7 +54,7 @@ fn take_head(seen: &mut Seen, words: &mut Words<'_>, word: &[u8]) -> Result<(), 
     Ok(())
 }
 
-/// The heads of the words behind the verb, and whether `taprio` ends them; else the line does.
+/// The heads of the words after the verb, and whether `taprio` ends them; else the line does.
 pub fn read_heads(words: &mut Words<'_>) -> Result<(Seen, bool), TcFault>
     ensures heads { MatchResult result
         (λ s. (heads : List Head) × ReadsHeads [] (words_left words.old) heads (Ok (behind_heads s.1 (words_left words.new))) × (s.0 ≡ seen_of heads))

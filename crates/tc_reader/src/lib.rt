@@ -1,4 +1,7 @@
 //! Schedule commands in the words of tc-taprio(8): `tc qdisc replace dev eth0 root taprio ..`.
+//!
+//! The grammar is specs/Grammar.antt, and how a line is read specs/Lines.antt; the contract of `read_command` cites
+//! them.
 #![tactic(auto)]
 
 mod capped;

@@ -37,7 +37,7 @@ fn verb_of(word: &[u8]) -> Option<Verb>
     }
 }
 
-// The first three words of a line.
+/// The first three words of a line.
 fn take_verb(words: &mut Words<'_>) -> Option<Verb>
     ensures verb { MatchOption result (verb_at (words_left words.old) ≡ None) (λ v. verb_at (words_left words.old) ≡ Some (v, words_left words.new)) }
     ensures moves { Moves words.old words.new }
@@ -52,7 +52,7 @@ fn take_verb(words: &mut Words<'_>) -> Option<Verb>
     }
 }
 
-// The command of the options behind `taprio`, written where it is kept.
+/// The command of the options after `taprio`, written where it is kept.
 #[inline(never)]
 fn read_replacement(words: Words<'_>, seen: Seen, answer: &mut Result<Command, TcFault>)
     ensures { ReadsOptions (total words.entry) seen.dev seen.parent (words_left words.entry) answer.new }
@@ -72,7 +72,7 @@ fn read_replacement(words: Words<'_>, seen: Seen, answer: &mut Result<Command, T
     give_command(&given, answer);
 }
 
-// A deletion, whose line ends behind `taprio` or without it.
+/// A deletion, whose line ends after `taprio` or without it.
 fn read_deletion(words: Words<'_>, seen: Seen, named: bool, answer: &mut Result<Command, TcFault>)
     ensures { answer.new ≡ deletion_before (total words.entry) seen.dev seen.parent (behind_heads named (words_left words.entry)) }
 {
@@ -88,7 +88,7 @@ fn read_deletion(words: Words<'_>, seen: Seen, named: bool, answer: &mut Result<
     }
 }
 
-// A line, from the left. The answer is written where it is kept, since a command takes two kilobytes.
+/// A line, from the left. The answer is written where it is kept, since a command takes two kilobytes.
 fn read_line(line: &[u8], answer: &mut Result<Command, TcFault>)
     ensures { ReadsLine (words_of line.now) answer.new }
 {

@@ -20,7 +20,7 @@ pub trait ListValue: Copy + Default {
     ghost option: { Opt };
 
     ghost form: { List ℕ → Bool };
-    // The value that a word is, behind so many values.
+    // The value that a word is, after so many values.
     ghost value: { ℕ → List ℕ → Option Self };
 
     /// The option.
@@ -31,7 +31,7 @@ pub trait ListValue: Copy + Default {
     fn has_form(word: &[u8]) -> bool
         ensures { result ≡ form word.now };
 
-    /// The value that a word is, behind so many values.
+    /// The value that a word is, after so many values.
     fn value_in(word: &[u8], before: usize) -> Option<Self>
         ensures { result ≡ value before word.now };
 }
@@ -119,7 +119,7 @@ fn begins<T: ListValue>(words: &Words<'_>) -> bool
     }
 }
 
-// The next value of a list, of which the first stands at a place.
+/// The next value of a list, of which the first stands at a place.
 #[tactic(auto, unfolding(crate::specs::Options::value_at))]
 fn take_next<T: ListValue>(words: &mut Words<'_>, first: usize) -> Result<T, TcFault>
     requires { first ≤ words_taken words.old }

@@ -46,7 +46,7 @@ pub fn option_named(word: &[u8]) -> Option<Opt>
     }
 }
 
-/// The values of an option, behind its word.
+/// The values of an option, after its word.
 #[tactic(auto, unfolding(crate::specs::Options::values_at))]
 pub fn take_values(
     given: &mut CappedOptions,

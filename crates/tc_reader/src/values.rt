@@ -104,7 +104,7 @@ fn hex_digit(octet: u8) -> Option<u8>
     }
 }
 
-// The number that two hexadecimal digits are.
+/// The number that two hexadecimal digits are.
 fn two_digits(high: u8, low: u8) -> Option<u8>
     ensures { IfSome result (λ n. hex_in 255 (high ∷ low ∷ []) ≡ Some n) }
 {
@@ -113,7 +113,7 @@ fn two_digits(high: u8, low: u8) -> Option<u8>
     Some(front * 16 + behind)
 }
 
-// The next word as a mask, where it has two hexadecimal digits. Else None, and some words are taken or none.
+/// The next word as a mask, where it has two hexadecimal digits. Else None, and some words are taken or none.
 #[inline]
 fn take_plain_mask(words: &mut Words<'_>) -> Option<u8>
     ensures value { IfSome result (λ n. value_at Opt.SchedEntry (hex_in 255) (words_taken words.old) (words_left words.old) ≡ Ok (n, words_left words.new)) }
@@ -124,7 +124,7 @@ fn take_plain_mask(words: &mut Words<'_>) -> Option<u8>
     two_digits(high, low)
 }
 
-// The next word as an interval, where it can be read at once. Else None.
+/// The next word as an interval, where it can be read at once. Else None.
 #[inline]
 fn take_plain_interval(words: &mut Words<'_>) -> Option<u32>
     ensures value { IfSome result (λ n. value_at Opt.SchedEntry (number_in 10 (2 ^ 32 - 1)) (words_taken words.old) (words_left words.old) ≡ Ok (n, words_left words.new)) }
@@ -210,7 +210,7 @@ fn sign_place(word: &[u8]) -> Option<usize>
     word.iter().position(|octet| *octet == b'@')
 }
 
-// What stands before and after the first @.
+/// What stands before and after the first @.
 fn split_range(word: &[u8]) -> (&[u8], &[u8])
     ensures before { result.0.now ≡ before_first is_sign word.now }
     ensures after { result.1.now ≡ after_first is_sign word.now }
@@ -239,7 +239,7 @@ pub fn range_of(word: &[u8]) -> Option<(u16, u16)>
     Some((count, offset))
 }
 
-/// The size limit that a word is, in octets, behind so many limits, of which no more than `MAX_SDU_VALUES` may stand.
+/// The size limit that a word is, in octets, after so many limits, of which no more than `MAX_SDU_VALUES` may stand.
 pub fn limit_in(word: &[u8], before: usize) -> Option<u32>
     ensures { result ≡ limit_in before word.now }
 {

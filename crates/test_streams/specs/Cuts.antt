@@ -11,7 +11,7 @@ cut_text n =
     else if nat_lt n 92 then codes "taprio_port: capture record 1: ShortRecord\n"
     else []
 
--- of what is told or leaves of no record, of the first and of both, that which so many octets give
+-- of what is reported or leaves of no record, of the first and of both, that which so many octets give
 abbrev pub cut_of : List ℕ → List ℕ → List ℕ → ℕ → List ℕ
 cut_of none first both n =
     if nat_lt n 58 then none

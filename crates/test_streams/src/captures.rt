@@ -23,7 +23,7 @@ pub const BOTH_LEFT: [u8; 92] = [
     2, 0, 0, 0, 0, 2, 2, 0, 0, 0, 0, 1, 0x81, 0, 0x60, 5, 8, 0,
 ];
 
-/// What is told of both frames where all gates are open: the second comes no earlier than the first, and goes first.
+/// What is reported of both frames where all gates are open: the second comes no earlier than the first, and goes first.
 pub const BOTH_TOLD: &[u8] = b"queued 0 class 3\nqueued 1 class 5\n\
 start 1 class 5 at 2000500000000 end 2000500672000\nstart 0 class 3 at 2000500672000 end 2000501344000\n";
 
@@ -34,7 +34,7 @@ pub const FIRST_LEFT: [u8; 58] = [
     2, 0, 0, 0, 0, 2, 2, 0, 0, 0, 0, 1, 0x81, 0, 0x60, 5, 8, 0,
 ];
 
-/// What is told of it.
+/// What is reported of it.
 pub const FIRST_TOLD: &[u8] =
     b"queued 0 class 3\nstart 0 class 3 at 2000500000000 end 2000500672000\n";
 

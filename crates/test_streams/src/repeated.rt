@@ -10,7 +10,7 @@ pub struct Repeated {
     pub octet: u8,
     /// How often it still comes.
     pub times: usize,
-    /// The octet behind it.
+    /// The octet after them.
     pub last: Option<u8>,
 }
 
@@ -58,7 +58,7 @@ const LONG: &[u8] = b"taprio_port: script line 1: LongLine\n";
 
 const MANY: &[u8] = b"taprio_port: script line 4000001: TooManyLines\n";
 
-/// Inputs of one octet over and over: the octet, how often it comes, the one behind it, and the text of the fault that it is both as a
+/// Inputs of one octet over and over: the octet, how often it comes, the one after them, and the text of the fault that it is both as a
 /// script and as schedule commands, empty where it is none.
 pub static REPEATED_OCTETS: [(u8, usize, Option<u8>, &[u8]); 8] = [
     (b'a', 65_536, None, UNKNOWN),

@@ -59,7 +59,7 @@ pub struct TurningReader<'a> {
 }
 
 impl<'a> TurningReader<'a> {
-    /// What it does is told to `tally`.
+    /// What it does is reported to `tally`.
     pub fn new(
         octets: &'a [u8],
         piece: usize,

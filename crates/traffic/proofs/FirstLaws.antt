@@ -120,7 +120,7 @@ pub next_of_all : (ts : List Turn) (i m : ℕ) (d t' : Turn) (r : Option Coming)
 next_of_all ts i m d t' None first left = absurd (some_next ts i m d (first_found ts i m first) left)
 next_of_all ts i m d t' (Some f) first left = (takes ts i m d t' f (first_found ts i m first) left).1
 
--- no stream stands behind the last
+-- no stream comes after the last
 pub none_behind : (place n : ℕ) (ts : List Turn) → n ≡ length ts → first_place place (drop n ts) ≡ None
 unfolding first_place
 none_behind place zero [] e = refl

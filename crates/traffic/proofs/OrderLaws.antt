@@ -42,7 +42,7 @@ unfolding insert
 insert_first f [] h = refl
 insert_first f (g ∷ gs) h = ap (λ t. cond t (f ∷ g ∷ gs) (g ∷ insert f gs)) (le-leb f.moment g.moment h.0)
 
--- one that comes later stands behind it
+-- one that comes later stands after it
 insert_behind : (g f : Coming) (gs : List Coming) → f.moment < g.moment → insert g (f ∷ gs) ≡ f ∷ insert g gs
 unfolding insert
 insert_behind g f gs later = ap (λ t. cond t (g ∷ f ∷ gs) (f ∷ insert g gs)) (lt-leb g.moment f.moment later)
@@ -65,7 +65,7 @@ pub sorted_first : (f : Coming) (fs : List Coming) → FromOn f.moment fs → by
 unfolding by_moment
 sorted_first f fs h = insert_first f (by_moment fs) (from_sorted f.moment fs h)
 
--- frames that come later stand behind the first of the others
+-- frames that come later stand after the first of the others
 pub sorted_behind : (xs ys zs : List Coming) (f : Coming) → FromOn (suc f.moment) xs → by_moment ys ≡ f ∷ by_moment zs → by_moment (xs ++ ys) ≡ f ∷ by_moment (xs ++ zs)
 unfolding by_moment
 sorted_behind [] ys zs f h e = e

@@ -13,7 +13,7 @@ use Rattle.traffic.specs.declared.faults.StreamsInput.TheVariants as Inputs
 abbrev pub table_fault : LineFault → Fault StreamsInput
 table_fault fault = fault_of_line (λ number limit. Inputs.Table number (limit_fault limit)) fault
 
--- the same of a script
+-- a fault that the lines of a script have, as a fault of the job
 abbrev pub script_fault : LineFault → Fault StreamsInput
 script_fault fault = fault_of_line (λ number limit. Inputs.Script number (limit_fault limit)) fault
 

@@ -20,7 +20,7 @@ clock_said (Says.Asked Query) = None
 clock_said (Says.Asked (Count class)) = None
 clock_said Says.Tc = None
 
--- the same, where anything is said, and no fault
+-- the moment of the clock line that words say, where they say one and have no fault
 abbrev pub clock_if_said : Result (Option Said) ScriptFault → Option ℕ
 clock_if_said (Ok (Some said)) = clock_said said
 clock_if_said (Ok None) = None
@@ -67,8 +67,8 @@ line_end line = if joins line then codes "\n\n" else codes "\n"
 abbrev pub line_text : List ℕ → List ℕ
 line_text line = line ++ line_end line
 
--- Script lines among frames by rising moment, behind a clock line of this number, where there is one: before each line the frames before its
--- moment; behind the last line the other frames; and nothing more where a line can not be read.
+-- Script lines among frames by rising moment, after a clock line of this number, where there is one: before each line the frames before its
+-- moment; after the last line the other frames; and nothing more where a line can not be read.
 unfoldable pub merged : Option ℕ → Script → List Coming → List ℕ
 merged clock End frames = lines_of clock frames
 merged clock (Broken number limit) frames = []

@@ -18,7 +18,7 @@ fault_in End = None
 fault_in (Broken number limit) = Some (Inputs.Script number (limit_fault limit))
 fault_in (Line number line rest) = fault_in rest
 
--- the outcome of frames by rising moment and the lines of a script, behind a clock line of this number, where there is one
+-- the outcome of frames by rising moment and the lines of a script, after a clock line of this number, where there is one
 abbrev pub merging : Option ℕ → Script → List Coming → Outcome StreamsInput
 merging clock script frames = record { text = merged clock script frames; fault = fault_in script }
 
@@ -31,6 +31,6 @@ outcome_unless (Some (number, fault)) streams script = record { text = []; fault
 abbrev pub outcome_in : Table → Script → Outcome StreamsInput
 outcome_in table script = outcome_unless table.fault table.streams script
 
--- the same of the octets of both; there is no script where it has no octets
+-- the outcome by the octets of both inputs; a script with no octets is none
 abbrev pub outcome_of : List ℕ → List ℕ → Outcome StreamsInput
 outcome_of table script = outcome_in (table_of (script_of table)) (script_of script)

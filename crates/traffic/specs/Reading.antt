@@ -10,7 +10,7 @@ use Rattle.traffic.specs.declared.faults.StreamsInput.{StreamsInput}
 use Rattle.traffic.specs.declared.faults.StreamsInput.TheVariants as Inputs
 use Rattle.traffic.specs.declared.turn.Turn.{Turn}
 
--- at Ok the frames of the table's streams come behind those that were to come; a fault of a line is the table's; nothing is written
+-- at Ok the frames of the table's streams come after those that were to come; a fault of a line is the table's; nothing is written
 abbrev pub ReadsTable : {T : Type 0} → Result T (Fault StreamsInput) → Table → List Turn → List Turn → Type 0
 ReadsTable (Ok x) table old new = (table.fault ≡ None) × (flat_map left_of new ≡ flat_map left_of old ++ flat_map frames_of table.streams)
 ReadsTable (Err (Faults.Input (Inputs.Table number fault))) table old new = table.fault ≡ Some (number, fault)

@@ -37,7 +37,7 @@ leading_digits (b ∷ bs) = if starts_with_digit (b ∷ bs) then suc (leading_di
 abbrev pub time_with : Option ℕ → Option ℕ → Option ℕ
 time_with number unit = option_and_then (λ n. option_and_then (λ u. at_most greatest_moment (Some (n * u))) unit) number
 
--- a whole number with its unit directly behind it, in picoseconds, at most the greatest moment
+-- a whole number with its unit directly after it, in picoseconds, at most the greatest moment
 abbrev pub time_in : List ℕ → Option ℕ
 time_in word = time_with (number_in 10 greatest_moment (take (leading_digits word) word)) (unit_of (drop (leading_digits word) word))
 
@@ -76,7 +76,7 @@ stream_in_words id priority len period offset count tagged =
     by_number (number_in 10 (2 ^ 32 - 1) count) (λ count.
     judged (record { first_id = id; priority = priority; len = len; period = period; offset = offset; count = count; tagged = tagged })))))))
 
--- by the next word and those behind it, where there is one
+-- by the next word and those after it, where there is one
 abbrev pub by_word : List (List ℕ) → (List ℕ → List (List ℕ) → Result Stream ScriptFault) → Result Stream ScriptFault
 by_word [] f = Err WordCount
 by_word (w ∷ ws) f = f w ws
@@ -92,7 +92,7 @@ abbrev pub by_tag : Result Bool ScriptFault → (Bool → Result Stream ScriptFa
 by_tag (Ok tagged) f = f tagged
 by_tag (Err fault) f = Err fault
 
--- what the words behind the first say
+-- what the words after the first say
 abbrev pub stream_said : List (List ℕ) → Result Stream ScriptFault
 stream_said ws =
     by_word ws (λ id ws. by_word ws (λ priority ws. by_word ws (λ len ws.

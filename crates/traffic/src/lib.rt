@@ -1,4 +1,7 @@
 //! Traffic by streams: a table of streams becomes a script with the frames of all of them, and with the lines of another script among them.
+//!
+//! The definition is specs/Outcome.antt, over specs/Table.antt, specs/Frames.antt and specs/Merge.antt; the
+//! contracts of `write_streams` and `answer_streams` cite it.
 #![tactic(auto)]
 
 mod faults;

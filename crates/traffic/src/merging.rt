@@ -19,7 +19,7 @@ use script::{Said, read_line};
 use std::alloc::Allocator;
 use std::io::{Read, Write};
 
-// The number of a clock line.
+/// The number of a clock line.
 fn clock_said(said: Said) -> Option<u128>
     ensures { result ≡ clock_said said }
 {
@@ -31,7 +31,7 @@ fn clock_said(said: Said) -> Option<u128>
     }
 }
 
-// The number of a line, where it is a good clock line of a script.
+/// The number of a line, where it is a good clock line of a script.
 fn clock_in(line: &[u8]) -> Option<u128>
     ensures { result ≡ clock_in line.now }
 {
@@ -42,7 +42,7 @@ fn clock_in(line: &[u8]) -> Option<u128>
     }
 }
 
-// The greater of two numbers that may be there.
+/// The greater of two numbers that may be there.
 fn latest(clock: Option<u128>, number: Option<u128>) -> Option<u128>
     ensures { result ≡ latest clock number }
 {
@@ -53,7 +53,7 @@ fn latest(clock: Option<u128>, number: Option<u128>) -> Option<u128>
     }
 }
 
-// What ends a line: an empty line too, where it would be joined with the next.
+/// What ends a line: an empty line too, where it would be joined with the next.
 fn line_end(line: &[u8]) -> &'static [u8]
     ensures { result.now ≡ line_end line.now }
 {
@@ -63,14 +63,14 @@ fn line_end(line: &[u8]) -> &'static [u8]
     }
 }
 
-// Writes a line as it was written.
+/// Writes a line as it was written.
 fn put_line<W: Write>(writer: &mut W, line: &[u8]) -> Result<(), WriteFault>
     ensures { Writes result (W.contents writer.old) (W.contents writer.new) (line_text line.now) }
 {
     put_parts(writer, &[Part::Text(line), Part::Text(line_end(line))])
 }
 
-// Writes a line, and before it the frames that come before a moment.
+/// Writes a line, and before it the frames that come before a moment.
 fn put_at<W: Write>(
     writer: &mut W,
     turns: &mut [Turn],

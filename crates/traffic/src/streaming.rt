@@ -19,7 +19,7 @@ use line_reader::LineReader;
 use std::alloc::Allocator;
 use std::io::{Read, Write};
 
-// Keeps a stream behind the others.
+/// Keeps a stream after the others.
 #[tactic(auto, using(crate::proofs::TableLaws::pushed))]
 fn keep<A: Allocator>(turns: &mut Vec<Turn, A>, stream: Stream) -> Result<(), StreamsFault>
     requires { IsStream stream }
@@ -32,7 +32,7 @@ fn keep<A: Allocator>(turns: &mut Vec<Turn, A>, stream: Stream) -> Result<(), St
     }
 }
 
-// Reads the lines of a table that are to come, behind the streams that are read.
+/// Reads the lines of a table that are to come, after the streams that are read.
 fn read_streams<A: Allocator, B: Allocator, R: Read + Drop>(
     lines: &mut LineReader<R, A>,
     turns: &mut Vec<Turn, B>,
@@ -59,7 +59,7 @@ fn read_streams<A: Allocator, B: Allocator, R: Read + Drop>(
     Ok(())
 }
 
-// Reads the lines of a table that are to come, and writes the frames of its streams among the lines of a script.
+/// Reads the lines of a table that are to come, and writes the frames of its streams among the lines of a script.
 fn write_table<A: Allocator, B: Allocator, R: Read + Drop, S: Read + Drop, W: Write>(
     alloc: B,
     table: &mut LineReader<R, A>,
@@ -73,7 +73,7 @@ fn write_table<A: Allocator, B: Allocator, R: Read + Drop, S: Read + Drop, W: Wr
     write_merged(script, turns.as_mut_slice(), writer)
 }
 
-/// Reads a table of streams to its end, and then writes a script that has the frames of all of them: each behind a clock line of
+/// Reads a table of streams to its end, and then writes a script that has the frames of all of them: each after a clock line of
 /// its moment, which stands once, by rising moment, and at one moment in the order of the table. Among them it puts in the lines of another
 /// script, each at its moment and before the frames of that moment; where that script has no octets there are the frames alone.
 ///

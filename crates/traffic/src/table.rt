@@ -29,7 +29,7 @@ pub struct Stream {
     pub tagged: bool,
 }
 
-// How many picoseconds a unit has.
+/// How many picoseconds a unit has.
 fn unit_of(word: &[u8]) -> Option<u128>
     ensures unit { result ≡ unit_of word.now }
     ensures bound { IfSome result (λ n. n ≤ 1000000000000) }
@@ -58,7 +58,7 @@ fn starts_with_digit(octets: &[u8]) -> bool
     }
 }
 
-// The digits that a word begins with, and what comes behind them.
+/// The digits that a word begins with, and what comes after them.
 fn split_digits(word: &[u8]) -> (&[u8], &[u8])
     ensures digits { result.0.now ≡ take (leading_digits word.now) word.now }
     ensures behind { result.1.now ≡ drop (leading_digits word.now) word.now }
@@ -70,7 +70,7 @@ fn split_digits(word: &[u8]) -> (&[u8], &[u8])
     word.split_at(end)
 }
 
-// A whole number with its unit directly behind it, in picoseconds, at most the greatest moment.
+/// A whole number with its unit directly after it, in picoseconds, at most the greatest moment.
 fn time_in(word: &[u8]) -> Option<u128>
     ensures time { result ≡ time_in word.now }
     ensures bound { IfSome result (λ n. n ≤ greatest_moment) }
@@ -81,7 +81,7 @@ fn time_in(word: &[u8]) -> Option<u128>
     if time <= MAX_MOMENT { Some(time) } else { None }
 }
 
-// A stream whose frames can be frames of a script, or its fault.
+/// A stream whose frames can be frames of a script, or its fault.
 fn judged(stream: Stream) -> Result<Stream, ScriptFault>
     requires period { stream.period ≤ greatest_moment }
     requires offset { stream.offset ≤ greatest_moment }
@@ -98,7 +98,7 @@ fn judged(stream: Stream) -> Result<Stream, ScriptFault>
     Ok(stream)
 }
 
-/// The words of a stream's line behind the first, without `tagged`.
+/// The words of a stream's line after the first, without `tagged`.
 #[derive(Clone, Copy)]
 struct StreamWords<'a> {
     id: &'a [u8],
@@ -109,7 +109,7 @@ struct StreamWords<'a> {
     count: &'a [u8],
 }
 
-// The stream that words say.
+/// The stream that words say.
 fn stream_in_words(words: &StreamWords<'_>, tagged: bool) -> Result<Stream, ScriptFault>
     ensures fits { IfOk result IsStream }
     ensures said { result ≡ stream_in_words words.now.id.now words.now.priority.now words.now.len.now words.now.period.now words.now.offset.now words.now.count.now tagged }
@@ -143,7 +143,7 @@ fn stream_in_words(words: &StreamWords<'_>, tagged: bool) -> Result<Stream, Scri
     })
 }
 
-// Whether the last words say that the frames are tagged, or that there are none.
+/// Whether the last words say that the frames are tagged, or that there are none.
 fn tag_in(mut words: Words<'_>) -> Result<bool, ScriptFault>
     ensures { result ≡ tag_in (words_left words.entry) }
 {
@@ -156,7 +156,7 @@ fn tag_in(mut words: Words<'_>) -> Result<bool, ScriptFault>
     Ok(true)
 }
 
-// The stream that the words behind the first say.
+/// The stream that the words after the first say.
 fn read_stream(mut words: Words<'_>) -> Result<Stream, ScriptFault>
     ensures said { result ≡ stream_said (words_left words.entry) }
     ensures fits { IfOk result IsStream }

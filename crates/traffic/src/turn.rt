@@ -16,7 +16,7 @@ pub struct Coming {
     pub frame: Frame,
 }
 
-// The frame of a stream that comes after so many others of it, if there is one.
+/// The frame of a stream that comes after so many others of it, if there is one.
 fn frame_after(stream: &Stream, come: u32) -> Option<Coming>
     requires fits { IsStream stream.now }
     requires few { come ≤ stream.now.count }

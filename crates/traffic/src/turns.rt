@@ -6,7 +6,7 @@ ghost use Rattle.traffic.specs.Turns.{earlier, first_place, left_of_all};
 
 use crate::turn::{Coming, Turn};
 
-// The first of the streams behind a place, or that at the place where its next frame comes no later.
+/// The first of the streams after a place, or that at the place where its next frame comes no later.
 fn earlier(
     next: Option<Coming>,
     place: usize,
@@ -21,7 +21,7 @@ fn earlier(
     }
 }
 
-// The place of the stream whose next frame comes first of all, and its moment; at one moment the first in the table.
+/// The place of the stream whose next frame comes first of all, and its moment; at one moment the first in the table.
 fn first_place(turns: &[Turn]) -> Option<(usize, u128)>
     ensures first { result ≡ first_place 0 turns.now }
     ensures within { IfSome result (λ first. first.0 < length turns.now) }

@@ -12,7 +12,7 @@ use answer_text::{Part, WriteFault, put_parts};
 use std::io::Write;
 use wire_time::Frame;
 
-// Writes a clock line, unless the one of the same moment is written.
+/// Writes a clock line, unless the one of the same moment is written.
 fn put_clock_to<W: Write>(
     writer: &mut W,
     written: Option<u128>,
@@ -33,14 +33,14 @@ fn put_clock_to<W: Write>(
     )
 }
 
-// What ends the line of a frame.
+/// What ends the line of a frame.
 fn frame_end(tagged: bool) -> &'static [u8]
     ensures { result.now ≡ frame_end tagged }
 {
     if tagged { b" tagged\n" } else { b"\n" }
 }
 
-// Writes the line of a frame.
+/// Writes the line of a frame.
 fn put_frame<W: Write>(writer: &mut W, frame: &Frame) -> Result<(), WriteFault>
     ensures { Writes result (W.contents writer.old) (W.contents writer.new) (frame_line frame.now) }
 {
@@ -58,7 +58,7 @@ fn put_frame<W: Write>(writer: &mut W, frame: &Frame) -> Result<(), WriteFault>
     )
 }
 
-// Writes the line of a frame, behind a clock line where its moment has none yet.
+/// Writes the line of a frame, after a clock line where its moment has none yet.
 fn put_coming<W: Write>(
     writer: &mut W,
     written: Option<u128>,

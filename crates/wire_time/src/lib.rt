@@ -1,4 +1,7 @@
 //! Line rates, frames, and how long a frame occupies the wire (IEEE Std 802.3).
+//!
+//! The definitions are specs/Wire.antt and specs/Moment.antt; the contracts of `Rate`, `occupancy`, `lead` and
+//! `sdu` cite them.
 #![tactic(auto)]
 
 ghost use Rattle.std.specs.Prelude.{◌≡◌, ◌<◌, ◌≤◌, ◌+◌, ◌*◌, ℕ, Some};

@@ -64,7 +64,7 @@ digit_fits n d i k short digit room =
     let more : 10 ^ (i + 1) ≤ 10 ^ k = pow-le-pow_right {n = 10} (omega arith) {i = i + 1} {j = k} (omega arith) in
     omega arith
 
--- the same of hexadecimal digits
+-- a number of hexadecimal digits with one more stays below the power for its places
 pub hex_fits : (n d i k : ℕ) → n < 16 ^ i → d < 16 → i < k → n * 16 + d < 16 ^ k
 hex_fits n d i k short digit room =
     let step : 16 ^ (i + 1) ≡ 16 ^ i * 16 = pow_more 16 i in
@@ -75,7 +75,7 @@ value_on : (base n m : ℕ) (bs ys : List ℕ) → ((k : ℕ) → value_behind b
 value_on base n m bs ys after None e = absurd cc
 value_on base n m bs ys after (Some d) e = after (n * base + d) e
 
--- digits behind digits that stand for a number
+-- digits after digits that stand for a number
 pub value_append : (base n m : ℕ) (xs ys : List ℕ) → value_behind base n xs ≡ Some m → value_behind base n (xs ++ ys) ≡ value_behind base m ys
 unfolding value_behind
 value_append base n m [] ys e = (let same : n ≡ m = cc in ap (λ k. value_behind base k ys) same)

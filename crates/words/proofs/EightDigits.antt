@@ -207,13 +207,13 @@ further_on n k m b bs after (Some d) is e =
     ∙ after (n * 10) (k * 10 + d) e
     ∙ ap (λ j. Some (j + m)) (ten_times n (10 ^ length bs) ∙ ap (λ j. n * j) (sym more ∙ ap (λ i. 10 ^ i) is_suc))
 
--- what digits stand for behind others, by what they stand for alone
+-- what digits stand for after others, by what they stand for alone
 value_further : (n k m : ℕ) (xs : List ℕ) → value_behind 10 k xs ≡ Some m → value_behind 10 (n + k) xs ≡ Some (n * 10 ^ length xs + m)
 unfolding value_behind
 value_further n k m [] e = (let same : k ≡ m = cc in ap Some (omega (arith, same)))
 value_further n k m (b ∷ bs) e = further_on n k m b bs (λ i j. value_further i j m bs) (digit_in 10 b) refl e
 
--- eight digits and eight behind them
+-- eight digits and eight after them
 pub sixteen : (n m : ℕ) (octets : List ℕ) → 16 ≤ length octets → value_behind 10 0 (take 8 octets) ≡ Some n → value_behind 10 0 (take 8 (drop 8 octets)) ≡ Some m → value_behind 10 0 (take 16 octets) ≡ Some (n * 100000000 + m)
 sixteen n m octets long first second =
     let rest = take 8 (drop 8 octets) in

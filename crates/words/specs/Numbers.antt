@@ -14,7 +14,7 @@ digit_of octet =
 abbrev pub digit_in : ℕ → ℕ → Option ℕ
 digit_in base octet = option_and_then (λ d. if nat_lt d base then Some d else None) (digit_of octet)
 
--- what digits stand for behind digits that stand for a number
+-- what digits stand for after digits that stand for a number
 unfoldable pub value_behind : ℕ → ℕ → List ℕ → Option ℕ
 value_behind base front [] = Some front
 value_behind base front (b ∷ bs) = option_and_then (λ d. value_behind base (front * base + d) bs) (digit_in base b)
@@ -40,7 +40,7 @@ pub record IsNumber (word : List ℕ) (n : ℕ) : Type 0 where
   pub digits : is_digits word ≡ true
   pub number : (most : ℕ) → number_in 10 most word ≡ at_most most (Some n)
 
--- octets that begin with a number, and what comes behind its digits
+-- octets that begin with a number, and what comes after its digits
 pub record BeginsWithNumber (octets : List ℕ) (n : ℕ) (rest : List ℕ) : Type 0 where
   pub word : List ℕ
   pub parts : octets ≡ word ++ rest
@@ -51,7 +51,7 @@ abbrev pub first_number : ℕ → List (List ℕ) → Option (Option ℕ)
 first_number most [] = None
 first_number most (word ∷ rest) = Some (number_in 10 most word)
 
--- the words behind the first
+-- the words after the first
 abbrev pub behind_first : List (List ℕ) → List (List ℕ)
 behind_first [] = []
 behind_first (word ∷ rest) = rest

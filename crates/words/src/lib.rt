@@ -1,4 +1,7 @@
 //! The words of a line, and the numbers that words are.
+//!
+//! The definitions are specs/Words.antt and specs/Numbers.antt; the contracts of `Words` and of the readers of
+//! numbers cite them.
 #![tactic(auto)]
 
 pub mod laws;

@@ -18,13 +18,13 @@ fn digit_in(base: u8, octet: u8) -> Option<u8>
     if digit < base { Some(digit) } else { None }
 }
 
-// How many decimal digits surely make a number of 64 bits.
+/// How many decimal digits surely make a number of 64 bits.
 const SHORT_DIGITS: usize = 19;
 
-// How many decimal digits surely make a number of 128 bits.
+/// How many decimal digits surely make a number of 128 bits.
 const LONG_DIGITS: usize = 38;
 
-// The decimal digit that an octet is. In a word of the machine, where it is counted, one comparison shows it.
+/// The decimal digit that an octet is. In a word of the machine, where it is counted, one comparison shows it.
 #[inline(always)]
 fn decimal_digit(octet: u8) -> Option<u64>
     ensures digit { result ≡ digit_in 10 octet }
@@ -34,8 +34,8 @@ fn decimal_digit(octet: u8) -> Option<u64>
     if digit < 10 { Some(digit) } else { None }
 }
 
-// The number that the decimal digits at the front of an array are, and how many these are. The compiler lays this loop out digit
-// by digit.
+/// The number that the decimal digits at the front of an array are, and how many these are. The compiler lays this loop out digit
+/// by digit.
 fn array_run(octets: &[u8; SHORT_DIGITS]) -> (u64, usize)
     ensures few { result.1 ≤ SHORT_DIGITS }
     ensures value { value_behind 10 0 (take result.1 octets.now) ≡ Some result.0 }
@@ -53,7 +53,7 @@ fn array_run(octets: &[u8; SHORT_DIGITS]) -> (u64, usize)
     (value, end)
 }
 
-// The number that the decimal digits at the front of fewer octets than an array has are, and how many these are.
+/// The number that the decimal digits at the front of fewer octets than an array has are, and how many these are.
 fn few_run(octets: &[u8]) -> (u64, usize)
     requires { length octets.now < SHORT_DIGITS }
     ensures within { result.1 ≤ length octets.now }
@@ -85,10 +85,10 @@ pub(crate) fn short_run(octets: &[u8]) -> (u64, usize)
     }
 }
 
-// How many octets are looked at together where digits are read eight at a time: more than any digits that are.
+/// How many octets are looked at together where digits are read eight at a time: more than any digits that are.
 const FRONT: usize = 24;
 
-// Whether eight octets are decimal digits, all looked at.
+/// Whether eight octets are decimal digits, all looked at.
 #[inline(always)]
 fn are_digits(octets: &[u8; 8]) -> bool
     ensures { result ≡ list_all is_digit octets.now }
@@ -100,8 +100,8 @@ fn are_digits(octets: &[u8; 8]) -> bool
     !other
 }
 
-// The number that eight decimal digits are. They stand in one word, the first in its lowest octet; there each is put together with the
-// next one, of the pairs every second one counts, and these are put together in the same way.
+/// The number that eight decimal digits are. They stand in one word, the first in its lowest octet; there each is put together with the
+/// next one, of the pairs every second one counts, and these are put together in the same way.
 #[inline(always)]
 fn eight_digits(octets: &[u8; 8]) -> Option<u64>
     ensures value { IfSome result (λ n. value_behind 10 0 octets.now ≡ Some n) }
@@ -120,7 +120,7 @@ fn eight_digits(octets: &[u8; 8]) -> Option<u64>
     Some(fours % 65_536 * 10_000 + fours / 4_294_967_296 % 65_536)
 }
 
-// The number that the first eight of octets are, where they are digits.
+/// The number that the first eight of octets are, where they are digits.
 #[inline(always)]
 fn eight_in(octets: &[u8]) -> Option<u64>
     ensures value { IfSome result (λ n. value_behind 10 0 (take 8 octets.now) ≡ Some n) }
@@ -132,7 +132,7 @@ fn eight_in(octets: &[u8]) -> Option<u64>
     }
 }
 
-// The number that the digits at the front of an array are, at most 19 of them, where those up to a place are known.
+/// The number that the digits at the front of an array are, at most 19 of them, where those up to a place are known.
 #[inline(always)]
 fn run_on(octets: &[u8; FRONT], front: u64, from: usize) -> (u64, usize)
     requires few { from ≤ SHORT_DIGITS }
@@ -154,7 +154,7 @@ fn run_on(octets: &[u8; FRONT], front: u64, from: usize) -> (u64, usize)
     (total, end)
 }
 
-// The number that the digits at the front of an array are, at most 19 of them, read eight at a time.
+/// The number that the digits at the front of an array are, at most 19 of them, read eight at a time.
 #[inline(always)]
 fn eights_run(octets: &[u8; FRONT]) -> (u64, usize)
     ensures few { result.1 ≤ SHORT_DIGITS }
@@ -171,7 +171,7 @@ fn eights_run(octets: &[u8; FRONT]) -> (u64, usize)
     run_on(octets, first * 100_000_000 + second, 16)
 }
 
-// What `short_run` answers, made for numbers of which most are long.
+/// What `short_run` answers, made for numbers of which most are long.
 #[inline(always)]
 fn front_run(octets: &[u8]) -> (u64, usize)
     ensures within { result.1 ≤ length octets.now }
@@ -185,7 +185,7 @@ fn front_run(octets: &[u8]) -> (u64, usize)
     }
 }
 
-/// The number that the decimal digits at the front of octets are, one digit or more and at most 19, and what comes behind them. None
+/// The number that the decimal digits at the front of octets are, one digit or more and at most 19, and what comes after them. None
 /// where there is no digit.
 #[inline(always)]
 pub fn front_short(octets: &[u8]) -> Option<(u64, &[u8])>
@@ -199,7 +199,7 @@ pub fn front_short(octets: &[u8]) -> Option<(u64, &[u8])>
     Some((number, rest))
 }
 
-/// The number that the decimal digits at the front of octets are, one digit or more and at most 38, and what comes behind them. None
+/// The number that the decimal digits at the front of octets are, one digit or more and at most 38, and what comes after them. None
 /// where there is no digit.
 #[inline(always)]
 pub fn front_number(octets: &[u8]) -> Option<(u128, &[u8])>
@@ -213,7 +213,7 @@ pub fn front_number(octets: &[u8]) -> Option<(u128, &[u8])>
     Some((number, rest))
 }
 
-// The number that the digits at the front are, as far as they surely fit 128 bits, from the number that the first of them are.
+/// The number that the digits at the front are, as far as they surely fit 128 bits, from the number that the first of them are.
 #[inline(always)]
 fn long_run(front: u64, octets: &[u8]) -> (u128, usize)
     requires within { SHORT_DIGITS ≤ length octets.now }
@@ -248,7 +248,7 @@ pub(crate) fn decimal_run(octets: &[u8]) -> (u128, usize)
     (u128::from(front), end)
 }
 
-// The number of at most `most` that digits of a base are.
+/// The number of at most `most` that digits of a base are.
 fn number_in(base: u8, most: u128, word: &[u8]) -> Option<u128>
     requires { 0 < base }
     ensures number { result ≡ number_in base most word.now }
@@ -282,10 +282,10 @@ pub fn number(word: &[u8], most: u128) -> Option<u128>
     if number > most { None } else { Some(number) }
 }
 
-// How many hexadecimal digits surely make a number of 64 bits.
+/// How many hexadecimal digits surely make a number of 64 bits.
 const HEX_DIGITS: usize = 16;
 
-// The number that the hexadecimal digits at the front of octets are, as far as they surely fit 64 bits, and how many these are.
+/// The number that the hexadecimal digits at the front of octets are, as far as they surely fit 64 bits, and how many these are.
 fn hex_run(octets: &[u8]) -> (u64, usize)
     ensures within { result.1 ≤ length octets.now }
     ensures value { value_behind 16 0 (take result.1 octets.now) ≡ Some result.0 }

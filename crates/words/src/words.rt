@@ -7,14 +7,14 @@ ghost use Rattle.words.specs.Words.{is_blank, starts_blank, starts_with_break, w
 
 use crate::numbers::{decimal_run, number, short_run};
 
-// Whether an octet is no blank, whatever comes after it.
+/// Whether an octet is no blank, whatever comes after it.
 fn is_ordinary(octet: u8) -> bool
     ensures { result ≡ true → (rest : List ℕ) → starts_blank (octet ∷ rest) ≡ false }
 {
     octet > b' ' && octet != b'\\'
 }
 
-// Whether octets start with a blank, of whatever kind.
+/// Whether octets start with a blank, of whatever kind.
 fn starts_any_blank(octets: &[u8]) -> bool
     ensures { result ≡ starts_blank octets.now }
 {
@@ -36,14 +36,14 @@ fn starts_blank(octets: &[u8]) -> bool
     }
 }
 
-// Whether there is an octet at this place, and it is no blank, whatever comes after it.
+/// Whether there is an octet at this place, and it is no blank, whatever comes after it.
 fn is_ordinary_at(octets: &[u8], place: usize) -> bool
     ensures { result ≡ true → starts_blank (drop place octets.now) ≡ false }
 {
     place < octets.len() && is_ordinary(octets[place])
 }
 
-// Goes on in a word from an octet that is no blank, and past all that are known to be none by themselves.
+/// Goes on in a word from an octet that is no blank, and past all that are known to be none by themselves.
 fn word_on(octets: &[u8], place: usize) -> usize
     requires { starts_blank (drop place octets.now) ≡ false }
     ensures onward { place < result }
@@ -57,7 +57,7 @@ fn word_on(octets: &[u8], place: usize) -> usize
     next
 }
 
-// What comes after a space, where there is one first.
+/// What comes after a space, where there is one first.
 fn past_space(octets: &[u8]) -> &[u8]
     ensures words { words_of result.now ≡ words_of octets.now }
     ensures short { length result.now ≤ length octets.now }
@@ -68,7 +68,7 @@ fn past_space(octets: &[u8]) -> &[u8]
     }
 }
 
-// The first word, and what comes after it.
+/// The first word, and what comes after it.
 fn split_word(octets: &[u8]) -> Option<(&[u8], &[u8])>
     ensures word { MatchOption result (words_of octets.now ≡ [])
         (λ x. words_of octets.now ≡ x.0.now ∷ words_of x.1.now) }
@@ -86,7 +86,7 @@ fn split_word(octets: &[u8]) -> Option<(&[u8], &[u8])>
     Some(rest.split_at(end))
 }
 
-// Whether eight octets are the same, by one comparison.
+/// Whether eight octets are the same, by one comparison.
 #[inline(always)]
 fn are_eight(octets: [u8; 8], text: [u8; 8]) -> bool
     ensures { result ≡ true → octets ≡ text }
@@ -94,7 +94,7 @@ fn are_eight(octets: [u8; 8], text: [u8; 8]) -> bool
     u64::from_le_bytes(octets) == u64::from_le_bytes(text)
 }
 
-// Whether two texts of 8 to 16 octets are the same: their first eight and their last eight are. Longer and shorter ones are not compared.
+/// Whether two texts of 8 to 16 octets are the same: their first eight and their last eight are. Longer and shorter ones are not compared.
 #[inline(always)]
 fn are_same<const N: usize>(octets: &[u8; N], text: &[u8; N]) -> bool
     ensures { result ≡ true → octets.now ≡ text.now }
@@ -111,7 +111,7 @@ fn are_same<const N: usize>(octets: &[u8; N], text: &[u8; N]) -> bool
     are_eight(*back, *end)
 }
 
-// What comes after a text, where octets begin with it.
+/// What comes after a text, where octets begin with it.
 #[inline(always)]
 fn past_text<'a, const N: usize>(octets: &'a [u8], text: &[u8; N]) -> Option<&'a [u8]>
     ensures { IfSome result (λ rest. octets.now ≡ text.now ++ rest.now) }
@@ -124,7 +124,7 @@ fn past_text<'a, const N: usize>(octets: &'a [u8], text: &[u8; N]) -> Option<&'a
     }
 }
 
-// Whether octets end at this place, or go on with a space.
+/// Whether octets end at this place, or go on with a space.
 fn is_plain_end(octets: &[u8], place: usize) -> bool
     requires { place ≤ length octets.now }
     ensures blank { result ≡ true → starts_blank (drop place octets.now) ≡ true }
@@ -133,7 +133,7 @@ fn is_plain_end(octets: &[u8], place: usize) -> bool
     place == octets.len() || octets[place] == b' '
 }
 
-// Whether there is an octet at this place that is no blank by itself.
+/// Whether there is an octet at this place that is no blank by itself.
 fn is_unblank_at(octets: &[u8], place: usize) -> bool
     ensures within { result ≡ true → place < length octets.now }
     ensures unblank { result ≡ true → not (is_blank (get_or octets.now place 0)) ≡ true }
@@ -141,7 +141,7 @@ fn is_unblank_at(octets: &[u8], place: usize) -> bool
     place < octets.len() && octets[place] > b' '
 }
 
-// How many octets stand in front of the first one that is a blank by itself, or of another control.
+/// How many octets stand in front of the first one that is a blank by itself, or of another control.
 fn unblank_length(octets: &[u8]) -> usize
     ensures within { result ≤ length octets.now }
     ensures unblank { list_all (λ octet. not (is_blank octet)) (take result octets.now) ≡ true }
@@ -153,7 +153,7 @@ fn unblank_length(octets: &[u8]) -> usize
     end
 }
 
-// The first word, where there are no blanks about it but spaces, and what comes after it.
+/// The first word, where there are no blanks about it but spaces, and what comes after it.
 #[inline]
 fn split_plain(octets: &[u8]) -> Option<(&[u8], &[u8])>
     ensures word { IfSome result (λ x. words_of octets.now ≡ x.0.now ∷ words_of x.1.now) }
@@ -167,8 +167,8 @@ fn split_plain(octets: &[u8]) -> Option<(&[u8], &[u8])>
     Some(rest.split_at(length))
 }
 
-// The number that the first word is, where it has digits alone, at most 38 of them, and no blanks about it but spaces; and
-// what comes after it.
+/// The number that the first word is, where it has digits alone, at most 38 of them, and no blanks about it but spaces; and
+/// what comes after it.
 #[inline]
 fn split_number(octets: &[u8]) -> Option<(u128, &[u8])>
     ensures number { IfSome result (λ x. (most : ℕ) → first_number most (words_of octets.now) ≡ Some (at_most most (Some x.0))) }
@@ -184,8 +184,8 @@ fn split_number(octets: &[u8]) -> Option<(u128, &[u8])>
     Some((number, behind))
 }
 
-// The number that the first word is, where it has at most 19 digits, which surely fit 64 bits, and no blanks about it but spaces; and
-// what comes after it.
+/// The number that the first word is, where it has at most 19 digits, which surely fit 64 bits, and no blanks about it but spaces; and
+/// what comes after it.
 #[inline]
 fn split_short(octets: &[u8]) -> Option<(u64, &[u8])>
     ensures number { IfSome result (λ x. (most : ℕ) → first_number most (words_of octets.now) ≡ Some (at_most most (Some x.0))) }
@@ -232,7 +232,7 @@ impl<'a> Words<'a> {
         self.place
     }
 
-    // Goes on to what comes after so many words.
+    /// Goes on to what comes after so many words.
     fn go_on(&mut self, rest: &'a [u8], count: usize)
         requires { length rest.now + count ≤ length self.old.rest.now }
         ensures left { words_left self.new ≡ words_of rest.now }
@@ -242,7 +242,7 @@ impl<'a> Words<'a> {
         self.place += count;
     }
 
-    // The next word, whatever blanks are about it. Apart, since mostly they are spaces.
+    /// The next word, whatever blanks are about it. Apart, since mostly they are spaces.
     #[inline(never)]
     fn next_of_any(&mut self) -> Option<&'a [u8]>
         ensures word { MatchOption result ((words_left self.old ≡ []) × (words_left self.new ≡ []))
@@ -273,7 +273,7 @@ impl<'a> Words<'a> {
         Some(word)
     }
 
-    /// Goes on behind a text, which is counted as so many words, where the octets that no word was taken of begin with it; else
+    /// Goes past a text, which is counted as so many words, where the octets that no word was taken of begin with it; else
     /// nothing changes.
     #[inline(always)]
     pub fn skip_text<const N: usize>(&mut self, text: &[u8; N], count: usize) -> bool
@@ -289,7 +289,7 @@ impl<'a> Words<'a> {
         true
     }
 
-    /// The next word, where it has two octets, no blank before it and a space behind it. Else None, and nothing changes.
+    /// The next word, where it has two octets, no blank before it and a space after it. Else None, and nothing changes.
     #[inline(always)]
     pub fn next_pair(&mut self) -> Option<[u8; 2]>
         ensures word { IfSome result (λ pair. words_left self.old ≡ pair ∷ words_left self.new) }

@@ -61,7 +61,7 @@ fn customer_tags(rt: HostRuntime) -> Result<(), Fail> {
 #[test]
 fn no_customer_tag(rt: HostRuntime) -> Result<(), Fail> {
     let plain = [2, 0, 0, 0, 0, 2, 2, 0, 0, 0, 0, 1, 8, 0, 0x81, 0, 0x60, 5];
-    // A service tag, and behind it a customer tag.
+    // A service tag, and after it a customer tag.
     let double = [
         2, 0, 0, 0, 0, 2, 2, 0, 0, 0, 0, 1, 0x88, 0xa8, 0x60, 5, 0x81, 0, 0xa0, 5, 8, 0,
     ];

@@ -30,7 +30,7 @@ fn any_piece(rt: HostRuntime) -> Result<(), Fail> {
     Ok(())
 }
 
-/// What is read of the capture of two records, an octet a call, where the call with this number fails, and those behind it too or not.
+/// What is read of the capture of two records, an octet a call, where the call with this number fails, and those after it too or not.
 fn read_with_a_fault(alloc: Global, call: u32, recovers: bool) -> (u32, End) {
     let mut reader = Pieces::new(TWO_RECORDS.as_slice(), 1);
     reader.fails_at = call;
@@ -113,7 +113,7 @@ fn read_whole(alloc: Global, fails_at: u32) -> (u32, End) {
 
 #[test]
 fn reads_no_more_than_it_needs(rt: HostRuntime) -> Result<(), Fail> {
-    // Both records come at the first read behind the header, and the next read fails: it is made only after both.
+    // Both records come at the first read after the header, and the next read fails: it is made only after both.
     let behind_both = read_whole(rt.alloc(), 2);
     // The header is read by itself.
     let behind_the_header = read_whole(rt.alloc(), 1);
@@ -135,7 +135,7 @@ fn long_record(captured: u32) -> [u8; 40] {
     octets
 }
 
-/// What is read of a record that says that so many octets were captured, with so many octets of 0 behind its header.
+/// What is read of a record that says that so many octets were captured, with so many octets of 0 after its header.
 fn read_long(alloc: Global, captured: u32, zeros: usize) -> (u32, End) {
     let head = long_record(captured);
     let mut source = Pieces::new(head.as_slice(), 65_521);
@@ -155,7 +155,7 @@ fn is_of_zeros(record: Result<Option<Record<'_>>, CapFault>, captured: u32) -> b
     }
 }
 
-/// What is not read of the longest record, a record without octets behind it, and the end; empty where all is.
+/// What is not read of the longest record, a record without octets, and the end; empty where all is.
 fn missed_of_the_longest(alloc: Global) -> &'static str {
     let head = long_record(MAX_RECORD_OCTETS);
     let mut source = Pieces::new(head.as_slice(), 65_521);

@@ -4,7 +4,7 @@ ghost use Rattle.std.specs.Prelude.{◌≤◌};
 
 use octets::PortValues;
 
-/// So many dots are lent for an output.
+/// So many dots are put where an output goes.
 pub const ROOM: usize = 512;
 
 /// A slice that nothing was written to.
@@ -27,7 +27,7 @@ pub fn has(slice: &[u8], text: &[u8]) -> bool {
     }
 }
 
-/// As much room as a text takes, or one octet less; at most as much as is lent.
+/// As much room as a text takes, or one octet less; at most as much as there is.
 pub fn room_for(text: &[u8], is_short: bool) -> usize
     ensures { result ≤ ROOM }
 {

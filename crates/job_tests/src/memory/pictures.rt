@@ -11,7 +11,7 @@ const SHOWN: PictureValues = PictureValues {
     width: 1200,
 };
 
-/// With too little room first, and then with the room that was told.
+/// With too little room first, and then with the room that was reported.
 #[test]
 fn draws_where_there_is_room(rt: HostRuntime) -> Result<(), Fail> {
     let (mut small, mut fault) = (DOTS, DOTS);
