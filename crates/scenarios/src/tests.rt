@@ -194,7 +194,7 @@ fn times_of_schedules_are_refused_at_their_limits(rt: HostRuntime) {
     }
 }
 
-/// The map of the manual's example of tc-taprio(8).
+/// The map of the example of tc-taprio(8).
 fn manual_map() -> Option<ClassMap> {
     ClassMap::new(3, &[2, 2, 1, 0, 2, 2, 2, 2, 2, 2, 2, 2, 2, 2, 2, 2]).ok()
 }
@@ -221,7 +221,7 @@ fn with_other_map() -> Option<Command> {
     replace(&[entry(1, 300_000)], 0, Some(map))
 }
 
-/// A port that has taken the manual's example.
+/// A port that has taken a schedule after the example of tc-taprio(8).
 fn manual_port(alloc: Global) -> Option<Port<Plain>> {
     let mut port = gigabit_port::<Plain>(alloc, 128)?;
     match said(&mut port, manual_command())? {
@@ -246,7 +246,7 @@ fn seen_of_manual_port(
     Some((arrived, changed, port.report().classes))
 }
 
-/// The manual's example of tc-taprio(8), and frames by its map.
+/// A schedule after the example of tc-taprio(8), and frames by its map.
 #[test]
 fn installed_maps_stay(rt: HostRuntime) {
     let classes = manual_map().zip(manual_queues());
