@@ -12,6 +12,8 @@ mod memory;
 #[cfg(test)]
 mod pictures;
 #[cfg(test)]
+mod program_words;
+#[cfg(test)]
 mod random;
 #[cfg(test)]
 mod replays;
@@ -21,5 +23,3 @@ mod scripts;
 mod tables;
 #[cfg(test)]
 mod windows;
-#[cfg(test)]
-mod words;
