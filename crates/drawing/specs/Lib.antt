@@ -4,5 +4,6 @@ pub mod Shapes
 pub mod Waiting
 pub mod Course
 pub mod Taken
+pub mod Given
 pub mod Options
 pub mod Ending

@@ -4,6 +4,7 @@ use Rattle.wire_time.specs.Moment.{greatest_moment}
 use Rattle.words.specs.Numbers.{number_in}
 use Rattle.script.specs.declared.settings.BadValue.{BadValue}
 use Rattle.script.specs.declared.settings.BadValue.TheVariants as Values
+use Rattle.drawing.specs.Given.{DrawWords}
 use Rattle.drawing.specs.declared.options.DrawOptions.{DrawOptions}
 use Rattle.drawing.specs.declared.options.TheConstants.{WIDTH, SHORTEST}
 use Rattle.drawing.specs.declared.page.TheConstants.{LEFT, MAX_WIDTH, MIN_WIDTH, RIGHT}
@@ -41,8 +42,8 @@ with_beginning (Some from) to width = with_end from (end_in from to) width
 with_beginning None to width = Err Values.From
 
 -- the options of three values, or the first that is bad
-abbrev pub options_of : Option (List ℕ) → Option (List ℕ) → Option (List ℕ) → Result DrawOptions BadValue
-options_of from to width = with_beginning (number_or (greatest_moment - SHORTEST) 0 from) to width
+abbrev pub options_of : DrawWords → Result DrawOptions BadValue
+options_of given = with_beginning (number_or (greatest_moment - SHORTEST) 0 given.from) given.to given.width
 
 -- where a picture ends that has no end of its own: at the run's last moment, or a microsecond after its beginning where the run ends before
 abbrev pub end_after : ℕ → ℕ → ℕ

@@ -1,6 +1,8 @@
 //! What a picture shows, by the values of options.
 
-ghost use Rattle.std.specs.Prelude.{◌≡◌, ◌≤◌, IfSome, option_map};
+ghost use Rattle.std.specs.Prelude.{◌≡◌, ◌≤◌, IfSome};
+ghost use Rattle.script.specs.Given.{octets_of};
+ghost use Rattle.drawing.specs.Given.{words_of_draws};
 ghost use Rattle.drawing.specs.Options.{end_in, number_or, options_of, width_where, window_shown};
 
 use crate::page::{LEFT, MAX_WIDTH, MIN_WIDTH, RIGHT};
@@ -69,7 +71,7 @@ impl DrawOptions {
 /// The number of a word, at most `greatest`; where there is no word, this one.
 fn number_or(greatest: u128, default: u128, value: Option<&str>) -> Option<u128>
     requires { default ≤ greatest }
-    ensures value { result ≡ number_or greatest default (option_map (λ text. text.now) value.entry) }
+    ensures value { result ≡ number_or greatest default (octets_of value.entry) }
     ensures within { IfSome result (λ n. n ≤ greatest) }
 {
     match value {
@@ -80,7 +82,7 @@ fn number_or(greatest: u128, default: u128, value: Option<&str>) -> Option<u128>
 
 /// The end of a picture, after its beginning, if one is given; the outer None is a bad value.
 fn end_in(from: u128, value: Option<&str>) -> Option<Option<u128>>
-    ensures { result ≡ end_in from (option_map (λ text. text.now) value.entry) }
+    ensures { result ≡ end_in from (octets_of value.entry) }
 {
     match value {
         None => Some(None),
@@ -107,7 +109,7 @@ fn width_where(number: Option<u128>) -> Option<u32>
 /// What the values of a picture say, or the first that is bad: a beginning over the greatest moment but a microsecond, an end over the greatest
 /// or not after the beginning, or a width out of its limits.
 pub fn options_given(values: DrawValues<'_>) -> Result<DrawOptions, BadValue>
-    ensures { result ≡ options_of (option_map (λ text. text.now) values.entry.from) (option_map (λ text. text.now) values.entry.to) (option_map (λ text. text.now) values.entry.width) }
+    ensures { result ≡ options_of (words_of_draws values.entry) }
 {
     let Some(from) = number_or(MAX_MOMENT - SHORTEST, 0, values.from) else {
         return Err(BadValue::From);

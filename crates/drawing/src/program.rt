@@ -1,10 +1,12 @@
 //! The program's job: a script becomes a picture.
 
-ghost use Rattle.std.specs.Prelude.{◌≡◌, IfErr, option_map};
+ghost use Rattle.std.specs.Prelude.{◌≡◌, IfErr};
 ghost use Rattle.std.specs.Io.Buffered.{writer_contents};
 ghost use Rattle.script.specs.Ending.{settings_given};
+ghost use Rattle.script.specs.Given.{words_of_values};
 ghost use Rattle.wire_time.specs.Moment.{greatest_moment};
 ghost use Rattle.drawing.specs.Ending.{IsDrawEnding};
+ghost use Rattle.drawing.specs.Given.{words_of_draws};
 ghost use Rattle.drawing.specs.Options.{options_of};
 
 use crate::options::{DrawValues, options_given};
@@ -25,11 +27,11 @@ pub fn answer_draw<B: Allocator, R: Read, W: Write + Drop, E: Write>(
     mut answers: BufWriter<W, B>,
     errors: &mut E,
 ) -> (Ended, W)
-    ensures ending { IsDrawEnding (settings_given greatest_moment (option_map (λ text. text.now) values.entry.rate) (option_map (λ text. text.now) values.entry.mtu) (option_map (λ text. text.now) values.entry.room) (option_map (λ text. text.now) values.entry.until) values.entry.summary)
-        (options_of (option_map (λ text. text.now) draws.entry.from) (option_map (λ text. text.now) draws.entry.to) (option_map (λ text. text.now) draws.entry.width))
+    ensures ending { IsDrawEnding (settings_given greatest_moment (words_of_values values.entry))
+        (options_of (words_of_draws draws.entry))
         (R.remaining reader.old) result.0 (writer_contents W.contents answers) (W.contents result.1) (E.contents errors.old) (E.contents errors.new) }
-    ensures unread { IfErr (settings_given greatest_moment (option_map (λ text. text.now) values.entry.rate) (option_map (λ text. text.now) values.entry.mtu) (option_map (λ text. text.now) values.entry.room) (option_map (λ text. text.now) values.entry.until) values.entry.summary) (λ _. reader.new ≡ reader.old) }
-    ensures unused { IfErr (options_of (option_map (λ text. text.now) draws.entry.from) (option_map (λ text. text.now) draws.entry.to) (option_map (λ text. text.now) draws.entry.width)) (λ _. reader.new ≡ reader.old) }
+    ensures unread { IfErr (settings_given greatest_moment (words_of_values values.entry)) (λ _. reader.new ≡ reader.old) }
+    ensures unused { IfErr (options_of (words_of_draws draws.entry)) (λ _. reader.new ≡ reader.old) }
 {
     let settings = match settings_given(values, MAX_MOMENT) {
         Ok(settings) => settings,

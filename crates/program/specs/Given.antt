@@ -4,11 +4,13 @@ use Rattle.std.specs.Option.{option_map_or}
 use Rattle.std.specs.Str.{bytes_eq}
 use Rattle.clap.specs.Matches.{first_value}
 use Rattle.clap.specs.declared.parser.matches.Found.{Found}
+use Rattle.drawing.specs.Given.{DrawWords}
 use Rattle.drawing.specs.Options.{options_of}
 use Rattle.drawing.specs.declared.options.DrawOptions.{DrawOptions}
 use Rattle.replay.specs.Texts.{open_text}
 use Rattle.job.specs.Ending.{IsUnanswered}
 use Rattle.script.specs.Ending.{rate_given, settings_given}
+use Rattle.script.specs.Given.{GivenWords}
 use Rattle.script.specs.Setup.{Setup}
 use Rattle.job.specs.declared.telling.Ended.{Ended}
 use Rattle.script.specs.declared.settings.BadValue.{BadValue}
@@ -18,10 +20,18 @@ use Rattle.traffic.specs.Ending.{IsStreamsEnding}
 abbrev pub flag_in : List ℕ → Found → Bool
 flag_in name found = option_map_or (λ text. bytes_eq text (codes "true")) (first_value found name) false
 
+-- what the words give to the options of a port
+abbrev pub words_in : Found → GivenWords
+words_in found =
+    record { rate = first_value found (codes "rate"); mtu = first_value found (codes "mtu"); room = first_value found (codes "room"); until = first_value found (codes "until"); summary = flag_in (codes "summary") found }
+
+-- what the words give to the options of a picture
+abbrev pub draw_words_in : Found → DrawWords
+draw_words_in found = record { from = first_value found (codes "from"); to = first_value found (codes "to"); width = first_value found (codes "width") }
+
 -- the settings of the values that are given to the options, with a moment of at most `greatest`
 abbrev pub settings_in : ℕ → Found → Result Setup BadValue
-settings_in greatest found =
-    settings_given greatest (first_value found (codes "rate")) (first_value found (codes "mtu")) (first_value found (codes "room")) (first_value found (codes "until")) (flag_in (codes "summary") found)
+settings_in greatest found = settings_given greatest (words_in found)
 
 -- the rate of the value that is given to its option
 abbrev pub rate_in : Found → Result ℕ BadValue
@@ -29,7 +39,7 @@ rate_in found = rate_given (first_value found (codes "rate"))
 
 -- what the values that are given to the options say of a picture
 abbrev pub draws_in : Found → Result DrawOptions BadValue
-draws_in found = options_of (first_value found (codes "from")) (first_value found (codes "to")) (first_value found (codes "width"))
+draws_in found = options_of (draw_words_in found)
 
 -- whether windows are asked for
 abbrev pub windows_in : Found → Bool

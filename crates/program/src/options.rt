@@ -1,8 +1,10 @@
 //! The words of the program.
 
-ghost use Rattle.std.specs.Prelude.{◌≡◌, codes, option_map};
+ghost use Rattle.std.specs.Prelude.{◌≡◌, codes};
 ghost use Rattle.clap.specs.Matches.{first_value, found_of};
-ghost use Rattle.program.specs.Given.{flag_in, windows_in};
+ghost use Rattle.drawing.specs.Given.{words_of_draws};
+ghost use Rattle.script.specs.Given.{octets_of, words_of_values};
+ghost use Rattle.program.specs.Given.{draw_words_in, flag_in, windows_in, words_in};
 
 use clap::{Arg, ArgAction, ArgMatches, Command};
 use drawing::DrawValues;
@@ -21,11 +23,7 @@ fn is_given(matches: &ArgMatches<'_>, name: &str) -> bool
 
 /// The values that a subcommand is given.
 pub fn values_of<'a>(matches: &ArgMatches<'a>) -> Values<'a>
-    ensures rate { option_map (λ text. text.now) result.rate ≡ first_value (found_of matches.now) (codes "rate") }
-    ensures mtu { option_map (λ text. text.now) result.mtu ≡ first_value (found_of matches.now) (codes "mtu") }
-    ensures room { option_map (λ text. text.now) result.room ≡ first_value (found_of matches.now) (codes "room") }
-    ensures until { option_map (λ text. text.now) result.until ≡ first_value (found_of matches.now) (codes "until") }
-    ensures summary { result.summary ≡ flag_in (codes "summary") (found_of matches.now) }
+    ensures { words_of_values result ≡ words_in (found_of matches.now) }
 {
     Values {
         rate: matches.get_str("rate"),
@@ -38,9 +36,7 @@ pub fn values_of<'a>(matches: &ArgMatches<'a>) -> Values<'a>
 
 /// The values that a picture is given.
 pub fn draws_of<'a>(matches: &ArgMatches<'a>) -> DrawValues<'a>
-    ensures from { option_map (λ text. text.now) result.from ≡ first_value (found_of matches.now) (codes "from") }
-    ensures to { option_map (λ text. text.now) result.to ≡ first_value (found_of matches.now) (codes "to") }
-    ensures width { option_map (λ text. text.now) result.width ≡ first_value (found_of matches.now) (codes "width") }
+    ensures { words_of_draws result ≡ draw_words_in (found_of matches.now) }
 {
     DrawValues {
         from: matches.get_str("from"),
@@ -51,7 +47,7 @@ pub fn draws_of<'a>(matches: &ArgMatches<'a>) -> DrawValues<'a>
 
 /// The line rate that a subcommand is given.
 pub fn rate_of<'a>(matches: &ArgMatches<'a>) -> Option<&'a str>
-    ensures { option_map (λ text. text.now) result ≡ first_value (found_of matches.now) (codes "rate") }
+    ensures { octets_of result ≡ first_value (found_of matches.now) (codes "rate") }
 {
     matches.get_str("rate")
 }

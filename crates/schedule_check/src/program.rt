@@ -1,10 +1,11 @@
 //! The program's second job: schedules are checked by the values of options.
 
-ghost use Rattle.std.specs.Prelude.{◌≡◌, ℕ, IfErr, option_map};
+ghost use Rattle.std.specs.Prelude.{◌≡◌, ℕ, IfErr};
 ghost use Rattle.std.specs.Io.Buffered.{writer_contents};
 ghost use Rattle.schedule_check.specs.Checked.{whole_check};
 ghost use Rattle.schedule_check.specs.Windows.{IsTeller, Teller};
 ghost use Rattle.script.specs.Ending.{IsEnding, rate_given};
+ghost use Rattle.script.specs.Given.{octets_of};
 
 use crate::checking::check;
 use crate::settings::CheckSettings;
@@ -24,9 +25,9 @@ pub fn answer_check<A: Allocator, B: Allocator, R: Read, W: Write + Drop, E: Wri
     mut answers: BufWriter<W, B>,
     errors: &mut E,
 ) -> (Ended, W)
-    ensures ending { (tell : Teller) → IsTeller tell → IsEnding (whole_check tell windows) (rate_given (option_map (λ text. text.now) rate.entry))
+    ensures ending { (tell : Teller) → IsTeller tell → IsEnding (whole_check tell windows) (rate_given (octets_of rate.entry))
         (R.remaining reader.old) result.0 (writer_contents W.contents answers) (W.contents result.1) (E.contents errors.old) (E.contents errors.new) }
-    ensures unread { IfErr (rate_given (option_map (λ text. text.now) rate.entry)) (λ _. reader.new ≡ reader.old) }
+    ensures unread { IfErr (rate_given (octets_of rate.entry)) (λ _. reader.new ≡ reader.old) }
 {
     match rate_given(rate) {
         Ok(rate) => {

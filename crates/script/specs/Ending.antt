@@ -6,6 +6,7 @@ use Rattle.job.specs.Outcome.{Outcome, RunsOut}
 use Rattle.job.specs.declared.telling.Ended.{Ended}
 use Rattle.tc_reader.specs.declared.fault.TcFault.{TcFault}
 use Rattle.tc_reader.specs.Reader.{IsReader}
+use Rattle.script.specs.Given.{GivenWords}
 use Rattle.script.specs.Setup.{Setup}
 use Rattle.script.specs.Settings.{rate_in, settings_of, summarized}
 use Rattle.script.specs.Outcome.{outcome_of}
@@ -16,12 +17,12 @@ use Rattle.script.specs.declared.settings.BadValue.TheVariants as Values
 
 -- The settings of the values that are given, with a moment of at most `greatest`: 1000 Mb/s, an mtu of 1500 octets and room for 128
 -- frames a class where none is.
-abbrev pub settings_or_usual : ℕ → Option (List ℕ) → Option (List ℕ) → Option (List ℕ) → Option (List ℕ) → Result Setup BadValue
-settings_or_usual greatest rate mtu room until = settings_of (unwrap_or rate (codes "1000")) (unwrap_or mtu (codes "1500")) (unwrap_or room (codes "128")) until greatest
+abbrev pub settings_or_usual : ℕ → GivenWords → Result Setup BadValue
+settings_or_usual greatest given = settings_of (unwrap_or given.rate (codes "1000")) (unwrap_or given.mtu (codes "1500")) (unwrap_or given.room (codes "128")) given.until greatest
 
 -- the settings of the values that are given or usual, with a summary where one is wanted
-abbrev pub settings_given : ℕ → Option (List ℕ) → Option (List ℕ) → Option (List ℕ) → Option (List ℕ) → Bool → Result Setup BadValue
-settings_given greatest rate mtu room until summary = summarized summary (settings_or_usual greatest rate mtu room until)
+abbrev pub settings_given : ℕ → GivenWords → Result Setup BadValue
+settings_given greatest given = summarized given.summary (settings_or_usual greatest given)
 
 -- a rate in picoseconds an octet, if there is one
 abbrev pub rate_where_good : Option ℕ → Result ℕ BadValue

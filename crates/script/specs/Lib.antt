@@ -6,4 +6,5 @@ pub mod Responses
 pub mod Outcome
 pub mod Separated
 pub mod Texts
+pub mod Given
 pub mod Ending

@@ -1,8 +1,9 @@
 //! The program's main job: a script is answered by the values of options.
 
-ghost use Rattle.std.specs.Prelude.{◌≡◌, ◌≤◌, IfErr, option_map};
+ghost use Rattle.std.specs.Prelude.{◌≡◌, ◌≤◌, IfErr};
 ghost use Rattle.std.specs.Io.Buffered.{writer_contents};
 ghost use Rattle.wire_time.specs.Moment.{greatest_moment};
+ghost use Rattle.script.specs.Given.{octets_of, words_of_values};
 ghost use Rattle.script.specs.Ending.{IsEnding, IsRefusal, rate_given, settings_given, settings_or_usual, whole_script};
 
 use crate::faults::say_value;
@@ -39,7 +40,7 @@ pub struct Values<'a> {
 
 /// The line rate of a value in Mb/s, or, where none is given, 1000 Mb/s.
 pub fn rate_given(rate: Option<&str>) -> Result<Rate, BadValue>
-    ensures { result ≡ rate_given (option_map (λ text. text.now) rate.entry) }
+    ensures { result ≡ rate_given (octets_of rate.entry) }
 {
     match read_rate(rate.unwrap_or(RATE)) {
         Some(rate) => Ok(rate),
@@ -50,7 +51,7 @@ pub fn rate_given(rate: Option<&str>) -> Result<Rate, BadValue>
 /// The settings of the values that are given, without a summary.
 fn read_given(values: Values<'_>, greatest: u128) -> Result<Settings, BadValue>
     requires { greatest ≤ MAX_MOMENT }
-    ensures { result ≡ settings_or_usual greatest (option_map (λ text. text.now) values.entry.rate) (option_map (λ text. text.now) values.entry.mtu) (option_map (λ text. text.now) values.entry.room) (option_map (λ text. text.now) values.entry.until) }
+    ensures { result ≡ settings_or_usual greatest (words_of_values values.entry) }
 {
     Settings::read(
         values.rate.unwrap_or(RATE),
@@ -65,7 +66,7 @@ fn read_given(values: Values<'_>, greatest: u128) -> Result<Settings, BadValue>
 /// picoseconds, and with a summary where one is wanted. The first bad value is the fault.
 pub fn settings_given(values: Values<'_>, greatest: u128) -> Result<Settings, BadValue>
     requires { greatest ≤ MAX_MOMENT }
-    ensures { result ≡ settings_given greatest (option_map (λ text. text.now) values.entry.rate) (option_map (λ text. text.now) values.entry.mtu) (option_map (λ text. text.now) values.entry.room) (option_map (λ text. text.now) values.entry.until) values.entry.summary }
+    ensures { result ≡ settings_given greatest (words_of_values values.entry) }
 {
     match read_given(values, greatest) {
         Ok(settings) => Ok(settings.with_summary(values.summary)),
@@ -93,9 +94,9 @@ pub fn answer_script<A: Allocator, B: Allocator, R: Read, W: Write + Drop, E: Wr
     mut answers: BufWriter<W, B>,
     errors: &mut E,
 ) -> (Ended, W)
-    ensures ending { IsEnding whole_script (settings_given greatest_moment (option_map (λ text. text.now) values.entry.rate) (option_map (λ text. text.now) values.entry.mtu) (option_map (λ text. text.now) values.entry.room) (option_map (λ text. text.now) values.entry.until) values.entry.summary)
+    ensures ending { IsEnding whole_script (settings_given greatest_moment (words_of_values values.entry))
         (R.remaining reader.old) result.0 (writer_contents W.contents answers) (W.contents result.1) (E.contents errors.old) (E.contents errors.new) }
-    ensures unread { IfErr (settings_given greatest_moment (option_map (λ text. text.now) values.entry.rate) (option_map (λ text. text.now) values.entry.mtu) (option_map (λ text. text.now) values.entry.room) (option_map (λ text. text.now) values.entry.until) values.entry.summary) (λ _. reader.new ≡ reader.old) }
+    ensures unread { IfErr (settings_given greatest_moment (words_of_values values.entry)) (λ _. reader.new ≡ reader.old) }
 {
     match settings_given(values, MAX_MOMENT) {
         Ok(settings) => {

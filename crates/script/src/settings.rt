@@ -1,9 +1,10 @@
 //! What a port runs with, as numbers or as words.
 
-ghost use Rattle.std.specs.Prelude.{◌≡◌, ◌≤◌, option_map};
+ghost use Rattle.std.specs.Prelude.{◌≡◌, ◌≤◌};
 ghost use Rattle.std.specs.Option.{ForSome};
 ghost use Rattle.abstract_port.specs.Sound.{IsMtu};
 ghost use Rattle.class_queue.specs.Queue.{IsRoom};
+ghost use Rattle.script.specs.Given.{octets_of};
 ghost use Rattle.script.specs.Settings.{is_until, mtu_in, rate_in, room_in, settings_of, settings_with, with_summary};
 
 use port::{is_mtu, is_room};
@@ -121,7 +122,7 @@ impl Settings {
         greatest: u128,
     ) -> Result<Settings, BadValue>
         requires { greatest ≤ MAX_MOMENT }
-        ensures { result ≡ settings_of rate.now mtu.now room.now (option_map (λ text. text.now) until.entry) greatest }
+        ensures { result ≡ settings_of rate.now mtu.now room.now (octets_of until.entry) greatest }
     {
         let Some(rate) = read_rate(rate) else {
             return Err(BadValue::Rate);
