@@ -72,7 +72,7 @@ fn few_run(octets: &[u8]) -> (u64, usize)
     (number, end)
 }
 
-/// The number that the decimal digits at the front of octets are, as far as they surely fit 64 bits, and how many these are.
+// The number that the decimal digits at the front of octets are, as far as they surely fit 64 bits, and how many these are.
 pub(crate) fn short_run(octets: &[u8]) -> (u64, usize)
     ensures within { result.1 ≤ length octets.now }
     ensures few { result.1 ≤ SHORT_DIGITS }
@@ -235,7 +235,7 @@ fn long_run(front: u64, octets: &[u8]) -> (u128, usize)
     (number, end)
 }
 
-/// The number that the decimal digits at the front of octets are, but for those past 38, and how many these are.
+// The number that the decimal digits at the front of octets are, but for those past 38, and how many these are.
 #[inline(always)]
 pub(crate) fn decimal_run(octets: &[u8]) -> (u128, usize)
     ensures within { result.1 ≤ length octets.now }
