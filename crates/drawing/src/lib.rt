@@ -6,11 +6,11 @@
 
 mod arrivals;
 mod course;
+mod draw_job;
 mod fitting;
 mod marks;
 mod options;
 mod page;
-mod program;
 mod running;
 mod shapes;
 mod svg;
@@ -18,10 +18,10 @@ mod view;
 
 pub use arrivals::Arrivals;
 pub use course::Course;
+pub use draw_job::answer_draw;
 pub use fitting::fit;
 pub use options::{DrawOptions, DrawValues, options_given};
 pub use page::{Page, row_top};
-pub use program::answer_draw;
 pub use running::{draw, take};
 pub use shapes::Shapes;
 pub use svg::put_picture;

@@ -10,16 +10,16 @@ mod keeping;
 mod kept_script;
 pub mod laws;
 mod lines;
-mod program;
 mod reading;
 mod records;
+mod replay_job;
 mod running;
 mod sending;
 mod texts;
 mod watch;
 
 pub use faults::{ReplayFault, ReplayInput};
-pub use program::{Inputs, Outputs, answer_replay};
+pub use replay_job::{Inputs, Outputs, answer_replay};
 pub use running::replay;
 pub use texts::say_unopened;
 pub use watch::{Unwatched, Watch};

@@ -5,16 +5,16 @@
 //! `answer_check` cite it.
 #![tactic(auto)]
 
+mod check_job;
 mod checking;
 mod laws;
-mod program;
 mod settings;
 mod telling;
 mod window_lines;
 mod windows;
 
+pub use check_job::answer_check;
 pub use checking::check;
 pub use laws::{ever_open, one_teller, turned_masks};
-pub use program::answer_check;
 pub use settings::CheckSettings;
 pub use windows::{Longest, Window, Windows};

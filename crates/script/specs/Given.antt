@@ -1,7 +1,7 @@
 -- The words that stand as the values of options.
 use denote.Bor.{Bor}
 use Rattle.std.specs.Prelude.{List, ℕ, Bool, Option, option_map}
-use Rattle.script.specs.declared.program.Values.{Values}
+use Rattle.script.specs.declared.script_job.Values.{Values}
 
 -- what is given to the options of a port: the octets of each word, where there is one, and whether a summary is asked for
 pub record GivenWords : Type 0 where

@@ -10,9 +10,9 @@ mod faults;
 mod fronts;
 pub mod laws;
 mod plain;
-mod program;
 mod reading;
 mod running;
+mod script_job;
 mod settings;
 
 pub use answering::{RunningPort, put_all_left, put_answers, put_tc};
@@ -20,7 +20,7 @@ pub use ending::put_end;
 pub use faults::{
     BadLine, RunFault, ScriptFault, limit_fault, put_line_fault, put_value, say_value,
 };
-pub use program::{Values, answer_script, end_with_value, rate_given, settings_given};
 pub use reading::{Said, read_line, read_tc};
 pub use running::run_script;
+pub use script_job::{Values, answer_script, end_with_value, rate_given, settings_given};
 pub use settings::{BadValue, Settings};

@@ -1,7 +1,7 @@
 -- What the values that C hands over say.
 use Rattle.std.specs.Prelude.{ℕ, ◌+◌, ◌*◌, ◌^◌, nat_lt, Bool, Option, Some, None, if◌then◌else◌}
-use Rattle.octets.specs.declared.pictures.PictureValues.{PictureValues}
-use Rattle.octets.specs.declared.values.PortValues.{PortValues}
+use Rattle.in_memory.specs.declared.pictures.PictureValues.{PictureValues}
+use Rattle.in_memory.specs.declared.values.PortValues.{PortValues}
 use Rattle.taprio_c.specs.declared.values.CPictureValues.{CPictureValues}
 use Rattle.taprio_c.specs.declared.values.CPortValues.{CPortValues}
 

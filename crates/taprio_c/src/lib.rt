@@ -1,6 +1,6 @@
 //! The library as C calls it: one function for each of the program's jobs over memory, whose declarations are in `c/taprio.h`.
 //!
-//! The contract of each function is that of its job in `octets`; what C's values say is specs/FromC.antt.
+//! The contract of each function is that of its job in `in_memory`; what C's values say is specs/FromC.antt.
 #![tactic(auto)]
 
 mod values;
@@ -10,10 +10,10 @@ ghost use Rattle.abstract_port.specs.declared.Command.{Command};
 ghost use Rattle.capture.specs.Records.{Entry};
 ghost use Rattle.capture.specs.declared.fault.CapFault.{CapFault};
 ghost use Rattle.capture.specs.declared.reader.End.{End};
-ghost use Rattle.octets.specs.Captures.{Replays, outputs, told_by_replay};
-ghost use Rattle.octets.specs.Pictures.{DrawsWith, options_at};
-ghost use Rattle.octets.specs.Slices.{Answers, slices, told_by, told_of};
-ghost use Rattle.octets.specs.Values.{rate_at, settings_at};
+ghost use Rattle.in_memory.specs.Captures.{Replays, outputs, told_by_replay};
+ghost use Rattle.in_memory.specs.Pictures.{DrawsWith, options_at};
+ghost use Rattle.in_memory.specs.Slices.{Answers, slices, told_by, told_of};
+ghost use Rattle.in_memory.specs.Values.{rate_at, settings_at};
 ghost use Rattle.replay.specs.Outcome.{ReadsAs, outcome_of as replay_outcome_of};
 ghost use Rattle.schedule_check.specs.Checked.{whole_check};
 ghost use Rattle.schedule_check.specs.Windows.{IsTeller, Teller};
@@ -25,7 +25,7 @@ ghost use Rattle.traffic.specs.Faults.{streams_telling};
 ghost use Rattle.traffic.specs.Outcome.{outcome_of as streams_outcome_of};
 
 use crate::values::{is_wanted, picture_values, port_values};
-use octets::{
+use in_memory::{
     Ran, ReplayRan, check_octets, draw_octets, replay_octets, run_octets, streams_octets,
 };
 use std::alloc::Global;

@@ -3,7 +3,7 @@
 ghost use Rattle.std.specs.Prelude.{◌≡◌};
 ghost use Rattle.taprio_c.specs.FromC.{is_wanted, moment_of, moment_where, picture_values, port_values};
 
-use octets::{PictureValues, PortValues};
+use in_memory::{PictureValues, PortValues};
 
 /// 2^64.
 const TWO_TO_64: u128 = 0x1_0000_0000_0000_0000;

@@ -6,13 +6,13 @@
 
 mod faults;
 mod merging;
-mod program;
 mod streaming;
+mod streams_job;
 mod table;
 mod turn;
 mod turns;
 mod writing;
 
 pub use faults::{StreamsFault, StreamsInput};
-pub use program::answer_streams;
 pub use streaming::write_streams;
+pub use streams_job::answer_streams;

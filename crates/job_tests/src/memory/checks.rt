@@ -1,7 +1,7 @@
 //! Schedule commands in memory.
 
 use crate::memory::lent::{DOTS, has};
-use octets::{Ran, check_octets};
+use in_memory::{Ran, check_octets};
 use std::test::Fail;
 
 /// A guard band keeps classes 2 and 3 free of frames of the others; no entry opens class 2.

@@ -2,7 +2,7 @@
 
 ghost use Rattle.std.specs.Prelude.{◌≤◌};
 
-use octets::PortValues;
+use in_memory::PortValues;
 
 /// So many dots are put where an output goes.
 pub const ROOM: usize = 512;

@@ -1,7 +1,7 @@
 //! Pictures in memory.
 
 use crate::memory::lent::{DOTS, USUAL, has};
-use octets::{PictureValues, Ran, draw_octets};
+use in_memory::{PictureValues, Ran, draw_octets};
 use std::test::Fail;
 
 /// The whole run, as wide as a picture is where no width is given.

@@ -1,7 +1,7 @@
 //! Scripts and captures in memory.
 
 use crate::memory::lent::{DOTS, USUAL, has, room_for};
-use octets::{PortValues, ReplayRan, replay_octets};
+use in_memory::{PortValues, ReplayRan, replay_octets};
 use std::test::Fail;
 use test_streams::{BOTH_LEFT, BOTH_TOLD, FIRST_LEFT, FIRST_TOLD, TWO_RECORDS};
 

@@ -1,7 +1,7 @@
 //! Scripts in memory.
 
 use crate::memory::lent::{DOTS, USUAL, has, room_for};
-use octets::{Ran, run_octets};
+use in_memory::{Ran, run_octets};
 use refusing_heap::RefusingHeap;
 use std::test::Fail;
 

@@ -1,7 +1,7 @@
 //! Tables of streams in memory.
 
 use crate::memory::lent::{DOTS, has};
-use octets::{Ran, streams_octets};
+use in_memory::{Ran, streams_octets};
 use std::test::Fail;
 
 /// Two frames of one stream.

@@ -1,6 +1,6 @@
 use Rattle.std.proofs.Common.{Bool, subst}
-use Rattle.octets.specs.Slices.{Answers, slices, told_by}
-use Rattle.octets.specs.Values.{rate_at}
+use Rattle.in_memory.specs.Slices.{Answers, slices, told_by}
+use Rattle.in_memory.specs.Values.{rate_at}
 use Rattle.schedule_check.specs.Checked.{whole_check}
 use Rattle.taprio_c.proofs.taprio_check.Goals as goal
 

@@ -1,7 +1,7 @@
 use Rattle.std.proofs.Common.{subst}
-use Rattle.octets.specs.Captures.{Replays, outputs, told_by_replay}
-use Rattle.octets.specs.Values.{settings_at}
-use Rattle.octets.specs.declared.values.PortValues.{PortValues}
+use Rattle.in_memory.specs.Captures.{Replays, outputs, told_by_replay}
+use Rattle.in_memory.specs.Values.{settings_at}
+use Rattle.in_memory.specs.declared.values.PortValues.{PortValues}
 use Rattle.replay.specs.Outcome.{outcome_of}
 use Rattle.taprio_c.proofs.taprio_replay.Goals as goal
 

@@ -1,7 +1,7 @@
 use Rattle.std.proofs.Common.{subst}
-use Rattle.octets.specs.Slices.{Answers, slices, told_by}
-use Rattle.octets.specs.Values.{settings_at}
-use Rattle.octets.specs.declared.values.PortValues.{PortValues}
+use Rattle.in_memory.specs.Slices.{Answers, slices, told_by}
+use Rattle.in_memory.specs.Values.{settings_at}
+use Rattle.in_memory.specs.declared.values.PortValues.{PortValues}
 use Rattle.script.specs.Outcome.{outcome_of}
 use Rattle.taprio_c.proofs.taprio_run.Goals as goal
 

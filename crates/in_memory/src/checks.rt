@@ -1,0 +1,56 @@
+//! Schedule commands in memory.
+
+ghost use Rattle.std.specs.Prelude.{List, ℕ, Result};
+ghost use Rattle.abstract_port.specs.declared.Command.{Command};
+ghost use Rattle.in_memory.specs.Slices.{Answers, slices, told_by, told_of};
+ghost use Rattle.in_memory.specs.Values.{rate_at};
+ghost use Rattle.schedule_check.specs.Checked.{whole_check};
+ghost use Rattle.schedule_check.specs.Windows.{IsTeller, Teller};
+ghost use Rattle.script.specs.Texts.{script_telling};
+ghost use Rattle.tc_reader.specs.Reader.{IsReader};
+ghost use Rattle.tc_reader.specs.declared.fault.TcFault.{TcFault};
+
+use crate::answering::{Ran, end_in_memory, refuse_value};
+use crate::values::rate_at;
+use schedule_check::{CheckSettings, check};
+use std::alloc::Allocator;
+use wire_time::Rate;
+
+/// Checks schedule commands at a rate.
+fn check_at<A: Allocator>(
+    alloc: &A,
+    rate: Rate,
+    windows: bool,
+    schedules: &[u8],
+    output: &mut [u8],
+    fault: &mut [u8],
+) -> Ran
+    ensures { (tell : Teller) → IsTeller tell → (read : List (List ℕ) → Result Command TcFault) → IsReader read → Answers (told_of script_telling (whole_check tell windows rate read schedules.now)) result (slices output.old fault.old) (slices output.new fault.new) }
+{
+    let mut written = Vec::new(alloc);
+    let settings = CheckSettings { rate, windows };
+    let run = check(alloc, schedules, &mut written, settings);
+    end_in_memory(alloc, run, written.as_slice(), output, fault)
+}
+
+/// Checks schedule commands at a line rate in Mb/s: what is reported of each, as `schedule_check::check` writes it, comes into `output`, with
+/// what a schedule gives each class where `windows` asks for it; and the text of a fault into `fault`, as the program writes it on its
+/// standard error.
+///
+/// Status 2 where the rate is none of the ten, 3 where a line has a fault, after what is reported of the lines before it.
+pub fn check_octets<A: Allocator>(
+    alloc: &A,
+    rate: u32,
+    windows: bool,
+    schedules: &[u8],
+    output: &mut [u8],
+    fault: &mut [u8],
+) -> Ran
+    ensures { (tell : Teller) → IsTeller tell → (read : List (List ℕ) → Result Command TcFault) → IsReader read →
+        Answers (told_by (λ ps. whole_check tell windows ps read schedules.now) (rate_at rate)) result (slices output.old fault.old) (slices output.new fault.new) }
+{
+    match rate_at(rate) {
+        Ok(rate) => check_at(alloc, rate, windows, schedules, output, fault),
+        Err(value) => refuse_value(alloc, value, output, fault),
+    }
+}

@@ -1,0 +1,12 @@
+use Rattle.std.specs.Io.Buffered.{writer_contents}
+use Rattle.job.proofs.EndingLaws.{ended, out_of_inputs}
+use Rattle.traffic.specs.Faults.{streams_telling}
+use Rattle.traffic.specs.Outcome.{outcome_of}
+use Rattle.traffic.proofs.streams_job.answer_streams.Goals as goal
+
+pub returns : goal.returns
+returns g c =
+    let table = g.R.Read.remaining c.args.reader.now in
+    let script = g.S.Read.remaining c.args.script in
+    ended streams_telling _ _ _ _ _ _ _ c.end_run.ensures
+    (λ run out same keeps. out_of_inputs table script outcome_of _ _ out _ run keeps same c.write_streams-run.ensures)
