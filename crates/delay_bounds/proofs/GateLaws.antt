@@ -61,5 +61,8 @@ module _ (a : Accepted) (plan : Plan) (is : a.plan ≡ Some plan) (above : 0 < p
   pub same_gates : (class : ℕ) → may_since a class ≡ may_by plan class
   same_gates class = fun_ext (λ m. fun_ext (λ d. may_alone class m d))
 
-  pub by_repeats : (class k : ℕ) → Repeats (may_by plan class) (in_ps plan.cycle * k)
-  by_repeats class k m d = sym (may_alone class (m + in_ps plan.cycle * k) d) ∙ (may_repeats class k m d ∙ may_alone class m d)
+-- the gates of a plan alone repeat
+pub by_repeats : (plan : Plan) → 0 < plan.cycle → (class k : ℕ) → Repeats (may_by plan class) (in_ps plan.cycle * k)
+by_repeats plan above class k m d =
+    let a : Accepted = record { lead = 0; change = 0; plan = Some plan } in
+    sym (may_alone a plan refl above class (m + in_ps plan.cycle * k) d) ∙ (may_repeats a plan refl above class k m d ∙ may_alone a plan refl above class m d)

@@ -6,3 +6,7 @@ pub mod FullLaws
 pub mod NeverLaws
 pub mod LessLaws
 pub mod EveryRunLaws
+pub mod FitLaws
+pub mod MomentLaws
+pub mod SeenLaws
+pub mod CourseLaws

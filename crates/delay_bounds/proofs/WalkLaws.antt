@@ -88,11 +88,12 @@ starts_shift (Some at) t place d f nexts waiting =
     let wait : at + d - (t + d) ≡ at - t = omega arith in
     let next : t + d + f.period ≡ t + f.period + d = omega arith in
     let free : at + d + f.need ≡ at + f.need + d = omega arith in
-    ap (λ w. Some (record { place = place; wait = w }, record { nexts = set (map (λ s. s + d) nexts) place (t + d + f.period); free = at + d + f.need; starts = map (λ s. s + d) waiting ++ (at + d) ∷ [] })) wait
-    ∙ (ap (λ n. Some (record { place = place; wait = at - t }, record { nexts = set (map (λ s. s + d) nexts) place n; free = at + d + f.need; starts = map (λ s. s + d) waiting ++ (at + d) ∷ [] })) next
-    ∙ (ap (λ ns. Some (record { place = place; wait = at - t }, record { nexts = ns; free = at + d + f.need; starts = map (λ s. s + d) waiting ++ (at + d) ∷ [] })) (set_map d nexts place (t + f.period))
-    ∙ (ap (λ n. Some (record { place = place; wait = at - t }, record { nexts = map (λ s. s + d) (set nexts place (t + f.period)); free = n; starts = map (λ s. s + d) waiting ++ (at + d) ∷ [] })) free
-    ∙ ap (λ ws. Some (record { place = place; wait = at - t }, record { nexts = map (λ s. s + d) (set nexts place (t + f.period)); free = at + f.need + d; starts = ws })) (sym (map-append (λ s. s + d) waiting (at ∷ []))))))
+    ap (λ w. Some (record { place = place; wait = w; waiting = length (map (λ s. s + d) waiting) + 1 }, record { nexts = set (map (λ s. s + d) nexts) place (t + d + f.period); free = at + d + f.need; starts = map (λ s. s + d) waiting ++ (at + d) ∷ [] })) wait
+    ∙ (ap (λ n. Some (record { place = place; wait = at - t; waiting = length (map (λ s. s + d) waiting) + 1 }, record { nexts = set (map (λ s. s + d) nexts) place n; free = at + d + f.need; starts = map (λ s. s + d) waiting ++ (at + d) ∷ [] })) next
+    ∙ (ap (λ ns. Some (record { place = place; wait = at - t; waiting = length (map (λ s. s + d) waiting) + 1 }, record { nexts = ns; free = at + d + f.need; starts = map (λ s. s + d) waiting ++ (at + d) ∷ [] })) (set_map d nexts place (t + f.period))
+    ∙ (ap (λ n. Some (record { place = place; wait = at - t; waiting = length (map (λ s. s + d) waiting) + 1 }, record { nexts = map (λ s. s + d) (set nexts place (t + f.period)); free = n; starts = map (λ s. s + d) waiting ++ (at + d) ∷ [] })) free
+    ∙ (ap (λ ws. Some (record { place = place; wait = at - t; waiting = length (map (λ s. s + d) waiting) + 1 }, record { nexts = map (λ s. s + d) (set nexts place (t + f.period)); free = at + f.need + d; starts = ws })) (sym (map-append (λ s. s + d) waiting (at ∷ [])))
+    ∙ ap (λ (n : ℕ). Some (record { place = place; wait = at - t; waiting = n + 1 }, record { nexts = map (λ s. s + d) (set nexts place (t + f.period)); free = at + f.need + d; starts = map (λ s. s + d) (waiting ++ at ∷ []) })) (length_map d waiting)))))
 
 module _ (may : ℕ → ℕ → Bool) (cycle room : ℕ) (flows : List Flow) where
   room_by : (b : Bool) (d : ℕ) (x y : Option (Told × Track)) → y ≡ option_map (later_step d) x → cond b None y ≡ option_map (later_step d) (cond b None x)

@@ -30,11 +30,15 @@ pub record IsWithin (b : Bound) (wait : ℕ) : Type 0 where
   pub least : b.least ≤ wait
   pub greatest : wait ≤ b.greatest
 
+-- a frame of the flow at a place waits for so long
+abbrev pub IsReached : Plan → ℕ → ℕ → List Flow → ℕ → ℕ → Type 0
+IsReached plan class room flows place wait = (n : ℕ) × (t : Told) × (told_by plan class room flows n ≡ Some t) × (t.place ≡ place) × (t.wait ≡ wait)
+
 -- The bounds of flows, by a plan alone: for ever, every frame starts and waits within those of its flow, and each of them is reached.
 pub record AreBounds (plan : Plan) (class room : ℕ) (flows : List Flow) (bounds : List Bound) : Type 0 where
   pub always : (n : ℕ) → (t : Told) × (told_by plan class room flows n ≡ Some t) × IsWithin (bound_at bounds t.place) t.wait
-  pub least : (place : ℕ) → place < length flows → (n : ℕ) × (told_by plan class room flows n ≡ Some (record { place = place; wait = (bound_at bounds place).least }))
-  pub greatest : (place : ℕ) → place < length flows → (n : ℕ) × (told_by plan class room flows n ≡ Some (record { place = place; wait = (bound_at bounds place).greatest }))
+  pub least : (place : ℕ) → place < length flows → IsReached plan class room flows place (bound_at bounds place).least
+  pub greatest : (place : ℕ) → place < length flows → IsReached plan class room flows place (bound_at bounds place).greatest
 
 -- the next frame, and those behind it
 abbrev pub coming_on : (List ℕ → List (ℕ × ℕ)) → List Flow → List ℕ → Option (ℕ × ℕ) → List (ℕ × ℕ)

@@ -33,14 +33,15 @@ ForEverLaw =
     → after may cycle room flows a s ≡ Some x → after may cycle room flows b s ≡ Some y → counting y ≡ later d (counting x)
     → (n : ℕ) → IsToldBefore may cycle room flows s b n
 
--- By a plan alone: after so many frames of the flows it is as it was before, some cycles later.
-pub record Recurs (plan : Plan) (class room : ℕ) (flows : List Flow) : Type 0 where
+-- By a plan alone: some time it is as it was so many frames before, and so much earlier, which is some whole cycles.
+pub record Recurs (plan : Plan) (class room : ℕ) (flows : List Flow) (frames every : ℕ) : Type 0 where
   pub first : ℕ
-  pub again : ℕ
   pub cycles : ℕ
-  pub onward : first < again
+  pub some : 0 < frames
+  pub whole : every ≡ in_ps plan.cycle * cycles
+  pub above : 0 < every
   pub old : Track
   pub new : Track
   pub was : after (may_by plan class) (in_ps plan.cycle) room flows first (begun (offsets_of flows)) ≡ Some old
-  pub is : after (may_by plan class) (in_ps plan.cycle) room flows again (begun (offsets_of flows)) ≡ Some new
-  pub alike : counting new ≡ later (in_ps plan.cycle * cycles) (counting old)
+  pub is : after (may_by plan class) (in_ps plan.cycle) room flows (first + frames) (begun (offsets_of flows)) ≡ Some new
+  pub alike : counting new ≡ later every (counting old)

@@ -1,7 +1,8 @@
 -- The frames of the flows of one class, one after another, as if there were no other class: each is queued where there is room (IEEE Std
 -- 802.1Q-2018, 8.6.6), and starts at the first moment from which the gate of the class stays open for as long as it takes (8.6.8.4).
 -- Moments and times are in picoseconds, and moments count from the schedule's change moment.
-use Rattle.std.specs.Prelude.{ℕ, zero, suc, ◌+◌, ◌-◌, max, Bool, if◌then◌else◌, nat_lt, nat_le, List, [], ◌∷◌, ◌++◌, length, map, slice_set, slice_index_or, Option, Some, None}
+use Rattle.std.specs.Prelude.{◌≤◌, ℕ, zero, suc, ◌+◌, ◌-◌, max, Bool, false, if◌then◌else◌, nat_lt, nat_le, List, [], ◌∷◌, ◌++◌, length, map, slice_set, slice_index_or, Option, Some, None}
+use Rattle.wire_time.specs.Moment.{greatest_moment}
 use Rattle.gate_list.specs.Gate.{Plan, mask_since}
 use Rattle.gate_list.specs.Open.{open_while}
 use Rattle.delay_bounds.specs.declared.Flow.{Flow}
@@ -45,6 +46,17 @@ unfoldable pub from_on : ℕ → List ℕ → List ℕ
 from_on t [] = []
 from_on t (s ∷ rest) = if nat_lt s t then from_on t rest else s ∷ rest
 
+-- whether there is a first moment, and it is before t
+abbrev pub begins_before : ℕ → List ℕ → Bool
+begins_before t [] = false
+begins_before t (s ∷ rest) = nat_lt s t
+
+-- a flow whose times are moments
+pub record IsFlow (f : Flow) : Type 0 where
+  pub need : f.need ≤ greatest_moment
+  pub period : f.period ≤ greatest_moment
+  pub offset : f.offset ≤ greatest_moment
+
 -- a flow at a place
 abbrev pub flow_at : List Flow → ℕ → Flow
 flow_at flows place = slice_index_or flows place (record { need = 0; period = 0; offset = 0 })
@@ -53,7 +65,7 @@ flow_at flows place = slice_index_or flows place (record { need = 0; period = 0;
 abbrev pub starts_at : Option ℕ → ℕ → ℕ → Flow → List ℕ → List ℕ → Option (Told × Track)
 starts_at None t place f nexts waiting = None
 starts_at (Some at) t place f nexts waiting = Some (
-  record { place = place; wait = at - t },
+  record { place = place; wait = at - t; waiting = length waiting + 1 },
   record { nexts = slice_set nexts place (t + f.period); free = at + f.need; starts = waiting ++ at ∷ [] },
 )
 
@@ -97,3 +109,8 @@ after_on later (Some r) = later r.1
 unfoldable pub after : (ℕ → ℕ → Bool) → ℕ → ℕ → List Flow → ℕ → Track → Option Track
 after may cycle room flows zero s = Some s
 after may cycle room flows (suc n) s = after_on (after may cycle room flows n) (step may cycle room flows s)
+
+-- the first of those behind a place, or the moment at the place where none of them is before it
+abbrev pub with_place : Option (ℕ × ℕ) → ℕ → ℕ → Option (ℕ × ℕ)
+with_place None x k = Some (x, k)
+with_place (Some e) x k = if nat_lt e.0 x then Some e else Some (x, k)
