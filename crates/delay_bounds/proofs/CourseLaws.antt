@@ -1,24 +1,24 @@
 -- A walk on its way, and where it stood before.
-use Rattle.std.proofs.Common.{Result, Err, All, ◌⊎◌, ◌≡◌, ◌<◌, ◌≤◌, ◌^◌, ℕ, zero, suc, ◌+◌, ◌-◌, ◌*◌, ◌%◌, ◌/◌, max, Bool, true, false, cond, leb, List, [], ◌∷◌, length, Some, None, IsSome, inl, inr, refl, sym, ap, ◌∙◌, subst, arith}
-use Rattle.std.proofs.lemmas.Bool.{cases_lt}
+use Rattle.std.proofs.Common.{Option, set, get_or, get_or-set_same, get_or-set_other, Result, Err, All, ◌⊎◌, ◌≡◌, ◌<◌, ◌≤◌, ◌^◌, ℕ, zero, suc, ◌+◌, ◌-◌, ◌*◌, ◌%◌, ◌/◌, max, Bool, true, false, cond, leb, List, [], ◌∷◌, length, Some, None, IsSome, inl, inr, refl, sym, ap, ◌∙◌, subst, arith}
+use Rattle.std.proofs.lemmas.Bool.{cases_lt, cases_eq}
 use Rattle.std.proofs.lemmas.Option.{same_Some}
 use Rattle.wire_time.specs.Moment.{greatest_moment}
 use Rattle.gate_list.specs.Gate.{Plan, in_ps}
 use Rattle.delay_bounds.specs.declared.Bound.{Bound}
 use Rattle.delay_bounds.specs.declared.Flow.{Flow}
 use Rattle.delay_bounds.specs.declared.Told.{Told}
-use Rattle.delay_bounds.specs.Walk.{Track, may_by, begun, offsets_of, earliest, from_on, first_fit, flow_at, starts_at, arrives, step_from, step, told_first, told, after_on, after}
+use Rattle.delay_bounds.specs.Walk.{earlier, Track, may_by, begun, offsets_of, earliest, from_on, first_fit, flow_at, starts_at, arrives, step_from, step, told_first, told, after_on, after}
 use Rattle.delay_bounds.specs.Line.{Standing, before_any, when_come}
 use Rattle.delay_bounds.specs.ForEver.{later, counts_from, counting}
 use Rattle.delay_bounds.specs.Noted.{unseen, noted}
-use Rattle.delay_bounds.specs.Bounded.{unbound_by, IsNext, IsUnbound}
+use Rattle.delay_bounds.specs.Bounded.{unbound_by, ComesAt, IsNext, IsUnbound}
 use Rattle.delay_bounds.specs.declared.bounding.Mark.{Mark}
 use Rattle.delay_bounds.specs.declared.line.Stop.{Stop}
 use Rattle.delay_bounds.specs.declared.line.Stop.TheVariants as Stops
 use Rattle.delay_bounds.proofs.WalkLaws.{told_after}
 use Rattle.delay_bounds.proofs.WaitLaws.{step_is}
 use Rattle.delay_bounds.proofs.FullLaws.{after_step, after_none}
-use Rattle.delay_bounds.proofs.SeenLaws.{AreSeen, IsBack, none_seen, one_seen, length_kept, counting_nexts}
+use Rattle.delay_bounds.proofs.SeenLaws.{has_next, AreSeen, IsBack, none_seen, one_seen, length_kept, counting_nexts}
 
 -- where a walk stood when a frame came
 pub record IsMarked (plan : Plan) (class room : ℕ) (flows : List Flow) (first since : ℕ) (base : Standing) : Type 0 where
@@ -66,6 +66,66 @@ module _ (may : ℕ → ℕ → Bool) (cycle room : ℕ) (flows : List Flow) whe
 counted : (s : Track) (e : ℕ × ℕ) → earliest s.nexts ≡ Some e → counting s ≡ counts_from (Some e) s
 counted s e next = ap (λ o. counts_from o s) next
 
+-- ---- when frames come
+
+-- the first of moments stands at its place
+first_of : (xs : List ℕ) (e : ℕ × ℕ) → earliest xs ≡ Some e → (e.1 < length xs) × (get_or xs e.1 0 ≡ e.0)
+unfolding earliest
+first_of [] e h = absurd (cc)
+first_of (x ∷ xs) e h = go (earliest xs) refl h (first_of xs)
+  where
+    here : (x, 0) ≡ e → (e.1 < suc (length xs)) × (get_or (x ∷ xs) e.1 0 ≡ e.0)
+    here is = subst (λ (y : ℕ × ℕ). (y.1 < suc (length xs)) × (get_or (x ∷ xs) y.1 0 ≡ y.0)) is ((let less : 0 < suc (length xs) = omega arith in less), refl)
+
+    behind : (u : ℕ × ℕ) → (u.1 < length xs) × (get_or xs u.1 0 ≡ u.0) → (u.0, u.1 + 1) ≡ e → (e.1 < suc (length xs)) × (get_or (x ∷ xs) e.1 0 ≡ e.0)
+    behind u rest same =
+        let less = rest.0 in
+        let at : suc u.1 ≡ u.1 + 1 = omega arith in
+        subst (λ (y : ℕ × ℕ). (y.1 < suc (length xs)) × (get_or (x ∷ xs) y.1 0 ≡ y.0)) same
+        ((let within : u.1 + 1 < suc (length xs) = omega arith in within), ap (λ i. get_or (x ∷ xs) i 0) (sym at) ∙ rest.1)
+
+    go : (o : Option (ℕ × ℕ)) → earliest xs ≡ o → Some (earlier x o) ≡ Some e → ((u : ℕ × ℕ) → earliest xs ≡ Some u → (u.1 < length xs) × (get_or xs u.1 0 ≡ u.0))
+        → (e.1 < suc (length xs)) × (get_or (x ∷ xs) e.1 0 ≡ e.0)
+    go None is same rest = here (same_Some (x, 0) e same)
+    go (Some u) is same rest = by (leb x u.0) (same_Some (earlier x (Some u)) e same)
+      where
+        by : (b : Bool) → cond b (x, 0) (u.0, u.1 + 1) ≡ e → (e.1 < suc (length xs)) × (get_or (x ∷ xs) e.1 0 ≡ e.0)
+        by true z = here z
+        by false z = behind u (rest u is) z
+
+-- at these moments frames of the flows come
+abbrev pub AreTurns : List Flow → List ℕ → Type 0
+AreTurns flows nexts = (place : ℕ) → ComesAt (flow_at flows place) (get_or nexts place 0)
+
+first_turns : (flows : List Flow) → AreTurns flows (offsets_of flows)
+first_turns [] place = (0, refl)
+first_turns (f ∷ rest) zero = (0, (let same : f.offset ≡ f.offset + f.period * 0 = omega arith in same))
+first_turns (f ∷ rest) (suc place) = first_turns rest place
+
+turns_kept : (may : ℕ → ℕ → Bool) (cycle room : ℕ) (flows : List Flow) (n : ℕ) (s z : Track) → AreTurns flows s.nexts → after may cycle room flows n s ≡ Some z → AreTurns flows z.nexts
+turns_kept may cycle room flows zero s z turns h = subst (λ (x : Track). AreTurns flows x.nexts) (after_none may cycle room flows s z h) turns
+turns_kept may cycle room flows (suc n) s z turns h =
+    let stepped = after_step may cycle room flows n s z h in
+    let next = has_next may cycle room flows s stepped.0 stepped.1 in
+    let is = step_is may cycle room flows s next.0 stepped.0 next.1 stepped.1 in
+    turns_kept may cycle room flows n stepped.0.1 z
+    (subst (AreTurns flows) (sym is.nexts) (one next.0 (first_of s.nexts next.0 next.1))) stepped.2
+  where
+    one : (e : ℕ × ℕ) → (e.1 < length s.nexts) × (get_or s.nexts e.1 0 ≡ e.0) → AreTurns flows (set s.nexts e.1 (e.0 + (flow_at flows e.1).period))
+    one e first place = elim (cases_eq place e.1) [
+      | inl same ↦
+          let turn = turns e.1 in
+          let at = turn.1 in
+          let found = first.1 in
+          let period : ℕ = (flow_at flows e.1).period in
+          let offset : ℕ = (flow_at flows e.1).offset in
+          let count : ℕ = turn.0 in
+          let more : period * (count + 1) ≡ period * count + period = grind arith in
+          subst (λ i. ComesAt (flow_at flows i) (get_or (set s.nexts e.1 (e.0 + (flow_at flows e.1).period)) i 0)) (sym same)
+          (count + 1, get_or-set_same s.nexts e.1 (e.0 + period) 0 first.0 ∙ (let later : e.0 + period ≡ offset + period * (count + 1) = omega arith in later))
+      | inr ne ↦ (let turn = turns place in (turn.0, get_or-set_other s.nexts e.1 place (e.0 + (flow_at flows e.1).period) 0 ne ∙ turn.1))
+    ]
+
 -- ---- the loop
 
 module _ (plan : Plan) (class room : ℕ) (flows : List Flow) where
@@ -111,6 +171,13 @@ module _ (plan : Plan) (class room : ℕ) (flows : List Flow) where
 
     pub base_room : base.room ≡ line.room
     base_room = (let m = h.marked in ap (λ (l : Standing). l.room) m.base_is ∙ sym h.room_is)
+
+    -- the next frame is one of its flow
+    pub comes_at : (t place : ℕ) (f : Flow) → earliest line.track.nexts ≡ Some (t, place) → f ≡ flow_at flows place → ComesAt f t
+    comes_at t place f next is =
+        let e : ℕ × ℕ = (t, place) in
+        let turn = turns_kept (may_by plan class) (in_ps plan.cycle) room flows frames begins line.track (first_turns flows) h.there place in
+        (turn.0, sym (first_of line.track.nexts e next).1 ∙ (turn.1 ∙ ap (λ (x : Flow). x.offset + x.period * turn.0) (sym is)))
 
     -- it stands as it did
     pub is_back : (t place : ℕ) → 0 < plan.cycle → earliest line.track.nexts ≡ Some (t, place) → since < t → (t - since) % in_ps plan.cycle ≡ 0 → (when_come line).track ≡ later (t - since) base.track
@@ -180,15 +247,15 @@ module _ (plan : Plan) (class room : ℕ) (flows : List Flow) where
         (step_is (may_by plan class) (in_ps plan.cycle) room flows line.track e (told, now) next stepped).place
 
     -- why it stops
-    pub stops : (t place : ℕ) (stop : Stop) → earliest line.track.nexts ≡ Some (t, place)
+    pub stops : (t place before : ℕ) (stop : Stop) → earliest line.track.nexts ≡ Some (t, place) → t ≡ (flow_at flows place).offset + (flow_at flows place).period * before
         → (stop ≡ Stops.Full → line.room ≤ length (counting line.track).starts) → (line.room ≤ length (counting line.track).starts → stop ≡ Stops.Full)
         → (stop ≡ Stops.Late → greatest_moment < max t (counting line.track).free)
         → (stop ≡ Stops.Never → first_fit (may_by plan class) (flow_at flows place).need (max t (counting line.track).free) (in_ps plan.cycle) ≡ None)
-        → IsUnbound plan class room flows limit (unbound_by stop (record { place = place; earlier = frames; moment = t }))
-    stops t place stop next full not_full late never = go stop full not_full late never
+        → IsUnbound plan class room flows limit (unbound_by stop (record { place = place; before = before; earlier = frames; moment = t }))
+    stops t place before stop next turn full not_full late never = go stop full not_full late never
       where
-        is_next : IsNext plan class room flows (record { place = place; earlier = frames; moment = t }) line.track
-        is_next = record { there = h.there; next = next }
+        is_next : IsNext plan class room flows (record { place = place; before = before; earlier = frames; moment = t }) line.track
+        is_next = record { there = h.there; next = next; before = turn }
 
         starts_are : (counting line.track).starts ≡ from_on t line.track.starts
         starts_are = ap (λ (s : Track). s.starts) (counted line.track (t, place) next)
@@ -205,7 +272,7 @@ module _ (plan : Plan) (class room : ℕ) (flows : List Flow) where
         go : (stop : Stop) → (stop ≡ Stops.Full → line.room ≤ length (counting line.track).starts) → (line.room ≤ length (counting line.track).starts → stop ≡ Stops.Full)
             → (stop ≡ Stops.Late → greatest_moment < max t (counting line.track).free)
             → (stop ≡ Stops.Never → first_fit (may_by plan class) (flow_at flows place).need (max t (counting line.track).free) (in_ps plan.cycle) ≡ None)
-            → IsUnbound plan class room flows limit (unbound_by stop (record { place = place; earlier = frames; moment = t }))
+            → IsUnbound plan class room flows limit (unbound_by stop (record { place = place; before = before; earlier = frames; moment = t }))
         go Stops.Full f b l n = (line.track, is_next, (let many = f refl in let same = ap length starts_are in let is = h.room_is in omega arith))
         go Stops.Never f b l n =
             let most : max t (counting line.track).free ≡ max t line.track.free = (let same = free_is in omega arith) in
@@ -213,7 +280,7 @@ module _ (plan : Plan) (class room : ℕ) (flows : List Flow) where
         go Stops.Late f b l n =
             let past = l refl in
             let same = free_is in
-            (record { place = place; earlier = frames; moment = t }, line.track, is_next, has_room Stops.Late (λ e. cc) b, (let far : greatest_moment < max t line.track.free = omega arith in far))
+            (record { place = place; before = before; earlier = frames; moment = t }, line.track, is_next, has_room Stops.Late (λ e. cc) b, (let far : greatest_moment < max t line.track.free = omega arith in far))
 
     pub is_long : limit ≤ frames → IsSome (after (may_by plan class) (in_ps plan.cycle) room flows limit begins)
     is_long le =
@@ -261,13 +328,13 @@ module _ (plan : Plan) (class room : ℕ) (flows : List Flow) where
         let m = marks b place old here mark come there mark_is there_is was_earlier was_since now_earlier (next ∙ ap (λ (k : ℕ). Some (k, place)) (sym now_since)) come_is in
         goes_on t place told now mark.earlier mark.since there more next (told_come t place f told now.track come come_is f_is is) small (same ∙ ap (λ (l : Standing). l.room) come_is) m.0 m.1 within
 
-    pub stops_come : (t place : ℕ) (f : Flow) (stop : Stop) (come : Standing) → earliest line.track.nexts ≡ Some (t, place) → come ≡ when_come line → f ≡ flow_at flows place
+    pub stops_come : (t place before : ℕ) (f : Flow) (stop : Stop) (come : Standing) → earliest line.track.nexts ≡ Some (t, place) → t ≡ f.offset + f.period * before → come ≡ when_come line → f ≡ flow_at flows place
         → (◌≡◌ {A = Result Told Stop} (Err stop) (Err Stops.Full) → come.room ≤ length come.track.starts) × (come.room ≤ length come.track.starts → ◌≡◌ {A = Result Told Stop} (Err stop) (Err Stops.Full))
         → (◌≡◌ {A = Result Told Stop} (Err stop) (Err Stops.Late) → greatest_moment < max t come.track.free)
         → (◌≡◌ {A = Result Told Stop} (Err stop) (Err Stops.Never) → first_fit (may_by plan class) f.need (max t come.track.free) (in_ps plan.cycle) ≡ None)
-        → IsUnbound plan class room flows limit (unbound_by stop (record { place = place; earlier = frames; moment = t }))
-    stops_come t place f stop come next come_is f_is full late never =
-        stops t place stop next
+        → IsUnbound plan class room flows limit (unbound_by stop (record { place = place; before = before; earlier = frames; moment = t }))
+    stops_come t place before f stop come next turn come_is f_is full late never =
+        stops t place before stop next (turn ∙ ap (λ (x : Flow). x.offset + x.period * before) f_is)
         (λ e. subst (λ (l : Standing). l.room ≤ length l.track.starts) come_is (full.0 (ap Err e)))
         (λ le. (let e = full.1 (subst (λ (l : Standing). l.room ≤ length l.track.starts) (sym come_is) le) in cc))
         (λ e. subst (λ (l : Standing). greatest_moment < max t l.track.free) come_is (late (ap Err e)))

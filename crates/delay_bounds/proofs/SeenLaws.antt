@@ -139,7 +139,7 @@ module _ (may : ℕ → ℕ → Bool) (cycle room : ℕ) (flows : List Flow) whe
   first_told s r e = ap told_first e
 
   -- where there is a step there is a next frame
-  has_next : (s : Track) (r : Told × Track) → step may cycle room flows s ≡ Some r → (e : ℕ × ℕ) × (earliest s.nexts ≡ Some e)
+  pub has_next : (s : Track) (r : Told × Track) → step may cycle room flows s ≡ Some r → (e : ℕ × ℕ) × (earliest s.nexts ≡ Some e)
   unfolding step
   has_next s r is = go (earliest s.nexts) refl is
     where

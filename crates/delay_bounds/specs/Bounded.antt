@@ -1,5 +1,5 @@
 -- What is answered of flows: their bounds, or why they have none.
-use Rattle.std.specs.Prelude.{◌≡◌, ◌<◌, ◌≤◌, ℕ, max, Bool, true, false, List, length, Some, None, IsSome}
+use Rattle.std.specs.Prelude.{◌+◌, ◌*◌, ◌≡◌, ◌<◌, ◌≤◌, ℕ, max, Bool, true, false, List, length, Some, None, IsSome}
 use Rattle.wire_time.specs.Moment.{greatest_moment}
 use Rattle.gate_list.specs.Gate.{Plan, in_ps}
 use Rattle.delay_bounds.specs.Walk.{Track, may_by, offsets_of, begun, earliest, from_on, first_fit, flow_at, after}
@@ -19,10 +19,15 @@ pub record IsMost (plan : Plan) (class room : ℕ) (flows : List Flow) (most : �
   pub within : (n : ℕ) (t : Told) → told_by plan class room flows n ≡ Some t → t.waiting ≤ most
   pub reached : (n : ℕ) × (t : Told) × (told_by plan class room flows n ≡ Some t) × (t.waiting ≡ most)
 
+-- a frame of the flow comes then
+abbrev pub ComesAt : Flow → ℕ → Type 0
+ComesAt f t = (before : ℕ) × (t ≡ f.offset + f.period * before)
+
 -- by a plan alone the frame is the next one there
 pub record IsNext (plan : Plan) (class room : ℕ) (flows : List Flow) (f : FlowFrame) (z : Track) : Type 0 where
   pub there : after (may_by plan class) (in_ps plan.cycle) room flows f.earlier (begun (offsets_of flows)) ≡ Some z
   pub next : earliest z.nexts ≡ Some (f.moment, f.place)
+  pub before : f.moment ≡ (flow_at flows f.place).offset + (flow_at flows f.place).period * f.before
 
 -- to look from here on
 abbrev pub is_from_here : Look → Bool

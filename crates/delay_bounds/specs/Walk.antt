@@ -1,7 +1,7 @@
 -- The frames of the flows of one class, one after another, as if there were no other class: each is queued where there is room (IEEE Std
 -- 802.1Q-2018, 8.6.6), and starts at the first moment from which the gate of the class stays open for as long as it takes (8.6.8.4).
 -- Moments and times are in picoseconds, and moments count from the schedule's change moment.
-use Rattle.std.specs.Prelude.{◌≤◌, ℕ, zero, suc, ◌+◌, ◌-◌, max, Bool, false, if◌then◌else◌, nat_lt, nat_le, List, [], ◌∷◌, ◌++◌, length, map, slice_set, slice_index_or, Option, Some, None}
+use Rattle.std.specs.Prelude.{◌<◌, ◌≤◌, ℕ, zero, suc, ◌+◌, ◌-◌, max, Bool, false, if◌then◌else◌, nat_lt, nat_le, List, [], ◌∷◌, ◌++◌, length, map, slice_set, slice_index_or, Option, Some, None}
 use Rattle.wire_time.specs.Moment.{greatest_moment}
 use Rattle.gate_list.specs.Gate.{Plan, mask_since}
 use Rattle.gate_list.specs.Open.{open_while}
@@ -51,8 +51,9 @@ abbrev pub begins_before : ℕ → List ℕ → Bool
 begins_before t [] = false
 begins_before t (s ∷ rest) = nat_lt s t
 
--- a flow whose times are moments
+-- a flow whose times are moments, and frames of which come one after another
 pub record IsFlow (f : Flow) : Type 0 where
+  pub above : 0 < f.period
   pub need : f.need ≤ greatest_moment
   pub period : f.period ≤ greatest_moment
   pub offset : f.offset ≤ greatest_moment

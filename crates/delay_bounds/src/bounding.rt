@@ -1,8 +1,8 @@
 //! The bounds of flows, by a walk over their frames until its state comes again.
 
-ghost use Rattle.std.specs.Prelude.{ℕ, if◌then◌else◌, ◌≡◌, ◌<◌, ◌≤◌, ◌-◌, ◌%◌, ◌↔◌, All, IfOk, IfErr, length};
+ghost use Rattle.std.specs.Prelude.{◌+◌, ◌*◌, ℕ, if◌then◌else◌, ◌≡◌, ◌<◌, ◌≤◌, ◌-◌, ◌%◌, ◌↔◌, All, IfOk, IfErr, length};
 ghost use Rattle.gate_list.specs.Gate.{IsSchedule};
-ghost use Rattle.delay_bounds.specs.Bounded.{is_from_here, unbound_by, IsMost, IsUnbound};
+ghost use Rattle.delay_bounds.specs.Bounded.{ComesAt, is_from_here, unbound_by, IsMost, IsUnbound};
 ghost use Rattle.delay_bounds.specs.Bounds.{AreBounds};
 ghost use Rattle.delay_bounds.specs.ForEver.{Recurs, later};
 ghost use Rattle.delay_bounds.specs.Line.{before_any};
@@ -110,6 +110,20 @@ fn look_from<A: Allocator>(
     mark
 }
 
+// The frame of a flow that comes at `t`, behind so many of all flows.
+fn frame_at(flow: Flow, place: usize, t: u128, earlier: u64) -> FlowFrame
+    requires above { 0 < flow.period }
+    requires comes { ComesAt flow t }
+    ensures { (before : ℕ) → t ≡ flow.offset + flow.period * before → result ≡ record { place = place; before = before; earlier = earlier; moment = t } }
+{
+    FlowFrame {
+        place,
+        before: (t - flow.offset) / flow.period,
+        earlier,
+        moment: t,
+    }
+}
+
 // Why flows have no bounds, where a walk stops at a frame.
 fn unbound(stop: Stop, frame: FlowFrame) -> Unbound
     ensures { result ≡ unbound_by stop frame }
@@ -166,18 +180,10 @@ fn walk<A: Allocator>(
             earlier: frames,
         };
         mark = look_from(look, line, here, base, mark);
-        let told = match line.start(schedule, &position, class, flow_at(flows, place), t, place) {
+        let flow = flow_at(flows, place);
+        let told = match line.start(schedule, &position, class, flow, t, place) {
             Ok(told) => told,
-            Err(stop) => {
-                return Err(unbound(
-                    stop,
-                    FlowFrame {
-                        place,
-                        earlier: frames,
-                        moment: t,
-                    },
-                ));
-            }
+            Err(stop) => return Err(unbound(stop, frame_at(flow, place, t, frames))),
         };
         note(bounds, told);
         most = told.waiting.max(most);

@@ -61,6 +61,8 @@ pub struct Bounded<A: Allocator = Global> {
 pub struct FlowFrame {
     /// The place of its flow.
     pub place: usize,
+    /// How many frames of its flow come before it.
+    pub before: u128,
     /// How many frames of all flows come before it.
     pub earlier: u64,
     /// When it comes, in picoseconds since the change moment of the schedule.
