@@ -8,7 +8,8 @@ use Rattle.delay_bounds.proofs.DropLaws.{drops_law}
 use Rattle.delay_bounds.proofs.WaitLaws.{step_is, told_next, bounds_law}
 use Rattle.delay_bounds.specs.Bounds.{coming_on, coming, AreComing, bound_at, IsWithin, AllWithin, EveryRunLaw}
 use Rattle.delay_bounds.specs.Waits.{AreAllTold, HaveWaited}
-use Rattle.delay_bounds.specs.Walk.{offsets_of, may_by, Track, earliest, flow_at, step, told_first, told, begun}
+use Rattle.delay_bounds.specs.Walk.{offsets_of, may_by, Track, earliest, flow_at, step, told, begun}
+use Rattle.delay_bounds.proofs.Words.{told_first}
 use Rattle.delay_bounds.specs.declared.Bound.{Bound}
 use Rattle.delay_bounds.specs.declared.Flow.{Flow}
 use Rattle.delay_bounds.specs.declared.Told.{Told}
@@ -37,7 +38,7 @@ all_within : (ps change : ℕ) (may : ℕ → ℕ → Bool) (cycle room : ℕ) (
     → ((m : ℕ) (t : Told) → told may cycle room flows m s ≡ Some t → IsWithin (bound_at bounds t.place) t.wait)
     → more ≡ coming flows n s.nexts → AreComing ps change flows more came → HaveWaited (step may cycle room flows) s came starts → AllWithin bounds more came starts
 all_within ps change may cycle room flows bounds [] came more n s tells is c h = tt
-all_within ps change may cycle room flows bounds (x ∷ starts) [] more n s tells is c h = h
+all_within ps change may cycle room flows bounds (x ∷ starts) [] more n s tells is c h = absurd h
 all_within ps change may cycle room flows bounds (x ∷ starts) (f ∷ came) [] n s tells is c h = c
 all_within ps change may cycle room flows bounds (x ∷ starts) (f ∷ came) (e ∷ more) n s tells is c h =
     let next = coming_head flows n s.nexts e more is in

@@ -23,7 +23,8 @@ use Rattle.delay_bounds.proofs.GateLaws.{may_since, same_gates}
 use Rattle.delay_bounds.proofs.WaitLaws.{IsWire, step_is, first_is, one_first, first_since, from_when, coming_first}
 use Rattle.delay_bounds.specs.Bounds.{coming, AreComing}
 use Rattle.delay_bounds.specs.Full.{FullLaw}
-use Rattle.delay_bounds.specs.Walk.{offsets_of, Track, earliest, from_on, flow_at, step, after_on, after, begun}
+use Rattle.delay_bounds.specs.Walk.{offsets_of, Track, earliest, from_on, flow_at, step, after, begun}
+use Rattle.delay_bounds.proofs.Words.{after_on}
 use Rattle.delay_bounds.specs.declared.Flow.{Flow}
 use Rattle.delay_bounds.specs.declared.Told.{Told}
 

@@ -1,3 +1,4 @@
+pub mod Words
 pub mod WalkLaws
 pub mod GateLaws
 pub mod WaitLaws

@@ -6,7 +6,8 @@ use Rattle.gate_list.specs.Gate.{Plan, in_ps}
 use Rattle.delay_bounds.specs.declared.Bound.{Bound}
 use Rattle.delay_bounds.specs.declared.Flow.{Flow}
 use Rattle.delay_bounds.specs.declared.Told.{Told}
-use Rattle.delay_bounds.specs.Walk.{Track, may_by, begun, offsets_of, earliest, step, step_from, told_first, told, after}
+use Rattle.delay_bounds.specs.Walk.{Track, may_by, begun, offsets_of, earliest, step, told, after}
+use Rattle.delay_bounds.proofs.Words.{step_from, told_first}
 use Rattle.delay_bounds.specs.Bounds.{told_by, bound_at, IsWithin, IsReached, AreBounds}
 use Rattle.delay_bounds.specs.Bounded.{IsMost}
 use Rattle.delay_bounds.specs.ForEver.{later, counts_from, counting, Recurs}

@@ -53,18 +53,16 @@ coming flows (suc n) nexts = coming_on (coming flows n) flows nexts (earliest ne
 -- frames that came are these, by their moments since the change moment, and occupy the wire for as long as those of their flows
 abbrev pub AreComing : ℕ → ℕ → List Flow → List (ℕ × ℕ) → List Came → Type 0
 AreComing ps change flows [] [] = Unit {0}
-AreComing ps change flows [] (f ∷ came) = ⊥
-AreComing ps change flows (e ∷ more) [] = ⊥
 AreComing ps change flows (e ∷ more) (f ∷ came) =
     (f.moment ≡ change + e.0) × (occupancy_of ps f.frame.len ≡ (flow_at flows e.1).need) × AreComing ps change flows more came
+AreComing ps change flows _ _ = ⊥
 
 -- Frames that came, of these places, and started: each within the bounds of its flow.
 abbrev pub AllWithin : List Bound → List (ℕ × ℕ) → List Came → List Start → Type 0
 AllWithin bounds more came [] = Unit {0}
-AllWithin bounds more [] (x ∷ starts) = ⊥
-AllWithin bounds [] (f ∷ came) (x ∷ starts) = ⊥
 AllWithin bounds (e ∷ more) (f ∷ came) (x ∷ starts) =
     ((wait : ℕ) × (x.at ≡ f.moment + wait) × IsWithin (bound_at bounds e.1) wait) × AllWithin bounds more came starts
+AllWithin bounds _ _ (x ∷ starts) = ⊥
 
 -- In a run: all frames that the queue of the class is offered it takes, and each that starts does so within the bounds of its flow.
 pub record IsBounded (ps mtu room class : ℕ) (events : List Event) (frames : List (ℕ × ℕ)) (bounds : List Bound) : Type 0 where

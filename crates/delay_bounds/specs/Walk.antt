@@ -2,6 +2,7 @@
 -- 802.1Q-2018, 8.6.6), and starts at the first moment from which the gate of the class stays open for as long as it takes (8.6.8.4).
 -- Moments and times are in picoseconds, and moments count from the schedule's change moment.
 use Rattle.std.specs.Prelude.{◌<◌, ◌≤◌, ℕ, zero, suc, ◌+◌, ◌-◌, max, Bool, false, if◌then◌else◌, nat_lt, nat_le, List, [], ◌∷◌, ◌++◌, length, map, slice_set, slice_index_or, Option, Some, None}
+use Rattle.std.specs.Option.{option_and_then, option_map}
 use Rattle.wire_time.specs.Moment.{greatest_moment}
 use Rattle.gate_list.specs.Gate.{Plan, mask_since}
 use Rattle.gate_list.specs.Open.{open_while}
@@ -62,54 +63,30 @@ pub record IsFlow (f : Flow) : Type 0 where
 abbrev pub flow_at : List Flow → ℕ → Flow
 flow_at flows place = slice_index_or flows place (record { need = 0; period = 0; offset = 0 })
 
--- the frame that comes at t starts, if it ever does
-abbrev pub starts_at : Option ℕ → ℕ → ℕ → Flow → List ℕ → List ℕ → Option (Told × Track)
-starts_at None t place f nexts waiting = None
-starts_at (Some at) t place f nexts waiting = Some (
-  record { place = place; wait = at - t; waiting = length waiting + 1 },
-  record { nexts = slice_set nexts place (t + f.period); free = at + f.need; starts = waiting ++ at ∷ [] },
-)
-
--- the frame that comes at t, where there is room
+-- the frame that comes at t, where there is room; it starts, if it ever does
 abbrev pub arrives : (ℕ → ℕ → Bool) → ℕ → ℕ → ℕ → ℕ → Flow → ℕ → List ℕ → List ℕ → Option (Told × Track)
 arrives may cycle room t place f free nexts waiting =
     if nat_le room (length waiting) then None
-    else starts_at (first_fit may f.need (max t free) cycle) t place f nexts waiting
+    else option_map (λ at. (
+      record { place = place; wait = at - t; waiting = length waiting + 1 },
+      record { nexts = slice_set nexts place (t + f.period); free = at + f.need; starts = waiting ++ at ∷ [] },
+    )) (first_fit may f.need (max t free) cycle)
 
--- the next frame of all flows
-abbrev pub step_from : (ℕ → ℕ → Bool) → ℕ → ℕ → List Flow → Option (ℕ × ℕ) → Track → Option (Told × Track)
-step_from may cycle room flows None s = None
-step_from may cycle room flows (Some e) s = arrives may cycle room e.0 e.1 (flow_at flows e.1) s.free s.nexts (from_on e.0 s.starts)
-
--- The next frame, and what is so then; none where it is dropped or never starts. `may` says at which moment so much time can be had, in
--- cycles of this length; there is room for so many frames.
+-- The next frame of all flows, and what is so then; none where it is dropped or never starts. `may` says at which moment so much time can be
+-- had, in cycles of this length; there is room for so many frames.
 unfoldable pub step : (ℕ → ℕ → Bool) → ℕ → ℕ → List Flow → Track → Option (Told × Track)
-step may cycle room flows s = step_from may cycle room flows (earliest s.nexts) s
+step may cycle room flows s =
+    option_and_then (λ e. arrives may cycle room e.0 e.1 (flow_at flows e.1) s.free s.nexts (from_on e.0 s.starts)) (earliest s.nexts)
 
 -- what is told of the frame that comes after so many others
-abbrev pub told_on : (Track → Option Told) → Option (Told × Track) → Option Told
-told_on later None = None
-told_on later (Some r) = later r.1
-
--- the same
-abbrev pub told_first : Option (Told × Track) → Option Told
-told_first None = None
-told_first (Some r) = Some r.0
-
--- the same
 unfoldable pub told : (ℕ → ℕ → Bool) → ℕ → ℕ → List Flow → ℕ → Track → Option Told
-told may cycle room flows zero s = told_first (step may cycle room flows s)
-told may cycle room flows (suc n) s = told_on (told may cycle room flows n) (step may cycle room flows s)
+told may cycle room flows zero s = option_map (λ r. r.0) (step may cycle room flows s)
+told may cycle room flows (suc n) s = option_and_then (λ r. told may cycle room flows n r.1) (step may cycle room flows s)
 
 -- what is so after so many frames
-abbrev pub after_on : (Track → Option Track) → Option (Told × Track) → Option Track
-after_on later None = None
-after_on later (Some r) = later r.1
-
--- the same
 unfoldable pub after : (ℕ → ℕ → Bool) → ℕ → ℕ → List Flow → ℕ → Track → Option Track
 after may cycle room flows zero s = Some s
-after may cycle room flows (suc n) s = after_on (after may cycle room flows n) (step may cycle room flows s)
+after may cycle room flows (suc n) s = option_and_then (λ r. after may cycle room flows n r.1) (step may cycle room flows s)
 
 -- the first of those behind a place, or the moment at the place where none of them is before it
 abbrev pub with_place : Option (ℕ × ℕ) → ℕ → ℕ → Option (ℕ × ℕ)
