@@ -7,7 +7,8 @@ use Rattle.gate_list.specs.Gate.{Plan, in_ps}
 use Rattle.delay_bounds.specs.declared.Bound.{Bound}
 use Rattle.delay_bounds.specs.declared.Flow.{Flow}
 use Rattle.delay_bounds.specs.declared.Told.{Told}
-use Rattle.delay_bounds.specs.Walk.{earlier, Track, may_by, begun, offsets_of, earliest, from_on, first_fit, flow_at, arrives, step, told, after}
+use Rattle.delay_bounds.specs.Bounds.{earlier, Track, offsets_of, earliest, from_on, first_fit, flow_at, arrives, step, told}
+use Rattle.delay_bounds.specs.Walk.{may_by, begun, after}
 use Rattle.delay_bounds.proofs.Words.{starts_at, step_from, told_first, after_on}
 use Rattle.delay_bounds.specs.Line.{Standing, before_any, when_come}
 use Rattle.delay_bounds.specs.ForEver.{later, counts_from, counting}

@@ -26,10 +26,10 @@ use Rattle.separation.specs.Served.{IsFirst, frames_of, HaveCome, Waits, AreServ
 use Rattle.separation.specs.Traffic.{Came, IsOnly, queued_as, queued_by, queued_in, starts_of_class, is_full, offered_as, offered_by, offered_in}
 use Rattle.delay_bounds.proofs.GateLaws.{may_since, same_gates}
 use Rattle.delay_bounds.proofs.WaitLaws.{IsWire, step_is, has_step, told_next, first_is, one_first, first_since, from_when, coming_first}
-use Rattle.delay_bounds.specs.Bounds.{coming, AreComing}
+use Rattle.delay_bounds.specs.Bounds.{coming, AreComing, offsets_of, Track, earliest, from_on, flow_at, told}
 use Rattle.delay_bounds.specs.ForEver.{later}
 use Rattle.delay_bounds.specs.Waits.{DropsLaw}
-use Rattle.delay_bounds.specs.Walk.{offsets_of, Track, earliest, from_on, flow_at, told, begun}
+use Rattle.delay_bounds.specs.Walk.{begun}
 use Rattle.delay_bounds.specs.declared.Flow.{Flow}
 
 -- ---- moments that are past

@@ -6,10 +6,10 @@ use Rattle.abstract_port.specs.declared.Start.{Start}
 use Rattle.separation.specs.Traffic.{Came}
 use Rattle.delay_bounds.proofs.DropLaws.{drops_law}
 use Rattle.delay_bounds.proofs.WaitLaws.{step_is, told_next, bounds_law}
-use Rattle.delay_bounds.specs.Bounds.{coming_on, coming, AreComing, bound_at, IsWithin, AllWithin, EveryRunLaw}
+use Rattle.delay_bounds.specs.Bounds.{coming, AreComing, bound_at, IsWithin, AllWithin, EveryRunLaw, offsets_of, Track, earliest, flow_at, step, told}
+use Rattle.delay_bounds.proofs.Words.{coming_on, told_first}
 use Rattle.delay_bounds.specs.Waits.{AreAllTold, HaveWaited}
-use Rattle.delay_bounds.specs.Walk.{offsets_of, may_by, Track, earliest, flow_at, step, told, begun}
-use Rattle.delay_bounds.proofs.Words.{told_first}
+use Rattle.delay_bounds.specs.Walk.{may_by, begun}
 use Rattle.delay_bounds.specs.declared.Bound.{Bound}
 use Rattle.delay_bounds.specs.declared.Flow.{Flow}
 use Rattle.delay_bounds.specs.declared.Told.{Told}

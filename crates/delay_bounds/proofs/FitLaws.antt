@@ -5,7 +5,7 @@ use Rattle.gate_list.specs.Open.{open_while}
 use Rattle.gate_list.specs.Stay.{NoneFrom}
 use Rattle.list_config.proofs.IdleLaws.{none_flat}
 use Rattle.list_position.specs.Position.{IsFlat}
-use Rattle.delay_bounds.specs.Walk.{first_fit}
+use Rattle.delay_bounds.specs.Bounds.{first_fit}
 
 module _ (mask : ℕ → ℕ) (class d : ℕ) where
   pub fit_none : (t n : ℕ) → NoneFrom mask class d t (t + n) → first_fit (open_while mask class) d t n ≡ None

@@ -21,9 +21,9 @@ use Rattle.separation.specs.Traffic.{Came, IsOnly, queued_as, queued_by, queued_
 use Rattle.delay_bounds.proofs.DropLaws.{from_both, from_none, from_past, from_more, none_yet, room_kept, mtu_kept, full_queue}
 use Rattle.delay_bounds.proofs.GateLaws.{may_since, same_gates}
 use Rattle.delay_bounds.proofs.WaitLaws.{IsWire, step_is, first_is, one_first, first_since, from_when, coming_first}
-use Rattle.delay_bounds.specs.Bounds.{coming, AreComing}
+use Rattle.delay_bounds.specs.Bounds.{coming, AreComing, offsets_of, Track, earliest, from_on, flow_at, step}
 use Rattle.delay_bounds.specs.Full.{FullLaw}
-use Rattle.delay_bounds.specs.Walk.{offsets_of, Track, earliest, from_on, flow_at, step, after, begun}
+use Rattle.delay_bounds.specs.Walk.{after, begun}
 use Rattle.delay_bounds.proofs.Words.{after_on}
 use Rattle.delay_bounds.specs.declared.Flow.{Flow}
 use Rattle.delay_bounds.specs.declared.Told.{Told}

@@ -15,9 +15,10 @@ use Rattle.separation.specs.Served.{IsFirst, AreServed}
 use Rattle.separation.specs.Traffic.{Came, queued_in, starts_of_class}
 use Rattle.delay_bounds.proofs.GateLaws.{may_since, same_gates}
 use Rattle.delay_bounds.proofs.WaitLaws.{step_is, has_step, told_next, first_is, first_since}
-use Rattle.delay_bounds.specs.Bounds.{coming_on, coming}
+use Rattle.delay_bounds.specs.Bounds.{coming, offsets_of, Track, earliest, flow_at, step, told}
+use Rattle.delay_bounds.proofs.Words.{coming_on}
 use Rattle.delay_bounds.specs.Less.{AreLess, AreInTime, LessLaw}
-use Rattle.delay_bounds.specs.Walk.{offsets_of, Track, earliest, flow_at, step, told, begun}
+use Rattle.delay_bounds.specs.Walk.{begun}
 use Rattle.delay_bounds.specs.declared.Flow.{Flow}
 
 -- a shorter frame that may start earlier starts no later

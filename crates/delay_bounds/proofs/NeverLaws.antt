@@ -10,8 +10,8 @@ use Rattle.separation.specs.Traffic.{Came}
 use Rattle.separation.specs.Served.{AreServed}
 use Rattle.separation.proofs.Serving.{served_law}
 use Rattle.delay_bounds.specs.declared.Flow.{Flow}
-use Rattle.delay_bounds.specs.Walk.{Track, begun, offsets_of, first_fit, earliest, flow_at, after}
-use Rattle.delay_bounds.specs.Bounds.{coming, AreComing}
+use Rattle.delay_bounds.specs.Bounds.{Track, offsets_of, first_fit, earliest, flow_at, coming, AreComing}
+use Rattle.delay_bounds.specs.Walk.{begun, after}
 use Rattle.delay_bounds.specs.ForEver.{Repeats}
 use Rattle.delay_bounds.specs.Never.{NeverLaw}
 use Rattle.delay_bounds.proofs.GateLaws.{may_since, same_gates, may_repeats}

@@ -6,9 +6,9 @@ use Rattle.gate_list.specs.Gate.{Plan, in_ps}
 use Rattle.delay_bounds.specs.declared.Bound.{Bound}
 use Rattle.delay_bounds.specs.declared.Flow.{Flow}
 use Rattle.delay_bounds.specs.declared.Told.{Told}
-use Rattle.delay_bounds.specs.Walk.{Track, may_by, begun, offsets_of, earliest, step, told, after}
+use Rattle.delay_bounds.specs.Bounds.{Track, offsets_of, earliest, step, told, told_by, bound_at, IsWithin, AreBounds}
+use Rattle.delay_bounds.specs.Walk.{may_by, begun, after, IsReached}
 use Rattle.delay_bounds.proofs.Words.{step_from, told_first}
-use Rattle.delay_bounds.specs.Bounds.{told_by, bound_at, IsWithin, IsReached, AreBounds}
 use Rattle.delay_bounds.specs.Bounded.{IsMost}
 use Rattle.delay_bounds.specs.ForEver.{later, counts_from, counting, Recurs}
 use Rattle.delay_bounds.specs.Noted.{unseen, widened, noted}

@@ -1,9 +1,9 @@
 -- The parts of a step by cases.
 use Rattle.std.proofs.Common.{ℕ, ◌+◌, ◌-◌, Bool, List, [], ◌∷◌, ◌++◌, length, set, Option, option_map}
-use Rattle.std.specs.Option.{option_and_then}
+use Rattle.std.specs.Option.{option_and_then, option_map_or}
 use Rattle.delay_bounds.specs.declared.Flow.{Flow}
 use Rattle.delay_bounds.specs.declared.Told.{Told}
-use Rattle.delay_bounds.specs.Walk.{Track, flow_at, from_on, arrives}
+use Rattle.delay_bounds.specs.Bounds.{Track, flow_at, from_on, arrives}
 
 -- the frame that comes at t starts, if it ever does
 abbrev pub starts_at : Option ℕ → ℕ → ℕ → Flow → List ℕ → List ℕ → Option (Told × Track)
@@ -27,3 +27,7 @@ told_on later o = option_and_then (λ r. later r.1) o
 -- what is so behind it
 abbrev pub after_on : (Track → Option Track) → Option (Told × Track) → Option Track
 after_on later o = option_and_then (λ r. later r.1) o
+
+-- the next frame, and those behind it
+abbrev pub coming_on : (List ℕ → List (ℕ × ℕ)) → List Flow → List ℕ → Option (ℕ × ℕ) → List (ℕ × ℕ)
+coming_on behind flows nexts o = option_map_or (λ e. e ∷ behind (set nexts e.1 (e.0 + (flow_at flows e.1).period))) o []

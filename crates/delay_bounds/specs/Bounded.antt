@@ -2,8 +2,8 @@
 use Rattle.std.specs.Prelude.{◌+◌, ◌*◌, ◌≡◌, ◌<◌, ◌≤◌, ℕ, max, Bool, true, false, List, length, Some, None, IsSome}
 use Rattle.wire_time.specs.Moment.{greatest_moment}
 use Rattle.gate_list.specs.Gate.{Plan, in_ps}
-use Rattle.delay_bounds.specs.Walk.{Track, may_by, offsets_of, begun, earliest, from_on, first_fit, flow_at, after}
-use Rattle.delay_bounds.specs.Bounds.{told_by}
+use Rattle.delay_bounds.specs.Bounds.{Track, offsets_of, earliest, from_on, first_fit, flow_at, told_by}
+use Rattle.delay_bounds.specs.Walk.{may_by, begun, after}
 use Rattle.delay_bounds.specs.declared.Flow.{Flow}
 use Rattle.delay_bounds.specs.declared.Told.{Told}
 use Rattle.delay_bounds.specs.declared.FlowFrame.{FlowFrame}

@@ -1,7 +1,8 @@
 -- What repeats goes on for ever.
 use Rattle.std.specs.Prelude.{◌≡◌, ◌<◌, ℕ, ◌+◌, ◌*◌, max, Bool, List, map, Option, Some, None}
 use Rattle.gate_list.specs.Gate.{Plan, in_ps}
-use Rattle.delay_bounds.specs.Walk.{Track, may_by, offsets_of, begun, earliest, from_on, told, after}
+use Rattle.delay_bounds.specs.Bounds.{Track, offsets_of, earliest, from_on, told}
+use Rattle.delay_bounds.specs.Walk.{may_by, begun, after}
 use Rattle.delay_bounds.specs.declared.Flow.{Flow}
 
 -- the same, so much later

@@ -7,8 +7,8 @@ use Rattle.abstract_port.specs.declared.Event.{Event}
 use Rattle.abstract_port.specs.AbstractPort.{new_port}
 use Rattle.separation.specs.Separation.{IsKeptApart}
 use Rattle.separation.specs.Traffic.{IsOnly, queued_in, offered_in}
-use Rattle.delay_bounds.specs.Walk.{Track, may_by, offsets_of, begun, earliest, from_on, after}
-use Rattle.delay_bounds.specs.Bounds.{coming, AreComing}
+use Rattle.delay_bounds.specs.Bounds.{Track, offsets_of, earliest, from_on, coming, AreComing}
+use Rattle.delay_bounds.specs.Walk.{may_by, begun, after}
 use Rattle.delay_bounds.specs.declared.Flow.{Flow}
 
 -- The law: where after m frames by the plan alone there is no room for the next one, in every run in which the frames that the queue is

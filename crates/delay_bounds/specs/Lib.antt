@@ -1,7 +1,7 @@
+pub mod Bounds
 pub mod Walk
 pub mod ForEver
 pub mod Line
-pub mod Bounds
 pub mod Waits
 pub mod Full
 pub mod Never

@@ -9,8 +9,8 @@ use Rattle.abstract_port.specs.Answers.{answers_of}
 use Rattle.abstract_port.specs.Laws.{starts_in}
 use Rattle.separation.specs.Separation.{IsKeptApart}
 use Rattle.separation.specs.Traffic.{IsOnly, queued_in, starts_of_class}
-use Rattle.delay_bounds.specs.Walk.{Track, may_by, offsets_of, begun, earliest, first_fit, flow_at, after}
-use Rattle.delay_bounds.specs.Bounds.{coming, AreComing}
+use Rattle.delay_bounds.specs.Bounds.{Track, offsets_of, earliest, first_fit, flow_at, coming, AreComing}
+use Rattle.delay_bounds.specs.Walk.{may_by, begun, after}
 use Rattle.delay_bounds.specs.declared.Flow.{Flow}
 
 -- The law: where after m frames by the plan alone the next one fits into no window of one cycle, in every run in which the frames that the

@@ -3,11 +3,11 @@
 ghost use Rattle.std.specs.Prelude.{◌+◌, ◌*◌, ℕ, if◌then◌else◌, ◌≡◌, ◌<◌, ◌≤◌, ◌-◌, ◌%◌, ◌↔◌, All, IfOk, IfErr, length};
 ghost use Rattle.gate_list.specs.Gate.{IsSchedule};
 ghost use Rattle.delay_bounds.specs.Bounded.{ComesAt, is_from_here, unbound_by, IsMost, IsUnbound};
-ghost use Rattle.delay_bounds.specs.Bounds.{AreBounds};
+ghost use Rattle.delay_bounds.specs.Bounds.{AreBounds, flow_at};
 ghost use Rattle.delay_bounds.specs.ForEver.{Recurs, later};
 ghost use Rattle.delay_bounds.specs.Line.{before_any};
 ghost use Rattle.delay_bounds.specs.Noted.{unseen};
-ghost use Rattle.delay_bounds.specs.Walk.{flow_at, IsFlow};
+ghost use Rattle.delay_bounds.specs.Walk.{IsFlow};
 
 use crate::line::{Line, Stop};
 use crate::noting::{all_unseen, note};

@@ -4,7 +4,8 @@ ghost use Rattle.std.specs.Prelude.{◌≡◌, ◌<◌, ◌≤◌, ◌+◌, Some
 ghost use Rattle.wire_time.specs.Moment.{greatest_moment};
 ghost use Rattle.gate_list.specs.Gate.{IsSchedule, in_ps};
 ghost use Rattle.list_position.specs.Position.{IsPlaced};
-ghost use Rattle.delay_bounds.specs.Walk.{first_fit, may_by};
+ghost use Rattle.delay_bounds.specs.Bounds.{first_fit};
+ghost use Rattle.delay_bounds.specs.Walk.{may_by};
 
 use gate_list::{Schedule, Visits};
 use list_position::{Need, Position};

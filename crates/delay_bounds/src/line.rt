@@ -6,7 +6,8 @@ ghost use Rattle.gate_list.specs.Gate.{IsSchedule, in_ps};
 ghost use Rattle.list_position.specs.Position.{IsPlaced};
 ghost use Rattle.delay_bounds.specs.ForEver.{later};
 ghost use Rattle.delay_bounds.specs.Line.{before_any, when_come};
-ghost use Rattle.delay_bounds.specs.Walk.{arrives, earliest, first_fit, may_by, offsets_of, IsFlow};
+ghost use Rattle.delay_bounds.specs.Bounds.{arrives, earliest, first_fit, offsets_of};
+ghost use Rattle.delay_bounds.specs.Walk.{may_by, IsFlow};
 
 use crate::fit::fit;
 use crate::moments::{are_later, copy_ring, drop_before, earliest, is_ring_later};

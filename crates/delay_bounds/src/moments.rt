@@ -1,7 +1,8 @@
 //! Lists of moments, in picoseconds.
 
 ghost use Rattle.std.specs.Prelude.{◌≡◌, ◌<◌, ◌≤◌, ◌↔◌, ◌+◌, map, IfSome, IsSome, IsTrue, length, slice_index_or};
-ghost use Rattle.delay_bounds.specs.Walk.{begins_before, earliest, from_on, with_place};
+ghost use Rattle.delay_bounds.specs.Bounds.{earliest, from_on};
+ghost use Rattle.delay_bounds.specs.Walk.{begins_before, with_place};
 
 use circular_buffer::HeapCircularBuffer;
 use std::alloc::Allocator;

@@ -1,5 +1,5 @@
 use Rattle.std.proofs.Common.{◌≤◌, ◌<◌, ℕ}
-use Rattle.delay_bounds.specs.Walk.{flow_at}
+use Rattle.delay_bounds.specs.Bounds.{flow_at}
 use Rattle.delay_bounds.proofs.bounding.last_offset.Given as goal
 
 abbrev pub invariant-loop-flow : goal.invariant-loop-flow

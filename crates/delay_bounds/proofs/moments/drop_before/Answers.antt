@@ -1,5 +1,5 @@
 use Rattle.std.proofs.Common.{ap, sym, ◌∙◌}
-use Rattle.delay_bounds.specs.Walk.{from_on}
+use Rattle.delay_bounds.specs.Bounds.{from_on}
 use Rattle.delay_bounds.proofs.MomentLaws.{past_goes, none_goes}
 use Rattle.delay_bounds.proofs.moments.drop_before.Goals as goal
 

@@ -1,5 +1,5 @@
 use Rattle.std.proofs.Common.{◌≡◌, length}
-use Rattle.delay_bounds.specs.Walk.{from_on}
+use Rattle.delay_bounds.specs.Bounds.{from_on}
 use Rattle.delay_bounds.proofs.moments.drop_before.Given as goal
 
 abbrev pub invariant-loop-moments : goal.invariant-loop-moments
