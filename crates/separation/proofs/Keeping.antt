@@ -1,15 +1,13 @@
 -- What every run of a new port keeps.
-use Rattle.std.proofs.Common.{◌≡◌, ◌<◌, ◌≤◌, ℕ, ◌-◌, Bool, true, false, ltb, ◌||◌, List, [], ◌∷◌, ◌++◌, length, map, Option, Some, None, Result, Ok, Err, IsTrue, refl, sym, ap, ◌∙◌, subst, append-nil, arith}
+use Rattle.std.proofs.Common.{◌≡◌, ◌<◌, ◌≤◌, ℕ, Bool, true, false, ltb, ◌||◌, List, [], ◌∷◌, ◌++◌, length, map, Result, Ok, Err, refl, sym, ap, ◌∙◌, subst, append-nil, arith}
 use Rattle.std.proofs.lemmas.Bool.{lt-ltb}
 use Rattle.std.proofs.lemmas.List.Elements.{All-from_recursion}
-use Rattle.std.specs.Prelude.{All, sum_by, if◌then◌else◌}
+use Rattle.std.specs.Prelude.{All, if◌then◌else◌}
 use Rattle.std.specs.List.{AllByRecursion as Each}
 use Rattle.wire_time.specs.Moment.{greatest_moment}
 use Rattle.wire_time.specs.declared.Frame.{Frame}
-use Rattle.list_config.specs.History.{Accepted, open_through}
-use Rattle.abstract_port.specs.declared.Answer.{Answer}
+use Rattle.list_config.specs.History.{Accepted}
 use Rattle.abstract_port.specs.declared.Answer.TheVariants as Answered
-use Rattle.abstract_port.specs.declared.Counters.{Counters}
 use Rattle.abstract_port.specs.declared.Dropped.{Dropped}
 use Rattle.abstract_port.specs.declared.Event.{Event}
 use Rattle.abstract_port.specs.declared.Event.TheVariants.{Arrive, Install, Clock, Query, Count}
@@ -28,7 +26,7 @@ use Rattle.abstract_port.proofs.TallyLaws.{counting}
 use Rattle.abstract_port.proofs.UnclassedLaws.{unclassing}
 use Rattle.abstract_port.specs.Sound.{FitsLead}
 use Rattle.separation.specs.Hindsight.{IsFit, IsOpenBy}
-use Rattle.separation.specs.Promises.{AreOpenThen, KeepsPromises, IsKeepingPromises, count_after, counters_after}
+use Rattle.separation.specs.Promises.{AreOpenThen, IsKeepingPromises, count_after, counters_after}
 use Rattle.separation.proofs.Separates.{index_replicate, no_queue}
 use Rattle.separation.proofs.Standing.{hindsight}
 

@@ -1,7 +1,6 @@
 -- What holds of every run of a new port, and so of whatever reports its answers.
 use Rattle.std.specs.Prelude.{◌≡◌, ◌<◌, ◌≤◌, ℕ, List, [], ◌∷◌, ◌++◌, All, length, map, filter, sum_by}
 use Rattle.wire_time.specs.declared.TheConstants.{MIN_PS_PER_OCTET, MIN_MTU}
-use Rattle.list_config.specs.History.{Accepted}
 use Rattle.abstract_port.specs.declared.Counters.{Counters}
 use Rattle.abstract_port.specs.declared.Event.{Event}
 use Rattle.abstract_port.specs.declared.Event.TheVariants as Events

@@ -1,0 +1,13 @@
+pub mod Words
+pub mod WalkLaws
+pub mod GateLaws
+pub mod WaitLaws
+pub mod DropLaws
+pub mod FullLaws
+pub mod NeverLaws
+pub mod LessLaws
+pub mod EveryRunLaws
+pub mod FitLaws
+pub mod MomentLaws
+pub mod SeenLaws
+pub mod CourseLaws

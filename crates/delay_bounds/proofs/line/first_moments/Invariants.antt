@@ -1,0 +1,6 @@
+use Rattle.std.proofs.Common.{◌≡◌, take}
+use Rattle.delay_bounds.specs.Bounds.{offsets_of}
+use Rattle.delay_bounds.proofs.line.first_moments.Given as goal
+
+abbrev pub invariant-loop-flow : goal.invariant-loop-flow
+invariant-loop-flow g l = l.nexts.items ≡ offsets_of (take l.flow-index l.flows)

@@ -1,0 +1,53 @@
+-- What is answered of flows: their bounds, or why they have none.
+use Rattle.std.specs.Prelude.{◌+◌, ◌*◌, ◌≡◌, ◌<◌, ◌≤◌, ℕ, max, Bool, true, false, List, length, Some, None, IsSome}
+use Rattle.wire_time.specs.Moment.{greatest_moment}
+use Rattle.gate_list.specs.Gate.{Plan, in_ps}
+use Rattle.delay_bounds.specs.Bounds.{Track, offsets_of, earliest, from_on, first_fit, flow_at, told_by}
+use Rattle.delay_bounds.specs.Walk.{may_by, begun, after}
+use Rattle.delay_bounds.specs.declared.Flow.{Flow}
+use Rattle.delay_bounds.specs.declared.Told.{Told}
+use Rattle.delay_bounds.specs.declared.FlowFrame.{FlowFrame}
+use Rattle.delay_bounds.specs.declared.bounding.Look.{Look}
+use Rattle.delay_bounds.specs.declared.bounding.Look.TheVariants.{FromHere}
+use Rattle.delay_bounds.specs.declared.line.Stop.{Stop}
+use Rattle.delay_bounds.specs.declared.line.Stop.TheVariants as Stops
+use Rattle.delay_bounds.specs.declared.Unbound.{Unbound}
+use Rattle.delay_bounds.specs.declared.Unbound.TheVariants.{Full, Never, Long, Late, Memory}
+
+-- the greatest number of frames that ever wait at once, by a plan alone
+pub record IsMost (plan : Plan) (class room : ℕ) (flows : List Flow) (most : ℕ) : Type 0 where
+  pub within : (n : ℕ) (t : Told) → told_by plan class room flows n ≡ Some t → t.waiting ≤ most
+  pub reached : (n : ℕ) × (t : Told) × (told_by plan class room flows n ≡ Some t) × (t.waiting ≡ most)
+
+-- a frame of the flow comes then
+abbrev pub ComesAt : Flow → ℕ → Type 0
+ComesAt f t = (before : ℕ) × (t ≡ f.offset + f.period * before)
+
+-- by a plan alone the frame is the next one there
+pub record IsNext (plan : Plan) (class room : ℕ) (flows : List Flow) (f : FlowFrame) (z : Track) : Type 0 where
+  pub there : after (may_by plan class) (in_ps plan.cycle) room flows f.earlier (begun (offsets_of flows)) ≡ Some z
+  pub next : earliest z.nexts ≡ Some (f.moment, f.place)
+  pub before : f.moment ≡ (flow_at flows f.place).offset + (flow_at flows f.place).period * f.before
+
+-- to look from here on
+abbrev pub is_from_here : Look → Bool
+is_from_here FromHere = true
+is_from_here _ = false
+
+-- why flows have no bounds, where a walk stops at a frame
+abbrev pub unbound_by : Stop → FlowFrame → Unbound
+unbound_by Stops.Full f = Full f
+unbound_by Stops.Never f = Never f
+unbound_by Stops.Late f = Late
+
+-- Why flows have no bounds: a frame finds no room; one finds room, but fits into no window of a cycle; so many frames as may be were walked;
+-- or a frame finds room, but can't start before the greatest moment.
+abbrev pub IsUnbound : Plan → ℕ → ℕ → List Flow → ℕ → Unbound → Type 0
+IsUnbound plan class room flows limit (Full f) = (z : Track) × IsNext plan class room flows f z × (room ≤ length (from_on f.moment z.starts))
+IsUnbound plan class room flows limit (Never f) =
+    (z : Track) × IsNext plan class room flows f z × (length (from_on f.moment z.starts) < room)
+    × (first_fit (may_by plan class) (flow_at flows f.place).need (max f.moment z.free) (in_ps plan.cycle) ≡ None)
+IsUnbound plan class room flows limit Long = IsSome (after (may_by plan class) (in_ps plan.cycle) room flows limit (begun (offsets_of flows)))
+IsUnbound plan class room flows limit Late =
+    (f : FlowFrame) × (z : Track) × IsNext plan class room flows f z × (length (from_on f.moment z.starts) < room) × (greatest_moment < max f.moment z.free)
+IsUnbound plan class room flows limit Memory = Unit {0}

@@ -1,0 +1,10 @@
+pub mod Bounds
+pub mod Walk
+pub mod ForEver
+pub mod Line
+pub mod Waits
+pub mod Full
+pub mod Never
+pub mod Less
+pub mod Noted
+pub mod Bounded

@@ -1,0 +1,26 @@
+-- The first frame that fits into no window.
+use Rattle.std.specs.Prelude.{◌≡◌, ◌<◌, ◌≤◌, ℕ, max, List, length, Some, None}
+use Rattle.wire_time.specs.declared.TheConstants.{MIN_PS_PER_OCTET, MIN_MTU}
+use Rattle.gate_list.specs.Gate.{Plan, in_ps}
+use Rattle.list_config.specs.History.{Accepted}
+use Rattle.abstract_port.specs.declared.Event.{Event}
+use Rattle.abstract_port.specs.AbstractPort.{new_port}
+use Rattle.abstract_port.specs.Answers.{answers_of}
+use Rattle.abstract_port.specs.Laws.{starts_in}
+use Rattle.separation.specs.Separation.{IsKeptApart}
+use Rattle.separation.specs.Traffic.{IsOnly, queued_in, starts_of_class}
+use Rattle.delay_bounds.specs.Bounds.{Track, offsets_of, earliest, first_fit, flow_at, coming, AreComing}
+use Rattle.delay_bounds.specs.Walk.{may_by, begun, after}
+use Rattle.delay_bounds.specs.declared.Flow.{Flow}
+
+-- The law: where after m frames by the plan alone the next one fits into no window of one cycle, in every run in which the frames that the
+-- queue takes are the first of the flows m of them start at most: that frame never does, nor does any behind it.
+abbrev pub NeverLaw : Type 0
+NeverLaw =
+    (ps mtu room class : ℕ) (a : Accepted) (plan : Plan) (events : List Event) (flows : List Flow) (n m : ℕ) (z : Track) (e : ℕ × ℕ)
+    → MIN_PS_PER_OCTET ≤ ps → MIN_MTU ≤ mtu → class < 8 → a.plan ≡ Some plan → 0 < plan.cycle
+    → IsKeptApart class events (new_port ps mtu room) → IsOnly a events (new_port ps mtu room)
+    → AreComing ps a.change flows (coming flows n (offsets_of flows)) (queued_in class events (new_port ps mtu room))
+    → after (may_by plan class) (in_ps plan.cycle) room flows m (begun (offsets_of flows)) ≡ Some z
+    → earliest z.nexts ≡ Some e → first_fit (may_by plan class) (flow_at flows e.1).need (max e.0 z.free) (in_ps plan.cycle) ≡ None
+    → length (starts_of_class class (starts_in (answers_of events (new_port ps mtu room)))) ≤ m

@@ -1,0 +1,252 @@
+//! The bounds of flows, by a walk over their frames until its state comes again.
+
+ghost use Rattle.std.specs.Prelude.{◌+◌, ◌*◌, ℕ, if◌then◌else◌, ◌≡◌, ◌<◌, ◌≤◌, ◌-◌, ◌%◌, ◌↔◌, All, IfOk, IfErr, length};
+ghost use Rattle.gate_list.specs.Gate.{IsSchedule};
+ghost use Rattle.delay_bounds.specs.Bounded.{ComesAt, is_from_here, unbound_by, IsMost, IsUnbound};
+ghost use Rattle.delay_bounds.specs.Bounds.{AreBounds, flow_at};
+ghost use Rattle.delay_bounds.specs.ForEver.{Recurs, later};
+ghost use Rattle.delay_bounds.specs.Line.{before_any};
+ghost use Rattle.delay_bounds.specs.Noted.{unseen};
+ghost use Rattle.delay_bounds.specs.Walk.{IsFlow};
+
+use crate::line::{Line, Stop};
+use crate::noting::{all_unseen, note};
+use crate::{Bound, Bounded, Flow, FlowFrame, Unbound};
+use gate_list::{Schedule, Visits};
+use list_position::Position;
+use std::alloc::Allocator;
+use wire_time::CLASSES;
+
+/// A frame to look from: when it comes, and how many come before it.
+#[derive(Clone, Copy)]
+struct Mark {
+    since: u128,
+    earlier: u64,
+}
+
+/// What a walk has seen when its state has come again.
+#[derive(Clone, Copy)]
+struct Seen {
+    /// The greatest number of frames that wait at once.
+    most: usize,
+    /// So many frames ago it was the same.
+    frames: u64,
+    /// So many picoseconds ago it was the same.
+    every: u128,
+}
+
+/// What comes of a look at a walk beside where it stood before.
+#[derive(Clone, Copy, PartialEq, Eq)]
+enum Look {
+    /// It stands as it did, some cycles later: all goes on so for ever.
+    Again,
+    /// Only the frames come as they did, or the first ones of all flows have come: it is better to look from here on.
+    FromHere,
+    /// Neither.
+    On,
+}
+
+// The latest first frame of all flows.
+fn last_offset(flows: &[Flow]) -> u128
+    ensures { (place : ℕ) → place < length flows.now → (flow_at flows.now place).offset ≤ result }
+{
+    let mut last = 0;
+    for flow in flows {
+        last = flow.offset.max(last);
+    }
+    last
+}
+
+// The flow at a place.
+fn flow_at(flows: &[Flow], place: usize) -> Flow
+    requires { place < length flows.now }
+    ensures flow { result ≡ flow_at flows.now place }
+    ensures times { All IsFlow flows.now → IsFlow result }
+{
+    flows[place]
+}
+
+// Looks at a walk whose next frame comes at `t`, beside where it stood when one came at `since`.
+fn look_back<A: Allocator>(
+    line: &Line<A>,
+    base: &Line<A>,
+    since: u128,
+    t: u128,
+    cycle: u128,
+    last: u128,
+) -> Look
+    requires cycle { 0 < cycle }
+    ensures again { (result ≡ Look.Again) ↔ ((since < t) × ((t - since) % cycle ≡ 0) × (line.now.track ≡ later (t - since) base.now.track)) }
+{
+    if since < t && (t - since) % cycle == 0 && line.comes_later(base, t - since) {
+        if line.is_later(base, t - since) {
+            return Look::Again;
+        }
+        return Look::FromHere;
+    }
+    if since < last && last <= t {
+        return Look::FromHere;
+    }
+    Look::On
+}
+
+// Looks from here on where that is better, or from where it looked before.
+fn look_from<A: Allocator>(
+    look: Look,
+    line: &Line<A>,
+    here: Mark,
+    base: &mut Line<A>,
+    mark: Mark,
+) -> Mark
+    requires places { length base.old.track.nexts ≡ length line.now.track.nexts }
+    requires room { base.old.room ≡ line.now.room }
+    ensures base { base.new ≡ (if is_from_here look then line.now else base.old) }
+    ensures mark { result ≡ (if is_from_here look then here else mark) }
+{
+    if look == Look::FromHere {
+        base.copy(line);
+        return here;
+    }
+    mark
+}
+
+// The frame of a flow that comes at `t`, behind so many of all flows.
+fn frame_at(flow: Flow, place: usize, t: u128, earlier: u64) -> FlowFrame
+    requires above { 0 < flow.period }
+    requires comes { ComesAt flow t }
+    ensures { (before : ℕ) → t ≡ flow.offset + flow.period * before → result ≡ record { place = place; before = before; earlier = earlier; moment = t } }
+{
+    FlowFrame {
+        place,
+        before: (t - flow.offset) / flow.period,
+        earlier,
+        moment: t,
+    }
+}
+
+// Why flows have no bounds, where a walk stops at a frame.
+fn unbound(stop: Stop, frame: FlowFrame) -> Unbound
+    ensures { result ≡ unbound_by stop frame }
+{
+    match stop {
+        Stop::Full => Unbound::Full(frame),
+        Stop::Never => Unbound::Never(frame),
+        Stop::Late => Unbound::Late,
+    }
+}
+
+// Walks until the state comes again, at most so many frames.
+fn walk<A: Allocator>(
+    schedule: &Schedule,
+    class: u8,
+    flows: &[Flow],
+    limit: u64,
+    line: &mut Line<A>,
+    base: &mut Line<A>,
+    bounds: &mut [Bound],
+) -> Result<Seen, Unbound>
+    requires sound { IsSchedule schedule.now }
+    requires class { class < CLASSES }
+    requires some { 0 < length flows.now }
+    requires flows { All IsFlow flows.now }
+    requires line { line.old ≡ before_any flows.now line.old.room }
+    requires base { base.old ≡ before_any flows.now line.old.room }
+    requires bounds { (length bounds.old ≡ length flows.now) × All (λ b. b ≡ unseen) bounds.old }
+    ensures count { IfOk result (λ seen. length bounds.new ≡ length flows.now) }
+    ensures bounds { IfOk result (λ seen. AreBounds schedule.now class line.old.room flows.now bounds.new) }
+    ensures most { IfOk result (λ seen. IsMost schedule.now class line.old.room flows.now seen.most) }
+    ensures recurs { IfOk result (λ seen. Recurs schedule.now class line.old.room flows.now seen.frames seen.every) }
+    ensures unbound { IfErr result (IsUnbound schedule.now class line.old.room flows.now limit) }
+{
+    let position = Position::first(schedule, 0, &mut Visits::zero());
+    let cycle = 1000 * u128::from(schedule.cycle_ns());
+    let last = last_offset(flows);
+    let (since, _) = base.next();
+    let mut mark = Mark { since, earlier: 0 };
+    let mut most = 0;
+    let mut frames = 0;
+    while frames < limit {
+        let (t, place) = line.next();
+        let look = look_back(line, base, mark.since, t, cycle, last);
+        if let Look::Again = look {
+            return Ok(Seen {
+                most,
+                frames: frames - mark.earlier,
+                every: t - mark.since,
+            });
+        }
+        let here = Mark {
+            since: t,
+            earlier: frames,
+        };
+        mark = look_from(look, line, here, base, mark);
+        let flow = flow_at(flows, place);
+        let told = match line.start(schedule, &position, class, flow, t, place) {
+            Ok(told) => told,
+            Err(stop) => return Err(unbound(stop, frame_at(flow, place, t, frames))),
+        };
+        note(bounds, told);
+        most = told.waiting.max(most);
+        frames += 1;
+    }
+    Err(Unbound::Long)
+}
+
+/// The bounds of the flows of a class that a schedule keeps apart, for ever: the least and the greatest time from the arrival of each
+/// flow's frames to their starts, the greatest number of frames that ever wait at once, and how many frames come in how long; or why
+/// there are none. `room` is that of the queue, in frames.
+///
+/// The frames are walked one after another by the schedule alone, at most `limit` of them, until all stands as it did some cycles before:
+/// from there on it goes on so for ever. That takes time for as many frames as come in one hyperperiod, mostly, and memory for each flow
+/// and each place of the queue alone.
+///
+/// # Errors
+/// `Full` and `Never` tell of the first frame that finds no room, or that never starts. `Long`: after `limit` frames it does not yet
+/// stand as it did. `Late`: a frame can't start before `MAX_MOMENT`. `Memory`: out of memory.
+///
+/// IEEE Std 802.1Q-2018, 8.6.8.4 and 8.6.9. `laws` say what these bounds are worth.
+pub fn bound_flows<A: Allocator>(
+    alloc: &A,
+    schedule: &Schedule,
+    class: u8,
+    room: u32,
+    flows: &[Flow],
+    limit: u64,
+) -> Result<Bounded<A>, Unbound>
+where
+    A: Clone,
+    requires sound { IsSchedule schedule.now }
+    requires class { class < CLASSES }
+    requires some { 0 < length flows.now }
+    requires flows { All IsFlow flows.now }
+    ensures count { IfOk result (λ b. length b.bounds.items ≡ length flows.now) }
+    ensures bounds { IfOk result (λ b. AreBounds schedule.now class room flows.now b.bounds.items) }
+    ensures most { IfOk result (λ b. IsMost schedule.now class room flows.now b.most) }
+    ensures recurs { IfOk result (λ b. Recurs schedule.now class room flows.now b.frames b.every) }
+    ensures unbound { IfErr result (IsUnbound schedule.now class room flows.now limit) }
+{
+    let Ok(mut line) = Line::new(alloc, flows, room as usize) else {
+        return Err(Unbound::Memory);
+    };
+    let Ok(mut base) = Line::new(alloc, flows, room as usize) else {
+        return Err(Unbound::Memory);
+    };
+    let Ok(mut bounds) = all_unseen(alloc, flows.len()) else {
+        return Err(Unbound::Memory);
+    };
+    let seen = walk(
+        schedule,
+        class,
+        flows,
+        limit,
+        &mut line,
+        &mut base,
+        bounds.as_mut_slice(),
+    )?;
+    Ok(Bounded {
+        bounds,
+        most: seen.most,
+        frames: seen.frames,
+        every: seen.every,
+    })
+}

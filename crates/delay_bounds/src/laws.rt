@@ -1,0 +1,43 @@
+//! Laws of the definitions that the contracts cite. There is nothing to run here: a function's contract is its law.
+ghost use Rattle.delay_bounds.specs.Bounds.{EveryRunLaw};
+ghost use Rattle.delay_bounds.specs.ForEver.{ForEverLaw};
+ghost use Rattle.delay_bounds.specs.Full.{FullLaw};
+ghost use Rattle.delay_bounds.specs.Less.{LessLaw};
+ghost use Rattle.delay_bounds.specs.Never.{NeverLaw};
+ghost use Rattle.delay_bounds.specs.Waits.{BoundsLaw, DropsLaw};
+
+/// Where after some frames of the flows it is as it was before, so much later, what is told of every frame, for ever, is what is
+/// told of one of the first.
+pub fn for_ever()
+    ensures { ForEverLaw }
+{}
+
+/// Bounds of flows, which speak of a plan alone, hold in every run, whatever the other classes send.
+pub fn every_run()
+    ensures { EveryRunLaw }
+{}
+
+/// In every run each frame of the flows that starts has waited as long as it does by the plan alone.
+pub fn waits()
+    ensures { BoundsLaw }
+{}
+
+/// In every run no frame of the flows is dropped, where none is by the plan alone.
+pub fn drops()
+    ensures { DropsLaw }
+{}
+
+/// In every run the first frame of the flows that finds no room by the plan alone is dropped, and none before it.
+pub fn full()
+    ensures { FullLaw }
+{}
+
+/// In every run a frame of the flows that fits into no window of one cycle never starts, nor does any behind it.
+pub fn never()
+    ensures { NeverLaw }
+{}
+
+/// Frames that are left out, shorter or earlier, in their order, make no frame start later.
+pub fn less()
+    ensures { LessLaw }
+{}

@@ -1,0 +1,5 @@
+use Rattle.separation.proofs.Serving as Serving
+use Rattle.separation.proofs.served.Goals as goal
+
+pub returns : goal.returns
+returns c = Serving.served_law
