@@ -1,5 +1,5 @@
 """Replays of captures that a rule makes: cut behind each octet, faulty, with odd frames, long, and without end."""
-from rows import Row, captured, run
+from rows import Row, captured, run, run_fed
 
 HEADER = bytes.fromhex("a1b2c3d4 0002 0004 00000000 00000000 00040000 00000001")
 # Big-endian, in microseconds: two frames of 60 octets of which 18 are captured, with priorities 3 and 5,
@@ -126,6 +126,144 @@ def changed(name, at, octets, text):
     return of_input(f"a capture with {name}", capture, output=None, errors=text, status=status_of(text))
 
 
+# More octets that come into the header, each from which one on, and the text of the fault: the first fault is told. The zone, the accuracy
+# and the snapshot length may be anything.
+HEADERS = [
+    ("the last octet of the magic number changed", [(3, "d5")], b"taprio_port: capture header: BadMagic\n"),
+    ("the first octet of the version changed", [(4, "02")], b"taprio_port: capture header: BadVersion\n"),
+    ("another minor version", [(7, "03")], b"taprio_port: capture header: BadVersion\n"),
+    ("an octet before the link", [(20, "04")], b"taprio_port: capture header: BadLink\n"),
+    ("another zone", [(9, "ff")], b""),
+    ("another accuracy", [(15, "ff")], b""),
+    ("no octet of a snapshot length", [(17, "00")], b""),
+    ("another link and another version", [(23, "71"), (7, "03")], b"taprio_port: capture header: BadVersion\n"),
+    (
+        "another link, another version and another magic number",
+        [(23, "71"), (7, "03"), (0, "00")],
+        b"taprio_port: capture header: BadMagic\n",
+    ),
+]
+
+
+def with_octets(capture, changes):
+    """A capture with octets replaced, each from which one on."""
+    for at, octets in changes:
+        octets = bytes.fromhex(octets)
+        capture = capture[:at] + octets + capture[at + len(octets) :]
+    return capture
+
+
+def headers():
+    """Changed headers: nothing leaves behind a fault, and both frames do without one."""
+    for name, changes, text in HEADERS:
+        told, left = (b"", b"") if text else (BOTH_TOLD, BOTH_LEFT)
+        capture = with_octets(TWO_RECORDS, changes)
+        wanted = {"output": told, "written": {"out": left}, "errors": text, "status": status_of(text)}
+        yield of_input(f"a header with {name}", capture, **wanted)
+    yield of_input(
+        "a header that is cut, with three other faults",
+        with_octets(TWO_RECORDS, [(23, "71"), (7, "03"), (0, "00")])[:23],
+        written={"out": b""},
+        errors=b"taprio_port: capture header: ShortHeader\n",
+        status=3,
+    )
+
+
+# A fraction of a second in microseconds, the greatest and one more; and how many octets of the second record are there, one more, as many
+# as a record may have, one more, and more than half of the numbers there are.
+BELOW, SECOND = "000f423f", "000f4240"
+WHOLE, MISSING, MOST, MORE, SIGN = "00000012", "00000013", "00040000", "00040001", "80000012"
+# Fractions and lengths of the second record, and its fault: the first of them is told.
+FIELDS = [
+    ("a microsecond before the next second", BELOW, WHOLE, ""),
+    ("a whole second of microseconds", SECOND, WHOLE, "BadFraction"),
+    ("an octet more than there is, a microsecond before the next second", BELOW, MISSING, "ShortRecord"),
+    ("an octet more than there is, and a whole second of microseconds", SECOND, MISSING, "BadFraction"),
+    ("as many octets as a record may have", BELOW, MOST, "ShortRecord"),
+    ("an octet more than a record may have", BELOW, MORE, "LongRecord"),
+    ("an octet more than a record may have, and a whole second of microseconds", SECOND, MORE, "LongRecord"),
+    ("octets of more than half of the numbers", BELOW, SIGN, "LongRecord"),
+]
+
+
+def second_records():
+    """The second record with these fields: the first leaves in any case."""
+    for name, fraction, length, fault in FIELDS:
+        capture = with_octets(TWO_RECORDS, [(62, fraction), (66, length)])
+        told, left = FIRST_TOLD, FIRST_LEFT
+        if not fault:
+            told += b"queued 1 class 5\nstart 1 class 5 at 2999999000000 end 2999999672000\n"
+            left = captured([(2000500000, PRIORITY_3, 60), (2999999000, PRIORITY_5, 60)])
+        text = f"taprio_port: capture record 1: {fault}\n".encode() if fault else b""
+        wanted = {"output": told, "written": {"out": left}, "errors": text, "status": status_of(text)}
+        yield of_input(f"a second record with {name}", capture, **wanted)
+
+
+# As `tcpdump -w` writes on a little-endian machine, in microseconds: an ARP request of 42 octets at 1700000000.123456. Made by hand.
+TCPDUMP = bytes.fromhex(
+    "d4c3b2a1 0200 0400 00000000 00000000 00000400 01000000"
+    "00f15365 40e20100 2a000000 2a000000"
+    "ffffffffffff 020000000001 0806 0001 0800 06 04 0001 020000000001 c0000201 000000000000 c0000202"
+)
+# As `tshark -F nsecpcap -w` writes with a snapshot length of 14, in nanoseconds: the first 14 octets of a frame of 98, at
+# 1700000000.123456789. Made by hand.
+TSHARK = bytes.fromhex(
+    "4d3cb2a1 0200 0400 00000000 00000000 0e000000 01000000"
+    "00f15365 15cd5b07 0e000000 62000000"
+    "020000000002 020000000001 0800"
+)
+LATE = "1700000002000000000000"
+
+
+def other_captures():
+    """Captures as other tools write them, and those that are written here."""
+    yield of_input(
+        "a frame that tcpdump has captured",
+        TCPDUMP,
+        LATE,
+        output=b"queued 0 class 0\nstart 0 class 0 at 1700000000123456000000 end 1700000000123456672000\n",
+        written={"out": captured([(1700000000123456000, TCPDUMP[40:], 42)])},
+    )
+    yield of_input(
+        "a part of a frame that tshark has captured",
+        TSHARK,
+        LATE,
+        output=b"queued 0 class 0\nstart 0 class 0 at 1700000000123456789000 end 1700000000123457765000\n",
+        written={"out": captured([(1700000000123456789, TSHARK[40:], 98)])},
+    )
+    yield of_input(
+        "a frame a nanosecond before the next second",
+        with_octets(TSHARK, [(28, "ffc99a3b")]),
+        LATE,
+        output=b"queued 0 class 0\nstart 0 class 0 at 1700000000999999999000 end 1700000001000000975000\n",
+        written={"out": captured([(1700000000999999999, TSHARK[40:], 98)])},
+    )
+    yield of_input(
+        "a whole second of nanoseconds",
+        with_octets(TSHARK, [(28, "00ca9a3b")]),
+        LATE,
+        written={"out": captured([])},
+        errors=b"taprio_port: capture record 0: BadFraction\n",
+        status=3,
+    )
+    yield of_input(
+        "what has left of two frames, as what comes: each frame leaves at once",
+        BOTH_LEFT,
+        output=b"""queued 0 class 5
+start 0 class 5 at 2000500000000 end 2000500672000
+queued 1 class 3
+start 1 class 3 at 2000500672000 end 2000501344000
+""",
+        written={"out": BOTH_LEFT},
+    )
+    yield of_input(
+        "the second of two frames by itself",
+        HEADER + TWO_RECORDS[58:],
+        output=b"queued 0 class 5\nstart 0 class 5 at 2000400000000 end 2000400672000\n",
+        written={"out": captured([(2000400000, PRIORITY_5, 60)])},
+    )
+
+
 # Two frames of class 3, between them a frame that is too short and one of class 0, all at a microsecond.
 A_DROPPED_FRAME = captured(
     [(1000, PRIORITY_3, 60), (1000, THIRTEEN, 13), (1000, HUNDRED, 100), (1000, PRIORITY_3, 60)]
@@ -240,6 +378,7 @@ def rows():
         of_files("a summary before a fault of a record", front, END, words=["--summary"], output=told, **short)
     )
     found += [changed(*change) for change in CHANGES]
+    found += [*headers(), *second_records(), *other_captures()]
     found.append(
         of_files(
             "twelve records, and a thirteenth that is cut",
@@ -257,6 +396,22 @@ def case_octets_are_those_of_the_records(program):
     """Captures that are given here by their octets are those of the records that are meant."""
     assert captured([(2000500000, PRIORITY_3, 60), (2000400000, PRIORITY_5, 60)]) == TWO_CAPTURED
     assert captured([(2000500000, PRIORITY_5, 60), (2000500672, PRIORITY_3, 60)]) == BOTH_LEFT
+
+
+def long_record(program, octets, zeros):
+    """What a replay says of a record that says that so many octets were captured, with so many octets of 0 behind its header, 65,521 at a
+    time."""
+    capture = HEADER + bytes(8) + octets.to_bytes(4, "big") + bytes(4 + zeros)
+    pieces = [capture[at : at + 65521] for at in range(0, len(capture), 65521)]
+    ran = run_fed(program, ["replay", "--until", END, "script", "-", "out"], pieces, {"script": b""})
+    return ran.status, ran.output, ran.errors
+
+
+def case_the_longest_record_comes_in_pieces(program):
+    """It has 262,144 octets; one behind it has none. One octet less is a cut record, and one more is too many."""
+    assert long_record(program, 262144, 262144 + 16) == (0, b"dropped 0 TooLong\ndropped 1 Runt\n", b"")
+    assert long_record(program, 262144, 262143) == (3, b"", b"taprio_port: capture record 0: ShortRecord\n")
+    assert long_record(program, 262145, 262145) == (3, b"", b"taprio_port: capture record 0: LongRecord\n")
 
 
 def case_octets_are_kept_while_frames_wait_alone(program):

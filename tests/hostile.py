@@ -1,4 +1,6 @@
 """Hostile input: truncated and malicious scripts, schedules and captures, moments at the limits, and random ones from a seed."""
+import itertools
+
 from rows import Row, captured, run, run_fed, tagged
 
 # A gigabit, an mtu of 1500 octets, and room for two frames a class.
@@ -114,20 +116,32 @@ def rows():
         yield from made()
 
 
-def records_without_end():
+def records_of_no_octets(pieces):
+    """The header of a capture, and so many times 4,000 records of no octets."""
     yield one_record(0, 0, 0)[:24]
-    while True:
-        yield bytes(1 << 16)
+    for _ in pieces:
+        yield bytes(64_000)
 
 
-def case_a_capture_without_end(program):
-    """4,000,000 records of no octets are reported, and then the fault: lines of 14 octets and a number, 10 of one digit, 90 of two, and so on."""
+def drops(program, pieces):
+    """The status and the fault of a replay of so many records. 4,000,000 of them are reported: lines of 14 octets and a number, 10 of one
+    digit, 90 of two, and so on."""
     words = ["replay", *SETTINGS, "--until", "0", "lines", "-", "departures"]
-    ran = run_fed(program, words, records_without_end(), {"lines": b""})
-    assert (ran.status, ran.errors) == (3, b"taprio_port: capture record 4000000: TooManyRecords\n"), (ran.status, ran.errors)
+    ran = run_fed(program, words, records_of_no_octets(pieces), {"lines": b""})
     assert len(ran.output) == 56_000_000 + 26_888_890, len(ran.output)
     assert ran.output.endswith(b"dropped 3999999 Runt\n")
     assert ran.files["departures"] == captured([])
+    return ran.status, ran.errors
+
+
+def case_a_capture_without_end(program):
+    fault = drops(program, itertools.repeat(0))
+    assert fault == (3, b"taprio_port: capture record 4000000: TooManyRecords\n"), fault
+
+
+def case_a_capture_of_as_many_records_as_there_may_be(program):
+    fault = drops(program, range(1000))
+    assert fault == (0, b""), fault
 
 
 class Numbers:

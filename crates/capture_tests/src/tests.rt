@@ -1,8 +1,7 @@
-//! Captures, readers and writers that the tests share.
+//! Captures, readers and writers that the tests share. What captures are read as, and their faults, are rows of tests/captures.py.
 
 mod frames;
 mod readers;
-mod reading;
 mod writing;
 
 use capture::{CapFault, CaptureReader, End, MAX_RECORDS};

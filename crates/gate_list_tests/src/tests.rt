@@ -1,6 +1,7 @@
-//! Worked cases: each refusal at its limit, the rows of two lists, and that a visit is counted.
+//! Worked cases: lists that are refused, the rows of two lists, and that a visit is counted. Refused schedules are a row of
+//! tests/histories.py.
 
-use gate_list::{Entry, GateFault, GateList, PlanFault, Schedule, Stay, Visits, laws};
+use gate_list::{Entry, GateFault, GateList, Schedule, Stay, Visits, laws};
 use std::process::Abort;
 use wire_time::Rate;
 
@@ -36,40 +37,6 @@ fn lists_are_refused_in_order(rt: HostRuntime) {
     entries[3].interval = 1;
     let list = GateList::new(&entries[..256]).expect(&rt, "a list");
     assert_eq!(rt; list.entries(), &entries[..256]);
-}
-
-#[test]
-fn schedules_are_refused_at_their_limits(rt: HostRuntime) {
-    let rate = Rate::from_mbps(1000).expect(&rt, "a rate");
-    let cases = [
-        (479, 0, 479, 0, Some(PlanFault::IntervalTooShort(0))),
-        (480, 0, 479, 0, Some(PlanFault::CycleTooShort)),
-        (480, 0, 1099511627777, 0, Some(PlanFault::CycleTooLong)),
-        (
-            480,
-            0,
-            1099511627776,
-            1099511627777,
-            Some(PlanFault::ExtensionTooLong),
-        ),
-        (
-            480,
-            9223372036854775808,
-            480,
-            1099511627776,
-            Some(PlanFault::BaseTooLate),
-        ),
-        (480, 9223372036854775807, 0, 1099511627776, None),
-    ];
-    for (interval, base_ns, cycle_ns, extension_ns, want) in cases {
-        let list = GateList::new(&[Entry {
-            interval,
-            ..ALL_OPEN
-        }])
-        .expect(&rt, "a list");
-        let schedule = Schedule::new(&list, base_ns, cycle_ns, extension_ns, rate);
-        assert_eq!(rt; schedule.err(), want);
-    }
 }
 
 #[test]

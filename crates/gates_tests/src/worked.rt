@@ -1,10 +1,10 @@
-//! Worked cases: a hold and none, a command that is replaced, a frame across two lists, a deletion, and what is counted.
+//! Worked cases: what is counted.
 ghost use Rattle.std.specs.Prelude.{◌≡◌, ◌≤◌, ◌<◌, length};
 ghost use Rattle.wire_time.specs.Moment.{greatest_moment};
 ghost use Rattle.list_config.specs.Current.{IsCurrent};
 
 use gate_list::{Entry, GateList, Schedule, Visits};
-use list_config::{Gates, NotNow};
+use list_config::Gates;
 use std::process::Abort;
 use stepped::Stepped;
 use wire_time::Rate;
@@ -18,18 +18,6 @@ fn schedule_of(rt: &impl Abort, entries: [Entry; 2], base_ns: u64, extension_ns:
 
 fn entry(mask: u8, interval: u32) -> Entry {
     Entry { mask, interval }
-}
-
-/// The mask at a later moment.
-fn mask_at(rt: &impl Abort, gates: &mut Stepped, t: u128) -> u8
-    requires sound { IsCurrent gates.old.history gates.old.moment }
-    requires within { t ≤ greatest_moment }
-    ensures sound { IsCurrent gates.new.history gates.new.moment }
-    ensures moment { gates.new.moment ≡ t }
-{
-    assert!(rt; gates.now() <= t);
-    gates.move_to(t, &mut Visits::zero());
-    gates.mask()
 }
 
 /// A port's gates with a list of 01 for 600 us and 02 for 400 us, in force from 1 ms on.
@@ -46,49 +34,6 @@ fn two_masks(rt: &impl Abort, extension_ns: u64) -> Stepped
     );
     assert_eq!(rt; gates.install(&list, 12336000), Ok(1000000000));
     gates
-}
-
-#[test]
-fn last_state_is_held_within_the_extension(rt: HostRuntime) {
-    for (extension_ns, held) in [(200000, 0x02), (100000, 0x01)] {
-        let mut gates = two_masks(&rt, extension_ns);
-        assert_eq!(rt; mask_at(&rt, &mut gates, 2000000000), 0x01);
-        let next = schedule_of(&rt, [entry(0x04, 500000), entry(0x04, 500000)], 5150000, 0);
-        assert_eq!(rt; gates.install(&next, 2012336000), Ok(5150000000));
-        assert_eq!(rt; mask_at(&rt, &mut gates, 4999999999), 0x02);
-        assert_eq!(rt; mask_at(&rt, &mut gates, 5000000000), held);
-        assert_eq!(rt; mask_at(&rt, &mut gates, 5149999999), held);
-        assert_eq!(rt; mask_at(&rt, &mut gates, 5150000000), 0x04);
-    }
-}
-
-#[test]
-fn nothing_is_held_for_a_command_in_the_short_cycle(rt: HostRuntime) {
-    let mut gates = two_masks(&rt, 200000);
-    assert_eq!(rt; mask_at(&rt, &mut gates, 5050000000), 0x01);
-    let next = schedule_of(&rt, [entry(0x04, 500000), entry(0x04, 500000)], 5150000, 0);
-    assert_eq!(rt; gates.install(&next, 5062336000), Ok(5150000000));
-    assert!(rt; gates.stays_open(0, 99999999, &mut Visits::zero()));
-    assert!(rt; !gates.stays_open(0, 100000001, &mut Visits::zero()));
-    assert_eq!(rt; mask_at(&rt, &mut gates, 5149999999), 0x01);
-    assert_eq!(rt; mask_at(&rt, &mut gates, 5150000000), 0x04);
-}
-
-#[test]
-fn commands_are_refused_replaced_and_deleted(rt: HostRuntime) {
-    let mut gates = two_masks(&rt, 0);
-    let early = schedule_of(&rt, [entry(0x01, 300000), entry(0x01, 300000)], 0, 0);
-    assert_eq!(rt;
-        gates.install(&early, 12336001),
-        Err(NotNow::Busy(12336000))
-    );
-    assert_eq!(rt; mask_at(&rt, &mut gates, 12336000), 0xff);
-    let next = schedule_of(&rt, [entry(0x01, 150000), entry(0x01, 150000)], 0, 0);
-    assert_eq!(rt; gates.install(&next, 24672000), Ok(300000000));
-    assert_eq!(rt; mask_at(&rt, &mut gates, 1300000000), 0x01);
-    assert_eq!(rt; gates.delete(1312336000), Ok(1312336000));
-    assert_eq!(rt; mask_at(&rt, &mut gates, 1312335999), 0x01);
-    assert_eq!(rt; mask_at(&rt, &mut gates, 1312336000), 0xff);
 }
 
 /// How many entries a move to a later moment looks at.
@@ -131,11 +76,11 @@ fn a_move_counts_each_entry_that_it_looks_at(rt: HostRuntime) {
 fn a_list_is_placed_ahead_for_two_commands_alone(rt: HostRuntime) {
     let mut gates = two_masks(&rt, 0);
     let mut visits = Visits::zero();
-    let _ = mask_at(&rt, &mut gates, 2000000000);
+    let _ = visits_to(&rt, &mut gates, 2000000000);
     assert!(rt; gates.stays_open(0, 600000000, &mut visits));
     let next = schedule_of(&rt, [entry(0x04, 500000), entry(0x04, 500000)], 5150000, 0);
     assert_eq!(rt; gates.install(&next, 2012336000), Ok(5150000000));
-    let _ = mask_at(&rt, &mut gates, 2050000000);
+    let _ = visits_to(&rt, &mut gates, 2050000000);
     assert!(rt; gates.stays_open(0, 550000000, &mut visits));
     assert_eq!(rt; gates.delete(2062336000), Ok(2062336000));
     assert_eq!(rt; visits.count(), 0);

@@ -7,9 +7,6 @@ ghost use Rattle.octet_writer.specs.Writes.{Writes};
 
 use std::io::Write;
 
-#[cfg(test)]
-mod tests;
-
 /// A write failed, or took nothing.
 #[derive(Clone, Copy, Debug, PartialEq, Eq)]
 pub struct WriteFault;

@@ -224,12 +224,9 @@ fn starts_at_the_change(alloc: Global, change: &Change) -> Option<Result<(), usi
     Some(steps_to_the_change(&mut port, change, &first, &second))
 }
 
-/// Which is the first of these changes that comes out otherwise, and by which step.
-fn start_at_changes(
-    alloc: Global,
-    changes: &[Change],
-) -> Result<(), (usize, Option<Result<(), usize>>)> {
-    for (i, change) in changes.iter().enumerate() {
+/// Which is the first of the changes that comes out otherwise, and by which step.
+fn start_at_changes(alloc: Global) -> Result<(), (usize, Option<Result<(), usize>>)> {
+    for (i, change) in CHANGES.iter().enumerate() {
         let started = starts_at_the_change(alloc, change);
         if started != Some(Ok(())) {
             return Err((i, started));
@@ -244,7 +241,7 @@ fn start_at_changes(
 /// Up to the start: three times all entries but the first, the first of two cycles (of the cut one too), and placed in the last
 /// entry, or in the one of the second list. After it no frame waits and nothing is searched: placed in the second list or in the hold,
 /// or not moved from the start's entry, where the frame ends; and placed in the second list where the clock stops.
-const CHANGES: [Change; 3] = [
+const CHANGES: [Change; 6] = [
     Change {
         many: 2,
         interval: 195_000,
@@ -272,15 +269,7 @@ const CHANGES: [Change; 3] = [
         end: 1_000_000_062_304_000,
         visits: [3 + 3 + 1, 1],
     },
-];
-
-#[test]
-fn changes_are_found_from_afar(rt: HostRuntime) {
-    assert_eq!(rt; start_at_changes(rt.alloc(), &CHANGES), Ok(()));
-}
-
-/// Changes are found from afar in lists of 256 entries, all but the last of 1 us. The cycle that is cut begins 30 of them.
-const LONG_CHANGES: [Change; 3] = [
+    // In lists of 256 entries, all but the last of 1 us. The cycle that is cut begins 30 of them.
     Change {
         many: 256,
         interval: 1000,
@@ -311,8 +300,8 @@ const LONG_CHANGES: [Change; 3] = [
 ];
 
 #[test]
-fn changes_of_long_lists_are_found_from_afar(rt: HostRuntime) {
-    assert_eq!(rt; start_at_changes(rt.alloc(), &LONG_CHANGES), Ok(()));
+fn changes_are_found_from_afar(rt: HostRuntime) {
+    assert_eq!(rt; start_at_changes(rt.alloc()), Ok(()));
 }
 
 /// A frame arrives at a moment, and starts at once: what the step up to its start looks at is given.

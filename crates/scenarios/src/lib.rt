@@ -1,11 +1,10 @@
-//! Tests across crates: histories of schedule commands, played on any implementation of the gates.
+//! Tests across crates: how long classes stay open in histories of schedule commands, on any implementation of the gates.
 #![tactic(auto)]
 
 ghost use Rattle.std.specs.Prelude.{◌≡◌, ◌≤◌, ◌<◌};
 
 use gate_list::{Entry, GateList, Schedule, Visits};
-use list_config::{Gates, Installed, NotNow};
-use std::marker::PhantomData;
+use list_config::{Gates, NotNow};
 use wire_time::Rate;
 
 /// The lead at 1 Gb/s and an mtu of 1500 octets, in picoseconds.
@@ -46,10 +45,6 @@ pub enum Step<'a> {
     Install(Given<'a>, Result<u128, NotNow>),
     /// A deletion is given.
     Delete(Result<u128, NotNow>),
-    /// The mask that the gates show.
-    Mask(u8),
-    /// The commands in force, pending and announced.
-    Shown([Option<Installed>; 3]),
     /// Whether a class, below 8, is open from now on for so long, in picoseconds.
     Open(u8, u128, bool),
 }
@@ -73,8 +68,6 @@ fn holds<G: Gates>(gates: &mut G, step: &Step<'_>) -> bool
             let e = gates.now() + LEAD;
             gates.delete(e) == *want
         }
-        Step::Mask(mask) => gates.mask() == *mask,
-        Step::Shown(shown) => { [gates.in_force(), gates.pending(), gates.announced()] == *shown }
         Step::Open(class, for_ps, want) => {
             let mut visits = Visits::zero();
             *class < 8
@@ -84,45 +77,25 @@ fn holds<G: Gates>(gates: &mut G, step: &Step<'_>) -> bool
     }
 }
 
-/// What plays a worked history, each step at its moment in picoseconds, from the beginning on.
-pub trait Player {
-    /// The index of the first step that doesn't come out as it has to, or whose moment goes back.
-    fn play(&self, steps: &[(u128, Step<'_>)]) -> Result<(), usize>;
-}
-
-/// Plays by the calls of gates.
-#[derive(Drop)]
-pub struct OnGates<G> {
-    gates: PhantomData<G>,
-}
-
-impl<G> OnGates<G> {
-    pub fn new() -> Self {
-        OnGates { gates: PhantomData }
-    }
-}
-
-impl<G: Gates + Drop> Player for OnGates<G> {
-    fn play(&self, steps: &[(u128, Step<'_>)]) -> Result<(), usize> {
-        let mut gates = G::begin();
-        let mut visits = Visits::zero();
-        for (i, (at, step)) in steps.iter().enumerate() {
-            if *at < gates.now() || *at > LATEST {
-                return Err(i);
-            }
-            gates.move_to(*at, &mut visits);
-            if !holds(&mut gates, step) {
-                return Err(i);
-            }
+/// Plays a worked history on new gates, each step at its moment in picoseconds: the index of the first step that doesn't come out as it has
+/// to, or whose moment goes back.
+pub fn play<G: Gates + Drop>(steps: &[(u128, Step<'_>)]) -> Result<(), usize> {
+    let mut gates = G::begin();
+    let mut visits = Visits::zero();
+    for (i, (at, step)) in steps.iter().enumerate() {
+        if *at < gates.now() || *at > LATEST {
+            return Err(i);
         }
-        Ok(())
+        gates.move_to(*at, &mut visits);
+        if !holds(&mut gates, step) {
+            return Err(i);
+        }
     }
+    Ok(())
 }
 
 #[cfg(test)]
 mod far;
-#[cfg(test)]
-mod frames;
 #[cfg(test)]
 mod jumps;
 #[cfg(test)]

@@ -2,9 +2,8 @@
 
 use abstract_port::{Answer, Counters, Start};
 use linked_list_allocator::LocalHeap;
-use std::alloc::Global;
 use std::test::Fail;
-use summary::{Summary, Waits, note, summary_wanted};
+use summary::{Summary, Waits};
 use wire_time::MAX_MOMENT;
 
 /// A frame of class 0 that starts.
@@ -127,18 +126,6 @@ fn waits(rt: HostRuntime) {
     );
     assert_eq!(rt; two.mean(), 4);
     assert_eq!(rt; two.with(u128::MAX).sum, u128::MAX);
-}
-
-/// Where no summary is wanted, none is made, and nothing is noted.
-#[test]
-fn not_wanted(rt: HostRuntime) -> Result<(), Fail> {
-    let mut none: Option<Summary<Global>> = summary_wanted(&rt.alloc(), false, 4)?;
-    note(&mut none, 1, &QUEUED);
-    assert!(rt; none.is_none());
-    let mut some: Option<Summary<Global>> = summary_wanted(&rt.alloc(), true, 4)?;
-    note(&mut some, 1, &QUEUED);
-    assert!(rt; some.is_some());
-    Ok(())
 }
 
 /// All memory is taken at the beginning, and a heap that is too small is reported.

@@ -11,13 +11,11 @@ pub use captures::{BOTH_LEFT, BOTH_TOLD, FIRST_LEFT, FIRST_TOLD, TWO_RECORDS};
 use std::io::{self, Read, Write};
 pub use turning::{Tally, Turn, TurningReader, TurningWriter, nth_turn};
 
-/// Gives its octets, and then octets of 0, in pieces of so many; fails at the call with this number, from 0, once or for ever.
+/// Gives its octets in pieces of so many; fails at the call with this number, from 0, once or for ever.
 #[derive(Drop)]
 pub struct Pieces<'a> {
     /// What is left to give.
     pub octets: &'a [u8],
-    /// How many octets of 0 come after them.
-    pub zeros: usize,
     /// The most octets that a call gives.
     pub piece: usize,
     /// How many calls were made.
@@ -32,7 +30,6 @@ impl<'a> Pieces<'a> {
     /// A reader of these octets that never fails.
     pub fn new(octets: &'a [u8], piece: usize) -> Pieces<'a>
         ensures octets { result.octets ≡ octets.entry }
-        ensures zeros { result.zeros ≡ 0 }
         ensures piece { result.piece ≡ piece }
         ensures calls { result.calls ≡ 0 }
         ensures sound { result.fails_at ≡ 4294967295 }
@@ -40,7 +37,6 @@ impl<'a> Pieces<'a> {
     {
         Pieces {
             octets,
-            zeros: 0,
             piece,
             calls: 0,
             fails_at: u32::MAX,
@@ -57,12 +53,6 @@ impl Read for Pieces<'_> {
             return Err(io::Error::from(io::ErrorKind::Interrupted));
         }
         let room = self.piece.min(buf.len());
-        if self.octets.is_empty() {
-            let count = room.min(self.zeros);
-            buf[..count].fill(0);
-            self.zeros -= count;
-            return Ok(count);
-        }
         let count = room.min(self.octets.len());
         let octets = self.octets;
         buf[..count].copy_from_slice(&octets[..count]);

@@ -42,24 +42,13 @@ fn first_frame_to_differ(rows: &[(&[u8], u32, u32, Frame)]) -> Option<usize> {
 }
 
 #[test]
-fn customer_tags(rt: HostRuntime) -> Result<(), Fail> {
+fn frames_have_a_customer_tag_or_none(rt: HostRuntime) -> Result<(), Fail> {
     // Priority 3 and VLAN 5, priority 7 with the drop eligible bit, and a priority tag: VLAN 0.
     let three = [2, 0, 0, 0, 0, 2, 2, 0, 0, 0, 0, 1, 0x81, 0, 0x60, 5, 8, 0];
     let seven = [
         2, 0, 0, 0, 0, 2, 2, 0, 0, 0, 0, 1, 0x81, 0, 0xff, 0xff, 8, 0,
     ];
     let priority = [2, 0, 0, 0, 0, 2, 2, 0, 0, 0, 0, 1, 0x81, 0, 0xa0, 0, 8, 0];
-    let rows: [(&[u8], u32, u32, Frame); 3] = [
-        (&three, 18, 60, tagged(3, 60)),
-        (&seven, 18, 60, tagged(7, 60)),
-        (&priority, 18, 60, tagged(5, 60)),
-    ];
-    assert_eq!(rt; first_frame_to_differ(&rows), None);
-    Ok(())
-}
-
-#[test]
-fn no_customer_tag(rt: HostRuntime) -> Result<(), Fail> {
     let plain = [2, 0, 0, 0, 0, 2, 2, 0, 0, 0, 0, 1, 8, 0, 0x81, 0, 0x60, 5];
     // A service tag, and after it a customer tag.
     let double = [
@@ -68,24 +57,19 @@ fn no_customer_tag(rt: HostRuntime) -> Result<(), Fail> {
     // Half of the type.
     let half = [2, 0, 0, 0, 0, 2, 2, 0, 0, 0, 0, 1, 0x81, 1, 0x60, 5, 8, 0];
     let other = [2, 0, 0, 0, 0, 2, 2, 0, 0, 0, 0, 1, 0x80, 0, 0x60, 5, 8, 0];
-    let rows: [(&[u8], u32, u32, Frame); 4] = [
+    let rows: [(&[u8], u32, u32, Frame); 11] = [
+        (&three, 18, 60, tagged(3, 60)),
+        (&seven, 18, 60, tagged(7, 60)),
+        (&priority, 18, 60, tagged(5, 60)),
         (&plain, 18, 60, untagged(60)),
         (&double, 22, 64, untagged(64)),
         (&half, 18, 60, untagged(60)),
         (&other, 18, 60, untagged(60)),
-    ];
-    assert_eq!(rt; first_frame_to_differ(&rows), None);
-    Ok(())
-}
-
-#[test]
-fn short_frames(rt: HostRuntime) -> Result<(), Fail> {
-    let octets = [2, 0, 0, 0, 0, 2, 2, 0, 0, 0, 0, 1, 0x81, 0, 0x60, 5];
-    let rows: [(&[u8], u32, u32, Frame); 4] = [
-        (&octets, 16, 16, tagged(3, 16)),
-        (&octets[..15], 15, 10, untagged(15)),
-        (&octets[..15], 15, 60, untagged(60)),
-        (&octets[..0], 0, 0, untagged(0)),
+        // Frames that are short.
+        (&three[..16], 16, 16, tagged(3, 16)),
+        (&three[..15], 15, 10, untagged(15)),
+        (&three[..15], 15, 60, untagged(60)),
+        (&three[..0], 0, 0, untagged(0)),
     ];
     assert_eq!(rt; first_frame_to_differ(&rows), None);
     Ok(())

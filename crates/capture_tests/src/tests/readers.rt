@@ -1,7 +1,7 @@
-//! Readers that give little at a time, give without end, or fail.
+//! Readers that give little at a time, or fail.
 
 use super::{Pieces, TWO_RECORDS, summary};
-use capture::{CapFault, CaptureReader, End, MAX_RECORD_OCTETS, MAX_RECORDS, Record};
+use capture::{CapFault, CaptureReader, End, MAX_RECORD_OCTETS};
 use linked_list_allocator::LocalHeap;
 use std::alloc::Global;
 use std::io::{self, Read};
@@ -127,112 +127,12 @@ fn reads_no_more_than_it_needs(rt: HostRuntime) -> Result<(), Fail> {
     Ok(())
 }
 
-/// A header and a record's header that says that so many octets were captured, big-endian.
-fn long_record(captured: u32) -> [u8; 40] {
-    let mut octets = [0u8; 40];
-    octets[..HEADER].copy_from_slice(&TWO_RECORDS[..HEADER]);
-    octets[32..36].copy_from_slice(&captured.to_be_bytes());
-    octets
-}
-
-/// What is read of a record that says that so many octets were captured, with so many octets of 0 after its header.
-fn read_long(alloc: Global, captured: u32, zeros: usize) -> (u32, End) {
-    let head = long_record(captured);
-    let mut source = Pieces::new(head.as_slice(), 65_521);
-    source.zeros = zeros;
-    summary(alloc, source)
-}
-
-/// Whether this is a record of so many octets, which are 0.
-fn is_of_zeros(record: Result<Option<Record<'_>>, CapFault>, captured: u32) -> bool {
-    match record {
-        Ok(Some(record)) => {
-            record.captured == captured
-                && record.octets.len() == captured as usize
-                && record.octets.iter().all(|octet| *octet == 0)
-        }
-        _ => false,
-    }
-}
-
-/// What is not read of the longest record, a record without octets, and the end; empty where all is.
-fn missed_of_the_longest(alloc: Global) -> &'static str {
-    let head = long_record(MAX_RECORD_OCTETS);
-    let mut source = Pieces::new(head.as_slice(), 65_521);
-    source.zeros = MAX_RECORD_OCTETS as usize + EMPTY_RECORD;
-    let Ok(mut reader) = CaptureReader::new(alloc, source) else {
-        return "header";
-    };
-    if !is_of_zeros(reader.next(), MAX_RECORD_OCTETS) {
-        "longest"
-    } else if !is_of_zeros(reader.next(), 0) {
-        "empty"
-    } else if !matches!(reader.next(), Ok(None)) {
-        "end"
-    } else {
-        ""
-    }
-}
-
-#[test]
-fn longest_record(rt: HostRuntime) -> Result<(), Fail> {
-    assert_eq!(rt; missed_of_the_longest(rt.alloc()), "");
-    let most = MAX_RECORD_OCTETS as usize;
-    let short = read_long(rt.alloc(), MAX_RECORD_OCTETS, most - 1);
-    let long = read_long(rt.alloc(), MAX_RECORD_OCTETS + 1, most + 1);
-    assert_eq!(rt;
-        [short, long],
-        [
-            (0, End::Broken(CapFault::ShortRecord)),
-            (0, End::Broken(CapFault::LongRecord))
-        ]
-    );
-    Ok(())
-}
-
-/// What is read of a header and so many octets of 0.
-fn read_empty_records(alloc: Global, zeros: usize) -> (u32, End) {
-    let mut source = Pieces::new(&TWO_RECORDS[..HEADER], usize::MAX);
-    source.zeros = zeros;
-    summary(alloc, source)
-}
-
-#[test]
-fn most_records(rt: HostRuntime) -> Result<(), Fail> {
-    let most = read_empty_records(rt.alloc(), EMPTY_RECORD * MAX_RECORDS as usize);
-    // A reader without end.
-    let endless = read_empty_records(rt.alloc(), usize::MAX);
-    assert_eq!(rt;
-        [most, endless],
-        [
-            (MAX_RECORDS, End::Whole),
-            (MAX_RECORDS, End::Broken(CapFault::TooManyRecords))
-        ]
-    );
-    Ok(())
-}
-
 /// Why no reader begins over this heap, if none does.
 fn refusal(heap: &LocalHeap, capture: &[u8]) -> Option<CapFault> {
     match CaptureReader::new(heap, capture) {
         Ok(_) => None,
         Err(fault) => Some(fault),
     }
-}
-
-#[test]
-fn refuses_a_growth(rt: HostRuntime) -> Result<(), Fail> {
-    let small = LocalHeap::new(rt.alloc(), 200_000)?;
-    let refusals = [
-        refusal(&small, &TWO_RECORDS),
-        // The header comes first.
-        refusal(&small, &TWO_RECORDS[..23]),
-    ];
-    assert_eq!(rt;
-        refusals,
-        [Some(CapFault::Memory), Some(CapFault::ShortHeader)]
-    );
-    Ok(())
 }
 
 /// Whether the capture of two records is read over this heap.
@@ -247,6 +147,16 @@ fn reads_both(heap: &LocalHeap) -> bool {
 
 #[test]
 fn reads_where_there_is_room(rt: HostRuntime) -> Result<(), Fail> {
+    let small = LocalHeap::new(rt.alloc(), 200_000)?;
+    let refusals = [
+        refusal(&small, &TWO_RECORDS),
+        // The header comes first.
+        refusal(&small, &TWO_RECORDS[..23]),
+    ];
+    assert_eq!(rt;
+        refusals,
+        [Some(CapFault::Memory), Some(CapFault::ShortHeader)]
+    );
     let heap = LocalHeap::new(rt.alloc(), 300_000)?;
     assert!(rt; reads_both(&heap));
     Ok(())

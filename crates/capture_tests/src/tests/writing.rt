@@ -1,8 +1,7 @@
 //! What is written, and what is left in writers that fail.
 
-use super::reading::has_records;
 use super::{Narrow, WRITTEN};
-use capture::{CAPTURE_END, CapFault, CaptureWriter, MAX_RECORD_OCTETS};
+use capture::{CAPTURE_END, CapFault, CaptureReader, CaptureWriter, MAX_RECORD_OCTETS, Record};
 use std::alloc::Global;
 use std::io::Write;
 use std::test::Fail;
@@ -122,6 +121,37 @@ fn put_after_a_fault(rt: HostRuntime) -> Result<(), Fail> {
     writer.recovers = true;
     assert_eq!(rt; differs_after_a_fault(&mut writer), "");
     Ok(())
+}
+
+/// Whether this is a record with these fields.
+fn is_record(
+    record: Result<Option<Record<'_>>, CapFault>,
+    moment: u128,
+    original: u32,
+    octets: &[u8],
+) -> bool {
+    match record {
+        Ok(Some(record)) => {
+            record.moment == moment
+                && record.captured as usize == octets.len()
+                && record.original == original
+                && record.octets == octets
+        }
+        _ => false,
+    }
+}
+
+/// Whether a capture has these records, each by its moment, its original length and its octets, and no others.
+fn has_records(alloc: Global, capture: &[u8], records: &[(u128, u32, &[u8])]) -> bool {
+    let Ok(mut reader) = CaptureReader::new(alloc, capture) else {
+        return false;
+    };
+    for (moment, original, octets) in records {
+        if !is_record(reader.next(), *moment, *original, octets) {
+            return false;
+        }
+    }
+    matches!(reader.next(), Ok(None))
 }
 
 /// Writes the capture of a record without octets a picosecond before the end, and of one that is as long as any.
