@@ -16,10 +16,10 @@ def passes(program, module):
     assert ran.returncode == 0, ran.stderr
 
 
-def case_of(module):
+def runs_of(module):
     """A case of a file of tests."""
     return lambda program: passes(program, module)
 
 
 for _path in sorted((TOP / "python" / "tests").glob("test_*.py")):
-    globals()[f"case_{_path.stem.removeprefix('test_')}"] = case_of(_path.stem)
+    globals()[f"case_{_path.stem.removeprefix('test_')}"] = runs_of(_path.stem)

@@ -19,6 +19,7 @@ frames, `taprio.results` reads what the jobs answer.
 from .faults import BadInput, BadSchedule, BadValue, LeftOut, LibraryMissing, Replay, TaprioError
 from .library import Library, check, draw, replay, run, streams
 from .program import Backend, Program, backend
+from .schedules import Schedule
 
 __all__ = [
     "Backend",
@@ -30,6 +31,7 @@ __all__ = [
     "LibraryMissing",
     "Program",
     "Replay",
+    "Schedule",
     "TaprioError",
     "backend",
     "check",

@@ -63,17 +63,19 @@ class LibraryMissing(TaprioError, OSError):
 class BadSchedule(TaprioError, ValueError):
     """A document has no schedule that can be read, or a schedule can't be said in another form.
 
-    `place` is where: a line, or the path in a JSON document. `expected` is what should stand there, and `found` what does.
+    `place` is where: a line, or the path in a JSON document. `expected` is what should stand there, and `found` what does. Of a `tc`
+    line `name` is what the port says of it behind `tc-fault`, such as "BadNumber 14"; else it is None.
     """
 
-    def __init__(self, place: str, expected: str, found: str) -> None:
-        super().__init__(f"{place}: expected {expected}, found {found}")
+    def __init__(self, place: str, expected: str, found: str, name: str | None = None) -> None:
+        super().__init__(f"{place}: expected {expected}, found {found}" + (f" ({name})" if name else ""))
         self.place = place
         self.expected = expected
         self.found = found
+        self.name = name
 
     def __reduce__(self) -> tuple[Any, ...]:
-        return type(self), (self.place, self.expected, self.found), self.__dict__
+        return type(self), (self.place, self.expected, self.found, self.name), self.__dict__
 
 
 class LeftOut(UserWarning):
