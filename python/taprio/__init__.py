@@ -13,16 +13,23 @@ They stand on the shared object that `c/build` makes, which is loaded at the fir
 calls over the program. Calls may be made from several threads: they share nothing, and the interpreter goes on meanwhile.
 
 Nothing else here needs the shared object: `taprio.schedules` reads and writes schedules (times in nanoseconds), `Stream` is a stream of
-frames, `taprio.results` reads what the jobs answer.
+frames (times in nanoseconds), `run_streams` runs both, `read_run` and `read_check` give what the jobs answer as objects, and `read_capture`
+reads a capture.
 """
 
-from .faults import BadInput, BadSchedule, BadValue, LeftOut, LibraryMissing, Replay, TaprioError
+from .captures import read_capture
+from .faults import BadAnswer, BadCapture, BadInput, BadSchedule, BadValue, LeftOut, LibraryMissing, Replay, TaprioError
 from .library import Library, check, draw, replay, run, streams
+from .plotting import plot
 from .program import Backend, Program, backend
+from .results import read_check, read_run
 from .schedules import Schedule
+from .traffic import Stream, run_streams, table
 
 __all__ = [
     "Backend",
+    "BadAnswer",
+    "BadCapture",
     "BadInput",
     "BadSchedule",
     "BadValue",
@@ -32,11 +39,18 @@ __all__ = [
     "Program",
     "Replay",
     "Schedule",
+    "Stream",
     "TaprioError",
     "backend",
     "check",
     "draw",
+    "plot",
+    "read_capture",
+    "read_check",
+    "read_run",
     "replay",
     "run",
+    "run_streams",
     "streams",
+    "table",
 ]

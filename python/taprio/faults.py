@@ -5,7 +5,7 @@ from __future__ import annotations
 import re
 from typing import Any, NamedTuple
 
-__all__ = ["BadInput", "BadSchedule", "BadValue", "LeftOut", "LibraryMissing", "Replay", "TaprioError"]
+__all__ = ["BadAnswer", "BadCapture", "BadInput", "BadSchedule", "BadValue", "LeftOut", "LibraryMissing", "Replay", "TaprioError"]
 
 BAD_VALUE, BAD_INPUT, NO_MEMORY, NO_ROOM = 2, 3, 4, 5
 _BEFORE = "taprio_port: "
@@ -76,6 +76,21 @@ class BadSchedule(TaprioError, ValueError):
 
     def __reduce__(self) -> tuple[Any, ...]:
         return type(self), (self.place, self.expected, self.found, self.name), self.__dict__
+
+
+class BadAnswer(TaprioError, ValueError):
+    """A text is none that a job writes. `line` is the number of the line, from 1."""
+
+    def __init__(self, text: str, line: int) -> None:
+        super().__init__(text)
+        self.line = line
+
+    def __reduce__(self) -> tuple[Any, ...]:
+        return type(self), (self.args[0], self.line), self.__dict__
+
+
+class BadCapture(TaprioError, ValueError):
+    """A file is no capture that can be replayed. The text says what it is, and what to do."""
 
 
 class LeftOut(UserWarning):
