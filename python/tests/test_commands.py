@@ -105,7 +105,7 @@ class Commands(unittest.TestCase):
         self.assertIn("recommended classes", errors)
         status, output, errors = self.ran("import", "--map", "0 0 0 0 0 0 1", input=json.dumps(document))
         self.assertEqual((status, errors), (0, ""))
-        self.assertIn("num_tc 8 map 0 0 0 0 0 0 1 0 ", output)
+        self.assertIn("num_tc 2 map 0 0 0 0 0 0 1 0 ", output)
 
     def test_words(self):
         for words in ([], ["frobnicate"], ["import", "--from", "xml"], ["export"], ["export", "--to", "xml"], ["import", "--map", "9"], ["import", "--bogus"]):

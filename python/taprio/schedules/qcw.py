@@ -162,7 +162,7 @@ def _map(table: Node, above: list[Node], given: tuple[int, ...] | None) -> tuple
             text = " ".join(map(str, RECOMMENDED))
             _left_out(table, f"there is no traffic-class-table beside it: the recommended classes of priorities 0 to 7 are taken, {text}")
         chosen = RECOMMENDED if given is None else given
-        return CLASSES, chosen
+        return max(chosen, default=0) + 1, chosen
     classes: dict[int, dict[int, int]] = {}
     for row in rows.items("priority"):
         available = row.need("available-traffic-class").items("num-traffic-class")
