@@ -75,12 +75,16 @@ def _path() -> str:
 def _loaded(path: str) -> ctypes.CDLL:
     """The shared object, with the types of its functions."""
     try:
-        library = ctypes.CDLL(path)
-    except OSError as fault:
+        return _typed(ctypes.CDLL(path))
+    except (OSError, AttributeError) as fault:
         raise LibraryMissing(
             f"the library can't be loaded ({fault}): build it with c/build, or name one in TAPRIO_LIBRARY, "
             "or call the program instead with taprio.Program"
         ) from fault
+
+
+def _typed(library: ctypes.CDLL) -> ctypes.CDLL:
+    """The shared object, once its functions have their types."""
     port, picture = ctypes.POINTER(_PortValues), ctypes.POINTER(_PictureValues)
     ran, replay_ran = ctypes.POINTER(_Ran), ctypes.POINTER(_ReplayRan)
     for name, given in (

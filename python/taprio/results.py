@@ -360,13 +360,18 @@ def _report(lines: Sequence[str], number: int) -> Report:
 
 
 def _arrivals(script: Octets) -> list[tuple[int, int, int, int]]:
-    """The frames of a script: the moment, the id, the priority and the length."""
+    """The frames of a script, up to its first malformed line: the moment, the id, the priority and the length."""
     now, found = 0, []
     for _, words in logical_lines(octets(script).decode("utf-8", "replace")):
-        if words[0] == "clock" and len(words) == 2:
-            now = max(now, int(words[1]))
-        elif words[0] == "frame" and len(words) >= 4:
-            found.append((now, int(words[1]), int(words[2]), int(words[3])))
+        if words[0] not in ("clock", "frame"):
+            continue
+        numbers = words[1:-1] if words[-1] == "tagged" else words[1:]
+        if not all(word.isascii() and word.isdigit() for word in numbers) or len(numbers) != (1 if words[0] == "clock" else 3):
+            break
+        if words[0] == "clock":
+            now = max(now, int(numbers[0]))
+        else:
+            found.append((now, int(numbers[0]), int(numbers[1]), int(numbers[2])))
     return found
 
 

@@ -1,5 +1,7 @@
 """The five calls, over the shared object and over the program: the same inputs, outputs and exceptions."""
 
+import ctypes.util
+import tempfile
 import threading
 import unittest
 
@@ -183,6 +185,15 @@ class WithoutALibrary(unittest.TestCase):
             self.assertFalse(taprio.library.is_there())
             with self.assertRaises(TypeError):
                 taprio.run(5)
+
+    def test_another_object(self):
+        """An object of another kind is no library, and that is said too."""
+        with tempfile.NamedTemporaryFile(suffix=".so") as file:
+            file.write(b"no object")
+            file.flush()
+            for path in (file.name, ctypes.util.find_library("c")):
+                with support.environment(TAPRIO_LIBRARY=path), self.assertRaisesRegex(taprio.LibraryMissing, "c/build"):
+                    taprio.check("")
 
     def test_backends(self):
         """What is chosen is taken; without a choice the program that is named, and then what there is."""

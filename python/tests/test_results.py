@@ -88,6 +88,9 @@ summary wire busy 0 ppm 0
             with self.subTest(text), self.assertRaises(taprio.BadAnswer) as raised:
                 taprio.read_run(text)
             self.assertEqual(raised.exception.line, line)
+        # What was answered before a malformed line is read.
+        for bad in ("frame 2 0", "frame 2 0 6_0", "clock +5", "clock 5 5", "frame 2 0 60 60 tagged"):
+            self.assertEqual(len(taprio.read_run(b"queued 1 class 0\n", f"frame 1 0 60 tagged\n{bad}\nframe 3 0 60\n").frames), 1)
         with self.assertRaises(taprio.BadAnswer):
             taprio.read_run(b"queued 1 class 0\n", b"frame 2 0 60\n")
         with self.assertRaises(taprio.BadAnswer):

@@ -23,6 +23,7 @@ from taprio.schedules import (
     write,
     write_qcw,
 )
+from taprio.schedules.model import logical_lines
 
 LOOP = Schedule([(0x02, 50_000), (0x01, 200_000)], map=[0, 0, 0, 0, 0, 0, 1, 0])
 SHOWN = """\
@@ -157,6 +158,23 @@ tc qdisc add dev eth1 root taprio sched-entry S ff 0001000 flags 0x2 max-sdu 5 0
                 fault = self.fault(read_tc, "# comment\n" + line, place=place, expected=expected)
                 self.assertEqual(fault.name, name)
                 self.assertTrue(str(fault).endswith(f"({name})"))
+
+    @support.wants_program
+    def test_random_ends_of_lines(self):
+        """Backslashes, carriage returns, comments and empty lines: the program sees the same lines, with the same numbers."""
+        dice = random.Random(3)
+        pieces = ["tc x", "#", " ", "\t", "\r", "\\", "\n", "\\\n", "\\\r\n", "\r\n", "\v", "tc", "\\ \n", "\\\\\n"]
+        for _ in range(150):
+            text = "".join(dice.choice(pieces) for _ in range(dice.randint(1, 25)))
+            lines = [(number, words) for number, words in logical_lines(text) if not words[0].startswith("#")]
+            wrong = next((number for number, words in lines if words[0] != "tc"), None)
+            wanted = [words for number, words in lines if wrong is None or number < wrong]
+            try:
+                answers, line = taprio.Program(support.PROGRAM).check(text), None
+            except taprio.BadInput as fault:
+                answers, line = fault.output, fault.line
+            with self.subTest(text):
+                self.assertEqual((answers.count(b"\n"), line), (len(wanted), wrong))
 
     def test_deletions(self):
         found, said = self.warned(read_tc, "tc qdisc del dev eth0 root\n" + LOOP.tc())
@@ -384,7 +402,7 @@ class Managed(Cases):
 class RoundTrips(Cases):
     def test_each_form(self):
         """What a form can say comes back from it; each of the others says the same."""
-        for seed in range(300):
+        for seed in range(100):
             dice = random.Random(seed)
             found = []
             for device in range(dice.randint(1, 4)):
@@ -423,7 +441,7 @@ class RoundTrips(Cases):
     def test_changed_at_random(self):
         """Documents with octets changed are read, or their fault is said on one line; nothing else is raised."""
         dice = random.Random(5)
-        for _ in range(1500):
+        for _ in range(600):
             form = dice.choice(FORMS)
             with warnings.catch_warnings():
                 warnings.simplefilter("ignore", taprio.LeftOut)

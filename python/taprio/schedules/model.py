@@ -200,21 +200,15 @@ def device_word(device: str | None, otherwise: str = "eth0") -> str:
 
 
 def logical_lines(text: str) -> Iterator[tuple[int, list[str]]]:
-    """The words of each line with its number, from 1. A backslash at the end of a line takes the next one into it."""
-    words: list[str] = []
-    first = 1
-    joined = ""
-    for number, line in enumerate(text.split("\n"), 1):
-        if not joined:
-            first = number
+    """The words of each line that has some, with its number, from 1. A backslash before the end of a line takes the next one into it."""
+    first, joined = 1, ""
+    lines = text.split("\n")
+    for number, line in enumerate(lines, 1):
         bare = line.removesuffix("\r")
-        if bare.endswith("\\"):
+        if bare.endswith("\\") and number < len(lines):
             joined += bare[:-1] + " "
             continue
         words = re.split(r"[ \t\r]+", (joined + line).strip(" \t\r"))
-        joined = ""
         if words != [""]:
             yield first, words
-    words = re.split(r"[ \t\r]+", joined.strip(" \t\r"))
-    if words != [""]:
-        yield first, words
+        first, joined = number + 1, ""
