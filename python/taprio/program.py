@@ -2,6 +2,7 @@
 
 from __future__ import annotations
 
+import functools
 import os
 import pathlib
 import subprocess
@@ -163,6 +164,22 @@ class Program:
         return found
 
 
+CHECKOUT = pathlib.Path(__file__).resolve().parent.parent.parent / "taprio_port"
+
+
+@functools.lru_cache(maxsize=None)
+def of_checkout(path: str) -> str | None:
+    """The program of a checkout, from the script of that name. The script builds one where there is none, and says so on the standard
+    error; it takes about a minute. None where there is no script, or it can't."""
+    if not os.path.isfile(path):
+        return None
+    with open(path, "rb") as file:
+        if file.read(2) != b"#!":
+            return path
+    ran = subprocess.run([path, "--where"], stdin=subprocess.DEVNULL, stdout=subprocess.PIPE, text=True, check=False)
+    return ran.stdout.strip() or None if ran.returncode == 0 else None
+
+
 Chosen = Union[Backend, str, "os.PathLike[str]", None]
 """A backend, or "library", or the path of a program, or None for what there is."""
 
@@ -171,7 +188,7 @@ def backend(chosen: Chosen = None) -> Backend:
     """What runs the jobs: "library" is the shared object, and any other text the path of the program.
 
     None takes the first that there is: the program that the variable TAPRIO_PORT of the environment names, the shared object, and
-    `./taprio_port` of the checkout. Raises `LibraryMissing` where there is none.
+    the program of the checkout, which is built where it isn't yet. Raises `LibraryMissing` where there is none.
     """
     if chosen is None:
         named = os.environ.get("TAPRIO_PORT")
@@ -179,9 +196,9 @@ def backend(chosen: Chosen = None) -> Backend:
             return Program(named)
         if library.is_there():
             return Library()
-        checkout = pathlib.Path(__file__).resolve().parent.parent.parent / "taprio_port"
-        if checkout.is_file():
-            return Program(checkout)
+        built = of_checkout(str(CHECKOUT))
+        if built:
+            return Program(built)
         raise LibraryMissing(
             "there is nothing that runs a port: build the library with c/build, or name it in TAPRIO_LIBRARY, or name the program "
             "taprio_port in TAPRIO_PORT"

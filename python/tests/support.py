@@ -1,6 +1,7 @@
 """What the tests share. Run them with `python3 -m unittest discover python/tests`; a word says what is skipped, and why.
 
-The program is the one that TAPRIO_PORT names, or the checkout's. The shared object is that of c/build."""
+The program is the one that TAPRIO_PORT names, or that of the checkout, which is built where it isn't yet. The shared object is that of
+c/build."""
 
 import contextlib
 import os
@@ -19,10 +20,9 @@ if str(HERE.parent) not in sys.path:
 
 import taprio  # noqa: E402
 
-if "TAPRIO_PORT" in os.environ:
-    PROGRAM = os.environ["TAPRIO_PORT"]
-else:
-    PROGRAM = str(ROOT / "taprio_port") if (ROOT / "taprio_port").is_file() else None
+PROGRAM = os.environ.get("TAPRIO_PORT") or taprio.program.of_checkout(str(ROOT / "taprio_port"))
+if PROGRAM:
+    os.environ["TAPRIO_PORT"] = PROGRAM
 HAS_LIBRARY = taprio.library.is_there()
 
 wants_library = unittest.skipUnless(HAS_LIBRARY, "c/out/libtaprio.so isn't there: c/build makes it")

@@ -1,9 +1,12 @@
 """The five calls, over the shared object and over the program: the same inputs, outputs and exceptions."""
 
 import ctypes.util
+import os
+import pathlib
 import tempfile
 import threading
 import unittest
+from unittest import mock
 
 import support
 import taprio
@@ -203,9 +206,23 @@ class WithoutALibrary(unittest.TestCase):
             self.assertEqual(taprio.backend("/bin/false").path, "/bin/false")
             given = taprio.Program("/bin/true")
             self.assertIs(taprio.backend(given), given)
-        with support.environment(TAPRIO_LIBRARY="/nowhere/libtaprio.so", TAPRIO_PORT=None):
-            if (support.ROOT / "taprio_port").is_file():
-                self.assertEqual(taprio.backend().path, str(support.ROOT / "taprio_port"))
+        with tempfile.TemporaryDirectory(prefix="taprio-checkout-") as folder, support.environment(TAPRIO_LIBRARY="/nowhere/libtaprio.so", TAPRIO_PORT=None):
+            for name, text, found in (
+                ("script", "#!/bin/sh\n[ $1 = --where ] && echo /some/where/taprio_port\n", "/some/where/taprio_port"),
+                ("fails", "#!/bin/sh\nexit 4\n", None),
+                ("program", "\x7fELF", os.path.join(folder, "program")),
+                ("nothing", None, None),
+            ):
+                path = pathlib.Path(folder, name)
+                if text is not None:
+                    path.write_text(text)
+                    path.chmod(0o755)
+                with self.subTest(name), mock.patch.object(taprio.program, "CHECKOUT", path):
+                    if found is None:
+                        with self.assertRaisesRegex(taprio.LibraryMissing, "c/build.*TAPRIO_LIBRARY.*TAPRIO_PORT"):
+                            taprio.backend()
+                    else:
+                        self.assertEqual(taprio.backend().path, found)
 
 
 if __name__ == "__main__":

@@ -181,6 +181,13 @@ class Streams(unittest.TestCase):
             taprio.run_streams(LOOP, [CONTROL], until_ns=1e6)
 
 
+    @support.wants_library
+    @support.wants_program
+    def test_a_run_over_both(self):
+        one, other = (taprio.run_streams(LOOP, [CONTROL, LOAD], until_ns=3_000_000, port=port) for port in ("library", support.PROGRAM))
+        self.assertEqual(one, other)
+
+
 class Plots(unittest.TestCase):
     def test_without_matplotlib(self):
         with mock.patch.dict(sys.modules, {"matplotlib": None, "matplotlib.pyplot": None}), self.assertRaisesRegex(ImportError, "needs matplotlib"):
