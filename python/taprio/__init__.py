@@ -26,6 +26,8 @@ from .results import read_check, read_run
 from .schedules import Schedule
 from .traffic import Stream, run_streams, table
 
+__version__ = "0.1.0"
+
 __all__ = [
     "Backend",
     "BadAnswer",
@@ -41,6 +43,7 @@ __all__ = [
     "Schedule",
     "Stream",
     "TaprioError",
+    "__version__",
     "backend",
     "check",
     "draw",

@@ -10,22 +10,29 @@ import sys
 import warnings
 from typing import NoReturn
 
+from . import __version__
 from .faults import BadSchedule, LeftOut
-from .schedules import FORMS, Configured, Form, form_of, read_qcw, read, write
+from .schedules import FORMS, Configured, Form, form_of, read, read_qcw, write
 
 __all__ = ["main"]
 
 WORDS, INPUT, MACHINE = 2, 3, 4
 _HELP = """\
-Forms: tc (tc lines), show (tc qdisc show), json (tc -j qdisc show), qcw (IEEE 802.1Qcw as JSON, RFC 7951).
-FILE may be -, as nothing is, for the standard input. The exit status is 0, or 2 for a word, 3 for an input, or 4 for a file that can't be
-opened or a write that fails; then nothing is written. What is left out is said on the standard error."""
+forms:
+  tc      tc lines, which the program reads
+  show    the text of tc qdisc show
+  json    the JSON of tc -j qdisc show
+  qcw     the managed objects of IEEE 802.1Qcw as JSON (RFC 7951)
+
+The exit status is 0, or 2 for a bad option, 3 for a bad input, and 4 if a
+file can't be opened or a write fails. Unless it is 0, nothing is written.
+What has no counterpart is said on standard error."""
 
 
 class _Parser(argparse.ArgumentParser):
     def error(self, message: str) -> NoReturn:
-        """Says what is wrong with a word on one line."""
-        self.exit(WORDS, f"taprio: {message} (python3 -m taprio {self.prog.rpartition('taprio')[2].strip() or ''} --help)\n".replace("  ", " "))
+        """Says what is wrong with a word, on one line."""
+        self.exit(WORDS, f"taprio: {message} ({self.prog} --help)\n")
 
 
 def _map(text: str) -> list[int]:
@@ -37,17 +44,21 @@ def _map(text: str) -> list[int]:
 
 
 def _parser() -> _Parser:
-    parser = _Parser(prog="python3 -m taprio", description=__doc__, formatter_class=argparse.RawDescriptionHelpFormatter, epilog=_HELP)
+    shape = argparse.RawDescriptionHelpFormatter
+    parser = _Parser(prog="python3 -m taprio", description="Take schedules from switches and from tc, and give them back.", formatter_class=shape)
+    parser.add_argument("--version", action="version", version=f"taprio {__version__}")
     jobs = parser.add_subparsers(dest="job", metavar="JOB", required=True)
     for job, text in (("import", "write schedules as tc lines"), ("export", "write schedules in another form")):
-        one = jobs.add_parser(job, help=text, description=text.capitalize() + ".", formatter_class=argparse.RawDescriptionHelpFormatter, epilog=_HELP)
-        one.add_argument("files", metavar="FILE", nargs="*", default=["-"], help="a file, or - for the standard input")
-        one.add_argument("--from", dest="source", choices=FORMS, help="the form of the input, which is else found by its content")
+        one = jobs.add_parser(job, help=text, description=text.capitalize() + ".", formatter_class=shape, epilog=_HELP)
+        one.add_argument("files", metavar="FILE", nargs="*", default=["-"], help="a file; - or nothing is the standard input")
+        one.add_argument("--from", dest="source", choices=FORMS, help="the form of the input (default: found by its content)")
         if job == "export":
             one.add_argument("--to", choices=FORMS, required=True, help="the form of the output")
-        one.add_argument("--dev", metavar="NAME", help="take the schedules of this device alone; it is also the name of one that has none")
-        one.add_argument("--side", choices=("one", "oper", "admin", "both"), help="of two schedules of a device take the one in force (oper), what is set (admin), both, or one: oper where it is there (the default of import; that of export is both)")
-        one.add_argument("--map", type=_map, metavar="CLASSES", help="the class of each priority, for ports of qcw without a traffic class table")
+        one.add_argument("--dev", metavar="NAME", help="take this device alone; a device without a name gets it")
+        sides = "in force (oper), set or pending (admin), both, or one: oper where it is there"
+        default = "one" if job == "import" else "both"
+        one.add_argument("--side", choices=("one", "oper", "admin", "both"), default=default, help=f"{sides} (default: {default})")
+        one.add_argument("--map", type=_map, metavar="CLASSES", help="the class of each priority, for qcw without a traffic class table")
     return parser
 
 
@@ -110,7 +121,6 @@ def main(words: list[str]) -> int:
     except SystemExit as end:
         return end.code if isinstance(end.code, int) else WORDS
     to: Form = given.to if given.job == "export" else "tc"
-    side = given.side or ("one" if given.job == "import" else "both")
     found: list[Configured] = []
     name = ""
     told: list[str] = []
@@ -122,7 +132,7 @@ def main(words: list[str]) -> int:
                 read_, form = _read(_octets(path), given.source, given.map)
                 # (a tc line sets a schedule, and each is taken)
                 chosen = _of_device(read_, given.dev)
-                found += _as_in(chosen if form == "tc" else _of_side(chosen, side), form, to)
+                found += _as_in(chosen if form == "tc" else _of_side(chosen, given.side), form, to)
                 told += [f"taprio: {name}: {it.message}\n" for it in said]
                 said.clear()
             name = "output" if len(given.files) > 1 else name

@@ -26,7 +26,7 @@ class TaprioError(Exception):
 
 
 class BadValue(TaprioError, ValueError):
-    """A value is out of its limits. `option` is the program's option for it, such as "--mtu"."""
+    """A value is out of its limits. `option` is the program's option for it, such as "--mtu", or the attribute of a `Stream`."""
 
     def __init__(self, text: str, option: str) -> None:
         super().__init__(text)

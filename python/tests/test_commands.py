@@ -11,6 +11,7 @@ import tempfile
 import unittest
 
 import support
+import taprio
 from taprio.commands import main
 from taprio.schedules import read, write
 
@@ -113,10 +114,10 @@ class Commands(unittest.TestCase):
                 status, output, errors = self.ran(*words)
                 self.assertEqual((status, output), (2, ""))
                 self.assertRegex(errors, r"\Ataprio: .*--help\)\n\Z")
-        for words in (["--help"], ["import", "--help"], ["export", "--help"]):
+        for words, text in ((["--help"], "JOB"), (["import", "--help"], "forms:"), (["export", "--help"], "--to"), (["--version"], f"taprio {taprio.__version__}\n")):
             status, output, errors = self.ran(*words)
             self.assertEqual((status, errors), (0, ""))
-            self.assertIn("Forms: tc", output)
+            self.assertIn(text, output)
 
     def test_inputs(self):
         """A fault is one line of file, place, and what was expected; nothing is written, also not of the files before."""

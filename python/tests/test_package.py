@@ -62,6 +62,7 @@ class Package(unittest.TestCase):
     def test_it_is_packed_whole(self):
         """pyproject.toml names each folder with modules."""
         named = (PYTHON / "pyproject.toml").read_text()
+        self.assertIn(f'version = "{taprio.__version__}"', named)
         folders = sorted({".".join(path.parent.relative_to(PYTHON).parts) for path in (PYTHON / "taprio").rglob("*.py")})
         self.assertIn("packages = [" + ", ".join(f'"{name}"' for name in folders) + "]", named)
 
