@@ -8,6 +8,7 @@ import struct
 import sys
 import tempfile
 import unittest
+import warnings
 from unittest import mock
 
 import support
@@ -100,13 +101,16 @@ class Captures(unittest.TestCase):
 
     @unittest.skipUnless(importlib.util.find_spec("scapy"), "scapy isn't installed")
     def test_pcapng_by_scapy(self):
-        with without("dpkt"):
+        # (what others warn of is theirs)
+        with without("dpkt"), warnings.catch_warnings():
+            warnings.simplefilter("ignore")
             self.check_pcapng()
             self.fault(pcapng() + pcapng(">", 6), "has several sections")
 
     @unittest.skipUnless(importlib.util.find_spec("dpkt"), "dpkt isn't installed")
     def test_pcapng_by_dpkt(self):
-        with without("scapy", "scapy.utils"):
+        with without("scapy", "scapy.utils"), warnings.catch_warnings():
+            warnings.simplefilter("ignore")
             self.check_pcapng()
             self.assertEqual(self.read(pcapng() + pcapng(">", 6)), self.read(pcapng()) + self.read(pcapng(">", 6))[24:])
 

@@ -187,8 +187,9 @@ class FromASwitch(unittest.TestCase):
     def test_large(self):
         status, output, errors = self.pipe('"$PYTHON" -m taprio import "$DATA/large.json" | tee lines | "$PORT" check --windows; cut -d " " -f 5 lines')
         self.assertEqual(status, 0)
-        self.assertEqual(len(errors.splitlines()), 1, errors)
-        self.assertIn('interface[name="sw0p3"]', errors)
+        self.assertEqual(len(errors.splitlines()), 2, errors)
+        self.assertIn('interface[name="sw0p3"]', errors.splitlines()[0])
+        self.assertIn("GigabitEthernet 1/1: its blanks are left out, and it is called GigabitEthernet_1/1", errors.splitlines()[1])
         answers = output.splitlines()
         self.assertEqual([line for line in answers if line.startswith("apart")], ["apart 0 1 2 3 4 5 6 7", "apart 6 7", "apart none"])
         self.assertEqual(answers[-3:], ["GigabitEthernet_1/1", "sw0p2", "sw0p3"])

@@ -1,8 +1,10 @@
 """Answers as objects: of the examples, of random runs, and of texts that no job writes."""
 
+import importlib.util
 import random
 import sys
 import unittest
+import warnings
 from unittest import mock
 
 import support
@@ -193,17 +195,18 @@ class Plots(unittest.TestCase):
         with mock.patch.dict(sys.modules, {"matplotlib": None, "matplotlib.pyplot": None}), self.assertRaisesRegex(ImportError, "needs matplotlib"):
             taprio.plot(taprio.read_run(octets("summary.answers")))
 
+    @unittest.skipUnless(importlib.util.find_spec("matplotlib"), "matplotlib isn't installed")
     def test_with_matplotlib(self):
-        try:
+        # (what others warn of is theirs)
+        with warnings.catch_warnings():
+            warnings.simplefilter("ignore")
             import matplotlib
-        except ImportError:
-            self.skipTest("matplotlib isn't installed")
-        matplotlib.use("Agg")
-        axes = taprio.plot(taprio.read_run(octets("summary.answers"), octets("summary.script")))
-        self.assertEqual([it.get_text() for it in axes.get_yticklabels()], ["class 0", "class 5"])
-        bars = [it for it in axes.collections if hasattr(it, "get_paths")]
-        self.assertEqual(sum(len(it.get_paths()) for it in bars), 4 + 3)
-        self.assertIs(taprio.plot(taprio.read_run(b""), axes), axes)
+
+            matplotlib.use("Agg")
+            axes = taprio.plot(taprio.read_run(octets("summary.answers"), octets("summary.script")))
+            self.assertEqual([it.get_text() for it in axes.get_yticklabels()], ["class 0", "class 5"])
+            self.assertEqual(sum(len(it.get_paths()) for it in axes.collections), 4 + 3)
+            self.assertIs(taprio.plot(taprio.read_run(b""), axes), axes)
 
 
 if __name__ == "__main__":

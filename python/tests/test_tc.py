@@ -115,7 +115,7 @@ class TheRealOne(unittest.TestCase):
         counters = attribute(7, attribute(1, struct.pack("<QI", 1234, 7)) + attribute(3, struct.pack("<5I", 0, 0, 1, 0, 0)))
         messages = qdisc(1, "pfifo", struct.pack("<I", 1000), more=counters) + qdisc(2, "taprio", options(schedule), more=counters)
         messages += qdisc(2, "pfifo", struct.pack("<I", 1000), 0x1000001, counters)
-        for words in (["qdisc", "show"], ["-s", "qdisc", "show"], ["-s", "-d", "qdisc", "show"]):
+        for words in (["qdisc", "show"], ["-s", "qdisc", "show"], ["-s", "-d", "qdisc", "show"], ["-o", "qdisc", "show"], ["-r", "qdisc", "show"]):
             text = self.shown(messages, *words)
             self.assertEqual([(it.schedule, it.device) for it in read_show(text)], [(schedule, "eth2")])
             with warnings.catch_warnings():

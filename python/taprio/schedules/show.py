@@ -138,9 +138,11 @@ class _Words:
 
 
 def read_show(text: str) -> list[Configured]:
-    """The schedules in the text of `tc qdisc show`, of all devices. Other qdiscs are passed over."""
+    """The schedules in the text of `tc qdisc show`, of all devices. Other qdiscs are passed over.
+
+    With `-oneline`, `tc` writes a backslash for each end of a line; that is read too."""
     found: list[Configured] = []
-    lines = text.split("\n")
+    lines = text.replace("\\", "\n").split("\n")
     starts = [number for number, line in enumerate(lines) if _HEAD.fullmatch(line.rstrip("\r "))]
     if not starts or any(line.strip() for line in lines[: starts[0]]):
         first = next((number for number, line in enumerate(lines) if line.strip()), 0)

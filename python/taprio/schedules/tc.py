@@ -246,6 +246,9 @@ def line(schedule: Schedule, device: str = "eth0", verb: str = "replace") -> str
 
 
 def write_tc(schedules: Iterable[Configured | Schedule]) -> str:
-    """Schedules as `tc` lines, one each."""
+    """Schedules as `tc` lines, one each. Where the name of a device is no word, a warning says which word stands for it."""
     found = [it if isinstance(it, Configured) else Configured(it) for it in schedules]
+    for it in found:
+        if it.device and device_word(it.device) != it.device:
+            warnings.warn(f"{it.device}: its blanks are left out, and it is called {device_word(it.device)}", LeftOut, stacklevel=2)
     return "".join(f"{line(it.schedule, it.device or 'eth0')}\n" for it in found)
