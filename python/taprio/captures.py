@@ -109,7 +109,9 @@ def _by_scapy(utils: Any, octets: bytes, name: str) -> Iterator[_Packet]:
     """The packets as scapy reads them: its times are whole numbers."""
     if sum(block[:4] == _PCAPNG for _, _, block in _blocks(octets, name)) > 1:
         # (the interfaces of a second section would be taken for those of the first)
-        raise BadCapture(f"{name} has several sections, which scapy mixes up: convert it with editcap -F nsecpcap {name} OUT, or install dpkt")
+        raise BadCapture(
+            f"{name} has several sections, which scapy mixes up: convert it with editcap -F nsecpcap {name} OUT, or install dpkt"
+        )
     for data, about in utils.RawPcapNgReader(io.BytesIO(octets)):
         _needs_ethernet(about.linktype, name)
         if about.tshigh is None:

@@ -45,7 +45,11 @@ def _map(text: str) -> list[int]:
 
 def _parser() -> _Parser:
     shape = argparse.RawDescriptionHelpFormatter
-    parser = _Parser(prog="python3 -m taprio", description="Take schedules from switches and from tc, and give them back.", formatter_class=shape)
+    parser = _Parser(
+        prog="python3 -m taprio",
+        description="Take schedules from switches and from tc, and give them back.",
+        formatter_class=shape,
+    )
     parser.add_argument("--version", action="version", version=f"taprio {__version__}")
     jobs = parser.add_subparsers(dest="job", metavar="JOB", required=True)
     for job, text in (("import", "write schedules as tc lines"), ("export", "write schedules in another form")):
@@ -57,8 +61,12 @@ def _parser() -> _Parser:
         one.add_argument("--dev", metavar="NAME", help="take this device alone; a device without a name gets it")
         sides = "in force (oper), set or pending (admin), both, or one: oper where it is there"
         default = "one" if job == "import" else "both"
-        one.add_argument("--side", choices=("one", "oper", "admin", "both"), default=default, help=f"{sides} (default: {default})")
-        one.add_argument("--map", type=_map, metavar="CLASSES", help="the class of each priority, for qcw without a traffic class table")
+        one.add_argument(
+            "--side", choices=("one", "oper", "admin", "both"), default=default, help=f"{sides} (default: {default})"
+        )
+        one.add_argument(
+            "--map", type=_map, metavar="CLASSES", help="the class of each priority, for qcw without a traffic class table"
+        )
     return parser
 
 

@@ -16,7 +16,19 @@ from typing import Any, Union
 
 from .faults import NO_MEMORY, NO_ROOM, BadInput, BadValue, LibraryMissing, Replay, TaprioError, of_text
 
-__all__ = ["BadInput", "BadValue", "Library", "LibraryMissing", "Replay", "TaprioError", "check", "draw", "replay", "run", "streams"]
+__all__ = [
+    "BadInput",
+    "BadValue",
+    "Library",
+    "LibraryMissing",
+    "Replay",
+    "TaprioError",
+    "check",
+    "draw",
+    "replay",
+    "run",
+    "streams",
+]
 
 Octets = Union[bytes, bytearray, memoryview, str]
 """An input: octets, or a text, which is taken as UTF-8."""

@@ -389,7 +389,9 @@ def read_run(answers: Octets, script: Octets | None = None) -> Run:
         else:
             found.append(_answer(lines[at], at + 1))
             at += 1
-    return Run(tuple(found), _frames(found, None if script is None else _arrivals(script)), None if script is None else octets(script))
+    return Run(
+        tuple(found), _frames(found, None if script is None else _arrivals(script)), None if script is None else octets(script)
+    )
 
 
 def _frames(answers: list[Answer], arrivals: list[tuple[int, int, int, int]] | None) -> tuple[Frame, ...]:

@@ -39,7 +39,14 @@ class Stream:
     """Whether the frames have a customer VLAN tag."""
 
     def __post_init__(self) -> None:
-        for name, most in (("first_id", 2**64 - 1), ("priority", 255), ("length", 2**32 - 1), ("period", GREATEST), ("offset", GREATEST), ("count", 2**32 - 1)):
+        for name, most in (
+            ("first_id", 2**64 - 1),
+            ("priority", 255),
+            ("length", 2**32 - 1),
+            ("period", GREATEST),
+            ("offset", GREATEST),
+            ("count", 2**32 - 1),
+        ):
             value = getattr(self, name)
             if isinstance(value, bool) or not isinstance(value, int) or not 0 <= value <= most:
                 raise BadValue(f"bad value of {name}: a whole number from 0 to {most} is expected, and {value!r} is given", name)

@@ -22,7 +22,10 @@ def schedule(dice, classes=None):
         count = dice.randint(1, 3)
         queues.append((count, offset))
         offset += count
-    entries = [(dice.randrange(256), dice.choice([480, 1000, 12345, 2**32 - 1, dice.randint(1, 10**6)])) for _ in range(dice.choice([1, 2, 3, 8, 30]))]
+    entries = [
+        (dice.randrange(256), dice.choice([480, 1000, 12345, 2**32 - 1, dice.randint(1, 10**6)]))
+        for _ in range(dice.choice([1, 2, 3, 8, 30]))
+    ]
     total = sum(interval for _, interval in entries)
     return Schedule(
         entries,
@@ -47,7 +50,9 @@ def line(dice):
     options += [["base-time", str(dice.randrange(2**60))]] if dice.random() < 0.7 else []
     options += [["cycle-time", "1000000"]] if dice.random() < 0.3 else []
     options += [["clockid", "CLOCK_TAI"], ["flags", "0x2"], ["max-sdu", "100", "0", "1500"]][: dice.randrange(4)]
-    options += [["sched-entry", "S", f"{dice.randrange(256):02x}", str(dice.randint(1000, 10**6))] for _ in range(dice.randint(0, 4))]
+    options += [
+        ["sched-entry", "S", f"{dice.randrange(256):02x}", str(dice.randint(1000, 10**6))] for _ in range(dice.randint(0, 4))
+    ]
     dice.shuffle(options)
     words += sum(options, [])
     for _ in range(dice.choice([0, 0, 1, 1, 2, 3])):

@@ -33,7 +33,11 @@ def pcapng(order="<", resolution=9, link=1, moments=MOMENTS, cut=0):
     found += block(order, 1, struct.pack(order + "HHI", link, 0, 0) + options)
     for moment, frame in zip(moments, FRAMES):
         ticks = moment * 10**resolution // 10**9
-        body = struct.pack(order + "IIIII", 0, ticks >> 32, ticks & 0xFFFFFFFF, len(frame), 1000 + len(frame)) + frame + bytes(-len(frame) % 4)
+        body = (
+            struct.pack(order + "IIIII", 0, ticks >> 32, ticks & 0xFFFFFFFF, len(frame), 1000 + len(frame))
+            + frame
+            + bytes(-len(frame) % 4)
+        )
         found += block(order, 6, body)
     return found[: len(found) - cut]
 

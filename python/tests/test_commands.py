@@ -27,7 +27,11 @@ class Commands(unittest.TestCase):
 
     def ran(self, *words, input=b""):
         """Status, standard output and standard error of the command, in this process."""
-        streams = [io.TextIOWrapper(io.BytesIO(input.encode() if isinstance(input, str) else input)), io.TextIOWrapper(io.BytesIO()), io.StringIO()]
+        streams = [
+            io.TextIOWrapper(io.BytesIO(input.encode() if isinstance(input, str) else input)),
+            io.TextIOWrapper(io.BytesIO()),
+            io.StringIO(),
+        ]
         before = sys.stdin, sys.stdout, sys.stderr, os.getcwd()
         try:
             sys.stdin, sys.stdout, sys.stderr = streams
@@ -42,7 +46,14 @@ class Commands(unittest.TestCase):
     def ran_apart(self, words, input, stdout):
         """Status and standard error of a process of its own."""
         given = os.environ | {"PYTHONPATH": str(support.HERE.parent)}
-        run = subprocess.run([sys.executable, "-m", "taprio", *words], input=input.encode(), stdout=stdout, stderr=subprocess.PIPE, env=given, timeout=60)
+        run = subprocess.run(
+            [sys.executable, "-m", "taprio", *words],
+            input=input.encode(),
+            stdout=stdout,
+            stderr=subprocess.PIPE,
+            env=given,
+            timeout=60,
+        )
         return run.returncode, run.stderr.decode()
 
     def put(self, name, text):
@@ -51,7 +62,9 @@ class Commands(unittest.TestCase):
     def test_each_form_by_its_content(self):
         for form in ("tc", "show", "json", "qcw"):
             text = write([it.schedule.with_cycle() for it in read(LINE)], form)
-            wanted = LINE.replace("base-time 0", ("queues 1@0 1@1 " if form in ("show", "json") else "") + "base-time 0 cycle-time 250000")
+            wanted = LINE.replace(
+                "base-time 0", ("queues 1@0 1@1 " if form in ("show", "json") else "") + "base-time 0 cycle-time 250000"
+            )
             with self.subTest(form):
                 self.assertEqual(self.ran("import", input=text), (0, wanted, ""))
                 self.put("given", text)
@@ -82,10 +95,12 @@ class Commands(unittest.TestCase):
 
     def test_sides(self):
         large = str(support.DATA / "large.json")
+
         def entries(*words):
             status, output, errors = self.ran("import", "--dev", "sw0p3", *words, large)
             self.assertEqual(status, 0, errors)
             return [re.findall(r"sched-entry S (\w+) (\d+)", line) for line in output.splitlines()], errors
+
         oper, admin = [("ff", "500000")], [("c0", "100000"), ("3f", "400000")]
         found, errors = entries()
         self.assertEqual(found, [oper])
@@ -109,12 +124,25 @@ class Commands(unittest.TestCase):
         self.assertIn("num_tc 2 map 0 0 0 0 0 0 1 0 ", output)
 
     def test_words(self):
-        for words in ([], ["frobnicate"], ["import", "--from", "xml"], ["export"], ["export", "--to", "xml"], ["import", "--map", "9"], ["import", "--bogus"]):
+        for words in (
+            [],
+            ["frobnicate"],
+            ["import", "--from", "xml"],
+            ["export"],
+            ["export", "--to", "xml"],
+            ["import", "--map", "9"],
+            ["import", "--bogus"],
+        ):
             with self.subTest(words):
                 status, output, errors = self.ran(*words)
                 self.assertEqual((status, output), (2, ""))
                 self.assertRegex(errors, r"\Ataprio: .*--help\)\n\Z")
-        for words, text in ((["--help"], "JOB"), (["import", "--help"], "forms:"), (["export", "--help"], "--to"), (["--version"], f"taprio {taprio.__version__}\n")):
+        for words, text in (
+            (["--help"], "JOB"),
+            (["import", "--help"], "forms:"),
+            (["export", "--help"], "--to"),
+            (["--version"], f"taprio {taprio.__version__}\n"),
+        ):
             status, output, errors = self.ran(*words)
             self.assertEqual((status, errors), (0, ""))
             self.assertIn(text, output)
@@ -137,12 +165,17 @@ class Commands(unittest.TestCase):
                 self.assertEqual((status, output, errors.count("\n")), (3, "", 1))
                 self.assertTrue(errors.startswith(f"taprio: bad: {place}: "), errors)
                 self.assertIn(expected, errors)
-        self.assertEqual(self.ran("import", "good", "nowhere"), (4, "", "taprio: cannot open nowhere: No such file or directory\n"))
+        self.assertEqual(
+            self.ran("import", "good", "nowhere"), (4, "", "taprio: cannot open nowhere: No such file or directory\n")
+        )
         status, output, errors = self.ran("import", input="# nothing")
         self.assertTrue(errors.startswith("taprio: standard input: line 1: expected "), errors)
         # What can't be written in another form is told before anything is written.
         self.put("two", LINE + LINE)
-        self.assertEqual(self.ran("export", "--to", "qcw", "two"), (3, "", "taprio: two: eth0: expected one admin schedule of a port, found two\n"))
+        self.assertEqual(
+            self.ran("export", "--to", "qcw", "two"),
+            (3, "", "taprio: two: eth0: expected one admin schedule of a port, found two\n"),
+        )
 
     @unittest.skipUnless(os.path.exists("/dev/full"), "there is no /dev/full")
     def test_writes_that_fail(self):
@@ -159,13 +192,20 @@ class FromASwitch(unittest.TestCase):
     """A schedule that a switch gives as JSON goes in, is checked and drawn, in one pipe."""
 
     def pipe(self, command):
-        given = os.environ | {"PYTHONPATH": str(support.HERE.parent), "PORT": support.PROGRAM, "PYTHON": sys.executable, "DATA": str(support.DATA)}
+        given = os.environ | {
+            "PYTHONPATH": str(support.HERE.parent),
+            "PORT": support.PROGRAM,
+            "PYTHON": sys.executable,
+            "DATA": str(support.DATA),
+        }
         with tempfile.TemporaryDirectory(prefix="taprio-pipe-") as folder:
             run = subprocess.run(["sh", "-c", FRONT + command], capture_output=True, text=True, env=given, cwd=folder, timeout=60)
         return run.returncode, run.stdout, run.stderr
 
     def test_small(self):
-        status, output, errors = self.pipe('"$PYTHON" -m taprio import "$DATA/small.json" | tee line | "$PORT" check --windows; cat line | "$PORT" draw --from 250000000 --to 1000000000 > picture; cat line picture')
+        status, output, errors = self.pipe(
+            '"$PYTHON" -m taprio import "$DATA/small.json" | tee line | "$PORT" check --windows; cat line | "$PORT" draw --from 250000000 --to 1000000000 > picture; cat line picture'
+        )
         self.assertEqual((status, errors), (0, ""))
         lines = output.split("\n")
         self.assertEqual(
@@ -181,21 +221,40 @@ class FromASwitch(unittest.TestCase):
         self.assertTrue(output.endswith("</svg>\n"))
         # Of three cycles: class 1 is open at the start of each, and class 0 in the rest.
         bands = re.findall(r'<rect class="o" x="([0-9.]+)" y="(310|274)" width="([0-9.]+)"', output)
-        self.assertEqual([(x, width) for x, y, width in bands if y == "274"], [("64.00", "73.60"), ("432.00", "73.60"), ("800.00", "73.60")])
-        self.assertEqual([(x, width) for x, y, width in bands if y == "310"], [("137.60", "294.40"), ("505.60", "294.40"), ("873.60", "294.40")])
+        self.assertEqual(
+            [(x, width) for x, y, width in bands if y == "274"], [("64.00", "73.60"), ("432.00", "73.60"), ("800.00", "73.60")]
+        )
+        self.assertEqual(
+            [(x, width) for x, y, width in bands if y == "310"],
+            [("137.60", "294.40"), ("505.60", "294.40"), ("873.60", "294.40")],
+        )
 
     def test_large(self):
-        status, output, errors = self.pipe('"$PYTHON" -m taprio import "$DATA/large.json" | tee lines | "$PORT" check --windows; cut -d " " -f 5 lines')
+        status, output, errors = self.pipe(
+            '"$PYTHON" -m taprio import "$DATA/large.json" | tee lines | "$PORT" check --windows; cut -d " " -f 5 lines'
+        )
         self.assertEqual(status, 0)
         self.assertEqual(len(errors.splitlines()), 2, errors)
         self.assertIn('interface[name="sw0p3"]', errors.splitlines()[0])
-        self.assertIn("GigabitEthernet 1/1: its blanks are left out, and it is called GigabitEthernet_1/1", errors.splitlines()[1])
+        self.assertIn(
+            "GigabitEthernet 1/1: its blanks are left out, and it is called GigabitEthernet_1/1", errors.splitlines()[1]
+        )
         answers = output.splitlines()
-        self.assertEqual([line for line in answers if line.startswith("apart")], ["apart 0 1 2 3 4 5 6 7", "apart 6 7", "apart none"])
+        self.assertEqual(
+            [line for line in answers if line.startswith("apart")], ["apart 0 1 2 3 4 5 6 7", "apart 6 7", "apart none"]
+        )
         self.assertEqual(answers[-3:], ["GigabitEthernet_1/1", "sw0p2", "sw0p3"])
         first = [line for line in answers if line.startswith("window")][:8]
-        self.assertEqual(first, [f"window class {number} open 15625000 closed 109375000 share 125000000 of 1000000000 frame 1929" for number in range(8)])
-        status, output, errors = self.pipe('"$PYTHON" -m taprio import --dev sw0p2 "$DATA/large.json" | "$PORT" draw --from 1764189000000000000000 --to 1764189001000000000000')
+        self.assertEqual(
+            first,
+            [
+                f"window class {number} open 15625000 closed 109375000 share 125000000 of 1000000000 frame 1929"
+                for number in range(8)
+            ],
+        )
+        status, output, errors = self.pipe(
+            '"$PYTHON" -m taprio import --dev sw0p2 "$DATA/large.json" | "$PORT" draw --from 1764189000000000000000 --to 1764189001000000000000'
+        )
         self.assertEqual(status, 0)
         self.assertTrue(output.startswith("<svg "))
 
@@ -203,7 +262,10 @@ class FromASwitch(unittest.TestCase):
         status, output, errors = self.pipe('"$PYTHON" -m taprio import "$DATA/faulty.json"')
         at = '/ietf-interfaces:interfaces/interface[name="hold"]/ieee802-dot1q-bridge:bridge-port/ieee802-dot1q-sched-bridge:gate-parameter-table/'
         self.assertEqual((status, output), (3, ""))
-        self.assertEqual(errors, f'taprio: {support.DATA}/faulty.json: {at}admin-control-list/gate-control-entry[index=1]/operation-name: expected set-gate-states (preemption is not modelled), found "ieee802-dot1q-sched:set-and-hold-mac"\n')
+        self.assertEqual(
+            errors,
+            f'taprio: {support.DATA}/faulty.json: {at}admin-control-list/gate-control-entry[index=1]/operation-name: expected set-gate-states (preemption is not modelled), found "ieee802-dot1q-sched:set-and-hold-mac"\n',
+        )
         document = json.loads((support.DATA / "faulty.json").read_text())
         found = []
         for interface in document["ietf-interfaces:interfaces"]["interface"]:

@@ -206,7 +206,9 @@ class WithoutALibrary(unittest.TestCase):
             self.assertEqual(taprio.backend("/bin/false").path, "/bin/false")
             given = taprio.Program("/bin/true")
             self.assertIs(taprio.backend(given), given)
-        with tempfile.TemporaryDirectory(prefix="taprio-checkout-") as folder, support.environment(TAPRIO_LIBRARY="/nowhere/libtaprio.so", TAPRIO_PORT=None):
+        with tempfile.TemporaryDirectory(prefix="taprio-checkout-") as folder, support.environment(
+            TAPRIO_LIBRARY="/nowhere/libtaprio.so", TAPRIO_PORT=None
+        ):
             for name, text, found in (
                 ("script", "#!/bin/sh\n[ $1 = --where ] && echo /some/where/taprio_port\n", "/some/where/taprio_port"),
                 ("fails", "#!/bin/sh\nexit 4\n", None),

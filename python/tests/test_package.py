@@ -19,7 +19,14 @@ class Examples(unittest.TestCase):
     def printed(self, example, **variables):
         given = {name: value for name, value in os.environ.items() if name not in ("TAPRIO_PORT", "TAPRIO_LIBRARY")}
         given |= {"PYTHONPATH": str(PYTHON)} | variables
-        return subprocess.run([sys.executable, "-W", "error", PYTHON / "examples" / f"{example}.py"], check=True, capture_output=True, text=True, env=given, timeout=60).stdout
+        return subprocess.run(
+            [sys.executable, "-W", "error", PYTHON / "examples" / f"{example}.py"],
+            check=True,
+            capture_output=True,
+            text=True,
+            env=given,
+            timeout=60,
+        ).stdout
 
     @support.wants_program
     def test_over_the_program(self):
@@ -29,7 +36,9 @@ class Examples(unittest.TestCase):
     @support.wants_library
     def test_over_the_library(self):
         wanted = (PYTHON / "examples" / "control_loop.output").read_text()
-        self.assertEqual(self.printed("control_loop", **{name: os.environ[name] for name in ["TAPRIO_LIBRARY"] if name in os.environ}), wanted)
+        self.assertEqual(
+            self.printed("control_loop", **{name: os.environ[name] for name in ["TAPRIO_LIBRARY"] if name in os.environ}), wanted
+        )
 
 
 class Package(unittest.TestCase):

@@ -23,7 +23,9 @@ def octets(name):
 class Runs(unittest.TestCase):
     def test_examples(self):
         """Each answer of the examples is read."""
-        for path in sorted([*support.EXAMPLES.glob("*.answers"), *support.EXAMPLES.glob("*.report"), *support.EXAMPLES.glob("*.summary")]):
+        for path in sorted(
+            [*support.EXAMPLES.glob("*.answers"), *support.EXAMPLES.glob("*.report"), *support.EXAMPLES.glob("*.summary")]
+        ):
             if path.name in ("apart.answers", "windows.answers"):
                 continue
             with self.subTest(path.name):
@@ -37,11 +39,32 @@ class Runs(unittest.TestCase):
     def test_waits(self):
         """The arrivals of a script give the waits, and their summary is the one that the program has."""
         found = taprio.read_run(octets("summary.answers"), octets("summary.script"))
-        self.assertEqual([(it.id, it.arrived, it.start, it.wait, it.length) for it in found.frames], [(1, 0, 0, 0, 60), (2, 0, 672000, 672000, 60), (3, 1000001, 13648000, 12647999, 60), (4, 1000001, 1344000, 343999, 1514)])
+        self.assertEqual(
+            [(it.id, it.arrived, it.start, it.wait, it.length) for it in found.frames],
+            [
+                (1, 0, 0, 0, 60),
+                (2, 0, 672000, 672000, 60),
+                (3, 1000001, 13648000, 12647999, 60),
+                (4, 1000001, 1344000, 343999, 1514),
+            ],
+        )
         self.assertEqual(found.summary[0], results.ClassSummary(0, 3, 3, 0, 180, 0, 4439999, 12647999, 2))
         self.assertEqual(found.wire, results.WireSummary(14320000, 716000))
         self.assertEqual(found.left, {})
-        self.assertEqual(found.rows()[3], {"id": 4, "traffic_class": 5, "arrived": 1000001, "start": 1344000, "end": 13648000, "wait": 343999, "dropped": None, "priority": 0 + 5, "length": 1514})
+        self.assertEqual(
+            found.rows()[3],
+            {
+                "id": 4,
+                "traffic_class": 5,
+                "arrived": 1000001,
+                "start": 1344000,
+                "end": 13648000,
+                "wait": 343999,
+                "dropped": None,
+                "priority": 0 + 5,
+                "length": 1514,
+            },
+        )
         self.assertEqual([row["traffic_class"] for row in found.summary_rows()], [0, 5])
 
     def test_kinds(self):
@@ -77,7 +100,17 @@ summary wire busy 0 ppm 0
                 results.TcFault("MissingWord", "map"),
                 results.Backward(),
                 results.Counted(0, 1, 0, 2, 3, 4, 5, 6, 7),
-                results.Report(672000, 15, 9, 2, (0, 0, 0, 0, 0, 0, 1) + (0,) * 9, ((1, 0), (2, 1)), results.Change(5), results.Change(1000000000, 1, 2, 3, 4), None),
+                results.Report(
+                    672000,
+                    15,
+                    9,
+                    2,
+                    (0, 0, 0, 0, 0, 0, 1) + (0,) * 9,
+                    ((1, 0), (2, 1)),
+                    results.Change(5),
+                    results.Change(1000000000, 1, 2, 3, 4),
+                    None,
+                ),
                 results.Left(0, 1),
             ],
         )
@@ -86,7 +119,15 @@ summary wire busy 0 ppm 0
         self.assertEqual(len(results.rows(found.answers)), 14)
 
     def test_no_answers(self):
-        for text, line in ((b"queued 1\n", 1), (b"queued 1 class 0\nqueue 2 class 0\n", 2), (b"report now 1 mask 00 no-class 0\nclasses none\n", 3), (b"report now x mask 00\n", 1), (b"start 1 class 0 at 0 end 1\n", 0), (b"\xff", 1), (b"\n", 1)):
+        for text, line in (
+            (b"queued 1\n", 1),
+            (b"queued 1 class 0\nqueue 2 class 0\n", 2),
+            (b"report now 1 mask 00 no-class 0\nclasses none\n", 3),
+            (b"report now x mask 00\n", 1),
+            (b"start 1 class 0 at 0 end 1\n", 0),
+            (b"\xff", 1),
+            (b"\n", 1),
+        ):
             with self.subTest(text), self.assertRaises(taprio.BadAnswer) as raised:
                 taprio.read_run(text)
             self.assertEqual(raised.exception.line, line)
@@ -106,13 +147,26 @@ summary wire busy 0 ppm 0
             given, first = [], 0
             for _ in range(dice.randint(1, 5)):
                 count = dice.randint(0, 30)
-                given.append(taprio.Stream(first, dice.randrange(18), dice.randint(10, 1600), dice.randint(1, 10**5), dice.randint(0, 10**6), count, dice.random() < 0.3))
+                given.append(
+                    taprio.Stream(
+                        first,
+                        dice.randrange(18),
+                        dice.randint(10, 1600),
+                        dice.randint(1, 10**5),
+                        dice.randint(0, 10**6),
+                        count,
+                        dice.random() < 0.3,
+                    )
+                )
                 first += count
             found = taprio.run_streams(LOOP, given, until_ns=dice.randint(10**6, 3 * 10**6), room=dice.choice([1, 4, 128]))
             self.assertTrue(sum(it.count for it in given) >= len(found.frames))
             for number, summary in found.summary.items():
                 waits = [it.wait for it in found.frames if it.traffic_class == number and it.start is not None]
-                self.assertEqual((summary.sent, summary.least, summary.greatest), (len(waits), min(waits, default=None), max(waits, default=None)))
+                self.assertEqual(
+                    (summary.sent, summary.least, summary.greatest),
+                    (len(waits), min(waits, default=None), max(waits, default=None)),
+                )
                 self.assertEqual(summary.mean, sum(waits) // len(waits) if waits else None)
                 self.assertEqual(summary.queued - summary.sent, found.left.get(number, 0))
             for frame in found.frames:
@@ -125,17 +179,37 @@ class Checks(unittest.TestCase):
     def test_examples(self):
         apart = taprio.read_check(octets("apart.answers"))
         self.assertEqual([it.apart for it in apart.schedules], [(0, 1, 2), (2,), (1,), None, (), None])
-        self.assertEqual([it.fault for it in apart.schedules][3:], [results.Refused("IntervalTooShort", 0), None, results.TcFault("MissingWord", "map")])
+        self.assertEqual(
+            [it.fault for it in apart.schedules][3:],
+            [results.Refused("IntervalTooShort", 0), None, results.TcFault("MissingWord", "map")],
+        )
         found = taprio.read_check(octets("windows.answers"))
         self.assertEqual(found.schedules[0].windows[0], results.Window(0, 300000000, 600000000, 300000000, 900000000, 37476))
         self.assertEqual(found.schedules[2].windows[1].frame, 0)
         always = found.schedules[3].windows[0]
         self.assertEqual((always.open, always.closed, always.frame), (None, 0, None))
-        self.assertEqual(found.rows()[0], {"schedule": 0, "apart": True, "traffic_class": 0, "open": 300000000, "closed": 600000000, "share": 300000000, "cycle": 900000000, "frame": 37476})
+        self.assertEqual(
+            found.rows()[0],
+            {
+                "schedule": 0,
+                "apart": True,
+                "traffic_class": 0,
+                "open": 300000000,
+                "closed": 600000000,
+                "share": 300000000,
+                "cycle": 900000000,
+                "frame": 37476,
+            },
+        )
         self.assertEqual(len(found.rows()), octets("windows.answers").count(b"window"))
 
     def test_no_answers(self):
-        for text in (b"window class 0 open 1 closed 1 share 1 of 2 frame 3\n", b"apart\n", b"apart 0\nqueued 1 class 0\n", b"refused X 0\nwindow class 0 open 1 closed 1 share 1 of 2 frame 3\n"):
+        for text in (
+            b"window class 0 open 1 closed 1 share 1 of 2 frame 3\n",
+            b"apart\n",
+            b"apart 0\nqueued 1 class 0\n",
+            b"refused X 0\nwindow class 0 open 1 closed 1 share 1 of 2 frame 3\n",
+        ):
             with self.subTest(text), self.assertRaises(taprio.BadAnswer):
                 taprio.read_check(text)
 
@@ -143,7 +217,10 @@ class Checks(unittest.TestCase):
 class Streams(unittest.TestCase):
     def test_tables(self):
         self.assertEqual(CONTROL.line(), "stream 1 6 64 250000ns 1000000ns 4")
-        self.assertEqual(taprio.table([taprio.Stream(0, 7, 60, 5, tagged=True), LOAD]), "stream 0 7 60 5ns 0ns 1 tagged\nstream 1000 0 1514 20000ns 992000ns 51\n")
+        self.assertEqual(
+            taprio.table([taprio.Stream(0, 7, 60, 5, tagged=True), LOAD]),
+            "stream 0 7 60 5ns 0ns 1 tagged\nstream 1000 0 1514 20000ns 992000ns 51\n",
+        )
         self.assertEqual(CONTROL.ids, range(1, 5))
 
     def test_faults(self):
@@ -164,7 +241,11 @@ class Streams(unittest.TestCase):
     @support.wants_port
     def test_each_table_is_read(self):
         """The greatest values of a stream are ones for the table too."""
-        for stream in (taprio.Stream(2**64 - 1, 255, 2**32 - 1, 2**63 - 1, 2**63 - 1), taprio.Stream(0, 0, 0, 0, 0, 0), taprio.Stream(0, 0, 0, 2**62, 0, 2, True)):
+        for stream in (
+            taprio.Stream(2**64 - 1, 255, 2**32 - 1, 2**63 - 1, 2**63 - 1),
+            taprio.Stream(0, 0, 0, 0, 0, 0),
+            taprio.Stream(0, 0, 0, 2**62, 0, 2, True),
+        ):
             taprio.backend().streams(taprio.table([stream]))
 
     @support.wants_port
@@ -182,17 +263,20 @@ class Streams(unittest.TestCase):
         with self.assertRaises(TypeError):
             taprio.run_streams(LOOP, [CONTROL], until_ns=1e6)
 
-
     @support.wants_library
     @support.wants_program
     def test_a_run_over_both(self):
-        one, other = (taprio.run_streams(LOOP, [CONTROL, LOAD], until_ns=3_000_000, port=port) for port in ("library", support.PROGRAM))
+        one, other = (
+            taprio.run_streams(LOOP, [CONTROL, LOAD], until_ns=3_000_000, port=port) for port in ("library", support.PROGRAM)
+        )
         self.assertEqual(one, other)
 
 
 class Plots(unittest.TestCase):
     def test_without_matplotlib(self):
-        with mock.patch.dict(sys.modules, {"matplotlib": None, "matplotlib.pyplot": None}), self.assertRaisesRegex(ImportError, "needs matplotlib"):
+        with mock.patch.dict(sys.modules, {"matplotlib": None, "matplotlib.pyplot": None}), self.assertRaisesRegex(
+            ImportError, "needs matplotlib"
+        ):
             taprio.plot(taprio.read_run(octets("summary.answers")))
 
     @unittest.skipUnless(importlib.util.find_spec("matplotlib"), "matplotlib isn't installed")

@@ -119,8 +119,16 @@ class Schedules(Cases):
         lines = []
         for _ in range(200):
             one = random_schedules.schedule(dice)
-            given = {"max_sdu": dice.choice([None, [0], [1500, 0, 100]]), "clock": dice.choice([None, "TAI"]), "flags": dice.choice([0, 2])}
-            lines.append(Schedule(one.entries, one.base_time, one.cycle, one.extension, one.map, one.classes, one.queues, **given).tc("sw0 p1"))
+            given = {
+                "max_sdu": dice.choice([None, [0], [1500, 0, 100]]),
+                "clock": dice.choice([None, "TAI"]),
+                "flags": dice.choice([0, 2]),
+            }
+            lines.append(
+                Schedule(one.entries, one.base_time, one.cycle, one.extension, one.map, one.classes, one.queues, **given).tc(
+                    "sw0 p1"
+                )
+            )
         answers = taprio.Program(support.PROGRAM).check("\n".join(lines)).decode().splitlines()
         self.assertEqual(len(answers), 200)
         self.assertFalse([it for it in answers if not it.startswith(("apart", "refused"))])
@@ -151,7 +159,7 @@ tc qdisc add dev eth1 root taprio sched-entry S ff 0001000 flags 0x2 max-sdu 5 0
             (front + "base-time 5us", "line 2, word 8", "a decimal number from 0", "BadNumber 8"),
             (front + "base-time", "line 2", "a word behind base-time", "MissingWord base-time"),
             (front + "sched-entry SH 01 5", "line 2, word 8", "preemption", "Unsupported sched-entry"),
-            (front + "fp E P", "line 2, word 7", "not modelled", "Unsupported fp"),
+            (front + "fp E P", "line 2, word 7", "an option that is modelled", "Unsupported fp"),
             (front + "num_tc 1 map 0", "line 2", "a sched-entry", "NoEntries"),
         ):
             with self.subTest(line):
@@ -209,11 +217,22 @@ class Shown(Cases):
 
     def test_the_text_of_a_page(self):
         found = self.quiet(read, SHOWN)
-        wanted = Schedule([(1, 300_000), (2, 300_000), (4, 300_000)], 1528743495910289987, 900_000, 0, [2, 2, 1, 0] + [2] * 12, 3, [(1, 0), (1, 1), (2, 2)], clock="TAI")
+        wanted = Schedule(
+            [(1, 300_000), (2, 300_000), (4, 300_000)],
+            1528743495910289987,
+            900_000,
+            0,
+            [2, 2, 1, 0] + [2] * 12,
+            3,
+            [(1, 0), (1, 1), (2, 2)],
+            clock="TAI",
+        )
         self.assertEqual(plain(found), [(wanted, None, "oper")])
 
     def test_later_versions(self):
-        text = SHOWN.replace("qdisc taprio 100: root", "qdisc taprio 100: dev eth0 root offloaded") + "max-sdu 0 100 0 \nfp E E P\n"
+        text = (
+            SHOWN.replace("qdisc taprio 100: root", "qdisc taprio 100: dev eth0 root offloaded") + "max-sdu 0 100 0 \nfp E E P\n"
+        )
         found, said = self.warned(read, text)
         self.assertEqual((found[0].device, found[0].schedule.max_sdu), ("eth0", (0, 100)))
         self.assertEqual(said, ["line 8: fp E E P (frame preemption) is left out"])
@@ -254,9 +273,17 @@ class Shown(Cases):
             return json.loads(write([LOOP], "json"))
 
         for change, place, expected in (
-            (lambda it: it[0]["options"]["schedule"][1].update(interval=1.5), "[0]/options/schedule[1]/interval", "a whole number"),
+            (
+                lambda it: it[0]["options"]["schedule"][1].update(interval=1.5),
+                "[0]/options/schedule[1]/interval",
+                "a whole number",
+            ),
             (lambda it: it[0]["options"]["schedule"][1].update(cmd="SR"), "[0]/options/schedule[1]/cmd", "preemption"),
-            (lambda it: it[0]["options"]["schedule"][1].update(gatemask="0x1ff"), "[0]/options/schedule[1]/gatemask", "at most 0xff"),
+            (
+                lambda it: it[0]["options"]["schedule"][1].update(gatemask="0x1ff"),
+                "[0]/options/schedule[1]/gatemask",
+                "at most 0xff",
+            ),
             (lambda it: it[0]["options"]["schedule"][1].update(gatemask="abcx"), "[0]/options/schedule[1]/gatemask", "a mask"),
             (lambda it: it[0]["options"]["schedule"][1].pop("gatemask"), "[0]/options/schedule[1]/gatemask", "a value"),
             (lambda it: it[0]["options"]["schedule"].pop(0), "[0]/options/schedule[0]/index", "the index 0"),
@@ -271,7 +298,13 @@ class Shown(Cases):
             change(changed)
             with self.subTest(changed):
                 self.fault(read_show_json, json.dumps(changed), place=place, expected=expected)
-        for text, place in (("[{", "line 1, column 3"), ('[{"a": 1,\n "a": 2}]', "JSON"), ("[" * 100_000, "JSON"), ("[" + "1" * 5000 + "]", "JSON"), ("{}", "/")):
+        for text, place in (
+            ("[{", "line 1, column 3"),
+            ('[{"a": 1,\n "a": 2}]', "JSON"),
+            ("[" * 100_000, "JSON"),
+            ("[" + "1" * 5000 + "]", "JSON"),
+            ("{}", "/"),
+        ):
             self.fault(read_show_json, text, place=place)
 
 
@@ -318,9 +351,15 @@ class Managed(Cases):
             self.assertEqual(plain(found), [(self.warned(read, self.document())[0][0].schedule, device, "admin")])
 
     def test_both_sides(self):
-        given = {"oper_control_list": {"gate-control-entry": [self.entry(9, 255, 1000)]}, "oper_cycle_time": {"numerator": 1, "denominator": 10**6}}
+        given = {
+            "oper_control_list": {"gate-control-entry": [self.entry(9, 255, 1000)]},
+            "oper_cycle_time": {"numerator": 1, "denominator": 10**6},
+        }
         found, _ = self.warned(read, self.document(**given))
-        self.assertEqual([(it.side, it.schedule.entries, it.schedule.cycle) for it in found], [("oper", ((255, 1000),), 1000), ("admin", ((2, 50_000), (1, 200_000)), 250_000)])
+        self.assertEqual(
+            [(it.side, it.schedule.entries, it.schedule.cycle) for it in found],
+            [("oper", ((255, 1000),), 1000), ("admin", ((2, 50_000), (1, 200_000)), 250_000)],
+        )
 
     def test_the_order_is_that_of_the_indices(self):
         entries = {"gate-control-entry": [self.entry(7, 1, 200_000, "set-gate-states"), self.entry(3, 2, 50_000)]}
@@ -331,10 +370,18 @@ class Managed(Cases):
         document = json.loads(self.document())
         port = document["ietf-interfaces:interfaces"]["interface"][0]["bridge-port"]
         rows = [
-            {"priority": priority, "available-traffic-class": [{"num-traffic-class": count, "traffic-class": min(priority, count - 1)} for count in (2, 3)]}
+            {
+                "priority": priority,
+                "available-traffic-class": [
+                    {"num-traffic-class": count, "traffic-class": min(priority, count - 1)} for count in (2, 3)
+                ],
+            }
             for priority in range(8)
         ]
-        for name, table in (("traffic-class", {"traffic-class-table": {"traffic-class-map": rows}}), ("traffic-class-table", {"traffic-class-map": rows})):
+        for name, table in (
+            ("traffic-class", {"traffic-class-table": {"traffic-class-map": rows}}),
+            ("traffic-class-table", {"traffic-class-map": rows}),
+        ):
             port.pop("traffic-class", None)
             port[name] = table
             found, said = self.warned(read, json.dumps(document))
@@ -355,7 +402,13 @@ class Managed(Cases):
             _, said = self.warned(lambda members=members: read_qcw(self.document(**members), map=[0]))
             self.assertEqual(len(said), 1, said)
             self.assertIn(text, said[0])
-        state = {"admin_gate_states": 255, "config_pending": False, "oper_gate_states": 1, "tick_granularity": 10, "supported_list_max": 8}
+        state = {
+            "admin_gate_states": 255,
+            "config_pending": False,
+            "oper_gate_states": 1,
+            "tick_granularity": 10,
+            "supported_list_max": 8,
+        }
         self.quiet(lambda: read_qcw(self.document(**state), map=[0]))
 
     def test_faults(self):
@@ -371,18 +424,43 @@ class Managed(Cases):
             (entries(one, self.entry(1, 1, "5us")), row + "time-interval-value", "a whole number", '"5us"'),
             (entries(one, self.entry(1, 256, 5)), row + "gate-states-value", "to 255", "256"),
             (entries(one, self.entry(1, True, 5)), row + "gate-states-value", "to 255", "true"),
-            (entries(one, self.entry(1, 1, 5, "ieee802-dot1q-sched:set-and-hold-mac")), row + "operation-name", "set-gate-states", "set-and-hold-mac"),
+            (
+                entries(one, self.entry(1, 1, 5, "ieee802-dot1q-sched:set-and-hold-mac")),
+                row + "operation-name",
+                "set-gate-states",
+                "set-and-hold-mac",
+            ),
             (entries(one, self.entry(0, 1, 5)), "gate-control-entry[index=0]/index", "each index once", "0"),
             (entries(one, {"index": 1}), row + "operation-name", "a value", "none"),
             (entries(5), "gate-control-entry[0]", "an object", "5"),
             (entries(*[self.entry(number, 1, 5) for number in range(257)]), "gate-control-entry: entries", "1 to 256", "257"),
-            ({"admin_cycle_time": {"numerator": 1, "denominator": 3}}, at + "admin-cycle-time", "a whole number of nanoseconds", "1/3 of a second"),
-            ({"admin_cycle_time": {"numerator": 1, "denominator": 2 * 10**9}}, at + "admin-cycle-time", "a whole number of nanoseconds", "of a second"),
+            (
+                {"admin_cycle_time": {"numerator": 1, "denominator": 3}},
+                at + "admin-cycle-time",
+                "a whole number of nanoseconds",
+                "1/3 of a second",
+            ),
+            (
+                {"admin_cycle_time": {"numerator": 1, "denominator": 2 * 10**9}},
+                at + "admin-cycle-time",
+                "a whole number of nanoseconds",
+                "of a second",
+            ),
             ({"admin_cycle_time": {"numerator": 1, "denominator": 0}}, at + "admin-cycle-time/denominator", "from 1", "0"),
-            ({"admin_base_time": {"seconds": "5", "nanoseconds": 10**9}}, at + "admin-base-time/nanoseconds", "to 999999999", "1000000000"),
+            (
+                {"admin_base_time": {"seconds": "5", "nanoseconds": 10**9}},
+                at + "admin-base-time/nanoseconds",
+                "to 999999999",
+                "1000000000",
+            ),
             ({"admin_base_time": {"seconds": "-5"}}, at + "admin-base-time/seconds", "from 0", '"-5"'),
             ({"admin_cycle_time_extension": 0.5}, at + "admin-cycle-time-extension", "a whole number", "0.5"),
-            ({"queue_max_sdu_table": [{"traffic-class": 8}]}, at + "queue-max-sdu-table[traffic-class=8]/traffic-class", "to 7", "8"),
+            (
+                {"queue_max_sdu_table": [{"traffic-class": 8}]},
+                at + "queue-max-sdu-table[traffic-class=8]/traffic-class",
+                "to 7",
+                "8",
+            ),
             ({"gate_enabled": "yes"}, at + "gate-enabled", "true or false", '"yes"'),
             ({"admin_control_list": None}, "/", "an admin-control-list", "1 such tables"),
         ):
@@ -392,11 +470,21 @@ class Managed(Cases):
         self.fault(read_qcw, '{"gate-parameter-table": 5}')
 
     def test_what_can_not_be_written(self):
-        self.fault(write_qcw, [Schedule([(1, 5)], cycle=2**40 - 1)], place="admin-cycle-time", found="43980465111/40000000 of a second")
+        self.fault(
+            write_qcw, [Schedule([(1, 5)], cycle=2**40 - 1)], place="admin-cycle-time", found="43980465111/40000000 of a second"
+        )
         self.fault(write_qcw, [Schedule([(1, 5)], extension=2**32)], place="admin-cycle-time-extension")
         self.fault(write_qcw, [LOOP, LOOP], expected="one admin schedule")
         _, said = self.warned(write_qcw, [Schedule([(1, 5)], map=[0] * 8 + [1], queues=[(1, 0), (1, 1)], clock="TAI", flags=2)])
-        self.assertEqual(said, ["eth0: the classes of priorities 8 to 15 are left out", "eth0: queues is left out", "eth0: clockid is left out", "eth0: flags is left out"])
+        self.assertEqual(
+            said,
+            [
+                "eth0: the classes of priorities 8 to 15 are left out",
+                "eth0: queues is left out",
+                "eth0: clockid is left out",
+                "eth0: flags is left out",
+            ],
+        )
 
 
 class RoundTrips(Cases):
@@ -411,14 +499,19 @@ class RoundTrips(Cases):
                 sides = dice.choice([["oper"], ["admin"], ["oper", "admin"]])
                 for side in sides:
                     entries = schedule.entries if side == "oper" else random_schedules.schedule(dice).entries
-                    made = Schedule(entries, schedule.base_time, schedule.cycle, extension, schedule.map, schedule.classes, schedule.queues)
+                    made = Schedule(
+                        entries, schedule.base_time, schedule.cycle, extension, schedule.map, schedule.classes, schedule.queues
+                    )
                     found.append(Configured(made, f"eth{device}", side))
             for form in FORMS:
                 wanted = plain(found)
                 if form == "tc":
                     wanted = [(schedule, device, "admin") for schedule, device, _ in wanted]
                 if form == "qcw":
-                    wanted = [(Schedule(it.entries, it.base_time, it.cycle, it.extension, it.map, it.classes), device, side) for it, device, side in wanted]
+                    wanted = [
+                        (Schedule(it.entries, it.base_time, it.cycle, it.extension, it.map, it.classes), device, side)
+                        for it, device, side in wanted
+                    ]
                 text, _ = self.warned(write, found, form)
                 with self.subTest(seed=seed, form=form):
                     self.assertEqual(form_of(text), form)
@@ -448,7 +541,9 @@ class RoundTrips(Cases):
                 octets = bytearray(write([random_schedules.schedule(dice)], form).encode())
                 for _ in range(dice.randint(1, 3)):
                     at = dice.randrange(len(octets))
-                    octets[at : at + dice.randrange(3)] = bytes(dice.choice(b"0159aexf{}[]\",: -.\n\t\\\xff") for _ in range(dice.randrange(3)))
+                    octets[at : at + dice.randrange(3)] = bytes(
+                        dice.choice(b'0159aexf{}[]",: -.\n\t\\\xff') for _ in range(dice.randrange(3))
+                    )
                 try:
                     read(bytes(octets))
                 except taprio.BadSchedule as fault:

@@ -27,14 +27,25 @@ def attribute(kind, octets):
 
 def qdisc(device, kind, options=b"", parent=0xFFFFFFFF, more=b""):
     """A message that tells of a qdisc (RTM_NEWQDISC); the device with the number N is ethN."""
-    body = struct.pack("<BBHiIII", 0, 0, 0, device, 0x1000000, parent, 9) + attribute(1, kind.encode() + b"\0") + attribute(2, options) + more
+    body = (
+        struct.pack("<BBHiIII", 0, 0, 0, device, 0x1000000, parent, 9)
+        + attribute(1, kind.encode() + b"\0")
+        + attribute(2, options)
+        + more
+    )
     return struct.pack("<IHHII", 16 + len(body), 36, 2, 0, 0) + body
 
 
 def side(schedule):
     """The attributes of one of the two schedules (linux/pkt_sched.h, TCA_TAPRIO_ATTR_..)."""
     entries = b"".join(
-        attribute(1, attribute(1, struct.pack("<I", number)) + attribute(2, b"\0") + attribute(3, struct.pack("<I", gates)) + attribute(4, struct.pack("<I", interval)))
+        attribute(
+            1,
+            attribute(1, struct.pack("<I", number))
+            + attribute(2, b"\0")
+            + attribute(3, struct.pack("<I", gates))
+            + attribute(4, struct.pack("<I", interval)),
+        )
         for number, (gates, interval) in enumerate(schedule.entries)
     )
     times = attribute(3, struct.pack("<q", schedule.base_time)) + attribute(8, struct.pack("<q", schedule.cycle_time))
@@ -91,10 +102,32 @@ class TheRealOne(unittest.TestCase):
             for device in range(1, dice.randint(2, 6)):
                 oper, admin = random_schedules.schedule(dice), None
                 clock, flags = dice.choice([(None, 2), ("TAI", 0), ("REALTIME", 0), ("MONOTONIC", 0), ("BOOTTIME", 0)])
-                oper = Schedule(oper.entries, oper.base_time, oper.cycle, oper.extension, oper.map, oper.classes, oper.queues, None, clock, flags)
+                oper = Schedule(
+                    oper.entries,
+                    oper.base_time,
+                    oper.cycle,
+                    oper.extension,
+                    oper.map,
+                    oper.classes,
+                    oper.queues,
+                    None,
+                    clock,
+                    flags,
+                )
                 if dice.random() < 0.4:
                     other = random_schedules.schedule(dice)
-                    admin = Schedule(other.entries, other.base_time, other.cycle, other.extension, oper.map, oper.classes, oper.queues, None, clock, flags)
+                    admin = Schedule(
+                        other.entries,
+                        other.base_time,
+                        other.cycle,
+                        other.extension,
+                        oper.map,
+                        oper.classes,
+                        oper.queues,
+                        None,
+                        clock,
+                        flags,
+                    )
                 if admin and dice.random() < 0.3:
                     oper = None
                 wanted += [Configured(it, f"eth{device}", name) for name, it in (("oper", oper), ("admin", admin)) if it]
@@ -105,17 +138,31 @@ class TheRealOne(unittest.TestCase):
                     self.assertEqual(write_show(wanted), text)
                     # (tc leaves the name of the second schedule out)
                     self.assertEqual(write_show_json(wanted).replace('"admin":', ""), json)
-                self.assertEqual([(it.schedule, it.device, it.side) for it in read_show(text)], [(it.schedule, it.device, it.side) for it in wanted])
+                self.assertEqual(
+                    [(it.schedule, it.device, it.side) for it in read_show(text)],
+                    [(it.schedule, it.device, it.side) for it in wanted],
+                )
                 for found in (json, self.shown(messages, "-j", "-p", "qdisc", "show"), write_show_json(wanted)):
-                    self.assertEqual([(it.schedule, it.device, it.side) for it in read_show_json(found)], [(it.schedule, it.device, it.side) for it in wanted])
+                    self.assertEqual(
+                        [(it.schedule, it.device, it.side) for it in read_show_json(found)],
+                        [(it.schedule, it.device, it.side) for it in wanted],
+                    )
 
     def test_other_qdiscs_and_statistics(self):
         """What else tc shows is passed over: other kinds, the queues below a taprio, and counters."""
         schedule = Schedule([(2, 50_000), (1, 200_000)], 5, 250_000, 0, [0, 1], 2, [(1, 0), (1, 1)], clock="TAI")
         counters = attribute(7, attribute(1, struct.pack("<QI", 1234, 7)) + attribute(3, struct.pack("<5I", 0, 0, 1, 0, 0)))
-        messages = qdisc(1, "pfifo", struct.pack("<I", 1000), more=counters) + qdisc(2, "taprio", options(schedule), more=counters)
+        messages = qdisc(1, "pfifo", struct.pack("<I", 1000), more=counters) + qdisc(
+            2, "taprio", options(schedule), more=counters
+        )
         messages += qdisc(2, "pfifo", struct.pack("<I", 1000), 0x1000001, counters)
-        for words in (["qdisc", "show"], ["-s", "qdisc", "show"], ["-s", "-d", "qdisc", "show"], ["-o", "qdisc", "show"], ["-r", "qdisc", "show"]):
+        for words in (
+            ["qdisc", "show"],
+            ["-s", "qdisc", "show"],
+            ["-s", "-d", "qdisc", "show"],
+            ["-o", "qdisc", "show"],
+            ["-r", "qdisc", "show"],
+        ):
             text = self.shown(messages, *words)
             self.assertEqual([(it.schedule, it.device) for it in read_show(text)], [(schedule, "eth2")])
             with warnings.catch_warnings():

@@ -57,7 +57,12 @@ Form = Literal["tc", "show", "json", "qcw"]
 FORMS: tuple[Form, ...] = ("tc", "show", "json", "qcw")
 
 Schedules = Iterable[Union[Configured, Schedule]]
-_READERS: dict[Form, Callable[[str], list[Configured]]] = {"tc": read_tc, "show": read_show, "json": read_show_json, "qcw": read_qcw}
+_READERS: dict[Form, Callable[[str], list[Configured]]] = {
+    "tc": read_tc,
+    "show": read_show,
+    "json": read_show_json,
+    "qcw": read_qcw,
+}
 _WRITERS: dict[Form, Callable[[Schedules], str]] = {"tc": write_tc, "show": write_show, "json": write_show_json, "qcw": write_qcw}
 
 

@@ -121,7 +121,13 @@ class Node:
     def whole(self, least: int, most: int, unit: str = "") -> int:
         """A whole number within limits. A text of digits is one too: so RFC 7951 writes numbers of 64 bits."""
         value = self.value
-        if isinstance(value, str) and not isinstance(value, _Fraction) and value.isascii() and value.isdigit() and len(value) <= 20:
+        if (
+            isinstance(value, str)
+            and not isinstance(value, _Fraction)
+            and value.isascii()
+            and value.isdigit()
+            and len(value) <= 20
+        ):
             value = int(value)
         if isinstance(value, bool) or not isinstance(value, int) or not least <= value <= most:
             raise self.wrong(f"a whole number from {least} to {most}{unit}")

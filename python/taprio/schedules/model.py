@@ -69,7 +69,8 @@ class Schedule:
     queues: tuple[Ranges, ...] | None
     """The queues of each class. They have no effect on the port."""
     max_sdu: tuple[int, ...] | None
-    """The longest service data unit of each class from 0 up, in octets; 0, or a missing one, is no limit. None leaves limits as they are."""
+    """The longest service data unit of each class from 0 up, in octets; 0, or a missing one, is no limit. None leaves the limits as they
+    are."""
     clock: str | None
     """The clock of a `tc` line, such as "TAI". It has no effect on the port."""
     flags: int
@@ -103,7 +104,9 @@ class Schedule:
             if not 1 <= len(map) <= PRIORITIES:
                 fault("map", f"1 to {PRIORITIES} classes", len(map))
             most = CLASSES if classes is None else whole(classes, "classes", 1, CLASSES)
-            padded = tuple(whole(it, f"map of priority {at}", 0, most - 1) for at, it in enumerate(map)) + (0,) * (PRIORITIES - len(map))
+            padded = tuple(whole(it, f"map of priority {at}", 0, most - 1) for at, it in enumerate(map)) + (0,) * (
+                PRIORITIES - len(map)
+            )
             put("map", padded)
             put("classes", max(padded) + 1 if classes is None else classes)
         elif classes is not None:
@@ -179,7 +182,9 @@ def _ranges(classes: int | None, queues: Iterable[tuple[int, int]]) -> tuple[Ran
         fault("queues", "a map with them", "none")
     found = []
     for number, (count, offset) in enumerate(queues):
-        found.append(Ranges(whole(count, f"queues of class {number}", 1, U16), whole(offset, f"queues of class {number}", 0, U16)))
+        found.append(
+            Ranges(whole(count, f"queues of class {number}", 1, U16), whole(offset, f"queues of class {number}", 0, U16))
+        )
     if len(found) != classes:
         fault("queues", f"a range for each of {classes} classes", f"{len(found)}")
     for number, one in enumerate(found):

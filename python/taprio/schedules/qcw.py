@@ -1,5 +1,5 @@
-"""The managed objects of IEEE Std 802.1Qcw as JSON (RFC 7951): `gate-parameter-table` of the bridge port of an interface, of the YANG modules
-ieee802-dot1q-sched and ieee802-dot1q-sched-bridge, and `traffic-class-table` of ieee802-dot1q-bridge beside it."""
+"""The managed objects of IEEE Std 802.1Qcw as JSON (RFC 7951): `gate-parameter-table` of the bridge port of an interface, of the YANG
+modules ieee802-dot1q-sched and ieee802-dot1q-sched-bridge, and `traffic-class-table` of ieee802-dot1q-bridge beside it."""
 
 from __future__ import annotations
 
@@ -16,7 +16,7 @@ from .model import CLASSES, U8, U32, U64, Configured, Schedule, Side, placed
 __all__ = ["RECOMMENDED", "read_qcw", "write_qcw"]
 
 RECOMMENDED = (1, 0, 2, 3, 4, 5, 6, 7)
-"""The class of each priority where a document doesn't say it: the recommended ones of IEEE Std 802.1Q-2018, Table 8-5, for eight classes."""
+"""The class of each priority where a document doesn't say it: those that IEEE Std 802.1Q-2018, Table 8-5, recommends for eight classes."""
 SECOND = 10**9
 # What is said of a running port, and is no part of a schedule.
 _STATE = {
@@ -31,7 +31,9 @@ _STATE = {
     "supported-list-max",
     "tick-granularity",
 }
-_OF_SIDES = {f"{side}-{name}" for side in ("admin", "oper") for name in ("control-list", "cycle-time", "cycle-time-extension", "base-time")}
+_OF_SIDES = {
+    f"{side}-{name}" for side in ("admin", "oper") for name in ("control-list", "cycle-time", "cycle-time-extension", "base-time")
+}
 _READ = _OF_SIDES | {"admin-gate-states", "gate-enabled", "queue-max-sdu-table"}
 
 
@@ -57,7 +59,11 @@ def read_qcw(text: str, map: Iterable[int] | None = None) -> list[Configured]:
             tables += 1
             found += _table(node, [], given)
     if not found:
-        raise BadSchedule("/", "a gate-parameter-table with an admin-control-list or an oper-control-list", f"{tables or 'no'} such tables, without a list" if tables else "none")
+        raise BadSchedule(
+            "/",
+            "a gate-parameter-table with an admin-control-list or an oper-control-list",
+            f"{tables or 'no'} such tables, without a list" if tables else "none",
+        )
     return found
 
 
@@ -92,7 +98,9 @@ def _table(table: Node, above: list[Node], given: tuple[int, ...] | None) -> lis
     for outer in above:
         named = outer.get("name")
         device = named.text() if named else device
-    return [Configured(_side(members, side, entries, classes, map_, max_sdu), device, side, table.place) for side, entries in sides]
+    return [
+        Configured(_side(members, side, entries, classes, map_, max_sdu), device, side, table.place) for side, entries in sides
+    ]
 
 
 def _entries(control: Node | None) -> Node | None:
@@ -160,13 +168,18 @@ def _map(table: Node, above: list[Node], given: tuple[int, ...] | None) -> tuple
     if rows is None:
         if given is None:
             text = " ".join(map(str, RECOMMENDED))
-            _left_out(table, f"there is no traffic-class-table beside it: the recommended classes of priorities 0 to 7 are taken, {text}")
+            _left_out(
+                table,
+                f"there is no traffic-class-table beside it: the recommended classes of priorities 0 to 7 are taken, {text}",
+            )
         chosen = RECOMMENDED if given is None else given
         return max(chosen, default=0) + 1, chosen
     classes: dict[int, dict[int, int]] = {}
     for row in rows.items("priority"):
         available = row.need("available-traffic-class").items("num-traffic-class")
-        of_number = {it.need("num-traffic-class").whole(1, CLASSES): it.need("traffic-class").whole(0, CLASSES - 1) for it in available}
+        of_number = {
+            it.need("num-traffic-class").whole(1, CLASSES): it.need("traffic-class").whole(0, CLASSES - 1) for it in available
+        }
         classes[row.need("priority").whole(0, CLASSES - 1)] = of_number
     missing = [priority for priority in range(CLASSES) if priority not in classes]
     if missing:
@@ -234,7 +247,10 @@ def _rows(schedule: Schedule) -> dict[str, Any]:
     return {
         "traffic-class-table": {
             "traffic-class-map": [
-                {"priority": priority, "available-traffic-class": [{"num-traffic-class": schedule.classes, "traffic-class": number}]}
+                {
+                    "priority": priority,
+                    "available-traffic-class": [{"num-traffic-class": schedule.classes, "traffic-class": number}],
+                }
                 for priority, number in enumerate((schedule.map or ())[:CLASSES])
             ]
         }
@@ -247,9 +263,17 @@ def _put(table: dict[str, Any], given: Configured) -> None:
     shared = math.gcd(schedule.cycle_time, SECOND)
     numerator, denominator = schedule.cycle_time // shared, SECOND // shared
     if numerator > U32:
-        raise BadSchedule(f"{given.device or 'eth0'}: {side}-cycle-time", "a fraction of two numbers of 32 bits", f"{numerator}/{denominator} of a second")
+        raise BadSchedule(
+            f"{given.device or 'eth0'}: {side}-cycle-time",
+            "a fraction of two numbers of 32 bits",
+            f"{numerator}/{denominator} of a second",
+        )
     if schedule.extension > U32:
-        raise BadSchedule(f"{given.device or 'eth0'}: {side}-cycle-time-extension", "a number of 32 bits, in nanoseconds", str(schedule.extension))
+        raise BadSchedule(
+            f"{given.device or 'eth0'}: {side}-cycle-time-extension",
+            "a number of 32 bits, in nanoseconds",
+            str(schedule.extension),
+        )
     if schedule.max_sdu is not None:
         rows = [{"traffic-class": number, "queue-max-sdu": size} for number, size in enumerate(schedule.max_sdu)]
         if table.setdefault("queue-max-sdu-table", rows) != rows:

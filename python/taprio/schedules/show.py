@@ -146,7 +146,9 @@ def read_show(text: str) -> list[Configured]:
     starts = [number for number, line in enumerate(lines) if _HEAD.fullmatch(line.rstrip("\r "))]
     if not starts or any(line.strip() for line in lines[: starts[0]]):
         first = next((number for number, line in enumerate(lines) if line.strip()), 0)
-        raise BadSchedule(f"line {first + 1}", "a line that begins with qdisc", repr(lines[first][:40]) if text.strip() else "nothing")
+        raise BadSchedule(
+            f"line {first + 1}", "a line that begins with qdisc", repr(lines[first][:40]) if text.strip() else "nothing"
+        )
     kinds = []
     for start, end in zip(starts, [*starts[1:], len(lines)]):
         head = _HEAD.fullmatch(lines[start].rstrip("\r "))
@@ -379,7 +381,9 @@ def write_show(schedules: Iterable[Configured | Schedule]) -> str:
     found = []
     for qdisc in _qdiscs(schedules):
         options = qdisc["options"]
-        found.append(f"qdisc taprio 100: dev {qdisc['dev']} root refcnt 9 tc {options['tc']} map {' '.join(map(str, options['map']))}\n")
+        found.append(
+            f"qdisc taprio 100: dev {qdisc['dev']} root refcnt 9 tc {options['tc']} map {' '.join(map(str, options['map']))}\n"
+        )
         found.append("queues" + "".join(f" offset {it['offset']} count {it['count']}" for it in options["queues"]) + "\n")
         found.append(f"clockid {options['clockid']}" + (f" flags {options['flags']}" if "flags" in options else ""))
         for side in [options, options["admin"]] if "admin" in options else [options]:

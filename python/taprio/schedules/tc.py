@@ -119,7 +119,7 @@ def _options(words: _Words, missing: str | None) -> Schedule:
     while words.at < len(given):
         at, option = words.at, given[words.at]
         if option in ("txtime-delay", "fp"):
-            words.fault(f"Unsupported {option}", "no such option: it is not modelled", at)
+            words.fault(f"Unsupported {option}", "an option that is modelled", at)
         if option not in OPTIONS:
             words.fault(f"UnknownOption {at}", "an option of taprio", at)
         if option in seen and option != "sched-entry":
@@ -144,7 +144,7 @@ def _options(words: _Words, missing: str | None) -> Schedule:
                 ranges.append((words.number(count, U16, place), words.number(offset, U16, place)))
         elif option == "sched-entry":
             if words.next(option) != "S":
-                words.fault("Unsupported sched-entry", "S: preemption is not modelled", at)
+                words.fault("Unsupported sched-entry", "S (preemption is not modelled)", at)
             gates = words.hexadecimal(words.next(option), U8, at + 1)
             entries.append((gates, words.number(words.next(option), U32, at + 2)))
         elif option == "clockid":
@@ -154,7 +154,7 @@ def _options(words: _Words, missing: str | None) -> Schedule:
         else:
             flags = words.hexadecimal(words.next(option), U32, at)
             if flags not in (0, 2):
-                words.fault("Unsupported flags", "0 or 2: txtime assist is not modelled", at)
+                words.fault("Unsupported flags", "0 or 2 (txtime assist is not modelled)", at)
     if missing:
         words.fault(f"MissingWord {missing}", "dev before taprio" if missing == "dev" else "root or parent before taprio")
     classes, priorities = times.get("num_tc"), lists.get("map")
@@ -250,5 +250,7 @@ def write_tc(schedules: Iterable[Configured | Schedule]) -> str:
     found = [it if isinstance(it, Configured) else Configured(it) for it in schedules]
     for it in found:
         if it.device and device_word(it.device) != it.device:
-            warnings.warn(f"{it.device}: its blanks are left out, and it is called {device_word(it.device)}", LeftOut, stacklevel=2)
+            warnings.warn(
+                f"{it.device}: its blanks are left out, and it is called {device_word(it.device)}", LeftOut, stacklevel=2
+            )
     return "".join(f"{line(it.schedule, it.device or 'eth0')}\n" for it in found)
