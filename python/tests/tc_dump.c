@@ -2,8 +2,8 @@
  *
  * Preloaded (LD_PRELOAD) into tc of iproute2, it answers the request for a dump of qdiscs (RTM_GETQDISC) with the netlink messages of
  * the file that the variable TC_DUMP of the environment names. Their sequence numbers and ports become those of the request, and a
- * closing message follows. The device with the number N is called ethN, and any device of such a name is there. Sockets other than
- * those of netlink stay as they are, and nothing of a kernel is asked or changed.
+ * closing message follows. Other dumps are empty. The device with the number N is called ethN, and any device of such a name is there.
+ * A socket of netlink is /dev/null, and there are no others: nothing of a kernel is asked or changed.
  *
  *     cc -shared -fPIC -O1 -o tc_dump.so tc_dump.c && TC_DUMP=messages LD_PRELOAD=./tc_dump.so tc -j qdisc show */
 #define _GNU_SOURCE
