@@ -5,13 +5,13 @@
  *
  * What every call has in common
  * -----------------------------
- * It reads its inputs, writes into the slices that it is lent, and tells how it ended in `ran`. Its status is
+ * It reads its inputs, writes into the slices that it is given, and reports how it ended in `ran`. Its status is
  *
  *   TAPRIO_DONE       0  the whole output stands at the front of its slice; there is no text of a fault (`fault` of `ran` is 0)
  *   TAPRIO_BAD_VALUE  2  a value is out of its limits: its text stands at the front of `fault`, and there is no output
  *   TAPRIO_BAD_INPUT  3  an input has a fault: its text stands at the front of `fault`, and what the job writes before the
- *                        fault is told at the front of the output
- *   TAPRIO_NO_MEMORY  4  memory was wanting: nothing is written, and the lengths in `ran` are 0
+ *                        fault is reported at the front of the output
+ *   TAPRIO_NO_MEMORY  4  out of memory: nothing is written, and the lengths in `ran` are 0
  *   TAPRIO_NO_ROOM    5  a slice has too little room: nothing is written, and the lengths in `ran` are those that want room; the
  *                        same call with slices of at least these lengths has room
  *
@@ -98,8 +98,8 @@ struct taprio_replay_ran {
 void taprio_run(const struct taprio_port_values *values, const uint8_t *script, size_t script_length, uint8_t *output,
                 size_t output_length, uint8_t *fault, size_t fault_length, struct taprio_ran *ran);
 
-/* Tells what schedule commands promise, as `taprio_port check` does, at a rate in Mb/s; `windows` other than 0 also tells what
- * each class gets. At TAPRIO_BAD_INPUT the output is what is told of the lines before the fault. */
+/* Reports what schedule commands promise, as `taprio_port check` does, at a rate in Mb/s; `windows` other than 0 also reports what
+ * each class gets. At TAPRIO_BAD_INPUT the output is what is reported of the lines before the fault. */
 void taprio_check(uint32_t rate, uint32_t windows, const uint8_t *schedules, size_t schedules_length, uint8_t *output,
                   size_t output_length, uint8_t *fault, size_t fault_length, struct taprio_ran *ran);
 

@@ -105,6 +105,7 @@ CHANGES = [
     ("another magic number", 0, "00000000", b"taprio_port: capture header: BadMagic\n"),
     ("another version", 5, "03", b"taprio_port: capture header: BadVersion\n"),
     ("another link than Ethernet", 23, "71", b"taprio_port: capture header: BadLink\n"),
+    ("a link type of 0", 23, "00", b"taprio_port: capture header: BadLink\n"),
     ("a snapshot length of 0, which says nothing", 16, "00000000", b""),
     (
         "more octets than a record may have, before a bad fraction",

@@ -5,7 +5,8 @@ tested as `./taprio_port`, and what stands behind it up to the next `$ ` has to 
 takes further lines into the command. The commands of a page are run in their order, in one folder. What cannot be run stands in a block whose first
 line does not begin with `$ `.
 
-    python3 tests/documents.py PROGRAM PAGE ..    writes into the pages what their commands give today"""
+    python3 tests/documents.py PROGRAM PAGE ..    writes into the pages what their commands give today
+    python3 tests/documents.py --definitions      prints the list of docs/trust/definitions.md, for between its two marks"""
 import os
 import pathlib
 import re
@@ -131,6 +132,85 @@ def case_the_readme_counts_what_there_is(program):
         said = re.search(pattern, (ROOT / page).read_text(encoding="utf-8"))
         if not said or int(said[1]) != count:
             faults.append(f"{page}: it says {said[1] if said else 'nothing'} of the {count} lines of \"What a port is\"")
+    told(faults)
+
+
+def grouped_crates():
+    """The crates of crates.txt, by the headings that stand above them."""
+    found = {}
+    for line in (ROOT / "crates.txt").read_text(encoding="utf-8").splitlines():
+        head, colon, _ = line.partition(":")
+        if colon and not line.startswith("#"):
+            found[next(reversed(found))].append(head.split()[0])
+        elif re.fullmatch(r"# \w+", line):
+            found[line[2:]] = []
+    return found
+
+
+def first_comment(path):
+    """The comment with which a file of definitions begins, as one line."""
+    lines = []
+    for line in path.read_text(encoding="utf-8").splitlines():
+        if not line.startswith("-- "):
+            break
+        lines.append(line[3:].strip())
+    return " ".join(lines)
+
+
+def definitions():
+    """The list of all files of definitions: their number of lines, and what they say."""
+    found = []
+    for group, crates in grouped_crates().items():
+        files = [path for crate in crates for path in sorted((ROOT / "crates" / crate / "specs").glob("*.antt")) if path.name != "Lib.antt"]
+        if files:
+            found += ["", f"### {group[0].upper()}{group[1:]}: {sum(spec_lines(path) for path in files)} lines", "", "| file | lines | what it says |", "|---|---|---|"]
+            found += [f"| `{path.relative_to(ROOT / 'crates')}` | {spec_lines(path)} | {first_comment(path)} |" for path in files]
+    return "\n".join([*found[1:], ""])
+
+
+def case_the_list_of_definitions_is_whole(program):
+    """docs/trust/definitions.md lists each file of definitions, with its number of lines; a file that is listed by itself has that number too."""
+    page = "docs/trust/definitions.md"
+    text = (ROOT / page).read_text(encoding="utf-8")
+    listed = text.partition("<!-- definitions -->\n")[2].partition("<!-- end of definitions -->")[0]
+    faults = [] if listed.strip("\n") == definitions().strip("\n") else [f"{page}: put between the marks what `python3 tests/documents.py --definitions` prints"]
+    for name, count in re.findall(r"^\| `(\w+/specs/\w+\.antt)` \|.*\| (\d+) \|$", text, re.MULTILINE):
+        if int(count) != spec_lines(ROOT / "crates" / name):
+            faults.append(f"{page}: {name} has {spec_lines(ROOT / 'crates' / name)} lines, and not {count}")
+    told(faults)
+
+
+PROMISE_WORDS = 30
+
+
+def items_of(crate):
+    """The names of the functions and types of a crate, and of the clauses of its contracts."""
+    text = "\n".join(path.read_text(encoding="utf-8") for path in sorted((ROOT / "crates" / crate / "src").glob("**/*.rt")))
+    return set(re.findall(r"\b(?:fn|struct|enum|trait|type|mod) +(\w+)", text)), set(re.findall(r"\bensures\*? +(\w+) *\{", text))
+
+
+def case_promises_name_what_there_is(program):
+    """Each row of docs/trust/promises.md is a sentence of at most 30 words, and names calls, types and clauses that the crates have."""
+    page, faults, known = pathlib.Path("docs/trust/promises.md"), [], {}
+    for number, line, fenced in numbered(page):
+        cells = [cell.strip() for cell in line.strip("|").split("|")]
+        if fenced or not line.startswith("| ") or len(cells) != 2 or cells[0] == "promise":
+            continue
+        if len(cells[0].split()) > PROMISE_WORDS:
+            faults.append(f"{page}:{number}: {len(cells[0].split())} words, and {PROMISE_WORDS} at most are wanted")
+        clauses = set()
+        for words in re.findall(r"`([^`]+)`", cells[1]):
+            crate, colons, names = words.partition("::")
+            if not colons:
+                continue
+            if crate not in known:
+                known[crate] = items_of(crate)
+            clauses |= known[crate][1]
+            for name in re.findall(r"\w+", names):
+                if name not in known[crate][0]:
+                    faults.append(f"{page}:{number}: {crate} has no {name}")
+        for group in re.findall(r"\(((?:`\w+`(?:, )?)+)\)", cells[1]):
+            faults += [f"{page}:{number}: no contract there has a clause {name}" for name in re.findall(r"`(\w+)`", group) if name not in clauses]
     told(faults)
 
 
@@ -323,6 +403,9 @@ def fill(page, program):
 
 
 if __name__ == "__main__":
+    if sys.argv[1:] == ["--definitions"]:
+        print(definitions(), end="")
+        sys.exit(0)
     if len(sys.argv) < 3:
         sys.exit(__doc__)
     for name in sys.argv[2:]:

@@ -1,4 +1,4 @@
-// The page: what is typed goes to the port, and what it tells is shown.
+// The page: what is typed goes to the port, and what it answers is shown.
 import { Runner, Stopped } from "./runner.js";
 import { Editor } from "./editor.js";
 import { BadOption, setOptions, valuesFor, wordsOfOptions } from "./options.js";
@@ -29,7 +29,7 @@ let turn = 0; // the number of the run whose results are wanted
 const NAMES = { script: "Script", check: "Schedules", streams: "Table of streams", replay: "Script of the replay" };
 const HINTS = {
   script: "Lines: clock M, frame ID PRIORITY LEN [tagged], query, count CLASS, tc qdisc .. taprio ..; moments in picoseconds.",
-  check: "Lines: tc qdisc .. taprio ..; each is told which classes it keeps apart.",
+  check: "Lines: tc qdisc .. taprio ..; each is answered by the classes that it keeps apart.",
   replay: "Lines of a script, without frame: the frames are the records of the capture.",
   streams: "Lines: stream FIRST_ID PRIORITY LEN PERIOD OFFSET COUNT [tagged]; times such as 250us.",
 };
@@ -121,7 +121,7 @@ function linesIn(output) {
 }
 
 function sayStatus({ status, output, time }) {
-  const names = { 0: "Done", 2: "A value is refused", 3: "The input has a fault", 4: "Memory was wanting" };
+  const names = { 0: "Done", 2: "A value is refused", 3: "The input has a fault", 4: "Out of memory" };
   clearTimeout(slow);
   const after = status === 3 ? " before it" : "";
   at("status").textContent = `${names[status]}: ${count(linesIn(output), "line")}${after}, in ${time.toFixed(time < 10 ? 1 : 0)} ms (status ${status}).`;
@@ -140,7 +140,7 @@ function showPicture({ output }, values) {
   at("frame").hidden = false;
   shown = shownIn(new TextDecoder().decode(output), values);
   const time = shown ? `from ${writeMoment(shown.from)} to ${values.to === null ? "the run's end, about " : ""}${writeMoment(shown.to)}` : "of the run";
-  at("image").alt = `Picture ${time}: a row for each class with its open time, its frames and how long they wait, and one for the wire. The answers tell the same in words.`;
+  at("image").alt = `Picture ${time}: a row for each class with its open time, its frames and how long they wait, and one for the wire. The answers say the same in words.`;
   at("picture-status").textContent = `Shown ${time}.`;
   for (const button of document.querySelectorAll("[data-step]")) button.disabled = !shown && button.dataset.step !== "whole";
 }

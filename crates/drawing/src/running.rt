@@ -256,7 +256,7 @@ fn draw_port<B: Allocator, R: Read + Drop, W: Write>(
 }
 
 /// Runs a script to its end, and writes the picture of its run. At the first fault of the script, at a failed read, and when out of memory,
-/// nothing is written; at a failed write a prefix of the picture.
+/// nothing is written. After a failed write the script has no fault, and what was written is part of no promise.
 pub fn draw<R: Read + Drop, W: Write>(
     alloc: Global,
     reader: R,

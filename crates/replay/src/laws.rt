@@ -28,8 +28,8 @@ pub fn merge_law()
 {}
 
 /// Of a replay whose events keep a class apart (every accepted schedule does, none is deleted, and one is in force at each arrival of the
-/// class): what concerns the class in both outputs, the lines of the report and the records of its starts, is that of the same script and
-/// capture without the other classes' arrivals; the clock events at their moments stay.
+/// class): what concerns the class in both outputs, the answer lines of the report and the records of its starts, is that of the same requests
+/// without the other classes' arrivals; the clock events at their moments stay.
 pub fn separated()
     ensures { (s : Setup) (script : List Request) (entries : List Entry) → MIN_PS_PER_OCTET ≤ s.rate → MIN_MTU ≤ s.mtu
         → IsSeparatedBy entries (all_requests script entries s.until) (new_port s.rate s.mtu s.room) }

@@ -19,7 +19,7 @@ fn are_two(octets: [u8; 2], text: [u8; 2]) -> bool
     u16::from_le_bytes(octets) == u16::from_le_bytes(text)
 }
 
-// What comes after `frame` and a space, where a line begins with them.
+/// What comes after `frame` and a space, where a line begins with them.
 #[inline(always)]
 pub(crate) fn behind_frame(line: &[u8]) -> Option<&[u8]>
     ensures { IfSome result (λ rest. line.now ≡ codes "frame " ++ rest.now) }
@@ -31,7 +31,7 @@ pub(crate) fn behind_frame(line: &[u8]) -> Option<&[u8]>
     }
 }
 
-// What comes after `clock` and a space, where a line begins with them.
+/// What comes after `clock` and a space, where a line begins with them.
 #[inline(always)]
 pub(crate) fn behind_clock(line: &[u8]) -> Option<&[u8]>
     ensures { IfSome result (λ rest. line.now ≡ codes "clock " ++ rest.now) }
@@ -43,7 +43,7 @@ pub(crate) fn behind_clock(line: &[u8]) -> Option<&[u8]>
     }
 }
 
-// Whether a frame is tagged, and what comes after that.
+/// Whether a frame is tagged, and what comes after that.
 #[inline(always)]
 pub(crate) fn behind_tag(octets: &[u8]) -> (bool, &[u8])
     ensures { octets.now ≡ tag_text result.0 ++ result.1.now }

@@ -18,7 +18,7 @@ pub fn faithful()
 {}
 
 /// Of a script whose events keep a class apart (every accepted schedule does, none is deleted, and one is in force at each arrival of the
-/// class): the lines that concern the class are those of the same script without the other classes' frames.
+/// class): the answer lines that concern the class are those of the same requests without the other classes' arrivals.
 pub fn separated()
     ensures { (read : List (List ℕ) → Result Command TcFault) (s : Setup) (input : List ℕ) → MIN_PS_PER_OCTET ≤ s.rate → MIN_MTU ≤ s.mtu → IsSeparatedIn read s input }
 {

@@ -194,8 +194,8 @@ pub fn read_tc(line: &[u8]) -> Result<Command, TcFault>
     read_command(line)
 }
 
-// Puts the command that a line is, or its first fault, in place of another answer: where that one has a list (`closed_command`), the list
-// is written over.
+/// Puts the command that a line is, or its first fault, in place of another answer: where that one has a list (`closed_command`), the list
+/// is written over.
 pub(crate) fn read_tc_into(line: &[u8], answer: &mut Result<Command, TcFault>)
     ensures { (read : List (List ℕ) → Result Command TcFault) → IsReader read → answer.new ≡ read (words_of line.now) }
 {

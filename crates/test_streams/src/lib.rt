@@ -5,15 +5,9 @@
 ghost use Rattle.std.specs.Prelude.{◌≡◌, false};
 
 mod captures;
-mod repeated;
-mod scripts;
 mod turning;
 
-pub use captures::{
-    BOTH_LEFT, BOTH_TOLD, CutCapture, FIRST_LEFT, FIRST_TOLD, TWO_RECORDS, cut_capture,
-};
-pub use repeated::{Counting, REPEATED_OCTETS, Repeated};
-pub use scripts::HOSTILE_SCRIPTS;
+pub use captures::{BOTH_LEFT, BOTH_TOLD, FIRST_LEFT, FIRST_TOLD, TWO_RECORDS};
 use std::io::{self, Read, Write};
 pub use turning::{Tally, Turn, TurningReader, TurningWriter, nth_turn};
 
