@@ -1,0 +1,59 @@
+"""A transmit port with eight traffic classes whose gates are opened and closed by schedules (IEEE Std 802.1Q, 8.6.8.4).
+
+The five calls `run`, `check`, `streams`, `draw` and `replay` are the jobs of the program `taprio_port`, over memory. Inputs are
+`bytes` or `str`; outputs are `bytes`. Moments are in picoseconds, rates in Mb/s, sizes in octets. A value out of its limits raises
+`BadValue`, an input with a fault `BadInput`, which has the line or the record and what was told before it; where memory is wanting,
+`MemoryError` is raised.
+
+    >>> import taprio
+    >>> taprio.run("frame 1 0 60\\nclock 1000000\\n")
+    b'queued 1 class 0\\nstart 1 class 0 at 0 end 672000\\n'
+
+They stand on the shared object that `c/build` makes, which is loaded at the first of them (`taprio.library`). `Program` has the same
+calls over the program. Calls may be made from several threads: they share nothing, and the interpreter goes on meanwhile.
+
+Nothing else here needs the shared object: `taprio.schedules` reads and writes schedules (times in nanoseconds), `Stream` is a stream of
+frames (times in nanoseconds), `run_streams` runs both, `read_run` and `read_check` give what the jobs answer as objects, and `read_capture`
+reads a capture.
+"""
+
+from .captures import read_capture
+from .faults import BadAnswer, BadCapture, BadInput, BadSchedule, BadValue, LeftOut, LibraryMissing, Replay, TaprioError
+from .library import Library, check, draw, replay, run, streams
+from .plotting import plot
+from .program import Backend, Program, backend
+from .results import read_check, read_run
+from .schedules import Schedule
+from .traffic import Stream, run_streams, table
+
+__version__ = "0.1.0"
+
+__all__ = [
+    "Backend",
+    "BadAnswer",
+    "BadCapture",
+    "BadInput",
+    "BadSchedule",
+    "BadValue",
+    "LeftOut",
+    "Library",
+    "LibraryMissing",
+    "Program",
+    "Replay",
+    "Schedule",
+    "Stream",
+    "TaprioError",
+    "__version__",
+    "backend",
+    "check",
+    "draw",
+    "plot",
+    "read_capture",
+    "read_check",
+    "read_run",
+    "replay",
+    "run",
+    "run_streams",
+    "streams",
+    "table",
+]

@@ -1,0 +1,110 @@
+"""What goes wrong, as exceptions, and what a replay gives. All of it survives pickle and copies: a fault crosses a pool of processes."""
+
+from __future__ import annotations
+
+import re
+from typing import Any, NamedTuple
+
+__all__ = ["BadAnswer", "BadCapture", "BadInput", "BadSchedule", "BadValue", "LeftOut", "LibraryMissing", "Replay", "TaprioError"]
+
+BAD_VALUE, BAD_INPUT, NO_MEMORY, NO_ROOM = 2, 3, 4, 5
+_BEFORE = "taprio_port: "
+_PLACE = re.compile(r"(\w+) (\w+)(?: (\d+))?: (\w+)")
+
+
+class Replay(NamedTuple):
+    """What a replay gives: the `report`, and `departures`, the capture of the frames that leave; a pair of both."""
+
+    report: bytes
+    """The lines of answers."""
+    departures: bytes
+    """The frames that leave, as a classic pcap."""
+
+
+class TaprioError(Exception):
+    """A call did not do what it was asked for. Its text is that of the program, without its name."""
+
+
+class BadValue(TaprioError, ValueError):
+    """A value is out of its limits. `option` is the program's option for it, such as "--mtu", or the attribute of a `Stream`."""
+
+    def __init__(self, text: str, option: str) -> None:
+        super().__init__(text)
+        self.option = option
+
+    def __reduce__(self) -> tuple[Any, ...]:
+        return type(self), (self.args[0], self.option), self.__dict__
+
+
+class BadInput(TaprioError, ValueError):
+    """An input has a fault.
+
+    `input` is "script" (also for schedules), "table" or "capture". `line` is the number of the line, from 1, `record` that of a record
+    of a capture, from 0; both are None at a fault of a capture's header. `name` is the fault's name, and `output` what was told before
+    it: octets, or of a replay a `Replay`.
+    """
+
+    def __init__(self, text: str, kind: str, line: int | None, record: int | None, name: str, output: bytes | Replay) -> None:
+        super().__init__(text)
+        self.input = kind
+        self.line = line
+        self.record = record
+        self.name = name
+        self.output = output
+
+    def __reduce__(self) -> tuple[Any, ...]:
+        return type(self), (self.args[0], self.input, self.line, self.record, self.name, self.output), self.__dict__
+
+
+class LibraryMissing(TaprioError, OSError):
+    """The shared object can't be loaded. The text says which file was looked for, and what to do."""
+
+
+class BadSchedule(TaprioError, ValueError):
+    """A document has no schedule that can be read, or a schedule can't be said in another form.
+
+    `place` is where: a line, or the path in a JSON document. `expected` is what should stand there, and `found` what does. Of a `tc`
+    line `name` is what the port says of it behind `tc-fault`, such as "BadNumber 14"; else it is None.
+    """
+
+    def __init__(self, place: str, expected: str, found: str, name: str | None = None) -> None:
+        super().__init__(f"{place}: expected {expected}, found {found}" + (f" ({name})" if name else ""))
+        self.place = place
+        self.expected = expected
+        self.found = found
+        self.name = name
+
+    def __reduce__(self) -> tuple[Any, ...]:
+        return type(self), (self.place, self.expected, self.found, self.name), self.__dict__
+
+
+class BadAnswer(TaprioError, ValueError):
+    """A text is none that a job writes. `line` is the number of the line, from 1."""
+
+    def __init__(self, text: str, line: int) -> None:
+        super().__init__(text)
+        self.line = line
+
+    def __reduce__(self) -> tuple[Any, ...]:
+        return type(self), (self.args[0], self.line), self.__dict__
+
+
+class BadCapture(TaprioError, ValueError):
+    """A file is no capture that can be replayed. The text says what it is, and what to do."""
+
+
+class LeftOut(UserWarning):
+    """Something of a document has no counterpart, and was left out. The text says where, and what."""
+
+
+def of_text(status: int, text: str, output: bytes | Replay) -> TaprioError:
+    """The exception of a text that the library or the program has told, with its status."""
+    text = text.rstrip("\n").removeprefix(_BEFORE)
+    if status == BAD_VALUE and text.startswith("bad value of "):
+        return BadValue(text, text.rpartition(" ")[2])
+    found = _PLACE.fullmatch(text) if status == BAD_INPUT else None
+    if not found:
+        return TaprioError(text)
+    kind, place, number, name = found.groups()
+    at = None if number is None else int(number)
+    return BadInput(text, kind, at if place == "line" else None, at if place == "record" else None, name, output)

@@ -1,0 +1,266 @@
+"""The jobs of the program as calls over the shared object: octets in, octets out, by ctypes.
+
+The shared object is what `c/build` makes. It is loaded at the first call that needs it, from the first of these places: the file that
+the variable TAPRIO_LIBRARY of the environment names, `libtaprio.so` beside this module (an installed package has it there), and
+`c/out/libtaprio.so` of the checkout. What it promises is in `c/taprio.h`.
+"""
+
+from __future__ import annotations
+
+import ctypes
+import functools
+import os
+import pathlib
+from collections.abc import Callable
+from typing import Any, Union
+
+from .faults import NO_MEMORY, NO_ROOM, BadInput, BadValue, LibraryMissing, Replay, TaprioError, of_text
+
+__all__ = [
+    "BadInput",
+    "BadValue",
+    "Library",
+    "LibraryMissing",
+    "Replay",
+    "TaprioError",
+    "check",
+    "draw",
+    "replay",
+    "run",
+    "streams",
+]
+
+Octets = Union[bytes, bytearray, memoryview, str]
+"""An input: octets, or a text, which is taken as UTF-8."""
+
+
+class _PortValues(ctypes.Structure):
+    _fields_ = [
+        ("rate", ctypes.c_uint32),
+        ("mtu", ctypes.c_uint32),
+        ("room", ctypes.c_uint32),
+        ("summary", ctypes.c_uint32),
+        ("has_until", ctypes.c_uint64),
+        ("until_low", ctypes.c_uint64),
+        ("until_high", ctypes.c_uint64),
+    ]
+
+
+class _PictureValues(ctypes.Structure):
+    _fields_ = [
+        ("from_low", ctypes.c_uint64),
+        ("from_high", ctypes.c_uint64),
+        ("has_to", ctypes.c_uint64),
+        ("to_low", ctypes.c_uint64),
+        ("to_high", ctypes.c_uint64),
+        ("width", ctypes.c_uint32),
+        ("unused", ctypes.c_uint32),
+    ]
+
+
+class _Ran(ctypes.Structure):
+    _fields_ = [("output", ctypes.c_uint64), ("fault", ctypes.c_uint64), ("status", ctypes.c_uint8)]
+
+
+class _ReplayRan(ctypes.Structure):
+    _fields_ = [
+        ("report", ctypes.c_uint64),
+        ("departures", ctypes.c_uint64),
+        ("fault", ctypes.c_uint64),
+        ("status", ctypes.c_uint8),
+    ]
+
+
+_OCTETS = [ctypes.c_char_p, ctypes.c_size_t]
+_LENT = [ctypes.POINTER(ctypes.c_char), ctypes.c_size_t]
+
+
+def _path() -> str:
+    """Where the shared object is, or should be."""
+    here = pathlib.Path(__file__).resolve().parent
+    beside = here / "libtaprio.so"
+    built = here.parent.parent / "c" / "out" / "libtaprio.so"
+    return os.environ.get("TAPRIO_LIBRARY") or str(beside if beside.exists() else built)
+
+
+@functools.lru_cache(maxsize=None)
+def _loaded(path: str) -> ctypes.CDLL:
+    """The shared object, with the types of its functions."""
+    try:
+        return _typed(ctypes.CDLL(path))
+    except (OSError, AttributeError) as fault:
+        raise LibraryMissing(
+            f"the library can't be loaded ({fault}): build it with c/build, or name one in TAPRIO_LIBRARY, "
+            "or call the program instead with taprio.Program"
+        ) from fault
+
+
+def _typed(library: ctypes.CDLL) -> ctypes.CDLL:
+    """The shared object, once its functions have their types."""
+    port, picture = ctypes.POINTER(_PortValues), ctypes.POINTER(_PictureValues)
+    ran, replay_ran = ctypes.POINTER(_Ran), ctypes.POINTER(_ReplayRan)
+    for name, given in (
+        ("taprio_run", [port, *_OCTETS, *_LENT, *_LENT, ran]),
+        ("taprio_check", [ctypes.c_uint32, ctypes.c_uint32, *_OCTETS, *_LENT, *_LENT, ran]),
+        ("taprio_streams", [*_OCTETS, *_OCTETS, *_LENT, *_LENT, ran]),
+        ("taprio_draw", [port, picture, *_OCTETS, *_LENT, *_LENT, ran]),
+        ("taprio_replay", [port, *_OCTETS, *_OCTETS, *_LENT, *_LENT, *_LENT, replay_ran]),
+    ):
+        function = getattr(library, name)
+        function.argtypes = given
+        function.restype = None
+    return library
+
+
+def _function(name: str) -> Callable[..., None]:
+    """A function of the shared object, which is loaded where it isn't yet."""
+    function: Callable[..., None] = getattr(_loaded(_path()), name)
+    return function
+
+
+def is_there() -> bool:
+    """Whether the shared object is there and can be loaded."""
+    try:
+        _loaded(_path())
+    except LibraryMissing:
+        return False
+    return True
+
+
+def octets(text: Octets) -> bytes:
+    """The octets of an input."""
+    if isinstance(text, str):
+        return text.encode()
+    return bytes(memoryview(text))
+
+
+def number(value: int, bits: int, name: str) -> int:
+    """A whole number in a field of so many bits. One that does not fit is the greatest, which is over the limits of every value."""
+    if not isinstance(value, int):
+        raise TypeError(f"{name} is a whole number")
+    most = (1 << bits) - 1
+    return int(value) if 0 <= value <= most else most
+
+
+def _halves(moment: int | None, name: str) -> tuple[int, int, int]:
+    if moment is None:
+        return 0, 0, 0
+    moment = number(moment, 128, name)
+    return 1, moment & 0xFFFF_FFFF_FFFF_FFFF, moment >> 64
+
+
+def _port(rate: int, mtu: int, room: int, until: int | None, summary: bool) -> _PortValues:
+    numbers = number(rate, 32, "rate"), number(mtu, 32, "mtu"), number(room, 32, "room")
+    return _PortValues(*numbers, bool(summary), *_halves(until, "until"))
+
+
+def _call(name: str, given: list[Any], ran: _Ran | _ReplayRan, names: list[str], guess: int) -> list[bytes]:
+    """Calls with slices that it makes larger where the call tells that it wants more room; the octets of each."""
+    function = _function(name)
+    lengths = [guess] * (len(names) - 1) + [256]
+    while True:
+        lent = [ctypes.create_string_buffer(length + 1) for length in lengths]
+        slices = [it for slot, length in zip(lent, lengths) for it in (slot, length)]
+        function(*given, *slices, ctypes.byref(ran))
+        wanted = [getattr(ran, name) for name in names]
+        if ran.status != NO_ROOM:
+            break
+        lengths = [max(have, want) for have, want in zip(lengths, wanted)]
+    if ran.status == NO_MEMORY:
+        raise MemoryError("out of memory")
+    return [ctypes.string_at(slot, length) for slot, length in zip(lent, wanted)]
+
+
+def _one(name: str, given: list[Any], guess: int) -> bytes:
+    ran = _Ran()
+    output, text = _call(name, given, ran, ["output", "fault"], guess)
+    if ran.status:
+        raise of_text(ran.status, text.decode(), output)
+    return output
+
+
+def run(
+    script: Octets, rate: int = 1000, mtu: int = 1500, room: int = 128, until: int | None = None, summary: bool = False
+) -> bytes:
+    """Runs a script, and gives the answers to its lines.
+
+    `rate` is one of 10, 100, 1000, 2500, 5000, 10000, 25000, 40000, 50000 and 100000 Mb/s, `mtu` 68 to 9216 octets, `room` 1 to 4096
+    frames a class, and `until`, where it is given, the moment to run to after the script, at most 9223372036854775807000; `summary`
+    asks for a summary at the end.
+    """
+    script = octets(script)
+    given = [ctypes.byref(_port(rate, mtu, room, until, summary)), script, len(script)]
+    return _one("taprio_run", given, 4 * len(script) + 4096)
+
+
+def check(schedules: Octets, rate: int = 1000, windows: bool = False) -> bytes:
+    """Tells of each schedule command which classes it keeps apart, with `windows` also what it gives each class."""
+    schedules = octets(schedules)
+    given = [number(rate, 32, "rate"), bool(windows), schedules, len(schedules)]
+    return _one("taprio_check", given, 4 * len(schedules) + 4096)
+
+
+def streams(table: Octets, script: Octets = b"") -> bytes:
+    """Makes a script with the frames of a table of streams, and with the lines of another script among them."""
+    table, script = octets(table), octets(script)
+    given = [table, len(table), script, len(script)]
+    return _one("taprio_streams", given, 4 * (len(table) + len(script)) + 65536)
+
+
+def draw(
+    script: Octets,
+    rate: int = 1000,
+    mtu: int = 1500,
+    room: int = 128,
+    until: int | None = None,
+    begin: int = 0,
+    end: int | None = None,
+    width: int = 1200,
+) -> bytes:
+    """Draws the run of a script as an SVG picture, of the time from `begin` to `end` or to the run's end, `width` pixels wide.
+
+    `begin` is at most 9223372036854774807000, `end` after it and at most 9223372036854775807000, `width` 400 to 2400.
+    """
+    script = octets(script)
+    _, from_low, from_high = _halves(begin, "begin")
+    has_to, to_low, to_high = _halves(end, "end")
+    shown = _PictureValues(from_low, from_high, has_to, to_low, to_high, number(width, 32, "width"), 0)
+    given = [ctypes.byref(_port(rate, mtu, room, until, False)), ctypes.byref(shown), script, len(script)]
+    return _one("taprio_draw", given, 65536)
+
+
+def replay(
+    script: Octets,
+    capture: Octets,
+    rate: int = 1000,
+    mtu: int = 1500,
+    room: int = 128,
+    until: int | None = None,
+    summary: bool = False,
+) -> Replay:
+    """Replays a script and a capture (classic pcap), and gives a `Replay`: the report, and the capture of the frames that leave.
+
+    The values are those of `run`, but that `until` is at most 4294967296000000000000, the last moment that a capture can say.
+    """
+    script, capture = octets(script), octets(capture)
+    given = [ctypes.byref(_port(rate, mtu, room, until, summary)), script, len(script), capture, len(capture)]
+    ran = _ReplayRan()
+    names = ["report", "departures", "fault"]
+    guess = 4 * len(script) + 2 * len(capture) + 4096
+    report, departures, text = _call("taprio_replay", given, ran, names, guess)
+    if ran.status:
+        raise of_text(ran.status, text.decode(), Replay(report, departures))
+    return Replay(report, departures)
+
+
+class Library:
+    """The calls of this module as one object, which can be handed on in the place of a `taprio.Program`."""
+
+    run = staticmethod(run)
+    check = staticmethod(check)
+    streams = staticmethod(streams)
+    draw = staticmethod(draw)
+    replay = staticmethod(replay)
+
+    def __repr__(self) -> str:
+        return "Library()"

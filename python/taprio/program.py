@@ -1,0 +1,210 @@
+"""The jobs of the program as calls over the program itself: a process each, for where there is no shared object."""
+
+from __future__ import annotations
+
+import functools
+import os
+import pathlib
+import subprocess
+import tempfile
+from typing import Protocol, Union
+
+from . import library
+from .faults import BAD_INPUT, BAD_VALUE, LibraryMissing, Replay, TaprioError, of_text
+from .library import Library, Octets, number, octets
+
+__all__ = ["Backend", "Chosen", "Program", "backend"]
+
+
+class Backend(Protocol):
+    """What runs the jobs: a `Library` or a `Program`. Moments are in picoseconds, rates in Mb/s, sizes in octets."""
+
+    def run(
+        self, script: Octets, rate: int = 1000, mtu: int = 1500, room: int = 128, until: int | None = None, summary: bool = False
+    ) -> bytes:
+        """The answers of a script."""
+
+    def check(self, schedules: Octets, rate: int = 1000, windows: bool = False) -> bytes:
+        """What schedules keep apart, and their windows."""
+
+    def streams(self, table: Octets, script: Octets = b"") -> bytes:
+        """A script with the frames of a table."""
+
+    def draw(
+        self,
+        script: Octets,
+        rate: int = 1000,
+        mtu: int = 1500,
+        room: int = 128,
+        until: int | None = None,
+        begin: int = 0,
+        end: int | None = None,
+        width: int = 1200,
+    ) -> bytes:
+        """A picture of a run, as SVG."""
+
+    def replay(
+        self,
+        script: Octets,
+        capture: Octets,
+        rate: int = 1000,
+        mtu: int = 1500,
+        room: int = 128,
+        until: int | None = None,
+        summary: bool = False,
+    ) -> Replay:
+        """The report of a replay, and the capture of what leaves."""
+
+
+class Program:
+    """The program `taprio_port` at a path, with the calls of the library: the same inputs, outputs and exceptions.
+
+    Each call is a process of its own, which takes some milliseconds. What the machine refuses (a file, a read, a write) is a
+    `TaprioError` with the program's text.
+    """
+
+    def __init__(self, path: str | os.PathLike[str]) -> None:
+        self.path = os.path.abspath(os.fspath(path))
+
+    def __repr__(self) -> str:
+        return f"Program({self.path!r})"
+
+    def _ran(self, words: list[str], input: bytes, folder: str | None = None) -> tuple[int, str, bytes]:
+        """The status, the fault's text and the standard output."""
+        try:
+            ran = subprocess.run([self.path, *words], input=input, capture_output=True, cwd=folder, check=False)
+        except OSError as fault:
+            raise TaprioError(f"the program can't be run: {fault}") from fault
+        lines = ran.stderr.decode("utf-8", "replace").splitlines()
+        # (in a checkout the script of the same name says before it whether the program is proved)
+        text = lines[-1] if lines else ""
+        if ran.returncode and text == "taprio_port: out of memory":
+            raise MemoryError("out of memory")
+        if ran.returncode not in (0, BAD_VALUE, BAD_INPUT):
+            raise TaprioError(text.removeprefix("taprio_port: ") or f"the program ended with status {ran.returncode}")
+        return ran.returncode, text, ran.stdout
+
+    def _one(self, words: list[str], input: bytes) -> bytes:
+        status, text, output = self._ran(words, input)
+        if status:
+            raise of_text(status, text, output)
+        return output
+
+    @staticmethod
+    def _port(rate: int, mtu: int, room: int, until: int | None, summary: bool) -> list[str]:
+        words = ["--rate", str(number(rate, 32, "rate")), "--mtu", str(number(mtu, 32, "mtu"))]
+        words += ["--room", str(number(room, 32, "room"))]
+        words += [] if until is None else ["--until", str(number(until, 128, "until"))]
+        return words + (["--summary"] if summary else [])
+
+    def run(
+        self, script: Octets, rate: int = 1000, mtu: int = 1500, room: int = 128, until: int | None = None, summary: bool = False
+    ) -> bytes:
+        """Runs a script, as `taprio.run` does."""
+        script = octets(script)
+        return self._one(["script", *self._port(rate, mtu, room, until, summary)], script)
+
+    def check(self, schedules: Octets, rate: int = 1000, windows: bool = False) -> bytes:
+        """Tells of each schedule command what it keeps apart, as `taprio.check` does."""
+        schedules = octets(schedules)
+        words = ["check", "--rate", str(number(rate, 32, "rate")), *(["--windows"] if windows else [])]
+        return self._one(words, schedules)
+
+    def streams(self, table: Octets, script: Octets = b"") -> bytes:
+        """Makes a script of a table of streams, as `taprio.streams` does."""
+        table, script = octets(table), octets(script)
+        with tempfile.TemporaryDirectory(prefix="taprio-") as folder:
+            pathlib.Path(folder, "script").write_bytes(script)
+            status, text, output = self._ran(["streams", "--with", "script"], table, folder)
+        if status:
+            raise of_text(status, text, output)
+        return output
+
+    def draw(
+        self,
+        script: Octets,
+        rate: int = 1000,
+        mtu: int = 1500,
+        room: int = 128,
+        until: int | None = None,
+        begin: int = 0,
+        end: int | None = None,
+        width: int = 1200,
+    ) -> bytes:
+        """Draws the run of a script, as `taprio.draw` does, but that `until` has to be None: the program runs to `end`."""
+        script = octets(script)
+        if until is not None:
+            raise TypeError("the program draws to `end`, and takes no `until`")
+        words = ["draw", *self._port(rate, mtu, room, None, False), "--from", str(number(begin, 128, "begin"))]
+        words += [] if end is None else ["--to", str(number(end, 128, "end"))]
+        return self._one([*words, "--width", str(number(width, 32, "width"))], script)
+
+    def replay(
+        self,
+        script: Octets,
+        capture: Octets,
+        rate: int = 1000,
+        mtu: int = 1500,
+        room: int = 128,
+        until: int | None = None,
+        summary: bool = False,
+    ) -> Replay:
+        """Replays a script and a capture, as `taprio.replay` does, but that `until` has to be given."""
+        script, capture = octets(script), octets(capture)
+        if until is None:
+            raise TypeError("the program replays to a moment: give `until`")
+        words = ["replay", *self._port(rate, mtu, room, until, summary), "script", "-", "departures"]
+        with tempfile.TemporaryDirectory(prefix="taprio-") as folder:
+            pathlib.Path(folder, "script").write_bytes(script)
+            status, text, report = self._ran(words, capture, folder)
+            departures = pathlib.Path(folder, "departures")
+            found = Replay(report, departures.read_bytes() if departures.exists() else b"")
+        if status:
+            raise of_text(status, text, found)
+        return found
+
+
+CHECKOUT = pathlib.Path(__file__).resolve().parent.parent.parent / "taprio_port"
+
+
+@functools.lru_cache(maxsize=None)
+def of_checkout(path: str) -> str | None:
+    """The program of a checkout, from the script of that name. The script builds one where there is none, and says so on the standard
+    error; it takes about a minute. None where there is no script, or it can't."""
+    if not os.path.isfile(path):
+        return None
+    with open(path, "rb") as file:
+        if file.read(2) != b"#!":
+            return path
+    ran = subprocess.run([path, "--where"], stdin=subprocess.DEVNULL, stdout=subprocess.PIPE, text=True, check=False)
+    return ran.stdout.strip() or None if ran.returncode == 0 else None
+
+
+Chosen = Union[Backend, str, "os.PathLike[str]", None]
+"""A backend, or "library", or the path of a program, or None for what there is."""
+
+
+def backend(chosen: Chosen = None) -> Backend:
+    """What runs the jobs: "library" is the shared object, and any other text the path of the program.
+
+    None takes the first that there is: the program that the variable TAPRIO_PORT of the environment names, the shared object, and
+    the program of the checkout, which is built where it isn't yet. Raises `LibraryMissing` where there is none.
+    """
+    if chosen is None:
+        named = os.environ.get("TAPRIO_PORT")
+        if named:
+            return Program(named)
+        if library.is_there():
+            return Library()
+        built = of_checkout(str(CHECKOUT))
+        if built:
+            return Program(built)
+        raise LibraryMissing(
+            "there is nothing that runs a port: build the library with c/build, or name it in TAPRIO_LIBRARY, or name the program "
+            "taprio_port in TAPRIO_PORT"
+        )
+    if isinstance(chosen, (str, os.PathLike)):
+        if chosen == "library":
+            return Library()
+        return Program(chosen)
+    return chosen

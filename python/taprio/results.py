@@ -1,0 +1,451 @@
+"""What the jobs answer, as objects: `read_run` reads the answers of a script or the report of a replay, `read_check` those of a check.
+
+Moments and times are whole picoseconds, sizes are octets. `rows()` gives dicts, for `pandas.DataFrame` or whatever else takes them."""
+
+from __future__ import annotations
+
+import dataclasses
+import re
+from collections import deque
+from collections.abc import Callable, Iterable, Sequence
+from typing import Any, Union
+
+from .faults import BadAnswer
+from .library import Octets, octets
+from .schedules.model import logical_lines
+
+__all__ = [
+    "Answer",
+    "Backward",
+    "Change",
+    "Check",
+    "Checked",
+    "ClassSummary",
+    "Counted",
+    "Dropped",
+    "Frame",
+    "Installed",
+    "Left",
+    "Queued",
+    "Refused",
+    "Report",
+    "Run",
+    "Started",
+    "TcFault",
+    "Window",
+    "WireSummary",
+    "read_check",
+    "read_run",
+    "rows",
+]
+
+
+@dataclasses.dataclass(frozen=True)
+class Queued:
+    """A frame was queued."""
+
+    id: int
+    traffic_class: int
+
+
+@dataclasses.dataclass(frozen=True)
+class Dropped:
+    """A frame was dropped. `name` is why, such as "Full"."""
+
+    id: int
+    name: str
+
+
+@dataclasses.dataclass(frozen=True)
+class Started:
+    """A frame left from `start` to `end`, when the wire is free again; picoseconds."""
+
+    id: int
+    traffic_class: int
+    start: int
+    end: int
+
+
+@dataclasses.dataclass(frozen=True)
+class Installed:
+    """A command was accepted. It comes into force at the moment `change`, in picoseconds."""
+
+    change: int
+
+
+@dataclasses.dataclass(frozen=True)
+class Refused:
+    """A command was refused. `name` is why, and `number` what some names have with them."""
+
+    name: str
+    number: int | None = None
+
+
+@dataclasses.dataclass(frozen=True)
+class TcFault:
+    """A `tc` line is no command. `name` is why, and `where` an option or the position of a word."""
+
+    name: str
+    where: str | None = None
+
+
+@dataclasses.dataclass(frozen=True)
+class Backward:
+    """The clock would have gone back."""
+
+
+@dataclasses.dataclass(frozen=True)
+class Counted:
+    """What a class has counted."""
+
+    traffic_class: int
+    accepted: int
+    sent: int
+    octets: int
+    runt: int
+    too_long: int
+    over_sdu: int
+    full: int
+    waiting: int
+
+
+@dataclasses.dataclass(frozen=True)
+class Change:
+    """A schedule of a report: it comes into force at the moment `at`, in picoseconds; the other times are nanoseconds.
+
+    Of a deletion all but `at` are None."""
+
+    at: int
+    base_time: int | None = None
+    cycle: int | None = None
+    extension: int | None = None
+    entries: int | None = None
+
+
+@dataclasses.dataclass(frozen=True)
+class Report:
+    """What a query tells."""
+
+    now: int
+    """The moment, in picoseconds."""
+    mask: int
+    """The open classes: bit c is class c."""
+    no_class: int
+    """How many frames had no class."""
+    classes: int | None
+    """How many classes there are; None where no command was accepted yet, as are map and queues."""
+    map: tuple[int, ...] | None
+    queues: tuple[tuple[int, int], ...] | None
+    """The queues of each class: their number, and the first."""
+    in_force: Change | None
+    pending: Change | None
+    announced: Change | None
+
+
+@dataclasses.dataclass(frozen=True)
+class Left:
+    """So many frames of a class wait at the end."""
+
+    traffic_class: int
+    frames: int
+
+
+@dataclasses.dataclass(frozen=True)
+class ClassSummary:
+    """The summary of a class: counts of frames, octets that were sent, and waits in picoseconds (None where no frame has left)."""
+
+    traffic_class: int
+    queued: int
+    sent: int
+    dropped: int
+    octets: int
+    least: int | None
+    mean: int | None
+    greatest: int | None
+    most: int
+    """How many of its frames waited at once, at most."""
+
+
+@dataclasses.dataclass(frozen=True)
+class WireSummary:
+    """For how many picoseconds the wire was busy, and the share of the run in parts per million."""
+
+    busy: int
+    ppm: int
+
+
+Answer = Union[Queued, Dropped, Started, Installed, Refused, TcFault, Backward, Counted, Report, Left, ClassSummary, WireSummary]
+
+
+@dataclasses.dataclass(frozen=True)
+class Frame:
+    """A frame of a run. Moments are in picoseconds; one is None where it isn't known, or didn't come."""
+
+    id: int
+    traffic_class: int | None
+    """None of a dropped frame."""
+    arrived: int | None
+    """Known where the script is."""
+    start: int | None
+    end: int | None
+    wait: int | None
+    """From its arrival to its start."""
+    dropped: str | None
+    """Why it was dropped; None where it wasn't."""
+    priority: int | None = None
+    """Known where the script is, and so is the length, in octets."""
+    length: int | None = None
+
+
+def rows(items: Iterable[Any]) -> list[dict[str, Any]]:
+    """A dict of each object of this module, by the names of its attributes."""
+    return [{field.name: getattr(it, field.name) for field in dataclasses.fields(it)} for it in items]
+
+
+@dataclasses.dataclass(frozen=True)
+class Run:
+    """The answers of a run."""
+
+    answers: tuple[Answer, ...]
+    """All of them, in their order."""
+    frames: tuple[Frame, ...]
+    """The frames that were queued or dropped, in the order in which they arrived."""
+    script: bytes | None = None
+    """What was run, where it is known."""
+
+    @property
+    def summary(self) -> dict[int, ClassSummary]:
+        """The summary of each class that had frames; empty where none was asked for."""
+        return {it.traffic_class: it for it in self.answers if isinstance(it, ClassSummary)}
+
+    @property
+    def wire(self) -> WireSummary | None:
+        """The summary of the wire."""
+        return next((it for it in self.answers if isinstance(it, WireSummary)), None)
+
+    @property
+    def left(self) -> dict[int, int]:
+        """How many frames of each class wait at the end; empty where all have left or were dropped."""
+        return {it.traffic_class: it.frames for it in self.answers if isinstance(it, Left)}
+
+    def of(self, ids: Iterable[int]) -> list[Frame]:
+        """The frames with these ids, such as those of a stream: `run.of(stream.ids)`."""
+        wanted = ids if isinstance(ids, (range, set, frozenset)) else set(ids)
+        return [frame for frame in self.frames if frame.id in wanted]
+
+    def rows(self) -> list[dict[str, Any]]:
+        """A dict of each frame: `pandas.DataFrame(run.rows())`."""
+        return rows(self.frames)
+
+    def summary_rows(self) -> list[dict[str, Any]]:
+        """A dict of each class of the summary."""
+        return rows(self.summary.values())
+
+
+@dataclasses.dataclass(frozen=True)
+class Window:
+    """What a schedule gives a class; times in picoseconds."""
+
+    traffic_class: int
+    open: int | None
+    """The longest time that it stays open; None where it never closes."""
+    closed: int
+    """The longest time that it stays closed; 0 where it never closes."""
+    share: int
+    """For how long it is open in a cycle."""
+    cycle: int
+    """How long a cycle takes."""
+    frame: int | None
+    """The longest frame that can start, in octets; 0 where not even the shortest can, None where any can."""
+
+
+@dataclasses.dataclass(frozen=True)
+class Checked:
+    """What was told of one schedule: the classes that it keeps apart, and its windows; or why it is none."""
+
+    apart: tuple[int, ...] | None
+    windows: tuple[Window, ...] = ()
+    fault: Refused | TcFault | None = None
+
+
+@dataclasses.dataclass(frozen=True)
+class Check:
+    """What was told of each schedule, in their order."""
+
+    schedules: tuple[Checked, ...]
+
+    def rows(self) -> list[dict[str, Any]]:
+        """A dict of each window, with the number of its schedule, from 0, and whether the class is kept apart."""
+        return [
+            {"schedule": number, "apart": window.traffic_class in (it.apart or ())} | rows([window])[0]
+            for number, it in enumerate(self.schedules)
+            for window in it.windows
+        ]
+
+
+def _wait(text: str) -> int | None:
+    return None if text == "-" else int(text)
+
+
+def _change(text: str) -> Change | None:
+    """What stands behind `in-force`, `pending` and `announced`."""
+    words = text.split()
+    if words == ["none"]:
+        return None
+    if words[0] == "open":
+        return Change(int(words[2]))
+    return Change(*(int(word) for word in words[1::2]))
+
+
+_CHANGE = r"(none|open change \d+|change \d+ base \d+ cycle \d+ extension \d+ entries \d+)"
+_REPORT = [
+    re.compile(r"report now (\d+) mask ([0-9a-f]{2}) no-class (\d+)"),
+    re.compile(r"classes (?:none|(\d+) map ((?:\d+ ){16})queues((?: \d+@\d+)+))"),
+    re.compile(f"in-force {_CHANGE}"),
+    re.compile(f"pending {_CHANGE}"),
+    re.compile(f"announced {_CHANGE}"),
+]
+_LINES: list[tuple[re.Pattern[str], Callable[..., Answer]]] = [
+    (re.compile(r"queued (\d+) class (\d+)"), lambda *it: Queued(*map(int, it))),
+    (re.compile(r"start (\d+) class (\d+) at (\d+) end (\d+)"), lambda *it: Started(*map(int, it))),
+    (re.compile(r"dropped (\d+) (\w+)"), lambda id, name: Dropped(int(id), name)),
+    (re.compile(r"installed change (\d+)"), lambda at: Installed(int(at))),
+    (re.compile(r"refused (\w+)(?: (\d+))?"), lambda name, number: Refused(name, None if number is None else int(number))),
+    (re.compile(r"tc-fault (\w+)(?: (\S+))?"), TcFault),
+    (re.compile(r"backward"), Backward),
+    (
+        re.compile(
+            r"count class (\d+) accepted (\d+) sent (\d+) octets (\d+) runt (\d+) too-long (\d+) over-sdu (\d+) full (\d+) waiting (\d+)"
+        ),
+        lambda *it: Counted(*map(int, it)),
+    ),
+    (re.compile(r"left class (\d+) frames (\d+)"), lambda *it: Left(*map(int, it))),
+    (
+        re.compile(
+            r"summary class (\d+) queued (\d+) sent (\d+) dropped (\d+) octets (\d+) least (\d+|-) mean (\d+|-) greatest (\d+|-) most (\d+)"
+        ),
+        lambda *it: ClassSummary(
+            int(it[0]), int(it[1]), int(it[2]), int(it[3]), int(it[4]), _wait(it[5]), _wait(it[6]), _wait(it[7]), int(it[8])
+        ),
+    ),
+    (re.compile(r"summary wire busy (\d+) ppm (\d+)"), lambda *it: WireSummary(*map(int, it))),
+]
+_BY_WORD: dict[str, list[tuple[re.Pattern[str], Callable[..., Answer]]]] = {}
+for _pattern, _make in _LINES:
+    _BY_WORD.setdefault(_pattern.pattern.partition(" ")[0], []).append((_pattern, _make))
+
+
+def _answer(line: str, number: int) -> Answer:
+    """The answer of a line."""
+    for pattern, make in _BY_WORD.get(line.partition(" ")[0], []):
+        found = pattern.fullmatch(line)
+        if found:
+            return make(*found.groups())
+    raise BadAnswer(f"line {number}: expected an answer, found {line[:60]!r}", number)
+
+
+def _report(lines: Sequence[str], number: int) -> Report:
+    """The answer of the five lines of a query."""
+    found = []
+    for at, pattern in enumerate(_REPORT):
+        match = pattern.fullmatch(lines[at]) if at < len(lines) else None
+        if match is None:
+            has = repr(lines[at][:60]) if at < len(lines) else "the end"
+            raise BadAnswer(f"line {number + at}: expected a line of a report, found {has}", number + at)
+        found.append(match.groups())
+    (now, mask, no_class), (classes, map_, queues), *changes = found
+    pairs = tuple((int(size), int(first)) for size, first in re.findall(r"(\d+)@(\d+)", queues or ""))
+    classified = None if classes is None else int(classes), None if map_ is None else tuple(map(int, map_.split()))
+    return Report(int(now), int(mask, 16), int(no_class), *classified, pairs or None, *(_change(it[0]) for it in changes))
+
+
+def _arrivals(script: Octets) -> list[tuple[int, int, int, int]]:
+    """The frames of a script, up to its first malformed line: the moment, the id, the priority and the length."""
+    now, found = 0, []
+    for _, words in logical_lines(octets(script).decode("utf-8", "replace")):
+        if words[0] not in ("clock", "frame"):
+            continue
+        numbers = words[1:-1] if words[-1] == "tagged" else words[1:]
+        if not all(word.isascii() and word.isdigit() for word in numbers) or len(numbers) != (1 if words[0] == "clock" else 3):
+            break
+        if words[0] == "clock":
+            now = max(now, int(numbers[0]))
+        else:
+            found.append((now, int(numbers[0]), int(numbers[1]), int(numbers[2])))
+    return found
+
+
+def read_run(answers: Octets, script: Octets | None = None) -> Run:
+    """The answers of a script, or the report of a replay. With the script that was run, it is known when each frame arrived.
+
+    A text that a run doesn't write raises `BadAnswer`; the answers of another script do too."""
+    lines = octets(answers).decode("utf-8", "replace").splitlines()
+    found: list[Answer] = []
+    at = 0
+    while at < len(lines):
+        if lines[at].startswith("report "):
+            found.append(_report(lines[at : at + len(_REPORT)], at + 1))
+            at += len(_REPORT)
+        else:
+            found.append(_answer(lines[at], at + 1))
+            at += 1
+    return Run(
+        tuple(found), _frames(found, None if script is None else _arrivals(script)), None if script is None else octets(script)
+    )
+
+
+def _frames(answers: list[Answer], arrivals: list[tuple[int, int, int, int]] | None) -> tuple[Frame, ...]:
+    """The frames of a run, in the order of their arrival. Those of a class leave in that order."""
+    found: list[Frame] = []
+    waiting: dict[int, deque[int]] = {}
+    for answer in answers:
+        if isinstance(answer, (Queued, Dropped)):
+            arrived = priority = length = None
+            if arrivals is not None:
+                if len(found) >= len(arrivals) or arrivals[len(found)][1] != answer.id:
+                    raise BadAnswer(f"frame {answer.id} is answered, and the script has another one there", 0)
+                arrived, _, priority, length = arrivals[len(found)]
+            queued = answer.traffic_class if isinstance(answer, Queued) else None
+            if queued is not None:
+                waiting.setdefault(queued, deque()).append(len(found))
+            dropped = answer.name if isinstance(answer, Dropped) else None
+            found.append(Frame(answer.id, queued, arrived, None, None, None, dropped, priority, length))
+        elif isinstance(answer, Started):
+            line = waiting.get(answer.traffic_class)
+            at = line.popleft() if line else None
+            if at is None or found[at].id != answer.id:
+                raise BadAnswer(f"frame {answer.id} starts, and isn't the first of its class", 0)
+            one = found[at]
+            wait = None if one.arrived is None else answer.start - one.arrived
+            found[at] = dataclasses.replace(one, start=answer.start, end=answer.end, wait=wait)
+    return tuple(found)
+
+
+_WINDOW = re.compile(r"window class (\d+) open (\d+|always) closed (\d+) share (\d+) of (\d+) frame (\d+|none|any)")
+_APART = re.compile(r"apart ((?:\d )*\d|none)")
+
+
+def read_check(answers: Octets) -> Check:
+    """What a check tells of each schedule, with and without windows. A text that no check writes raises `BadAnswer`."""
+    found: list[Checked] = []
+    for number, line in enumerate(octets(answers).decode("utf-8", "replace").splitlines(), 1):
+        apart, window = _APART.fullmatch(line), _WINDOW.fullmatch(line)
+        if apart:
+            found.append(Checked(() if apart[1] == "none" else tuple(map(int, apart[1].split()))))
+        elif window and found and found[-1].apart is not None:
+            open_, frame = window[2], window[6]
+            made = Window(
+                int(window[1]),
+                None if open_ == "always" else int(open_),
+                int(window[3]),
+                int(window[4]),
+                int(window[5]),
+                None if frame == "any" else 0 if frame == "none" else int(frame),
+            )
+            found[-1] = dataclasses.replace(found[-1], windows=(*found[-1].windows, made))
+        else:
+            answer = _answer(line, number)
+            if not isinstance(answer, (Refused, TcFault)):
+                raise BadAnswer(f"line {number}: expected an answer of a check, found {line[:60]!r}", number)
+            found.append(Checked(None, (), answer))
+    return Check(tuple(found))

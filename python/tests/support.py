@@ -1,0 +1,43 @@
+"""What the tests share. Run them with `python3 -m unittest discover python/tests`; a word says what is skipped, and why.
+
+The program is the one that TAPRIO_PORT names, or that of the checkout, which is built where it isn't yet. The shared object is that of
+c/build."""
+
+import contextlib
+import os
+import pathlib
+import sys
+import unittest
+
+HERE = pathlib.Path(__file__).resolve().parent
+ROOT = HERE.parent.parent
+EXAMPLES = ROOT / "crates" / "examples" / "data"
+if not EXAMPLES.is_dir():
+    EXAMPLES = ROOT / "examples"
+DATA = HERE / "data"
+if str(HERE.parent) not in sys.path:
+    sys.path.insert(0, str(HERE.parent))
+
+import taprio  # noqa: E402
+
+PROGRAM = os.environ.get("TAPRIO_PORT") or taprio.program.of_checkout(str(ROOT / "taprio_port"))
+if PROGRAM:
+    os.environ["TAPRIO_PORT"] = PROGRAM
+HAS_LIBRARY = taprio.library.is_there()
+
+wants_library = unittest.skipUnless(HAS_LIBRARY, "c/out/libtaprio.so isn't there: c/build makes it")
+wants_program = unittest.skipUnless(PROGRAM, "there is no program: name one in TAPRIO_PORT")
+wants_port = unittest.skipUnless(HAS_LIBRARY or PROGRAM, "there is neither c/out/libtaprio.so nor a program")
+
+
+@contextlib.contextmanager
+def environment(**variables):
+    """Variables of the environment for a while; None takes one away."""
+    before = {name: os.environ.get(name) for name in variables}
+    try:
+        for name, value in variables.items():
+            os.environ.pop(name, None) if value is None else os.environ.__setitem__(name, value)
+        yield
+    finally:
+        for name, value in before.items():
+            os.environ.pop(name, None) if value is None else os.environ.__setitem__(name, value)

@@ -1,0 +1,231 @@
+"""The five calls, over the shared object and over the program: the same inputs, outputs and exceptions."""
+
+import ctypes.util
+import os
+import pathlib
+import tempfile
+import threading
+import unittest
+from unittest import mock
+
+import support
+import taprio
+
+
+def octets(name):
+    return (support.EXAMPLES / name).read_bytes()
+
+
+class Examples:
+    def test_scripts(self):
+        for name in ("first", "priorities", "schedule", "manual", "guard_band", "extension"):
+            with self.subTest(name):
+                self.assertEqual(self.port.run(octets(f"{name}.script")), octets(f"{name}.answers"))
+        self.assertEqual(self.port.run(octets("planned.script")), octets("schedule.answers"))
+        self.assertEqual(self.port.run(octets("summary.script"), summary=True), octets("summary.answers"))
+
+    def test_worked_scripts(self):
+        cases = octets("worked.txt").split(b"====\n")
+        for at, case in enumerate(cases):
+            with self.subTest(at):
+                script, answers = case.split(b"----\n")
+                self.assertEqual(self.port.run(script), answers)
+
+    def test_checks(self):
+        self.assertEqual(self.port.check(octets("apart.schedules")), octets("apart.answers"))
+        self.assertEqual(self.port.check(octets("windows.schedules"), windows=True), octets("windows.answers"))
+
+    def test_streams(self):
+        self.assertEqual(self.port.streams(octets("planned.streams"), octets("planned.schedule")), octets("planned.script"))
+        self.assertEqual(self.port.streams("stream 1 5 60 250us 0ns 1"), b"clock 0\nframe 1 5 60\n")
+
+    def test_pictures(self):
+        for name, begin, end in (
+            ("first", 0, None),
+            ("priorities", 0, None),
+            ("schedule", 0, 60_000_000),
+            ("manual", 1_528_743_495_910_000_000_000, 1_528_743_495_913_000_000_000),
+            ("guard_band", 100_000_000, 130_000_000),
+            ("extension", 3_000_000_000, 6_000_000_000),
+            ("summary", 0, None),
+        ):
+            with self.subTest(name):
+                self.assertEqual(self.port.draw(octets(f"{name}.script"), begin=begin, end=end), octets(f"{name}.svg"))
+
+    def test_replays(self):
+        script, capture = octets("machine.script"), octets("machine.pcap")
+        got = self.port.replay(script, capture, until=2_000_000_000)
+        self.assertEqual(got.report, octets("machine.report"))
+        self.assertEqual(got.departures, octets("machine.departures.pcap"))
+        report, departures = self.port.replay(script, capture, until=2_000_000_000, summary=True)
+        self.assertEqual(report, octets("machine.report") + octets("machine.summary"))
+        self.assertEqual(departures, octets("machine.departures.pcap"))
+
+
+class Faults:
+    def test_a_line(self):
+        with self.assertRaises(taprio.BadInput) as raised:
+            self.port.run("frame 1 0 60\nclock 1000000\nclok 5\n")
+        fault = raised.exception
+        self.assertEqual((fault.input, fault.line, fault.record, fault.name), ("script", 3, None, "UnknownLine"))
+        self.assertEqual(fault.output, b"queued 1 class 0\nstart 1 class 0 at 0 end 672000\n")
+        self.assertEqual(str(fault), "script line 3: UnknownLine")
+
+    def test_a_table(self):
+        with self.assertRaises(taprio.BadInput) as raised:
+            self.port.streams("\nstream 1")
+        fault = raised.exception
+        self.assertEqual((fault.input, fault.line, fault.name, fault.output), ("table", 2, "WordCount", b""))
+
+    def test_captures(self):
+        capture = octets("machine.pcap")
+        with self.assertRaises(taprio.BadInput) as raised:
+            self.port.replay("", capture[:23], until=0)
+        fault = raised.exception
+        self.assertEqual((fault.input, fault.line, fault.record, fault.name), ("capture", None, None, "ShortHeader"))
+        self.assertEqual(fault.output, taprio.Replay(b"", b""))
+        with self.assertRaises(taprio.BadInput) as raised:
+            self.port.replay("", capture[:30], until=0)
+        fault = raised.exception
+        self.assertEqual((fault.input, fault.record, fault.name), ("capture", 0, "ShortRecord"))
+        self.assertEqual(len(fault.output.departures), 24)
+
+    def test_values(self):
+        for option, values in (
+            ("--rate", {"rate": 1001}),
+            ("--rate", {"rate": -1}),
+            ("--mtu", {"mtu": 67}),
+            ("--mtu", {"mtu": 2**32 + 1500}),
+            ("--room", {"room": 4097}),
+            ("--until", {"until": 9_223_372_036_854_775_807_001}),
+            ("--until", {"until": 2**128}),
+            ("--rate", {"rate": 1001, "mtu": 2**32, "until": -1}),
+        ):
+            with self.subTest(values), self.assertRaises(taprio.BadValue) as raised:
+                self.port.run("", **values)
+            self.assertEqual(raised.exception.option, option)
+            self.assertEqual(str(raised.exception), f"bad value of {option}")
+        for option, values in (("--from", {"begin": 2**127}), ("--to", {"begin": 5, "end": 5}), ("--width", {"width": 399})):
+            with self.subTest(values), self.assertRaises(taprio.BadValue) as raised:
+                self.port.draw("", **values)
+            self.assertEqual(raised.exception.option, option)
+        with self.assertRaises(taprio.BadValue):
+            self.port.replay("", octets("machine.pcap"), until=4_294_967_296_000_000_000_001)
+        with self.assertRaises(TypeError):
+            self.port.run("", rate=1000.0)
+        with self.assertRaises(TypeError):
+            self.port.run(5)
+
+
+class Room:
+    def test_more_than_was_guessed(self):
+        """A table whose script is far longer than it is."""
+        table = "stream 1 5 60 250us 0ns 30000"
+        script = self.port.streams(table)
+        self.assertEqual(script.count(b"frame "), 30000)
+        self.assertTrue(script.endswith(b"clock 7499750000000\nframe 30000 5 60\n"))
+
+    def test_empty_inputs(self):
+        self.assertEqual(self.port.run(""), b"")
+        self.assertEqual(self.port.check(b""), b"")
+        self.assertEqual(self.port.streams(bytearray()), b"")
+
+    def test_octets_of_any_kind(self):
+        """An octet of 0 ends nothing."""
+        with self.assertRaises(taprio.BadInput) as raised:
+            self.port.run(b"query\n\0\nquery\n")
+        self.assertEqual(raised.exception.line, 2)
+        self.assertEqual(raised.exception.output.count(b"\n"), 5)
+
+    def test_threads(self):
+        wanted, script, got = octets("schedule.answers"), octets("schedule.script"), []
+        threads = [threading.Thread(target=lambda: got.append(self.port.run(script))) for _ in range(8)]
+        for thread in threads:
+            thread.start()
+        for thread in threads:
+            thread.join()
+        self.assertEqual(got, [wanted] * 8)
+
+
+@support.wants_library
+class OverTheLibrary(Examples, Faults, Room, unittest.TestCase):
+    port = taprio
+
+    def test_a_replay_without_until(self):
+        self.assertEqual(taprio.replay("", octets("machine.pcap")[:24]), (b"", octets("machine.departures.pcap")[:24]))
+
+    def test_a_picture_that_runs_on(self):
+        script = octets("first.script")
+        self.assertEqual(taprio.draw(script, until=5_000_000, end=5_000_000), taprio.draw(script, end=5_000_000))
+
+
+@support.wants_program
+class OverTheProgram(Examples, Faults, Room, unittest.TestCase):
+    port = taprio.Program(support.PROGRAM or "taprio_port")
+
+    def test_what_it_can_not_do(self):
+        with self.assertRaises(TypeError):
+            self.port.draw("", until=5)
+        with self.assertRaises(TypeError):
+            self.port.replay("", octets("machine.pcap"))
+
+    def test_no_program(self):
+        with self.assertRaisesRegex(taprio.TaprioError, "the program can't be run"):
+            taprio.Program("/nowhere/taprio_port").run("")
+        with self.assertRaisesRegex(taprio.TaprioError, "ended with status 1"):
+            taprio.Program("/bin/false").run("")
+
+
+class WithoutALibrary(unittest.TestCase):
+    def test_what_is_said(self):
+        """The error is raised at the first call, and not where the module is loaded; it names the file, and what to do."""
+        with support.environment(TAPRIO_LIBRARY="/nowhere/libtaprio.so"):
+            with self.assertRaises(taprio.LibraryMissing) as raised:
+                taprio.run("")
+            for word in ("/nowhere/libtaprio.so", "c/build", "TAPRIO_LIBRARY", "taprio.Program"):
+                self.assertIn(word, str(raised.exception))
+            self.assertIsInstance(raised.exception, OSError)
+            self.assertFalse(taprio.library.is_there())
+            with self.assertRaises(TypeError):
+                taprio.run(5)
+
+    def test_another_object(self):
+        """An object of another kind is no library, and that is said too."""
+        with tempfile.NamedTemporaryFile(suffix=".so") as file:
+            file.write(b"no object")
+            file.flush()
+            for path in (file.name, ctypes.util.find_library("c")):
+                with support.environment(TAPRIO_LIBRARY=path), self.assertRaisesRegex(taprio.LibraryMissing, "c/build"):
+                    taprio.check("")
+
+    def test_backends(self):
+        """What is chosen is taken; without a choice the program that is named, and then what there is."""
+        with support.environment(TAPRIO_LIBRARY="/nowhere/libtaprio.so", TAPRIO_PORT="some/taprio_port"):
+            self.assertTrue(taprio.backend().path.endswith("/some/taprio_port"))
+            self.assertIsInstance(taprio.backend("library"), taprio.Library)
+            self.assertEqual(taprio.backend("/bin/false").path, "/bin/false")
+            given = taprio.Program("/bin/true")
+            self.assertIs(taprio.backend(given), given)
+        with tempfile.TemporaryDirectory(prefix="taprio-checkout-") as folder, support.environment(
+            TAPRIO_LIBRARY="/nowhere/libtaprio.so", TAPRIO_PORT=None
+        ):
+            for name, text, found in (
+                ("script", "#!/bin/sh\n[ $1 = --where ] && echo /some/where/taprio_port\n", "/some/where/taprio_port"),
+                ("fails", "#!/bin/sh\nexit 4\n", None),
+                ("program", "\x7fELF", os.path.join(folder, "program")),
+                ("nothing", None, None),
+            ):
+                path = pathlib.Path(folder, name)
+                if text is not None:
+                    path.write_text(text)
+                    path.chmod(0o755)
+                with self.subTest(name), mock.patch.object(taprio.program, "CHECKOUT", path):
+                    if found is None:
+                        with self.assertRaisesRegex(taprio.LibraryMissing, "c/build.*TAPRIO_LIBRARY.*TAPRIO_PORT"):
+                            taprio.backend()
+                    else:
+                        self.assertEqual(taprio.backend().path, found)
+
+
+if __name__ == "__main__":
+    unittest.main()

@@ -1,0 +1,297 @@
+"""Answers as objects: of the examples, of random runs, and of texts that no job writes."""
+
+import importlib.util
+import random
+import sys
+import unittest
+import warnings
+from unittest import mock
+
+import support
+import taprio
+from taprio import results
+
+LOOP = taprio.Schedule([(0x02, 50_000), (0x01, 200_000)], map=[0, 0, 0, 0, 0, 0, 1, 0])
+CONTROL = taprio.Stream(1, priority=6, length=64, period=250_000, offset=1_000_000, count=4)
+LOAD = taprio.Stream(1000, priority=0, length=1514, period=20_000, offset=992_000, count=51)
+
+
+def octets(name):
+    return (support.EXAMPLES / name).read_bytes()
+
+
+class Runs(unittest.TestCase):
+    def test_examples(self):
+        """Each answer of the examples is read."""
+        for path in sorted(
+            [*support.EXAMPLES.glob("*.answers"), *support.EXAMPLES.glob("*.report"), *support.EXAMPLES.glob("*.summary")]
+        ):
+            if path.name in ("apart.answers", "windows.answers"):
+                continue
+            with self.subTest(path.name):
+                found = taprio.read_run(path.read_bytes())
+                reports = sum(isinstance(it, results.Report) for it in found.answers)
+                self.assertEqual(len(found.answers) + 4 * reports, path.read_bytes().count(b"\n"))
+        for case in octets("worked.txt").split(b"====\n"):
+            script, answers = case.split(b"----\n")
+            taprio.read_run(answers, script)
+
+    def test_waits(self):
+        """The arrivals of a script give the waits, and their summary is the one that the program has."""
+        found = taprio.read_run(octets("summary.answers"), octets("summary.script"))
+        self.assertEqual(
+            [(it.id, it.arrived, it.start, it.wait, it.length) for it in found.frames],
+            [
+                (1, 0, 0, 0, 60),
+                (2, 0, 672000, 672000, 60),
+                (3, 1000001, 13648000, 12647999, 60),
+                (4, 1000001, 1344000, 343999, 1514),
+            ],
+        )
+        self.assertEqual(found.summary[0], results.ClassSummary(0, 3, 3, 0, 180, 0, 4439999, 12647999, 2))
+        self.assertEqual(found.wire, results.WireSummary(14320000, 716000))
+        self.assertEqual(found.left, {})
+        self.assertEqual(
+            found.rows()[3],
+            {
+                "id": 4,
+                "traffic_class": 5,
+                "arrived": 1000001,
+                "start": 1344000,
+                "end": 13648000,
+                "wait": 343999,
+                "dropped": None,
+                "priority": 0 + 5,
+                "length": 1514,
+            },
+        )
+        self.assertEqual([row["traffic_class"] for row in found.summary_rows()], [0, 5])
+
+    def test_kinds(self):
+        text = b"""\
+queued 1 class 0
+dropped 2 Full
+installed change 200000000
+refused MapMissing
+refused Busy 12336000
+tc-fault BadNumber 14
+tc-fault NoEntries
+tc-fault MissingWord map
+backward
+count class 0 accepted 1 sent 0 octets 2 runt 3 too-long 4 over-sdu 5 full 6 waiting 7
+report now 672000 mask 0f no-class 9
+classes 2 map 0 0 0 0 0 0 1 0 0 0 0 0 0 0 0 0 queues 1@0 2@1
+in-force open change 5
+pending change 1000000000 base 1 cycle 2 extension 3 entries 4
+announced none
+left class 0 frames 1
+summary class 0 queued 1 sent 0 dropped 1 octets 0 least - mean - greatest - most 1
+summary wire busy 0 ppm 0
+"""
+        found = taprio.read_run(text)
+        self.assertEqual(
+            list(found.answers[2:12]),
+            [
+                results.Installed(200000000),
+                results.Refused("MapMissing"),
+                results.Refused("Busy", 12336000),
+                results.TcFault("BadNumber", "14"),
+                results.TcFault("NoEntries"),
+                results.TcFault("MissingWord", "map"),
+                results.Backward(),
+                results.Counted(0, 1, 0, 2, 3, 4, 5, 6, 7),
+                results.Report(
+                    672000,
+                    15,
+                    9,
+                    2,
+                    (0, 0, 0, 0, 0, 0, 1) + (0,) * 9,
+                    ((1, 0), (2, 1)),
+                    results.Change(5),
+                    results.Change(1000000000, 1, 2, 3, 4),
+                    None,
+                ),
+                results.Left(0, 1),
+            ],
+        )
+        self.assertEqual(found.frames[1], results.Frame(2, None, None, None, None, None, "Full"))
+        self.assertEqual((found.summary[0].least, found.left), (None, {0: 1}))
+        self.assertEqual(len(results.rows(found.answers)), 14)
+
+    def test_no_answers(self):
+        for text, line in (
+            (b"queued 1\n", 1),
+            (b"queued 1 class 0\nqueue 2 class 0\n", 2),
+            (b"report now 1 mask 00 no-class 0\nclasses none\n", 3),
+            (b"report now x mask 00\n", 1),
+            (b"start 1 class 0 at 0 end 1\n", 0),
+            (b"\xff", 1),
+            (b"\n", 1),
+        ):
+            with self.subTest(text), self.assertRaises(taprio.BadAnswer) as raised:
+                taprio.read_run(text)
+            self.assertEqual(raised.exception.line, line)
+        # What was answered before a malformed line is read.
+        for bad in ("frame 2 0", "frame 2 0 6_0", "clock +5", "clock 5 5", "frame 2 0 60 60 tagged"):
+            self.assertEqual(len(taprio.read_run(b"queued 1 class 0\n", f"frame 1 0 60 tagged\n{bad}\nframe 3 0 60\n").frames), 1)
+        with self.assertRaises(taprio.BadAnswer):
+            taprio.read_run(b"queued 1 class 0\n", b"frame 2 0 60\n")
+        with self.assertRaises(taprio.BadAnswer):
+            taprio.read_run(b"queued 1 class 0\n", b"")
+
+    @support.wants_port
+    def test_random_runs(self):
+        """Of random streams the waits of frames are those of the summary; and what is not sent is left or dropped."""
+        for seed in range(20):
+            dice = random.Random(seed)
+            given, first = [], 0
+            for _ in range(dice.randint(1, 5)):
+                count = dice.randint(0, 30)
+                given.append(
+                    taprio.Stream(
+                        first,
+                        dice.randrange(18),
+                        dice.randint(10, 1600),
+                        dice.randint(1, 10**5),
+                        dice.randint(0, 10**6),
+                        count,
+                        dice.random() < 0.3,
+                    )
+                )
+                first += count
+            found = taprio.run_streams(LOOP, given, until_ns=dice.randint(10**6, 3 * 10**6), room=dice.choice([1, 4, 128]))
+            self.assertTrue(sum(it.count for it in given) >= len(found.frames))
+            for number, summary in found.summary.items():
+                waits = [it.wait for it in found.frames if it.traffic_class == number and it.start is not None]
+                self.assertEqual(
+                    (summary.sent, summary.least, summary.greatest),
+                    (len(waits), min(waits, default=None), max(waits, default=None)),
+                )
+                self.assertEqual(summary.mean, sum(waits) // len(waits) if waits else None)
+                self.assertEqual(summary.queued - summary.sent, found.left.get(number, 0))
+            for frame in found.frames:
+                stream = next(it for it in given if frame.id in it.ids)
+                self.assertEqual((frame.priority, frame.length), (stream.priority, stream.length))
+                self.assertEqual(frame.arrived, 1000 * (stream.offset + (frame.id - stream.first_id) * stream.period))
+
+
+class Checks(unittest.TestCase):
+    def test_examples(self):
+        apart = taprio.read_check(octets("apart.answers"))
+        self.assertEqual([it.apart for it in apart.schedules], [(0, 1, 2), (2,), (1,), None, (), None])
+        self.assertEqual(
+            [it.fault for it in apart.schedules][3:],
+            [results.Refused("IntervalTooShort", 0), None, results.TcFault("MissingWord", "map")],
+        )
+        found = taprio.read_check(octets("windows.answers"))
+        self.assertEqual(found.schedules[0].windows[0], results.Window(0, 300000000, 600000000, 300000000, 900000000, 37476))
+        self.assertEqual(found.schedules[2].windows[1].frame, 0)
+        always = found.schedules[3].windows[0]
+        self.assertEqual((always.open, always.closed, always.frame), (None, 0, None))
+        self.assertEqual(
+            found.rows()[0],
+            {
+                "schedule": 0,
+                "apart": True,
+                "traffic_class": 0,
+                "open": 300000000,
+                "closed": 600000000,
+                "share": 300000000,
+                "cycle": 900000000,
+                "frame": 37476,
+            },
+        )
+        self.assertEqual(len(found.rows()), octets("windows.answers").count(b"window"))
+
+    def test_no_answers(self):
+        for text in (
+            b"window class 0 open 1 closed 1 share 1 of 2 frame 3\n",
+            b"apart\n",
+            b"apart 0\nqueued 1 class 0\n",
+            b"refused X 0\nwindow class 0 open 1 closed 1 share 1 of 2 frame 3\n",
+        ):
+            with self.subTest(text), self.assertRaises(taprio.BadAnswer):
+                taprio.read_check(text)
+
+
+class Streams(unittest.TestCase):
+    def test_tables(self):
+        self.assertEqual(CONTROL.line(), "stream 1 6 64 250000ns 1000000ns 4")
+        self.assertEqual(
+            taprio.table([taprio.Stream(0, 7, 60, 5, tagged=True), LOAD]),
+            "stream 0 7 60 5ns 0ns 1 tagged\nstream 1000 0 1514 20000ns 992000ns 51\n",
+        )
+        self.assertEqual(CONTROL.ids, range(1, 5))
+
+    def test_faults(self):
+        for values, option in (
+            ({"first_id": -1}, "first_id"),
+            ({"priority": 256}, "priority"),
+            ({"length": 2**32}, "length"),
+            ({"period": 0.5}, "period"),
+            ({"offset": 2**63}, "offset"),
+            ({"count": True}, "count"),
+            ({"first_id": 2**64 - 1, "count": 2}, "count"),
+            ({"period": 2**62, "count": 3}, "count"),
+        ):
+            with self.subTest(values), self.assertRaises(taprio.BadValue) as raised:
+                taprio.Stream(**{"first_id": 1, "priority": 0, "length": 60, "period": 1000} | values)
+            self.assertEqual(raised.exception.option, option)
+
+    @support.wants_port
+    def test_each_table_is_read(self):
+        """The greatest values of a stream are ones for the table too."""
+        for stream in (
+            taprio.Stream(2**64 - 1, 255, 2**32 - 1, 2**63 - 1, 2**63 - 1),
+            taprio.Stream(0, 0, 0, 0, 0, 0),
+            taprio.Stream(0, 0, 0, 2**62, 0, 2, True),
+        ):
+            taprio.backend().streams(taprio.table([stream]))
+
+    @support.wants_port
+    def test_a_run(self):
+        """The run of the README: its summary, and the waits of each stream."""
+        found = taprio.run_streams(LOOP, [CONTROL, LOAD], until_ns=3_000_000)
+        self.assertEqual(found.summary[0], results.ClassSummary(0, 51, 51, 0, 77214, 0, 17721411, 58000000, 3))
+        self.assertEqual([it.wait for it in found.of(CONTROL.ids)], [0] * 4)
+        self.assertEqual(max(it.wait for it in found.of(LOAD.ids)), 58000000)
+        self.assertEqual(len(found.of([1, 1000])), 2)
+        self.assertEqual(taprio.run_streams(LOOP.tc(), taprio.table([CONTROL, LOAD]), until_ns=3_000_000).answers, found.answers)
+        self.assertEqual(len(taprio.run_streams(None, [CONTROL], until_ns=3_000_000).frames), 4)
+        with self.assertRaises(taprio.BadValue):
+            taprio.run_streams(LOOP, [CONTROL], until_ns=2**64)
+        with self.assertRaises(TypeError):
+            taprio.run_streams(LOOP, [CONTROL], until_ns=1e6)
+
+    @support.wants_library
+    @support.wants_program
+    def test_a_run_over_both(self):
+        one, other = (
+            taprio.run_streams(LOOP, [CONTROL, LOAD], until_ns=3_000_000, port=port) for port in ("library", support.PROGRAM)
+        )
+        self.assertEqual(one, other)
+
+
+class Plots(unittest.TestCase):
+    def test_without_matplotlib(self):
+        with mock.patch.dict(sys.modules, {"matplotlib": None, "matplotlib.pyplot": None}), self.assertRaisesRegex(
+            ImportError, "needs matplotlib"
+        ):
+            taprio.plot(taprio.read_run(octets("summary.answers")))
+
+    @unittest.skipUnless(importlib.util.find_spec("matplotlib"), "matplotlib isn't installed")
+    def test_with_matplotlib(self):
+        # (what others warn of is theirs)
+        with warnings.catch_warnings():
+            warnings.simplefilter("ignore")
+            import matplotlib
+
+            matplotlib.use("Agg")
+            axes = taprio.plot(taprio.read_run(octets("summary.answers"), octets("summary.script")))
+            self.assertEqual([it.get_text() for it in axes.get_yticklabels()], ["class 0", "class 5"])
+            self.assertEqual(sum(len(it.get_paths()) for it in axes.collections), 4 + 3)
+            self.assertIs(taprio.plot(taprio.read_run(b""), axes), axes)
+
+
+if __name__ == "__main__":
+    unittest.main()
