@@ -298,14 +298,14 @@ def faults_of_commands(page, program):
     return faults
 
 
-def case_of_commands(page):
+def commands_case(page):
     """A case of the commands of a page."""
     return lambda program: told(faults_of_commands(page, program))
 
 
 for _page in pages():
     if any(True for _ in sessions(_page)):
-        globals()[f"case_commands_of_{_page.with_suffix('')}"] = case_of_commands(_page)
+        globals()[f"case_commands_of_{_page.with_suffix('')}"] = commands_case(_page)
 
 
 # Names of the reader of captures that no text has: `read failed`, `write failed` and `out of memory` are said in their place.
