@@ -79,6 +79,7 @@ impl Slot {
         ensures sound { IsSchedule schedule.now }
         ensures visits { visits.new ≡ more visits.old 2 }
     {
+        // For the prover: a call on a schedule says what holds of every schedule.
         let _ = schedule.len();
         let change = schedule.change_moment(lead);
         let position = Position::first(schedule, change, visits);

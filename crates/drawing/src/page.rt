@@ -67,6 +67,7 @@ impl Page {
         ensures place { result ≡ 100 * LEFT + x_in self.now.window moment }
         ensures within { (100 * LEFT ≤ result) × (result ≤ 100 * (LEFT + MAX_WIDTH)) }
     {
+        // For the prover: the getter says within which limits a width lies.
         let _width = self.window.width();
         u64::from(LEFT) * 100 + self.window.x(moment)
     }

@@ -76,6 +76,7 @@ fn take_command<A: Allocator>(
 {
     let now = port.now();
     let rate = settings.rate();
+    // For the prover: the getter says within which limits a rate lies.
     let _ps = rate.ps_per_octet();
     let mtu = settings.mtu();
     let lead = now + lead(rate, mtu);
@@ -100,6 +101,7 @@ fn take_line<A: Allocator>(
         TakesLine result (request_of read line.now) port.old.port course.old port.new.port course.new }
     ensures sound { IsSoundPort port.new.port }
 {
+    // For the prover: a call on a port says what holds of every port.
     let _now = port.now();
     match read_line(line) {
         Err(fault) => return Err(fault),
@@ -128,6 +130,7 @@ fn take_lines<A: Allocator, B: Allocator, R: Read + Drop>(
         Takes result (reading_of read script) port.old.port course.old port.new.port course.new) }
 {
     settling();
+    // For the prover: a call on a port says what holds of every port.
     let _now = port.now();
     'lines: while lines.advance()? {
         match take_line(port, bands, course, lines.line(), settings) {
@@ -246,6 +249,7 @@ fn draw_port<B: Allocator, R: Read + Drop, W: Write>(
         IsDrawn result (W.contents writer.old) (W.contents writer.new) (reading_of read script).fault) }
 {
     let rate = settings.rate();
+    // For the prover: the getter says within which limits a rate lies.
     let _ps = rate.ps_per_octet();
     let mtu = settings.mtu();
     let own = alloc.clone()?;

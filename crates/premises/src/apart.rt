@@ -78,6 +78,7 @@ fn take<G: Gates, A: Allocator>(port: &mut Port<G, A>, event: &Event<'_>)
     ensures port { port.new.port ≡ settled (answers_to event.now port.old.port).1 }
     ensures sound { IsSoundPort port.new.port }
 {
+    // For the prover: a call on a port says what holds of every port.
     let _now = port.now();
     let mut asked = Some(*event);
     while let Some(_) = port.next_answer(&mut asked) {}
@@ -115,6 +116,7 @@ pub fn is_kept_apart<G: Gates, A: Allocator>(
     ensures apart { IsTrue result ↔ IsKeptApart class events.now port.old.port }
     ensures port { port.new.port ≡ settled (port_after events.now port.old.port) }
 {
+    // For the prover: a call on a port says what holds of every port.
     let _now = port.now();
     let mut apart = true;
     for event in events {
@@ -140,6 +142,7 @@ pub fn separated(
     ensures refused { IfErr result (λ fault. fault ≡ PortFault.Memory) }
 {
     separation();
+    // For the prover: the getter says within which limits a rate lies.
     let _ps = rate.ps_per_octet();
     match Port::<Stepped>::new(alloc, rate, 1500, 128) {
         Ok(mut port) => Ok(is_kept_apart(&mut port, class, events)),

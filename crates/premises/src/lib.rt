@@ -57,6 +57,7 @@ pub fn schedules(schedule: &Schedule, class: u8)
     stay_law();
     apart_law();
     masks_of(schedule);
+    // For the prover: a call on a schedule says what holds of every schedule.
     let _ = schedule.len();
 }
 
@@ -66,6 +67,7 @@ pub fn histories<G: Gates>(held: &G)
     ensures kept { KeptLaw 0 (G.moment held.now) (G.history held.now) }
     ensures stretches { StretchLaw (G.moment held.now) (G.history held.now) }
 {
+    // For the prover: a call on a port says what holds of every port.
     let _ = held.now();
     kept_law();
     stretch_law();
@@ -87,6 +89,7 @@ pub fn commands<G: Gates>(held: &mut G, schedule: Schedule, lead: u128) -> Resul
     append_law();
     hindsight_law();
     further_law();
+    // For the prover: a call on a schedule says what holds of every schedule.
     let _ = schedule.len();
     let _ = schedule.change_moment(lead);
     held.install(&schedule, lead)
@@ -98,6 +101,7 @@ pub fn runs<G: Gates, A: Allocator>(port: &Port<G, A>)
     ensures hindsight { (events : List Event) → IsOpenInHindsight port.now.port events }
     ensures settling { (events : List Event) → IsSettledRun port.now.port events }
 {
+    // For the prover: a call on a port says what holds of every port.
     let _ = port.now();
     lead_law();
     hindsight();

@@ -165,12 +165,14 @@ fn begin<A: Allocator + Clone, W: Write>(
     ensures out { (report : Option (List ℕ)) → PutsBoth result (got report (W.contents capture.old)) (got report (W.contents capture.new)) header }
 {
     let rate = settings.rate();
+    // For the prover: the getter says within which limits a rate lies.
     let _ps = rate.ps_per_octet();
     let mtu = settings.mtu();
     let room = settings.room();
     let Ok(port) = RunningPort::new(alloc.clone()?, rate, mtu, room) else {
         return Err(Stop::Memory);
     };
+    // For the prover: a call on a port says what holds of every port.
     let _now = port.now();
     let store = OctetStore::new(alloc, room)?;
     match CaptureWriter::begin(capture) {

@@ -87,6 +87,7 @@ fn put_starts<A: Allocator, W: Write>(
     ensures seen { OnOk result (summary.new ≡ noted_at (Events.Clock until) port.old.port summary.old) }
     ensures sound { OnOk result (IsSoundPort port.new.port) }
 {
+    // For the prover: a call on a port says what holds of every port.
     let _now = port.now();
     if port.rest_until(until) {
         return Ok(());
@@ -128,6 +129,7 @@ fn put_install<A: Allocator, W: Write>(
     ensures seen { OnOk result (summary.new ≡ noted_at (Events.Install command.entry) port.old.port summary.old) }
     ensures sound { OnOk result (IsSoundPort port.new.port) }
 {
+    // For the prover: a call on a port says what holds of every port.
     let _now = port.now();
     let answer = port.install(command);
     put_installation(writer, answer)
@@ -187,6 +189,7 @@ fn put_command<A: Allocator, W: Write>(
     ensures seen { OnOk result (summary.new ≡ noted_by (tc_request read.now) port.old.port summary.old) }
     ensures sound { OnOk result (IsSoundPort port.new.port) }
 {
+    // For the prover: a call on a port says what holds of every port.
     let _now = port.now();
     match read {
         Ok(command) => put_answers(port, summary, &Event::Install(command), writer),

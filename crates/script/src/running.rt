@@ -56,6 +56,7 @@ fn run_lines<A: Allocator, B: Allocator, R: Read + Drop, W: Write>(
         Runs result (W.contents writer.old) (W.contents writer.new) (outcome_from read until script port.old.port summary.old)) }
 {
     settling();
+    // For the prover: a call on a port says what holds of every port.
     let _now = port.now();
     'lines: loop {
         if let Some(event) = pass_plain(lines) {
@@ -97,6 +98,7 @@ pub fn run_script<A: Allocator, R: Read + Drop, W: Write>(
 {
     faithful();
     let rate = settings.rate();
+    // For the prover: the getter says within which limits a rate lies.
     let _ps = rate.ps_per_octet();
     let mtu = settings.mtu();
     let Ok(mut port) = RunningPort::new(&alloc, rate, mtu, settings.room()) else {
