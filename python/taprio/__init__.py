@@ -2,7 +2,7 @@
 
 The five calls `run`, `check`, `streams`, `draw` and `replay` are the jobs of the program `taprio_port`, over memory. Inputs are
 `bytes` or `str`; outputs are `bytes`. Moments are in picoseconds, rates in Mb/s, sizes in octets. A value out of its limits raises
-`BadValue`, an input with a fault `BadInput`, which has the line or the record and what was told before it; where memory is wanting,
+`BadValue`, an input with a fault `BadInput`, which has the line or the record and what was reported before it; out of memory,
 `MemoryError` is raised.
 
     >>> import taprio

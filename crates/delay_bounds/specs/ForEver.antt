@@ -5,7 +5,7 @@ use Rattle.delay_bounds.specs.Bounds.{Track, offsets_of, earliest, from_on, told
 use Rattle.delay_bounds.specs.Walk.{may_by, begun, after}
 use Rattle.delay_bounds.specs.declared.Flow.{Flow}
 
--- the same, so much later
+-- a track that is so much later: all of its moments are
 abbrev pub later : ℕ → Track → Track
 later d s = record { nexts = map (λ t. t + d) s.nexts; free = s.free + d; starts = map (λ t. t + d) s.starts }
 
@@ -14,7 +14,7 @@ abbrev pub counts_from : Option (ℕ × ℕ) → Track → Track
 counts_from None s = s
 counts_from (Some e) s = record { nexts = s.nexts; free = max e.0 s.free; starts = from_on e.0 s.starts }
 
--- the same
+-- what counts of a track when its own next frame comes
 abbrev pub counting : Track → Track
 counting s = counts_from (earliest s.nexts) s
 

@@ -80,7 +80,7 @@ fn stops_at_each_read(rt: HostRuntime) -> Result<(), Fail> {
     Ok(())
 }
 
-/// Each write in turn fails, or takes nothing: what was taken before is a front of what is reported.
+/// Each write in turn fails, or takes nothing: what was taken before is a prefix of what is reported.
 #[test]
 fn stops_at_each_write(rt: HostRuntime) -> Result<(), Fail> {
     for room in 0..=TOLD_WITH_WINDOWS.len() {

@@ -65,7 +65,7 @@ fn sums_up_in_memory_that_is_taken_first(rt: HostRuntime) -> Result<(), Fail> {
     Ok(())
 }
 
-/// Whether a replay of the two frames reported all, or this fault and a front of the rest.
+/// Whether a replay of the two frames reported all, or this fault and a prefix of the rest.
 fn is_told(ended: &Replayed, fault: ReplayFault) -> bool {
     if ended.result.is_ok() {
         return ended.report.as_slice() == REPORT
@@ -96,7 +96,7 @@ fn refuses_each_growth(rt: HostRuntime) {
     assert_eq!(rt; enough, Some(true));
 }
 
-/// Whether a replay of the two frames and a line reports all, or a failed read and a front of the rest.
+/// Whether a replay of the two frames and a line reports all, or a failed read and a prefix of the rest.
 fn are_read(alloc: Global, script: Pieces<'_>, capture: Pieces<'_>) -> bool {
     let Some(settings) = settings(END) else {
         return false;
@@ -124,7 +124,7 @@ fn is_read(alloc: Global, run: u32) -> bool {
     are_read(alloc, script, capture)
 }
 
-/// Each of the first twenty reads of either input fails in turn, once or for ever: it isn't tried again, and what is written is a front.
+/// Each of the first twenty reads of either input fails in turn, once or for ever: it isn't tried again, and what is written is a prefix.
 #[test]
 fn stops_at_each_read(rt: HostRuntime) {
     for run in 0..80u32 {
@@ -163,7 +163,7 @@ fn replay_to<W: Write, V: Write>(
 }
 
 /// Whether a replay of the two frames is as it should be where each output has room for so many octets: it reports all, or a failed write and
-/// a front of the rest, which isn't all.
+/// a prefix of the rest, which isn't all.
 fn is_written(alloc: Global, room: usize, recovers: bool) -> bool {
     let Some(settings) = settings(END) else {
         return false;

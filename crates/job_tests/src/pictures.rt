@@ -25,7 +25,7 @@ fn usual(rt: &impl Abort) -> Settings {
     Settings::new(rate, 1500, 128, None).expect(rt, "settings")
 }
 
-/// A read that fails draws nothing, and a writer that takes no more gets a front.
+/// A read that fails draws nothing, and a writer that takes no more gets a prefix.
 #[test]
 fn failed_reads_and_writes_end_it(rt: HostRuntime) -> Result<(), Fail> {
     let mut whole = Vec::new(rt.alloc());

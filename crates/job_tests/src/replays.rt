@@ -78,7 +78,7 @@ pub fn replay_of<A: Allocator, R: Read + Drop, S: Read + Drop>(
     }
 }
 
-/// Whether octets are a front and what comes after it.
+/// Whether octets are a prefix and what comes after it.
 pub fn is_front_and(octets: &[u8], front: &[u8], behind: &[u8]) -> bool {
     octets.starts_with(front) && &octets[front.len().min(octets.len())..] == behind
 }

@@ -44,7 +44,7 @@ fn usual(rt: &impl Abort) -> Settings {
     Settings::new(rate, 1500, 128, None).expect(rt, "settings")
 }
 
-/// Whether octets are a front and what comes after it.
+/// Whether octets are a prefix and what comes after it.
 fn is_front_and(octets: &[u8], front: &[u8], behind: &[u8]) -> bool {
     octets.starts_with(front) && &octets[front.len().min(octets.len())..] == behind
 }

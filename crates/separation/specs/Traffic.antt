@@ -60,7 +60,7 @@ abbrev pub IsOnlyAt : Accepted → Event → AbstractPort → Type 0
 IsOnlyAt a (Install c) p = refusal p c.now ≡ None → (p.history ≡ []) × (new_command p c.now ≡ a)
 IsOnlyAt a _ p = Unit {0}
 
--- the same of each event of a list
+-- a list of events in which no command is accepted but this one, and that as the first
 abbrev pub IsOnly : Accepted → List Event → AbstractPort → Type 0
 IsOnly a [] p = Unit {0}
 IsOnly a (event ∷ rest) p = IsOnlyAt a event p × IsOnly a rest (answers_to event p).1
