@@ -9,10 +9,10 @@ SECONDS = 60
 
 
 def passes(program, module):
-    """Runs one file of python/tests. What it skips needs the shared object, or something else that isn't installed."""
+    """Runs one file of bindings/python/tests. What it skips needs the shared object, or something else that isn't installed."""
     given = os.environ | {"TAPRIO_PORT": program, "TAPRIO_LIBRARY": "/nowhere/libtaprio.so", "PYTHONDONTWRITEBYTECODE": "1"}
     words = [sys.executable, "-W", "error", "-m", "unittest", module]
-    ran = subprocess.run(words, cwd=TOP / "python" / "tests", env=given, capture_output=True, text=True, timeout=SECONDS)
+    ran = subprocess.run(words, cwd=TOP / "bindings" / "python" / "tests", env=given, capture_output=True, text=True, timeout=SECONDS)
     assert ran.returncode == 0, ran.stderr
 
 
@@ -21,5 +21,5 @@ def runs_of(module):
     return lambda program: passes(program, module)
 
 
-for _path in sorted((TOP / "python" / "tests").glob("test_*.py")):
+for _path in sorted((TOP / "bindings" / "python" / "tests").glob("test_*.py")):
     globals()[f"case_{_path.stem.removeprefix('test_')}"] = runs_of(_path.stem)

@@ -1,4 +1,4 @@
-//! The library as C calls it: one function for each of the program's jobs over memory, whose declarations are in `c/taprio.h`.
+//! The library as C calls it: one function for each of the program's jobs over memory, whose declarations are in `bindings/c/taprio.h`.
 //!
 //! The contract of each function is that of its job in `in_memory`; what C's values say is specs/FromC.antt.
 #![tactic(auto)]

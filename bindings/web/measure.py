@@ -1,5 +1,5 @@
 #!/usr/bin/env python3
-"""Measures the page of web/out beside the program of the repository: times until it has run its first example, and of long scripts."""
+"""Measures the page of bindings/web/out beside the program of the repository: times until it has run its first example, and of long scripts."""
 import json
 import random
 import statistics

@@ -1,5 +1,5 @@
 #!/usr/bin/env python3
-"""Compares the page of web/out with the program of the repository: test.py [chromium|firefox ..]."""
+"""Compares the page of bindings/web/out with the program of the repository: test.py [chromium|firefox ..]."""
 import functools
 import http.server
 import json
@@ -14,7 +14,7 @@ from bundle import options
 from browsers import Broken, Chromium, Firefox, wait_for
 
 WEB = pathlib.Path(__file__).resolve().parent
-TOP = WEB.parent
+TOP = WEB.parent.parent
 OUT = WEB / "out"
 PAGE = WEB / "taprio.html"
 EXAMPLES = TOP / "examples"
@@ -435,7 +435,7 @@ def main(names):
             try_page(kind, address, server)
     if not names or "firefox" in names:
         try_dark_firefox(places[0])
-    print("web/test: all is as it should be")
+    print("bindings/web/test: all is as it should be")
 
 
 if __name__ == "__main__":

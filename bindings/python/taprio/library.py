@@ -1,8 +1,8 @@
 """The jobs of the program as calls over the shared object: octets in, octets out, by ctypes.
 
-The shared object is what `c/build` makes. It is loaded at the first call that needs it, from the first of these places: the file that
+The shared object is what `bindings/c/build` makes. It is loaded at the first call that needs it, from the first of these places: the file that
 the variable TAPRIO_LIBRARY of the environment names, `libtaprio.so` beside this module (an installed package has it there), and
-`c/out/libtaprio.so` of the checkout. What it promises is in `c/taprio.h`.
+`bindings/c/out/libtaprio.so` of the checkout. What it promises is in `bindings/c/taprio.h`.
 """
 
 from __future__ import annotations
@@ -90,7 +90,7 @@ def _loaded(path: str) -> ctypes.CDLL:
         return _typed(ctypes.CDLL(path))
     except (OSError, AttributeError) as fault:
         raise LibraryMissing(
-            f"the library can't be loaded ({fault}): build it with c/build, or name one in TAPRIO_LIBRARY, "
+            f"the library can't be loaded ({fault}): build it with bindings/c/build, or name one in TAPRIO_LIBRARY, "
             "or call the program instead with taprio.Program"
         ) from fault
 

@@ -1,5 +1,5 @@
 #!/usr/bin/env python3
-"""From which sources a page was made: web/sources.py PAGE says which of them are others now, and ends with 1 where some are.
+"""From which sources a page was made: bindings/web/sources.py PAGE says which of them are others now, and ends with 1 where some are.
 
 The page has a sum of each crate below it, of the files of web/ and of the examples. Of a crate it is that of its code, without the lines that
 are comments: these change no module. Definitions and proofs change none either."""
@@ -9,7 +9,7 @@ import re
 import sys
 
 WEB = pathlib.Path(__file__).resolve().parent
-TOP = WEB.parent
+TOP = WEB.parent.parent
 sys.path.insert(0, str(TOP / "bench"))
 import crates  # noqa: E402
 

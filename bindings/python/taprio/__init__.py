@@ -9,7 +9,7 @@ The five calls `run`, `check`, `streams`, `draw` and `replay` are the jobs of th
     >>> taprio.run("frame 1 0 60\\nclock 1000000\\n")
     b'queued 1 class 0\\nstart 1 class 0 at 0 end 672000\\n'
 
-They stand on the shared object that `c/build` makes, which is loaded at the first of them (`taprio.library`). `Program` has the same
+They stand on the shared object that `bindings/c/build` makes, which is loaded at the first of them (`taprio.library`). `Program` has the same
 calls over the program. Calls may be made from several threads: they share nothing, and the interpreter goes on meanwhile.
 
 Nothing else here needs the shared object: `taprio.schedules` reads and writes schedules (times in nanoseconds), `Stream` is a stream of

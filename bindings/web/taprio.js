@@ -1,4 +1,4 @@
-// Calls the port's WebAssembly module, as c/taprio.h declares it. Only this file knows where its values lie, and where its heap is.
+// Calls the port's WebAssembly module, as bindings/c/taprio.h declares it. Only this file knows where its values lie, and where its heap is.
 
 /** The jobs that the module does, by the names of the program's. */
 export const JOBS = ["script", "draw", "check", "streams", "replay"];

@@ -1,8 +1,8 @@
 """How large should the window of a controller be? A notebook as a script: each cell begins with `# %%`.
 
-    PYTHONPATH=python python3 python/examples/control_loop.py
+    PYTHONPATH=bindings/python python3 bindings/python/examples/control_loop.py
 
-It runs over the shared object of c/build where that is there, and else over the program (`taprio.backend` says which)."""
+It runs over the shared object of bindings/c/build where that is there, and else over the program (`taprio.backend` says which)."""
 
 # %% The traffic: a controller sends every 250 us with priority 6, and a file transfer full frames with priority 0.
 import taprio

@@ -164,7 +164,7 @@ class Program:
         return found
 
 
-CHECKOUT = pathlib.Path(__file__).resolve().parent.parent.parent / "taprio_port"
+CHECKOUT = pathlib.Path(__file__).resolve().parents[3] / "taprio_port"
 
 
 @functools.lru_cache(maxsize=None)
@@ -200,7 +200,7 @@ def backend(chosen: Chosen = None) -> Backend:
         if built:
             return Program(built)
         raise LibraryMissing(
-            "there is nothing that runs a port: build the library with c/build, or name it in TAPRIO_LIBRARY, or name the program "
+            "there is nothing that runs a port: build the library with bindings/c/build, or name it in TAPRIO_LIBRARY, or name the program "
             "taprio_port in TAPRIO_PORT"
         )
     if isinstance(chosen, (str, os.PathLike)):

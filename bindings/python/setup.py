@@ -1,4 +1,4 @@
-"""Puts the shared object that c/build makes into the wheel, where there is one; pyproject.toml has the rest.
+"""Puts the shared object that bindings/c/build makes into the wheel, where there is one; pyproject.toml has the rest.
 
 A wheel with it is for this machine's kind alone. One without it has schedules, streams and results, and runs a port by the program."""
 
@@ -25,7 +25,7 @@ class WithLibrary(build_py):
         if BUILT.exists():
             shutil.copy(BUILT, target)
         else:
-            self.warn(f"{BUILT} isn't there (c/build makes it): this wheel runs a port by the program alone")
+            self.warn(f"{BUILT} isn't there (bindings/c/build makes it): this wheel runs a port by the program alone")
 
 
 class OfThisMachine(bdist_wheel):

@@ -182,7 +182,7 @@ class WithoutALibrary(unittest.TestCase):
         with support.environment(TAPRIO_LIBRARY="/nowhere/libtaprio.so"):
             with self.assertRaises(taprio.LibraryMissing) as raised:
                 taprio.run("")
-            for word in ("/nowhere/libtaprio.so", "c/build", "TAPRIO_LIBRARY", "taprio.Program"):
+            for word in ("/nowhere/libtaprio.so", "bindings/c/build", "TAPRIO_LIBRARY", "taprio.Program"):
                 self.assertIn(word, str(raised.exception))
             self.assertIsInstance(raised.exception, OSError)
             self.assertFalse(taprio.library.is_there())
@@ -195,7 +195,7 @@ class WithoutALibrary(unittest.TestCase):
             file.write(b"no object")
             file.flush()
             for path in (file.name, ctypes.util.find_library("c")):
-                with support.environment(TAPRIO_LIBRARY=path), self.assertRaisesRegex(taprio.LibraryMissing, "c/build"):
+                with support.environment(TAPRIO_LIBRARY=path), self.assertRaisesRegex(taprio.LibraryMissing, "bindings/c/build"):
                     taprio.check("")
 
     def test_backends(self):
@@ -221,7 +221,7 @@ class WithoutALibrary(unittest.TestCase):
                     path.chmod(0o755)
                 with self.subTest(name), mock.patch.object(taprio.program, "CHECKOUT", path):
                     if found is None:
-                        with self.assertRaisesRegex(taprio.LibraryMissing, "c/build.*TAPRIO_LIBRARY.*TAPRIO_PORT"):
+                        with self.assertRaisesRegex(taprio.LibraryMissing, "bindings/c/build.*TAPRIO_LIBRARY.*TAPRIO_PORT"):
                             taprio.backend()
                     else:
                         self.assertEqual(taprio.backend().path, found)

@@ -1,7 +1,7 @@
-"""What the tests share. Run them with `python3 -m unittest discover python/tests`; a word says what is skipped, and why.
+"""What the tests share. Run them with `python3 -m unittest discover bindings/python/tests`; a word says what is skipped, and why.
 
 The program is the one that TAPRIO_PORT names, or that of the checkout, which is built where it isn't yet. The shared object is that of
-c/build."""
+bindings/c/build."""
 
 import contextlib
 import os
@@ -10,7 +10,7 @@ import sys
 import unittest
 
 HERE = pathlib.Path(__file__).resolve().parent
-ROOT = HERE.parent.parent
+ROOT = HERE.parents[2]
 EXAMPLES = ROOT / "crates" / "examples" / "data"
 if not EXAMPLES.is_dir():
     EXAMPLES = ROOT / "examples"
@@ -25,9 +25,9 @@ if PROGRAM:
     os.environ["TAPRIO_PORT"] = PROGRAM
 HAS_LIBRARY = taprio.library.is_there()
 
-wants_library = unittest.skipUnless(HAS_LIBRARY, "c/out/libtaprio.so isn't there: c/build makes it")
+wants_library = unittest.skipUnless(HAS_LIBRARY, "bindings/c/out/libtaprio.so isn't there: bindings/c/build makes it")
 wants_program = unittest.skipUnless(PROGRAM, "there is no program: name one in TAPRIO_PORT")
-wants_port = unittest.skipUnless(HAS_LIBRARY or PROGRAM, "there is neither c/out/libtaprio.so nor a program")
+wants_port = unittest.skipUnless(HAS_LIBRARY or PROGRAM, "there is neither bindings/c/out/libtaprio.so nor a program")
 
 
 @contextlib.contextmanager
