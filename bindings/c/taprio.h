@@ -40,6 +40,9 @@
 #include <stddef.h>
 #include <stdint.h>
 
+/* The version of this header, which is that of the library beside it. */
+#define TAPRIO_VERSION "0.1.0"
+
 #ifdef __cplusplus
 extern "C" {
 #endif
