@@ -80,7 +80,7 @@ class Chromium:
         self.call("Input.insertText", text=text)
 
     def press(self, key, control=False):
-        code = {"Enter": 13, "Tab": 9, "ArrowDown": 40, "a": 65}[key]
+        code = {"Enter": 13, "Tab": 9, "ArrowDown": 40, "Home": 36, "a": 65}[key]
         values = {"key": key, "code": key if len(key) > 1 else "KeyA", "windowsVirtualKeyCode": code, "modifiers": 2 if control else 0}
         if key == "Enter":
             values["text"] = "\r"
@@ -190,7 +190,7 @@ class Firefox:
         self.call("WebDriver:ElementSendKeys", id=next(iter(element.values())), text=text)
 
     def press(self, key, control=False):
-        value = {"Enter": "\ue007", "Tab": "\ue004", "ArrowDown": "\ue015"}.get(key, key)
+        value = {"Enter": "\ue007", "Tab": "\ue004", "ArrowDown": "\ue015", "Home": "\ue011"}.get(key, key)
         keys = (["\ue009"] if control else []) + [value]
         downs = [{"type": "keyDown", "value": it} for it in keys]
         self.keys(*downs, *({"type": "keyUp", "value": it["value"]} for it in reversed(downs)))

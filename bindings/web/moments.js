@@ -6,21 +6,33 @@ const UNITS = { ps: 1n, ns: 1000n, us: 1_000_000n, ms: 1_000_000_000n, s: 1_000_
 export const GREATEST = 9223372036854775807000n;
 
 /**
- * The picoseconds of a text such as `20000000`, `20 us` or `12.303us`.
+ * The picoseconds of a text such as `20000000`, `20 us` or `12.303us`. The micro sign and the Greek letter mu are `u`.
  *
  * @param {string} text
  * @returns {bigint | null | undefined} null where there is no text, undefined where it is no moment
  */
 export function readMoment(text) {
-  const words = text.trim();
+  const words = text.trim().replace(/[µμ]/, "u");
   if (words === "") return null;
-  const found = /^(\d{1,30})(?:\.(\d{1,12}))?\s*(ps|ns|us|µs|ms|s)?$/.exec(words);
+  const found = /^(\d{1,30})(?:\.(\d{1,12}))?\s*(ps|ns|us|ms|s)?$/.exec(words);
   if (!found) return undefined;
-  const [, whole, part = "", name = "ps"] = found;
-  const unit = UNITS[name.replace("µ", "u")];
+  const [, whole, part = "", unit = "ps"] = found;
   const scale = 10n ** BigInt(part.length);
-  const value = BigInt(whole + part) * unit;
+  const value = BigInt(whole + part) * UNITS[unit];
   return value % scale === 0n ? value / scale : undefined;
+}
+
+const sizeOf = (moment) => (moment < 0n ? -moment : moment);
+
+// The greatest unit of which there is at least one.
+const unitOf = (length) => Object.keys(UNITS).reverse().find((it) => length >= UNITS[it]) ?? "ps";
+
+// A moment in a unit, exactly.
+function inUnit(moment, name) {
+  const [length, unit] = [sizeOf(moment), UNITS[name]];
+  const digits = String(unit).length - 1;
+  const rest = String(length % unit).padStart(digits, "0").replace(/0+$/, "");
+  return `${moment < 0n ? "-" : ""}${length / unit}${digits && rest ? `.${rest}` : ""} ${name}`;
 }
 
 /**
@@ -28,16 +40,25 @@ export function readMoment(text) {
  *
  * @param {bigint} moment
  */
-export function writeMoment(moment) {
-  const names = Object.keys(UNITS).reverse();
-  const name = names.find((it) => moment >= UNITS[it]) ?? "ps";
-  const unit = UNITS[name];
-  const digits = String(unit).length - 1;
-  const rest = String(moment % unit).padStart(digits, "0").replace(/0+$/, "");
-  return `${moment / unit}${digits && rest ? `.${rest}` : ""} ${name}`;
-}
+export const writeMoment = (moment) => inUnit(moment, unitOf(sizeOf(moment)));
 
-/** The picoseconds of a whole number of a unit. */
-export function ofUnit(number, unit) {
-  return BigInt(number) * UNITS[unit];
+/**
+ * Round moments to mark on an axis, counted from an origin: at most so many, with their texts in one unit.
+ *
+ * @param {{from: bigint, to: bigint}} shown
+ * @param {bigint} origin
+ * @param {number} most
+ * @returns {{at: bigint, text: string}[]}
+ */
+export function ticks({ from, to }, origin, most) {
+  const length = to - from;
+  let step = 1n;
+  for (let k = 0; step * BigInt(most) < length; k += 1) step = [1n, 2n, 5n][k % 3] * 10n ** BigInt(Math.floor(k / 3));
+  const first = from - origin;
+  let at = first - (((first % step) + step) % step);
+  if (at < first) at += step;
+  const unit = unitOf(sizeOf(at) > step * 1000n ? step * 1000n : sizeOf(to - origin) || step);
+  const found = [];
+  for (; at <= to - origin; at += step) found.push({ at: at + origin, text: at === 0n ? "0" : inUnit(at, unit) });
+  return found;
 }

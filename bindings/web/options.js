@@ -1,14 +1,15 @@
 // The options of the page, as the values that a job is given and as the words of a link.
 import { readMoment } from "./moments.js";
 
-const NUMBERS = ["rate", "mtu", "room", "width"];
+const NUMBERS = ["rate", "mtu", "room", "frames"];
 const MOMENTS = ["until", "from", "to"];
 const FLAGS = ["summary", "windows"];
 const GREATEST_NUMBER = 2 ** 32 - 1;
 const USED = {
   script: ["rate", "mtu", "room", "until", "summary"],
-  draw: ["rate", "mtu", "room", "from", "to", "width"],
+  draw: ["rate", "mtu", "room", "from", "to"],
   replay: ["rate", "mtu", "room", "until", "summary"],
+  bounds: ["rate", "mtu", "room", "frames"],
   check: ["rate", "windows"],
   streams: [],
 };
@@ -36,7 +37,7 @@ function readTime(name) {
 }
 
 // The values where nothing is said.
-const standing = () => ({ rate: 1000, mtu: 1500, room: 128, width: 1200, until: null, from: null, to: null, summary: false, windows: false });
+const standing = () => ({ rate: 1000, mtu: 1500, room: 128, frames: 1000000, width: 1200, until: null, from: null, to: null, summary: false, windows: false });
 
 /**
  * The values of the options that a job has; the others are the program's where no words are given.

@@ -5,43 +5,255 @@ import { BadOption, setOptions, valuesFor, wordsOfOptions } from "./options.js";
 import { readLink, writeLink } from "./link.js";
 import { explain } from "./faults.js";
 import { refusedCommands } from "./commands.js";
-import { between, shownIn, stepped } from "./picture.js";
+import { Picture, shownIn, stepped } from "./picture.js";
+import { Viewer } from "./viewer.js";
+import { Table } from "./tables.js";
 import { writeMoment } from "./moments.js";
+import { linesOf, readScript } from "./script.js";
+import { byClass, runVerdict } from "./frames.js";
+import { boundsIn, boundsVerdict, drawBounds } from "./bounds.js";
+import { count } from "./words.js";
+import { jobOf, kindOf, recordsOf, scriptOfReplay } from "./captures.js";
+import { STEPS } from "./gallery.js";
+import { lacking } from "./support.js";
 
 const SHOWN = 200_000; // characters of answers that are shown
 const RUNNING = "Running ..."; // what is said of a run that takes long
 const OWN = "own"; // the example that is what was typed
+const KEPT = "taprio"; // under which name the text is kept for a reload
+const MOST_KEPT = 1_000_000; // characters that are kept so
+const MOST_LINK = 8_000; // characters of a link that most places take
 
 const at = (id) => document.getElementById(id);
 const examples = JSON.parse(at("page-examples").textContent);
 const octetsIn = (base64) => Uint8Array.from(atob(base64), (it) => it.charCodeAt(0));
+const encoded = (text) => new TextEncoder().encode(text);
 const runner = new Runner(at("page-worker").textContent, octetsIn(at("page-wasm").textContent));
 const editor = new Editor(at("editor"));
 const beside = new Editor(at("beside-editor"));
 
 let own = null; // what was typed, while an example is shown
-let shown = null; // the time that the picture shows
+let ran = null; // the last run: its text, its values, and what was made of its answers
 let capture = new Uint8Array(); // the capture of a replay
+let captureName = "";
 let slow = 0; // the timer after which it is said that a run goes on
-let made = ""; // the script that the last table of streams gave
 let turn = 0; // the number of the run whose results are wanted
+let wanted = null; // the time that the picture is to show next, while one is being drawn
 
-const NAMES = { script: "Script", check: "Schedules", streams: "Table of streams", replay: "Script of the replay" };
+const NAMES = { script: "Script", bounds: "Schedules", check: "Schedules", streams: "Table of streams", replay: "Script of the replay" };
+const BESIDE = { streams: "Script whose lines go among the frames, each at its moment", bounds: "Table of streams" };
 const HINTS = {
   script: "Lines: clock M, frame ID PRIORITY LEN [tagged], query, count CLASS, tc qdisc .. taprio ..; moments in picoseconds.",
+  bounds: "Lines: tc qdisc .. taprio ..; below: stream FIRST_ID PRIORITY LEN PERIOD OFFSET COUNT [tagged] [deadline TIME].",
   check: "Lines: tc qdisc .. taprio ..; each is answered by the classes that it keeps apart.",
   replay: "Lines of a script, without frame: the frames are the records of the capture.",
   streams: "Lines: stream FIRST_ID PRIORITY LEN PERIOD OFFSET COUNT [tagged]; times such as 250us.",
 };
 
+// Says how things stand; that a run is done is said below its picture.
+function say(words, done = false) {
+  at("status").textContent = words;
+  at("status").classList.toggle("done", done);
+}
+
 const job = () => at("form").elements.job.value;
 
-function setJob(name) {
-  at("form").elements.job.value = name;
-  at("text-name").textContent = NAMES[name];
-  at("text-hint").textContent = HINTS[name];
-  for (const part of document.querySelectorAll("[data-jobs]")) part.hidden = !part.dataset.jobs.split(" ").includes(name);
+// 1. How times are written
+
+const origin = () => BigInt(at("origin").value || 0);
+const writeTime = (time) => (at("ps").checked ? String(time) : time === 0n ? "0" : writeMoment(time));
+const writeAt = (moment) => (at("ps").checked ? String(moment) : writeTime(moment - origin()));
+
+const CLASS_COLUMNS = [
+  ["class", "Class", "number"], ["frames", "Frames", "number"], ["sent", "Sent", "number"], ["left", "Waiting at the end", "number"],
+  ["least", "Least wait", "time"], ["mean", "Mean wait", "time"], ["greatest", "Greatest wait", "time"],
+];
+const WINDOW_COLUMNS = [
+  ["schedule", "Schedule", "number"], ["class", "Class", "number"], ["open", "Longest open", "time"], ["closed", "Longest closed", "time"],
+  ["share", "Share", "text"], ["frame", "Longest frame", "number"],
+];
+const BOUND_COLUMNS = [
+  ["id", "Stream", "number"], ["class", "Class", "number"], ["least", "Least wait", "time"], ["greatest", "Greatest wait", "time"],
+  ["first", "Earliest end", "time"], ["last", "Latest end", "time"], ["deadline", "Deadline", "time"], ["verdict", "Verdict", "text"], ["told", "", "text"],
+];
+const FRAME_COLUMNS = [
+  ["id", "Frame", "number"], ["class", "Class", "number"], ["length", "Octets", "number"], ["arrival", "Arrives", "moment"], ["start", "Starts", "moment"],
+  ["end", "Ends", "moment"], ["wait", "Waits", "time"], ["fate", "Fate", "text"],
+];
+const columns = (list) => list.map(([name, title, kind]) => ({ name, title, kind }));
+const HOW = { time: writeTime, moment: writeAt };
+const tables = {
+  script: new Table(at("classes"), columns(CLASS_COLUMNS), HOW),
+  replay: new Table(at("classes"), columns(CLASS_COLUMNS), HOW),
+  check: new Table(at("classes"), columns(WINDOW_COLUMNS), HOW),
+  bounds: new Table(at("classes"), columns(BOUND_COLUMNS), HOW),
+};
+const frameTable = new Table(at("frames-table"), columns(FRAME_COLUMNS), { ...HOW, choose: (frame) => chooseFrame(frame, true) });
+
+// 2. The picture
+
+const viewer = new Viewer(
+  { box: at("frame"), canvas: at("canvas"), band: at("band"), tip: at("tip") },
+  { want: (time) => setTime(time), whole: () => zoom("whole"), choose: (frame) => chooseFrame(frame, false), tell: tipOf },
+);
+
+function line(text, title) {
+  const made = document.createElement("div");
+  made.textContent = text;
+  if (title) made.title = title;
+  return made;
 }
+
+// What is said of what lies at a place of the picture.
+function tipOf({ frame, band }) {
+  if (band) return [line(`Class ${band.class} is open`), line(`about ${writeAt(band.from)} to ${writeAt(band.to)}`)];
+  const head = document.createElement("strong");
+  head.textContent = `Frame ${frame.id}${frame.class === null ? "" : `, class ${frame.class}`}`;
+  const lines = [head, line(`${frame.length} octets, arrives ${writeAt(frame.arrival)}`)];
+  if (frame.start !== null) lines.push(line(`starts ${writeAt(frame.start)}, ends ${writeAt(frame.end)}`), line(`waits ${writeTime(frame.wait)}`));
+  else lines.push(line(frame.fate === "left" ? "still waits at the end" : `dropped: ${frame.fate}`));
+  return lines;
+}
+
+// A frame is chosen in the table or in the picture: it is shown in both, and its line of the answers.
+function chooseFrame(frame, inPicture) {
+  if (inPicture) viewer.find(frame);
+  frameTable.mark(frame);
+  markAnswer(frame.told);
+}
+
+function markAnswer(number) {
+  const text = at("answers").firstChild;
+  if (!text) return;
+  const lines = text.data.split("\n");
+  const begin = lines.slice(0, number - 1).reduce((sum, it) => sum + it.length + 1, 0);
+  if (begin >= text.data.length) return;
+  const range = document.createRange();
+  range.setStart(text, begin);
+  range.setEnd(text, begin + lines[number - 1].length);
+  getSelection().removeAllRanges();
+  getSelection().addRange(range);
+  const height = parseFloat(getComputedStyle(at("answers")).lineHeight);
+  at("answers").scrollTop = Math.max(0, (number - 4) * height);
+}
+
+function hidePicture(why) {
+  viewer.show(null);
+  at("zoom").hidden = true;
+  at("save-picture").hidden = true;
+  at("picture-status").textContent = why;
+}
+
+// The width of a picture: what there is, between what the port takes.
+const widthNow = () => Math.min(2400, Math.max(400, Math.floor(at("view").clientWidth) - 2));
+
+function fillOrigins({ changes, first }) {
+  const list = changes.slice(0, 20).map(({ change }, place) => [`change ${place + 1} (${writeMoment(change)})`, change]);
+  list.push(["the first event" + (first ? ` (${writeMoment(first)})` : ""), first], ["moment 0", 0n]);
+  at("origin").replaceChildren(...list.map(([text, value]) => new Option(text, value)));
+}
+
+function showPicture({ output }, values) {
+  const text = new TextDecoder().decode(output);
+  const shown = shownIn(text, values);
+  addressOf(at("save-picture"), output, "image/svg+xml");
+  at("frame").dataset.width = values.width;
+  at("zoom").hidden = false;
+  for (const part of document.querySelectorAll("#zoom [data-step], #zoom details, #zoom .pair")) part.hidden = part.id === "which-row" ? ran.job !== "check" || ran.schedules.length < 2 : false;
+  ran.drawn = { text, shown };
+  layPicture();
+  at("picture-status").textContent = "";
+}
+
+// Puts what was drawn into the page, with its marks of time.
+function layPicture() {
+  const { text, shown } = ran.drawn;
+  if (!shown) return;
+  viewer.show(new Picture(text, shown, { origin: origin(), changes: ran.changes, frames: ran.frames }));
+  const words = `from ${writeAt(shown.from)} to ${writeAt(shown.to)}, counted from ${at("origin").selectedOptions[0]?.textContent ?? "moment 0"}`;
+  at("frame").setAttribute("aria-label", `Picture ${words}: a row for each class with its open time, its frames and how long they wait, and one for the wire. The table of frames says the same.`);
+}
+
+// What to draw: where no end is given, the picture goes to the moment that the run goes to.
+function drawValues() {
+  const values = { ...valuesFor("draw"), ...ran.port, width: widthNow() };
+  const { until } = ran.values;
+  if (ran.window && values.from === null && values.to === null) Object.assign(values, ran.window);
+  if (values.to === null && until !== null && until > (values.from ?? 0n)) values.to = until;
+  return values;
+}
+
+async function draw(mine) {
+  if (ran.job === "bounds") return showBounds();
+  if (ran.source === null) return hidePicture(ran.why);
+  const values = drawValues();
+  const told = await ask(mine, { job: "draw", input: encoded(ran.source), beside: new Uint8Array(), values });
+  if (!told) return undefined;
+  if (told.status === 0) return showPicture(told, values);
+  hidePicture(`No picture: ${told.fault.trim().replace(/^taprio_port: /, "")}.`);
+  return showFault(told.fault);
+}
+
+function showBounds() {
+  const { streams } = ran.bounds[Number(at("which").value) || 0] ?? { streams: [] };
+  if (!streams.length) return hidePicture("");
+  const svg = drawBounds(streams, widthNow(), writeTime);
+  viewer.show({ svg });
+  addressOf(at("save-picture"), encoded(standalone(svg)), "image/svg+xml");
+  at("zoom").hidden = false;
+  for (const part of document.querySelectorAll("#zoom [data-step], #zoom details, #zoom .pair")) part.hidden = part.id !== "which-row" || ran.bounds.length < 2;
+  at("frame").setAttribute("aria-label", "Each stream from its earliest to its latest end, against its deadline. The table says the same.");
+  at("picture-status").textContent = "Bars: from the earliest to the latest end of a stream's frames, from their arrival on. Line: the deadline.";
+  return undefined;
+}
+
+// A picture with the page's style in it, for a file.
+function standalone(svg) {
+  const copy = svg.cloneNode(true);
+  const style = document.createElementNS("http://www.w3.org/2000/svg", "style");
+  const rules = [...document.styleSheets[0].cssRules].filter((it) => it.selectorText?.includes(".canvas svg")).map((it) => it.cssText.replace(/\.canvas svg/g, "svg"));
+  const root = getComputedStyle(document.documentElement);
+  style.textContent = rules.join("\n").replace(/var\((--[\w-]+)\)/g, (_, name) => root.getPropertyValue(name));
+  copy.prepend(style);
+  copy.setAttribute("xmlns", "http://www.w3.org/2000/svg");
+  return new XMLSerializer().serializeToString(copy);
+}
+
+// Saves what is shown as a bitmap, at twice its size.
+async function savePng() {
+  const svg = at("canvas").querySelector("svg");
+  if (!svg) return;
+  const address = URL.createObjectURL(new Blob([standalone(svg)], { type: "image/svg+xml" }));
+  const image = new Image();
+  image.src = address;
+  await image.decode();
+  const canvas = document.createElement("canvas");
+  [canvas.width, canvas.height] = [2 * image.width, 2 * image.height];
+  const context = canvas.getContext("2d");
+  context.fillStyle = getComputedStyle(document.body).backgroundColor;
+  context.fillRect(0, 0, canvas.width, canvas.height);
+  context.drawImage(image, 0, 0, canvas.width, canvas.height);
+  URL.revokeObjectURL(address);
+  const link = document.createElement("a");
+  link.href = canvas.toDataURL("image/png");
+  link.download = "run.png";
+  link.click();
+}
+
+function setTime({ from, to }) {
+  at("from").value = writeMoment(from);
+  at("to").value = writeMoment(to);
+  return runPicture();
+}
+
+function zoom(step) {
+  if (step !== "whole") return ran?.drawn?.shown && setTime(stepped(ran.drawn.shown, step));
+  at("from").value = "";
+  at("to").value = "";
+  return runPicture();
+}
+
+// 3. The answers
 
 // Octets as a picture or a file, by an address that is given back when the next takes its place.
 function addressOf(link, content, type) {
@@ -51,44 +263,66 @@ function addressOf(link, content, type) {
   return link.href;
 }
 
-function setCapture(octets, name) {
-  capture = octets;
-  at("capture-name").textContent = octets.length ? `${name}, ${count(octets.length, "octet")}` : "none is chosen";
-}
-
-async function chooseCapture() {
-  const [file] = at("capture").files;
-  if (!file) return;
-  setCapture(new Uint8Array(await file.arrayBuffer()), file.name);
-  becomeOwn();
-}
-
-function showAnswers(output) {
-  const text = new TextDecoder().decode(output);
+function showAnswers(name, output, text) {
   const end = text.length > SHOWN ? text.lastIndexOf("\n", SHOWN) + 1 : text.length;
   at("answers").textContent = text.slice(0, end);
   at("cut").hidden = end === text.length;
   at("cut").textContent = `The first ${end.toLocaleString("en")} of ${text.length.toLocaleString("en")} characters are shown; saved are all.`;
   addressOf(at("save-answers"), output, "text/plain");
-  at("save-answers").download = job() === "streams" ? "traffic.script" : "answers.txt";
-  made = job() === "streams" ? text : "";
-  at("take").hidden = made === "";
+  at("save-answers").download = name === "streams" ? "traffic.script" : "answers.txt";
+  at("take").hidden = name !== "streams" || text === "";
 }
 
 // Lists the schedule commands that weren't taken, each as a button to its line.
-function showRefused(output) {
-  const refused = job() === "streams" ? [] : refusedCommands(editor.text, new TextDecoder().decode(output));
-  const items = refused.map(({ line, answer }) => {
+function showRefused(name, text, answers) {
+  const refused = name === "streams" ? [] : refusedCommands(text, answers);
+  const items = refused.map(({ line: number, answer }) => {
     const button = document.createElement("button");
     button.type = "button";
-    button.textContent = `Line ${line}: ${answer}`;
-    button.addEventListener("click", () => editor.goTo(line));
+    button.textContent = `Line ${number}: ${answer}`;
+    button.addEventListener("click", () => editor.goTo(number));
     const item = document.createElement("li");
     item.append(button);
     return item;
   });
   at("refused-list").replaceChildren(...items);
   at("refused").hidden = items.length === 0;
+}
+
+const WINDOW = /^window class (\d) open (\w+) closed (\d+) share (\d+) of (\d+) frame (\w+)$/;
+
+// The windows that a check tells of, each with the number of its schedule.
+function windowsIn(answers) {
+  let schedule = 0;
+  const found = [];
+  for (const text of answers.split("\n")) {
+    if (/^(?:apart|refused|tc-fault)\b/.test(text)) schedule += 1;
+    const it = WINDOW.exec(text);
+    if (!it) continue;
+    const [, kind, open, closed, part, whole, frame] = it;
+    const percent = `${(Number((BigInt(part) * 100000n) / BigInt(whole)) / 1000).toFixed(2)} %`;
+    found.push({ schedule, class: Number(kind), open: open === "always" ? open : BigInt(open), closed: BigInt(closed), share: percent, frame });
+  }
+  return found;
+}
+
+function showTables() {
+  const rows = { script: () => byClass(ran.frames), replay: () => byClass(ran.frames), check: () => ran.windows, bounds: () => ran.bounds[Number(at("which").value) || 0]?.streams ?? [], streams: () => [] }[ran.job]();
+  at("classes").hidden = !rows.length;
+  at("save-table").hidden = !rows.length;
+  if (rows.length) {
+    tables[ran.job].show(rows);
+    addressOf(at("save-table"), encoded(tables[ran.job].csv), "text/csv");
+  }
+  at("frames-box").hidden = !ran.frames.length;
+  at("frames-name").textContent = `Frames (${ran.frames.length.toLocaleString("en")})`;
+  if (at("frames-box").open) showFrames();
+}
+
+function showFrames() {
+  if (!ran) return;
+  frameTable.show(ran.frames);
+  addressOf(at("save-frames"), encoded(frameTable.csv), "text/csv");
 }
 
 function clearFault() {
@@ -98,21 +332,23 @@ function clearFault() {
 }
 
 // The editor that has the lines of which a fault tells.
-const editorOf = (source) => (job() === "streams" && source === "script" ? beside : editor);
+const editorOf = (source) => {
+  const second = job() === "bounds" ? "table" : "script";
+  return ["streams", "bounds"].includes(job()) && source === second ? beside : editor;
+};
 
 function showFault(text) {
-  const { text: words, line, source } = explain(text);
+  const { text: words, line: number, source } = explain(text);
   at("fault-text").textContent = words;
   const field = at(/--(\w+)/.exec(words)?.[1] ?? "");
   field?.setAttribute("aria-invalid", "true");
-  if (line !== null) editorOf(source).markLine(line);
-  at("go").hidden = line === null && !field;
+  if (field) field.closest("details").open = true;
+  if (number !== null) editorOf(source).markLine(number);
+  at("go").hidden = number === null && !field;
   at("go").textContent = field ? "Go to the option" : "Go to the line";
-  at("go").onclick = () => (field ? field.focus() : editorOf(source).goTo(line));
+  at("go").onclick = () => (field ? field.focus() : editorOf(source).goTo(number));
   at("fault").hidden = false;
 }
-
-const count = (text, word) => `${text.toLocaleString("en")} ${word}${text === 1 ? "" : "s"}`;
 
 function linesIn(output) {
   let lines = 0;
@@ -124,90 +360,124 @@ function sayStatus({ status, output, time }) {
   const names = { 0: "Done", 2: "A value is refused", 3: "The input has a fault", 4: "Out of memory" };
   clearTimeout(slow);
   const after = status === 3 ? " before it" : "";
-  at("status").textContent = `${names[status]}: ${count(linesIn(output), "line")}${after}, in ${time.toFixed(time < 10 ? 1 : 0)} ms (status ${status}).`;
+  say(`${names[status]}: ${count(linesIn(output), "line")}${after}, in ${time.toFixed(time < 10 ? 1 : 0)} ms (status ${status}).`, status === 0);
 }
 
-function hidePicture(why) {
-  shown = null;
-  at("frame").hidden = true;
-  at("save-picture").hidden = true;
-  at("picture-status").textContent = why;
-  for (const button of document.querySelectorAll("[data-step]")) button.disabled = button.dataset.step !== "whole";
+const APART = (text) => text.replace(/^apart /, "");
+
+function sayVerdict(answers) {
+  const said = {
+    script: () => runVerdict(ran.frames, writeTime),
+    replay: () => runVerdict(ran.frames, writeTime),
+    streams: () => `A script of ${count((answers.match(/^frame /gm) ?? []).length, "frame")}.`,
+    bounds: () => boundsVerdict(ran.bounds[Number(at("which").value) || 0] ?? { classes: [], streams: [] }, writeTime),
+    check: () => {
+      const apart = answers.match(/^apart .*$/gm) ?? [];
+      return apart.length === 1 ? `Kept apart: ${APART(apart[0]) === "none" ? "no class" : `class ${APART(apart[0]).replace(/ /g, ", ")}`}.` : `${count(apart.length, "schedule")} accepted.`;
+    },
+  }[ran.job]();
+  const change = ran.changes.length && ["script", "replay"].includes(ran.job) ? ` In force from ${writeMoment(ran.changes[0].change)}.` : "";
+  at("verdict").textContent = said + (ran.frames.length ? "" : change);
 }
 
-function showPicture({ output }, values) {
-  at("image").src = addressOf(at("save-picture"), output, "image/svg+xml");
-  at("frame").hidden = false;
-  shown = shownIn(new TextDecoder().decode(output), values);
-  const time = shown ? `from ${writeMoment(shown.from)} to ${values.to === null ? "the run's end, about " : ""}${writeMoment(shown.to)}` : "of the run";
-  at("image").alt = `Picture ${time}: a row for each class with its open time, its frames and how long they wait, and one for the wire. The answers say the same in words.`;
-  at("picture-status").textContent = `Shown ${time}.`;
-  for (const button of document.querySelectorAll("[data-step]")) button.disabled = !shown && button.dataset.step !== "whole";
-}
+// 4. A run
 
 function running(is) {
   at("stop").disabled = !is;
   document.querySelector("main").setAttribute("aria-busy", String(is));
 }
 
-// The second input of a job.
-function besideOf(name) {
-  if (name === "replay") return capture;
-  return encoded(name === "streams" ? beside.text : "");
+// What is run: the text and the values as they stand now.
+function snapshot() {
+  const name = job();
+  const values = valuesFor(name);
+  if (name === "replay" && values.until === null) throw new BadOption("until");
+  const second = name === "replay" ? capture : encoded(["streams", "bounds"].includes(name) ? beside.text : "");
+  const { rate, mtu, room } = values;
+  return { job: name, text: editor.text, beside: second, values, port: { rate, mtu, room }, frames: [], changes: [], first: 0n, windows: [], bounds: [], schedules: [], source: null, why: "", drawn: null, window: null };
 }
 
 // Does a job for a run, and null where another run has begun since.
-async function ask(mine, name, values) {
-  const request = { job: name, input: encoded(editor.text), beside: besideOf(name), values };
+async function ask(mine, request) {
   const told = await runner.run(request);
   return mine === turn ? told : null;
 }
 
-const encoded = (text) => new TextEncoder().encode(text);
-
-// What to draw: where no end is given, the picture goes to the moment that the run goes to.
-function drawValues() {
-  const values = valuesFor("draw");
-  const { until } = valuesFor("script");
-  if (values.to === null && until !== null && until > (values.from ?? 0n)) values.to = until;
-  return values;
+// What a script and its answers come to.
+async function takeRun(mine, script, answers) {
+  const told = await ask(mine, { job: "frames", script, answers });
+  if (told) Object.assign(ran, { frames: told.frames, changes: told.changes, first: told.first, source: script });
 }
 
-async function draw(mine) {
-  const values = drawValues();
-  const told = await ask(mine, "draw", values);
+// The schedule of a check that is drawn: two of its cycles from its change on.
+async function takeSchedule(mine) {
+  const { number, line: text } = ran.schedules[Number(at("which").value) || 0] ?? {};
+  if (number === undefined) return;
+  const told = await ask(mine, { job: "script", input: encoded(`${text}\n`), beside: new Uint8Array(), values: { ...ran.values, until: null, summary: false } });
   if (!told) return;
-  if (told.status === 0) {
-    showPicture(told, values);
+  await takeRun(mine, `${text}\n`, new TextDecoder().decode(told.output));
+  const [it] = ran.changes;
+  if (!it || it.cycle === null) {
+    ran.source = null;
+    ran.why = "No picture: the schedule is not taken by a new port.";
     return;
   }
-  hidePicture("No picture.");
-  showFault(told.fault);
+  ran.window = { from: it.change, to: it.change + 2n * it.cycle };
+}
+
+async function takeAnswers(mine, answers) {
+  const name = ran.job;
+  if (name === "script") await takeRun(mine, ran.text, answers);
+  else if (name === "replay") await takeRun(mine, scriptOfReplay(linesOf(ran.text), recordsOf(ran.beside)), answers);
+  else if (name === "bounds") ran.bounds = boundsIn(answers);
+  else if (name === "check") {
+    const input = encoded(ran.text);
+    const told = ran.values.windows ? null : await ask(mine, { job: "check", input, beside: new Uint8Array(), values: { ...ran.values, windows: true } });
+    ran.windows = windowsIn(told ? new TextDecoder().decode(told.output) : answers);
+    const tells = answers.match(/^(?:apart|refused|tc-fault)\b.*$/gm) ?? [];
+    ran.schedules = readScript(ran.text).commands.map(({ line: number, words }, place) => ({ number, line: words.join(" "), told: tells[place] })).filter((it) => /^apart/.test(it.told ?? "") && it.line.includes("sched-entry"));
+  }
+  fillWhich(name === "bounds" ? ran.bounds.length : ran.schedules.length);
+  if (name === "check") await takeSchedule(mine);
+}
+
+function fillWhich(number) {
+  at("which").replaceChildren(...Array.from({ length: number }, (_, place) => new Option(String(place + 1), String(place))));
 }
 
 async function work(mine) {
-  const name = job();
-  const values = valuesFor(name);
-  if (name === "replay" && values.until === null) throw new BadOption("until");
-  const told = await ask(mine, name, values);
+  const next = snapshot();
+  const told = await ask(mine, { job: next.job, input: encoded(next.text), beside: next.beside, values: next.values });
   if (!told) return;
-  showAnswers(told.output);
-  showRefused(told.output);
+  ran = next;
+  const answers = new TextDecoder().decode(told.output);
+  ran.answers = answers;
+  if (told.status === 0) await takeAnswers(mine, answers);
+  if (mine !== turn) return;
+  fillOrigins(ran);
+  showAnswers(ran.job, told.output, answers);
+  showRefused(ran.job, ran.text, answers);
+  showTables();
   at("save-departures").hidden = true;
-  if (name === "replay") addressOf(at("save-departures"), told.departures, "application/vnd.tcpdump.pcap");
+  if (ran.job === "replay") addressOf(at("save-departures"), told.departures, "application/vnd.tcpdump.pcap");
   sayStatus(told);
-  if (told.status !== 0) showFault(told.fault);
-  if (name !== "script") return;
-  if (told.status === 0) await draw(mine);
-  else hidePicture("No picture: the run has a fault.");
+  at("verdict").textContent = "";
+  if (told.status !== 0) {
+    showFault(told.fault);
+    hidePicture(["script", "replay", "check"].includes(ran.job) ? "No picture: the run has a fault." : "");
+    return;
+  }
+  sayVerdict(answers);
+  if (ran.job === "streams") hidePicture("");
+  else await draw(mine);
 }
 
 function showError(error) {
-  if (error instanceof Stopped) at("status").textContent = "Stopped.";
+  if (error instanceof Stopped) say("Stopped.");
   else if (error instanceof BadOption) {
-    at("status").textContent = "A value is refused (status 2).";
+    say("A value is refused (status 2).");
     showFault(error.message);
-  } else at("status").textContent = `This browser could not run it: ${error.message}`;
+  } else say(`This browser could not run it: ${error.message}`);
 }
 
 // Begins a run of all or of the picture alone; one that still goes on is stopped.
@@ -217,8 +487,8 @@ async function begin(what) {
   if (!at("stop").disabled) runner.stop();
   clearFault();
   running(true);
-  const before = at("status").textContent;
-  slow = setTimeout(() => (at("status").textContent = RUNNING), 300);
+  const before = [at("status").textContent, at("status").classList.contains("done")];
+  slow = setTimeout(() => (say(RUNNING)), 300);
   try {
     await what(mine);
   } catch (error) {
@@ -226,62 +496,205 @@ async function begin(what) {
   } finally {
     if (mine === turn) {
       clearTimeout(slow);
-      if (at("status").textContent === RUNNING) at("status").textContent = before;
+      if (at("status").textContent === RUNNING) say(...before);
       running(false);
     }
   }
 }
 
-// Begins a run; the picture shows the whole of it, or what is asked for.
-const runAll = () => begin(work);
-const runPicture = () => begin(draw);
+// Begins a run of what stands in the page.
+function runAll() {
+  keep();
+  setStale(false);
+  hidePicture("");
+  return begin(work);
+}
+
+// Draws anew; of wishes that come while it draws the last is drawn next.
+async function runPicture() {
+  if (!ran) return;
+  if (wanted !== null) {
+    wanted = true;
+    return;
+  }
+  wanted = false;
+  await begin(draw);
+  const again = wanted;
+  wanted = null;
+  if (again) await runPicture();
+}
+
+// 5. What stands in the page
+
+// What is shown is of another text or of other options than stand there now.
+function setStale(is) {
+  for (const part of [at("view"), at("results")]) part.classList.toggle("stale", is);
+  if (is && ran) say("Changed since this was run. Run it (Ctrl+Enter in the text).");
+}
+
+function setJob(name) {
+  at("form").elements.job.value = name;
+  at("text-name").textContent = NAMES[name];
+  at("text-hint").textContent = HINTS[name];
+  at("beside-label").textContent = BESIDE[name] ?? "";
+  for (const part of document.querySelectorAll("[data-jobs]")) part.hidden = !part.dataset.jobs.split(" ").includes(name);
+}
+
+function setCapture(octets, name) {
+  [capture, captureName] = [octets, name ?? ""];
+  at("capture-name").textContent = octets.length ? `${name}, ${count(octets.length, "octet")}` : "none is chosen";
+}
+
+const stateNow = () => ({ job: job(), ...wordsOfOptions(), ...(["streams", "bounds"].includes(job()) ? { beside: beside.text } : {}), text: editor.text });
 
 // Puts a text, its kind and its options into the page, and runs it.
 function load(state) {
   setJob(NAMES[state.job] ? state.job : "script");
-  setOptions(state);
+  // (the picture of a check is of two cycles of the schedule that is chosen)
+  setOptions(state.job === "check" ? { ...state, from: "", to: "" } : state);
   editor.text = state.text ?? "";
   beside.text = state.beside ?? "";
   at("capture").value = "";
   setCapture(state.octets ?? octetsIn(state.capture ?? ""), state.name);
   at("link-row").hidden = true;
+  at("long-link").hidden = true;
   return runAll();
 }
 
-const stateNow = () => ({ job: job(), ...wordsOfOptions(), ...(job() === "streams" ? { beside: beside.text } : {}), text: editor.text });
-
-function fillExamples() {
-  const groups = { script: "Scripts", check: "Schedules", streams: "Tables of streams", replay: "Captures" };
-  for (const [name, label] of Object.entries(groups)) {
-    const group = document.createElement("optgroup");
-    group.label = label;
-    for (const it of examples.filter((example) => example.job === name)) group.append(new Option(it.name, it.name));
-    at("example").append(group);
+// Keeps the text for a reload, as far as this browser does so.
+function keep() {
+  try {
+    if (editor.text.length + beside.text.length > MOST_KEPT) sessionStorage.removeItem(KEPT);
+    else sessionStorage.setItem(KEPT, JSON.stringify({ ...stateNow(), example: at("example").value }));
+  } catch {
+    // (a browser may keep nothing for files)
   }
 }
 
-// The text is one's own from now on.
+function kept() {
+  try {
+    return JSON.parse(sessionStorage.getItem(KEPT));
+  } catch {
+    return null;
+  }
+}
+
+const byName = (name) => examples.find((it) => it.name === name);
+
+function fillExamples() {
+  const told = STEPS.filter(([name]) => byName(name));
+  const story = document.createElement("optgroup");
+  story.label = "In steps";
+  told.forEach(([name, title], place) => story.append(new Option(`${place + 1}. ${title}`, name)));
+  at("example").append(story);
+  const others = examples.filter((it) => !told.some(([name]) => name === it.name));
+  const group = document.createElement("optgroup");
+  group.label = "More";
+  for (const it of others) group.append(new Option(it.name, it.name));
+  at("example").append(group);
+}
+
+function saySentence() {
+  const name = at("example").value;
+  const step = STEPS.find((it) => it[0] === name);
+  at("sentence").textContent = step ? step[2] : "";
+}
+
+// The text is one's own from now on, and what is shown is of another.
 function becomeOwn() {
   if (!at("example").querySelector(`[value=${OWN}]`)) at("example").prepend(new Option("your own", OWN));
   at("example").value = OWN;
   own = null;
+  saySentence();
+  setStale(true);
+  keep();
 }
 
 function chooseExample() {
   const name = at("example").value;
+  saySentence();
   if (name === OWN) return own && load(own);
-  return load(examples.find((it) => it.name === name));
+  return load(byName(name));
 }
 
+// Goes to the example before or after.
+function stepExample(step) {
+  noteOwn();
+  const all = [...at("example").options];
+  const place = all.findIndex((it) => it.value === at("example").value);
+  at("example").value = all[(place + step + all.length) % all.length].value;
+  return chooseExample();
+}
+
+function noteOwn() {
+  if (at("example").value === OWN) own = { ...stateNow(), octets: capture, name: captureName };
+}
+
+// Another job by its tab: the text goes with it where it can, and else an example comes.
+function chooseJob() {
+  const name = job();
+  setJob(name);
+  const words = editor.text;
+  const fits = { script: !/^[ \t]*stream[ \t]/m.test(words), check: !/^[ \t]*(?:clock|frame|stream|query|count)\b/m.test(words), bounds: !/^[ \t]*(?:clock|frame|stream|query|count)\b/m.test(words), replay: !/^[ \t]*(?:frame|stream)\b/m.test(words), streams: /^[ \t]*stream[ \t]/m.test(words) }[name];
+  if (fits && (name !== "bounds" || beside.text) && (name !== "replay" || capture.length)) {
+    setStale(true);
+    return;
+  }
+  const first = STEPS.map(([it]) => byName(it)).find((it) => it?.job === name) ?? examples.find((it) => it.job === name);
+  if (!first) return;
+  at("example").value = first.name;
+  chooseExample();
+}
+
+async function chooseCapture() {
+  const [file] = at("capture").files;
+  if (file) await takeFile(file);
+}
+
+// Takes a file by what its octets are.
+async function takeFile(file) {
+  const octets = new Uint8Array(await file.arrayBuffer());
+  const kind = kindOf(octets);
+  if (kind.kind === "other") {
+    say(`${file.name}: ${kind.why}`);
+    return;
+  }
+  if (kind.kind === "capture") {
+    setJob("replay");
+    setCapture(octets, file.name);
+    if (/^[ \t]*frame\b/m.test(editor.text)) editor.text = "";
+    if (!at("until").value) at("until").value = writeMoment(endOf(octets));
+  } else {
+    const text = new TextDecoder().decode(octets);
+    const name = jobOf(text, job());
+    if (name === "bounds") beside.text = text;
+    else editor.text = text;
+    setJob(name);
+  }
+  becomeOwn();
+  await runAll();
+}
+
+// A millisecond after the last record.
+const endOf = (octets) => (recordsOf(octets).at(-1)?.moment ?? 0n) + 1_000_000_000n;
+
 async function makeLink() {
-  history.replaceState(null, "", await writeLink(stateNow()));
-  at("link-row").hidden = false;
+  const fragment = await writeLink(stateNow());
+  const long = fragment.length > MOST_LINK;
+  at("long-link").hidden = !long;
+  at("link-row").hidden = long;
+  if (long) {
+    at("long-link-text").textContent = `The link would have ${fragment.length.toLocaleString("en")} characters, and many places take no more than ${MOST_LINK.toLocaleString("en")}.`;
+    addressOf(at("save-text"), editor.text, "text/plain");
+    return;
+  }
+  history.replaceState(null, "", fragment);
   at("address").value = location.href;
   at("address").focus();
   at("address").select();
   await navigator.clipboard?.writeText(location.href).catch(() => {});
   const without = job() === "replay" ? " The capture is not in it." : "";
-  at("status").textContent = `The link is made, and stands in the field below the buttons.${without}`;
+  say(`The link is made, and stands in the field below the buttons.${without}`);
 }
 
 async function openLink() {
@@ -291,54 +704,17 @@ async function openLink() {
     becomeOwn();
     await load(state);
   } catch (error) {
-    at("status").textContent = `The link can't be read: ${error.message}`;
+    say(`The link can't be read: ${error.message}`);
   }
   return true;
 }
 
-function setTime({ from, to }) {
-  at("from").value = writeMoment(from);
-  at("to").value = writeMoment(to);
-  return runPicture();
-}
-
-function zoom(step) {
-  if (step !== "whole") return shown && setTime(stepped(shown, step));
-  at("from").value = "";
-  at("to").value = "";
-  return runPicture();
-}
-
-// Draws over a stretch of the picture, to zoom to it.
-function dragged(canvas) {
-  const band = at("band");
-  let begun = null;
-  const share = (event) => {
-    const { left, width } = canvas.getBoundingClientRect();
-    return Math.min(1, Math.max(0, (event.clientX - left) / width));
-  };
-  canvas.addEventListener("pointerdown", (event) => {
-    if (!shown || event.button !== 0 || event.pointerType === "touch") return;
-    begun = share(event);
-    canvas.setPointerCapture(event.pointerId);
-  });
-  canvas.addEventListener("pointermove", (event) => {
-    if (begun === null) return;
-    const now = share(event);
-    band.hidden = false;
-    band.style.left = `${Math.min(begun, now) * 100}%`;
-    band.style.width = `${Math.abs(now - begun) * 100}%`;
-  });
-  canvas.addEventListener("pointerup", (event) => {
-    const first = begun;
-    begun = null;
-    band.hidden = true;
-    if (first !== null && shown && Math.abs(share(event) - first) > 0.01) setTime(between(shown, first, share(event)));
-  });
-  canvas.addEventListener("pointercancel", () => {
-    begun = null;
-    band.hidden = true;
-  });
+// Goes on with the script that a table of streams made.
+async function takeAsScript() {
+  const text = ran.answers;
+  const { rate, mtu, room } = wordsOfOptions();
+  becomeOwn();
+  await load({ job: "script", rate, mtu, room, text });
 }
 
 function listen() {
@@ -349,37 +725,67 @@ function listen() {
   at("form").addEventListener("keydown", (event) => {
     if (event.key === "Enter" && (event.ctrlKey || event.metaKey)) runAll();
   });
-  for (const radio of at("form").elements.job) radio.addEventListener("change", () => setJob(job()));
+  for (const radio of at("form").elements.job) radio.addEventListener("change", chooseJob);
   for (const area of [editor.area, beside.area]) area.addEventListener("input", becomeOwn);
-  at("example").addEventListener("focus", () => {
-    if (at("example").value === OWN) own = { ...stateNow(), octets: capture, name: "your capture" };
-  });
+  for (const input of document.querySelectorAll(".options input, .options select")) input.addEventListener("input", () => setStale(true));
+  at("example").addEventListener("focus", noteOwn);
   at("example").addEventListener("change", chooseExample);
+  at("back").addEventListener("click", () => stepExample(-1));
+  at("next").addEventListener("click", () => stepExample(1));
   at("capture").addEventListener("change", chooseCapture);
+  at("open").addEventListener("click", () => at("file").click());
+  at("file").addEventListener("change", () => at("file").files[0] && takeFile(at("file").files[0]));
   at("stop").addEventListener("click", () => runner.stop());
   at("link").addEventListener("click", makeLink);
-  at("take").addEventListener("click", () => takeAsScript());
+  at("take").addEventListener("click", takeAsScript);
   at("draw").addEventListener("click", runPicture);
+  at("save-png").addEventListener("click", savePng);
+  at("origin").addEventListener("change", () => ran && (layPicture(), showTables()));
+  at("which").addEventListener("change", () => begin(async (mine) => {
+    for (const name of ["from", "to"]) at(name).value = "";
+    if (ran.job === "check") await takeSchedule(mine);
+    fillOrigins(ran);
+    showTables();
+    if (ran.job === "bounds") sayVerdict("");
+    await draw(mine);
+  }));
+  at("ps").addEventListener("change", () => ran && showTables());
+  at("frames-box").addEventListener("toggle", () => at("frames-box").open && showFrames());
   at("zoom").addEventListener("click", (event) => event.target.dataset.step && zoom(event.target.dataset.step));
   at("zoom").addEventListener("keydown", (event) => event.key === "Enter" && event.target.matches("input") && runPicture());
-  dragged(document.querySelector(".canvas"));
+  addEventListener("dragover", (event) => event.preventDefault());
+  addEventListener("drop", (event) => {
+    event.preventDefault();
+    if (event.dataTransfer.files[0]) takeFile(event.dataTransfer.files[0]);
+  });
   addEventListener("hashchange", openLink);
-}
-
-// Goes on with the script that a table of streams made.
-async function takeAsScript() {
-  const text = made;
-  becomeOwn();
-  await load({ job: "script", text });
+  let width = innerWidth;
+  addEventListener("resize", () => {
+    if (innerWidth === width) return;
+    width = innerWidth;
+    runPicture();
+  });
 }
 
 async function start() {
   fillExamples();
-  listen();
   setJob("script");
   hidePicture("");
+  const why = lacking();
+  if (why) {
+    say(`This browser can't run the port: ${why}. The program answers the same.`);
+    at("run").disabled = true;
+    return;
+  }
+  listen();
   if (await openLink()) return;
-  at("example").value = "schedule.script";
+  const state = kept();
+  if (state && (state.example === OWN || !byName(state.example))) {
+    becomeOwn();
+    await load(state);
+    return;
+  }
+  at("example").value = byName(state?.example) ? state.example : "schedule.script";
   await chooseExample();
 }
 

@@ -1,34 +1,19 @@
-// What time a picture shows, and which other time to show. The picture itself is made by the port.
-import { GREATEST, ofUnit } from "./moments.js";
+// A picture of the port within the page: what time it shows, how to move in it, and which frame lies where.
+import { GREATEST, ticks } from "./moments.js";
+import { element } from "./svg.js";
 
 const LEFT = 64; // where time begins in a picture, in pixels
 const RIGHT = 32; // what lies behind its end
+const TOP = 58; // the top of the row of class 7
+const STEP = 36; // from one row to the next
+const ROW = 28; // the height of a row
+const BOTTOM = TOP + 9 * STEP; // below the row of the wire
 const LEAST = 1000n; // the shortest time that is zoomed to, in picoseconds
-const TICK = /<path class="g" d="M(\d+\.\d+)V?[^"]*"\/>\s*<text class="m"[^>]*>(\d+) (ps|ns|us|ms|s)<\/text>/g;
+const TAKEN = new Set(["svg", "title", "text", "path", "rect"]);
+const NAMED = new Set(["class", "x", "y", "width", "height", "d", "viewBox", "role"]);
 
-// The end of a picture's time, by the first and the last tick of its axis.
-function endByTicks(svg, from, width) {
-  const ticks = [...svg.matchAll(TICK)].map(([, x, number, unit]) => ({ x: Number(x), at: ofUnit(number, unit) }));
-  const last = ticks.at(-1);
-  const first = ticks.length > 1 ? ticks[0] : { x: LEFT, at: from };
-  if (!last || last.x <= first.x) return null;
-  const per = Number(last.at - first.at) / (last.x - first.x);
-  return last.at + BigInt(Math.max(0, Math.round((width - RIGHT - last.x) * per)));
-}
-
-/**
- * The time that a picture shows.
- *
- * @param {string} svg the picture
- * @param {{from: bigint, to: bigint | null, width: number}} values what it was asked for
- * @returns {{from: bigint, to: bigint, width: number} | null} null where it can't be told
- */
-export function shownIn(svg, { from, to, width }) {
-  const end = to ?? endByTicks(svg, from ?? 0n, width);
-  return end === null || end <= (from ?? 0n) ? null : { from: from ?? 0n, to: end, width };
-}
-
-function clamped(from, length) {
+/** The time that is shown, moved so that it lies within what there is. */
+export function clamped(from, length) {
   const long = length < LEAST ? LEAST : length;
   const most = GREATEST - 1_000_000n - long;
   const begin = from < 0n ? 0n : from > most ? most : from;
@@ -55,17 +40,196 @@ export function stepped({ from, to }, step) {
   }
 }
 
+/** The time to show after a zoom by a factor about a moment, which stays where it is. */
+export function zoomed({ from, to }, moment, factor) {
+  const scaled = (length) => (length * BigInt(Math.round(factor * 1000))) / 1000n;
+  return clamped(moment - scaled(moment - from), scaled(to - from));
+}
+
+const momentIn = (shown, x) => {
+  const place = (x - LEFT) / (shown.width - LEFT - RIGHT);
+  const parts = BigInt(Math.round(Math.min(1, Math.max(0, place)) * 1e6));
+  return shown.from + ((shown.to - shown.from) * parts) / 1_000_000n;
+};
+
+/** The time of so many pixels. */
+export const lengthOf = (shown, pixels) => ((shown.to - shown.from) * BigInt(Math.round(pixels * 1000))) / BigInt((shown.width - LEFT - RIGHT) * 1000);
+
+const xOf = (shown, moment) => LEFT + (Number(moment - shown.from) / Number(shown.to - shown.from)) * (shown.width - LEFT - RIGHT);
+
+// What is safe of the port's picture, without its style: the page has that.
+function safe(node) {
+  if (!TAKEN.has(node.localName)) return null;
+  const made = element(node.localName);
+  for (const { name, value } of node.attributes) if (NAMED.has(name)) made.setAttribute(name, value);
+  for (const child of node.childNodes) {
+    if (child.nodeType === Node.TEXT_NODE) made.append(child.data);
+    else if (child.nodeType === Node.ELEMENT_NODE) {
+      const it = safe(child);
+      if (it) made.append(it);
+    }
+  }
+  return made;
+}
+
+// Puts the marks of time anew, counted from an origin.
+function putTicks(svg, shown, origin) {
+  for (const old of svg.querySelectorAll("path.g")) {
+    if (old.nextElementSibling?.classList.contains("m")) old.nextElementSibling.remove();
+    old.remove();
+  }
+  const first = svg.querySelector("text.t")?.nextSibling ?? svg.firstChild;
+  for (const { at, text } of ticks(shown, origin, Math.max(2, Math.floor(shown.width / 130)))) {
+    const x = xOf(shown, at).toFixed(2);
+    first.before(element("path", { class: "g", d: `M${x} 52V${BOTTOM}` }), element("text", { class: "m", x, y: BOTTOM + 16 }, text));
+  }
+}
+
+// Marks the beginnings of cycles, where they are far enough apart to be seen.
+function putCycles(svg, shown, changes) {
+  const frames = svg.querySelector("rect.f") ?? svg.querySelector("path.c") ?? svg.lastChild;
+  changes.forEach(({ change, cycle }, place) => {
+    if (cycle === null || lengthOf(shown, 12) > cycle) return;
+    const end = changes[place + 1]?.change ?? shown.to;
+    let at = shown.from > change ? change + ((shown.from - change + cycle - 1n) / cycle) * cycle : change;
+    for (; at <= shown.to && at < end; at += cycle) {
+      const x = xOf(shown, at).toFixed(2);
+      frames.before(element("path", { class: "y", d: `M${x} 52V${BOTTOM}` }));
+    }
+  });
+}
+
+const rowOf = (kind) => TOP + (7 - kind) * STEP;
+
+// Draws in each row that frames wait to its end and on, from the first of them, and says how many.
+function putLeft(svg, shown, frames) {
+  const left = new Map();
+  for (const it of frames) {
+    if (it.fate !== "left" || it.arrival >= shown.to) continue;
+    const row = left.get(it.class) ?? { from: it.arrival, number: 0 };
+    left.set(it.class, row);
+    row.number += 1;
+  }
+  for (const [kind, { from, number }] of left) {
+    const y = rowOf(kind);
+    const x = Math.max(LEFT, xOf(shown, from)).toFixed(2);
+    svg.append(element("path", { class: "w", d: `M${x} ${y + 2}V${y + 26}M${x} ${y + 6}H${shown.width - RIGHT}` }));
+    svg.append(element("text", { class: "l", x: shown.width - 4, y: y + 19 }, `${number} ${number === 1 ? "waits" : "wait"} ▸`));
+  }
+}
+
+/** A picture in the page. */
+export class Picture {
+  /**
+   * @param {string} text the port's picture
+   * @param {{from: bigint, to: bigint, width: number}} shown
+   * @param {{origin: bigint, changes: object[], frames: object[]}} run what is known of the run
+   */
+  constructor(text, shown, { origin, changes, frames }) {
+    this.shown = shown;
+    this.frames = frames;
+    // (its style goes before it is parsed: the page's policy refuses it)
+    const parsed = new DOMParser().parseFromString(text.replace(/<style>[^]*?<\/style>/, ""), "image/svg+xml").documentElement;
+    this.svg = safe(parsed);
+    // Waits lie under the bars, so that both are seen.
+    const bar = this.svg.querySelector("rect.f");
+    if (bar) for (const wait of this.svg.querySelectorAll("path.w")) if (wait.getAttribute("d").startsWith("M") && !wait.getAttribute("d").includes("v")) bar.before(wait);
+    putTicks(this.svg, shown, origin);
+    putCycles(this.svg, shown, changes);
+    putLeft(this.svg, shown, frames);
+    this.svg.querySelector("text.t")?.remove();
+    this.svg.setAttribute("viewBox", `0 34 ${shown.width} ${BOTTOM + 62 - 34}`);
+    this.svg.setAttribute("width", shown.width);
+    this.svg.setAttribute("height", BOTTOM + 62 - 34);
+    this.ring = element("rect", { class: "ring", y: 0, height: ROW + 4 });
+  }
+
+  /** The moment at a place, in pixels from the picture's left edge. */
+  moment(x) {
+    return momentIn(this.shown, x);
+  }
+
+  /** The class of a row at a height in pixels, "wire", or null. */
+  row(y) {
+    const place = Math.floor((y + 34 - TOP + 4) / STEP);
+    return place < 0 || place > 8 ? null : place === 8 ? "wire" : 7 - place;
+  }
+
+  /**
+   * The frame at a place: first one that is on the wire there, then one that waits, then one that was dropped.
+   *
+   * @returns {object | null}
+   */
+  frameAt(x, y) {
+    const row = this.row(y);
+    if (row === null) return null;
+    const near = lengthOf(this.shown, 3);
+    const at = this.moment(x);
+    let found = null;
+    for (const it of this.frames) {
+      if (it.arrival > at + near) break;
+      const sent = it.start !== null && it.start <= at + near && at < it.end + near;
+      if (sent && (row === "wire" || it.class === row)) return it;
+      const waits = it.class === row && (it.start === null ? it.fate === "left" : at < it.start + near);
+      const dropped = it.class === null && it.arrival >= at - near;
+      if (waits || dropped) found ??= it;
+    }
+    return found;
+  }
+
+  /** The open time of a class at a place, by the picture's bands: about from when to when, or null. */
+  bandAt(x, y) {
+    const row = this.row(y);
+    if (row === null || row === "wire") return null;
+    for (const band of this.svg.querySelectorAll("rect.o")) {
+      const [left, top, width] = ["x", "y", "width"].map((name) => Number(band.getAttribute(name)));
+      if (top === rowOf(row) && left <= x && x <= left + width) return { class: row, from: momentIn(this.shown, left), to: momentIn(this.shown, left + width) };
+    }
+    return null;
+  }
+
+  /** Rings a frame, or none. */
+  mark(frame) {
+    this.ring.remove();
+    if (!frame || frame.class === null) return;
+    const [from, to] = [frame.start ?? frame.arrival, frame.end ?? this.shown.to];
+    if (to < this.shown.from || from > this.shown.to) return;
+    const left = Math.max(LEFT, xOf(this.shown, from));
+    const right = Math.min(this.shown.width - RIGHT, xOf(this.shown, to));
+    this.ring.setAttribute("x", left - 3);
+    this.ring.setAttribute("width", Math.max(2, right - left) + 6);
+    this.ring.setAttribute("y", rowOf(frame.class) - 2);
+    this.svg.append(this.ring);
+  }
+
+  /** Where a frame lies, in pixels: the middle of its bar, or where it begins to wait. */
+  placeOf(frame) {
+    const x = xOf(this.shown, frame.start ?? frame.arrival) + (frame.start === null ? 0 : (xOf(this.shown, frame.end) - xOf(this.shown, frame.start)) / 2);
+    return { x, y: rowOf(frame.class ?? 0) + ROW / 2 - 34 };
+  }
+}
+
+const TICK = /<path class="g" d="M(\d+\.\d+)V?[^"]*"\/>\s*<text class="m"[^>]*>(\d+) (ps|ns|us|ms|s)<\/text>/g;
+const SIZES = { ps: 1n, ns: 1000n, us: 1_000_000n, ms: 1_000_000_000n, s: 1_000_000_000_000n };
+
+// The end of a picture's time, by the first and the last tick of its axis.
+function endByTicks(svg, from, width) {
+  const found = [...svg.matchAll(TICK)].map(([, x, number, unit]) => ({ x: Number(x), at: BigInt(number) * SIZES[unit] }));
+  const last = found.at(-1);
+  const first = found.length > 1 ? found[0] : { x: LEFT, at: from };
+  if (!last || last.x <= first.x) return null;
+  const per = Number(last.at - first.at) / (last.x - first.x);
+  return last.at + BigInt(Math.max(0, Math.round((width - RIGHT - last.x) * per)));
+}
+
 /**
- * The time between two places of a picture, each a share of its whole width.
+ * The time that a picture shows.
  *
- * @param {{from: bigint, to: bigint, width: number}} shown
+ * @param {string} svg the picture
+ * @param {{from: bigint, to: bigint | null, width: number}} values what it was asked for
+ * @returns {{from: bigint, to: bigint, width: number} | null} null where it can't be told
  */
-export function between(shown, one, other) {
-  const moment = (share) => {
-    const place = (share * shown.width - LEFT) / (shown.width - LEFT - RIGHT);
-    const parts = BigInt(Math.round(Math.min(1, Math.max(0, place)) * 1e6));
-    return shown.from + ((shown.to - shown.from) * parts) / 1_000_000n;
-  };
-  const [from, to] = one < other ? [moment(one), moment(other)] : [moment(other), moment(one)];
-  return clamped(from, to - from);
+export function shownIn(svg, { from, to, width }) {
+  const end = to ?? endByTicks(svg, from ?? 0n, width);
+  return end === null || end <= (from ?? 0n) ? null : { from: from ?? 0n, to: end, width };
 }

@@ -120,10 +120,10 @@ class Page:
         self.same(f"{what}, shown", self.text("answers"), wanted.decode())
 
     def picture(self, what, text, *words):
-        status, drawn, _ = program("draw", *words, text=text)
+        status, drawn, _ = program("draw", *words, "--width", self.do("return at('frame').dataset.width"), text=text)
         self.same(f"{what}, status", str(status), "0")
         self.same(f"picture of {what}", self.saved("save-picture"), drawn)
-        wait_for(self.browser, "const it = document.getElementById('image'); return it.complete && it.naturalWidth > 0")
+        self.same(f"bars of {what}", self.do("return document.querySelectorAll('#canvas rect.f').length"), drawn.count(b'<rect class="f"'))
 
 
 def moment(text):
@@ -203,10 +203,9 @@ def try_options(page):
     page.picture("options", path.read_bytes(), *words, "--to", "300000000")
     page.set("from", "1.5 us")
     page.set("to", "20us")
-    page.set("width", "800")
     page.click("#draw")
     page.settle()
-    page.picture("a window", path.read_bytes(), *words, "--from", "1500000", "--to", "20000000", "--width", "800")
+    page.picture("a window", path.read_bytes(), *words, "--from", "1500000", "--to", "20000000")
 
 
 def try_worked(page):
@@ -232,7 +231,7 @@ def try_faults(page):
     page.click("#go")
     page.same("line", page.do("const it = at('text'); return document.activeElement === it ? it.value.slice(it.selectionStart, it.selectionEnd) : ''"), "clok 7")
     page.browser.shoot(SHOTS / f"{page.browser.name}-fault.png")
-    for name, value in (("mtu", "10"), ("room", "0"), ("until", "9223372036854775807001"), ("until", "soon"), ("width", "399"), ("to", "0")):
+    for name, value in (("mtu", "10"), ("room", "0"), ("until", "9223372036854775807001"), ("until", "soon"), ("to", "0")):
         page.choose("first.script")
         page.set(name, value)
         page.run()
@@ -279,16 +278,137 @@ def try_zoom(page):
     page.click("[data-step=whole]")
     page.settle()
     page.picture("the whole run", text)
-    page.do("at('image').scrollIntoView({ block: 'center' })")
-    left, top, width, height = page.do("const it = at('image').getBoundingClientRect(); return [it.left, it.top, it.width, it.height]")
-    middle = top + height / 2
-    page.browser.drag((left + width * 0.2, middle), (left + width * 0.4, middle))
-    wait_for(page.browser, "return document.getElementById('from').value !== ''")
+    try_gestures(page, text)
+
+
+def gesture(page, what, wanted, text):
+    """That the picture shows about this time after what a pointer did, in microseconds, and is that of the program."""
     page.settle()
-    begin, end = window(page)
-    page.same("dragged", str(abs(int(begin) - 16e6) < 1e6 and abs(int(end) - 38e6) < 1e6), "True")
-    page.picture("a stretch that was dragged over", text, "--from", begin, "--to", end)
+    begin, end = (int(it) for it in window(page))
+    page.same(f"{what}: {begin} to {end}", all(abs(got - 10**6 * it) < 2 * 10**6 for got, it in zip((begin, end), wanted)), True)
+    page.picture(what, text, "--from", str(begin), "--to", str(end))
+
+
+def try_gestures(page, text):
+    """The wheel, a drag, a stretch and keys, each about the middle of the picture."""
+    page.do("at('canvas').scrollIntoView({ block: 'center' })")
+    left, top, width, height = page.do("const it = at('canvas').getBoundingClientRect(); return [it.left, it.top, it.width, it.height]")
+    x = {share: left + 64 + (width - 96) * share for share in (0.2, 0.4, 0.5)}
+    middle = top + height / 2
+    page.do(f"at('frame').dispatchEvent(new WheelEvent('wheel', {{ deltaY: -100, clientX: {x[0.5]}, clientY: {middle}, bubbles: true, cancelable: true }}))")
+    wait_for(page.browser, "return document.getElementById('from').value !== ''")
+    gesture(page, "the wheel", (10, 90), text)
+    page.browser.drag((x[0.4], middle), (x[0.2], middle))
+    wait_for(page.browser, "return !document.getElementById('from').value.startsWith('10 ')")
+    gesture(page, "a drag", (26, 106), text)
+    page.do("at('frame').focus()")
+    page.browser.press("Home")
+    wait_for(page.browser, "return document.getElementById('from').value === ''")
+    page.settle()
+    page.do(f"""const send = (kind, x) => at('frame').dispatchEvent(new PointerEvent(kind, {{ pointerId: 1, button: 0, shiftKey: true, clientX: x, clientY: {middle}, bubbles: true }}));
+        at('frame').setPointerCapture = () => {{}}; send('pointerdown', {x[0.2]}); send('pointermove', {x[0.4]}); send('pointerup', {x[0.4]}); delete at('frame').setPointerCapture""")
+    wait_for(page.browser, "return document.getElementById('from').value !== ''")
+    gesture(page, "a stretch", (20, 40), text)
     page.browser.shoot(SHOTS / f"{page.browser.name}-zoomed.png")
+
+
+def try_frames(page):
+    """The table of frames against the answers, the frame that a pointer is over, and the way from one to the other."""
+    page.choose("schedule.script")
+    page.do("at('frames-box').open = true")
+    wait_for(page.browser, "return document.querySelectorAll('#frames-table tbody tr').length === 2")
+    csv = page.saved("save-frames").decode()
+    page.same("frames", csv, "id,class,length,arrival_ps,start_ps,end_ps,wait_ps,fate\n1,7,1514,20000000,33336000,45640000,13336000,sent\n2,0,60,20000000,20000000,20672000,0,sent\n")
+    page.click("#frames-table tbody tr")
+    page.same("marked in the picture", page.do("return !!document.querySelector('#canvas .ring')"), True)
+    page.same("marked in the answers", page.do("return String(getSelection())"), "start 1 class 7 at 33336000 end 45640000")
+    page.same("tip", page.do("return at('tip').innerText"), "Frame 1, class 7\n1514 octets, arrives 0\nstarts 13.336 us, ends 25.64 us\nwaits 13.336 us")
+    page.click("#frames-table th button")
+    page.click("#frames-table th button")
+    page.same("sorted", page.do("return document.querySelector('#frames-table tbody td').textContent"), "2")
+    page.do("at('frame').focus()")
+    page.browser.press("Home")
+    page.settle()
+    page.do("const r = document.querySelector('#canvas rect.f').getBoundingClientRect(); at('frame').dispatchEvent(new PointerEvent('pointermove', { clientX: r.left + 1, clientY: r.top + 3, bubbles: true }))")
+    page.same("tip of a bar", page.do("return at('tip').innerText").split("\n")[0], "Frame 2, class 0")
+    page.set("ps", True)
+    page.do("at('ps').dispatchEvent(new Event('change'))")
+    page.same("picoseconds", page.do("return document.querySelector('#classes tbody tr').innerText").split()[-1], "13336000")
+    page.do("at('ps').click()")
+    page.choose("extension.script")
+    page.same("waits for ever", page.do("return document.querySelector('#canvas .l')?.textContent"), "1 waits ▸")
+
+
+def try_pictures(page):
+    """Pictures of a check, of each of its schedules, and of a replay."""
+    page.choose("windows.schedules")
+    told = (EXAMPLES / "windows.answers").read_text(encoding="utf-8").count("\nwindow ")
+    page.same("windows", page.do("return document.querySelectorAll('#classes tbody tr').length"), told)
+    page.same("bands", page.do("return document.querySelectorAll('#canvas rect.o').length") > 3, True)
+    page.do("at('which').value = '1'; at('which').dispatchEvent(new Event('change'))")
+    page.settle()
+    page.same("bands of the second", page.do("return document.querySelectorAll('#canvas rect.o').length") > 3, True)
+    page.choose("machine.pcap")
+    page.same("frames of a replay", page.do("return document.querySelectorAll('#canvas rect.f').length") > 10, True)
+    page.same("frames that are told", page.text("frames-name"), "Frames (12)")
+
+
+def try_story(page):
+    """Each step of the story ends without a fault, and has its sentence."""
+    for value in page.do("return [...document.querySelectorAll('#example optgroup')[0].children].map((it) => it.value)"):
+        page.choose(value)
+        page.same(f"{value} is done", page.text("status")[:4], "Done")
+        page.same(f"{value} has a sentence", page.text("sentence") != "", True)
+
+
+def give(page, name, octets):
+    """Drops a file on the page."""
+    page.do(f"""const data = new DataTransfer(); data.items.add(new File([Uint8Array.from({list(octets)})], {json.dumps(name)}));
+        document.body.dispatchEvent(new DragEvent('drop', {{ dataTransfer: data, bubbles: true, cancelable: true }}))""")
+    time.sleep(0.3)
+    page.settle()
+
+
+def try_files(page):
+    page.choose("first.script")
+    text = b"frame 7 3 100\nclock 5000000\n"
+    give(page, "my.script", text)
+    page.answers("a file", program("script", text=text)[1])
+    give(page, "my.pcapng", bytes.fromhex("0a0d0d0a1c000000"))
+    page.same("pcapng", page.text("status"), "my.pcapng: this is a pcapng file. Make a classic one of it: editcap -F pcap IN OUT")
+    give(page, "machine.pcap", (EXAMPLES / "machine.pcap").read_bytes())
+    page.same("a capture", page.do("return at('form').elements.job.value"), "replay")
+    page.choose("planned.streams")
+    page.same("a table", page.do("return at('form').elements.job.value"), "streams")
+
+
+def try_stale(page):
+    page.choose("first.script")
+    page.same("fresh", page.do("return at('view').classList.contains('stale')"), False)
+    page.set("text", "frame 1 0 60\nclock 1000000\nquery\n")
+    page.same("stale", page.do("return at('view').classList.contains('stale')"), True)
+    page.do("location.reload()")
+    time.sleep(0.5)
+    page.settle()
+    page.same("kept over a reload", page.do("return at('text').value"), "frame 1 0 60\nclock 1000000\nquery\n")
+    page.set("text", "".join(f"frame {(it * 7919) % 1000003} {it % 8} {60 + it * 31 % 1400}\n" for it in range(6000)))
+    page.click("#link")
+    wait_for(page.browser, "return !document.getElementById('long-link').hidden")
+    page.same("a long link", page.do("return at('link-row').hidden"), True)
+
+
+def try_screens(page):
+    """That the first screen shows text, verdict and picture without scrolling."""
+    if not isinstance(page.browser, Chromium):
+        return
+    for width, height in ((1280, 900), (390, 844)):
+        page.browser.look(width=width, height=height)
+        page.choose("schedule.script")
+        time.sleep(0.3)
+        page.settle()
+        page.same(f"first screen at {width}", page.do("return at('frame').getBoundingClientRect().bottom + scrollY <= innerHeight && at('verdict').getBoundingClientRect().top > 0"), True)
+        page.browser.shoot(SHOTS / f"{page.browser.name}-first-{width}.png")
+    page.browser.look()
 
 
 def try_link(page):
@@ -388,7 +508,8 @@ def try_looks(page):
     shoot(page, "replay")
 
 
-TRIES = [try_examples, try_replay, try_typing, try_options, try_worked, try_faults, try_refused, try_zoom, try_link, try_stop, try_access, try_looks]
+TRIES = [try_examples, try_replay, try_typing, try_options, try_worked, try_faults, try_refused, try_zoom, try_frames, try_pictures, try_story, try_files, try_stale,
+         try_link, try_stop, try_access, try_screens, try_looks]
 
 
 def try_page(kind, address, server):

@@ -1,5 +1,7 @@
 // The worker: does one job after the other, away from the page.
 import { run } from "./taprio.js";
+import { changesOf, readScript } from "./script.js";
+import { framesOf } from "./frames.js";
 
 let module = null;
 
@@ -7,8 +9,14 @@ async function answer({ octets, request }) {
   if (octets) module = await WebAssembly.compile(octets);
   if (!request) return { ready: true };
   const begun = performance.now();
-  const told = run(module, request);
+  const told = request.job === "frames" ? framesIn(request) : run(module, request);
   return { told: { ...told, time: performance.now() - begun } };
+}
+
+// What a script and its answers come to, frame by frame.
+function framesIn({ script, answers }) {
+  const { arrivals, commands, first } = readScript(script);
+  return { frames: framesOf(arrivals, answers), changes: changesOf(commands, answers), first };
 }
 
 let last = Promise.resolve();
