@@ -12,6 +12,7 @@ export class Editor {
     this.line = null;
     this.area.addEventListener("input", () => this.#changed());
     this.area.addEventListener("scroll", () => this.#place());
+    new ResizeObserver(() => this.#place()).observe(this.area);
     this.#changed();
   }
 
@@ -47,19 +48,20 @@ export class Editor {
   }
 
   #changed() {
-    let count = 1;
-    for (let at = this.text.indexOf("\n"); at >= 0; at = this.text.indexOf("\n", at + 1)) count += 1;
-    if (count !== this.#count) {
-      this.#count = count;
-      this.numbers.textContent = Array.from({ length: count }, (_, place) => place + 1).join("\n");
-    }
+    let lines = 1;
+    for (let at = this.text.indexOf("\n"); at >= 0; at = this.text.indexOf("\n", at + 1)) lines += 1;
+    this.#count = lines;
     this.markLine(null);
   }
 
+  // Puts the numbers of the lines in sight, and the mark, beside the lines.
   #place() {
-    const top = this.area.scrollTop;
-    this.numbers.style.transform = `translateY(${-top}px)`;
+    const [top, height] = [this.area.scrollTop, this.#height()];
+    const first = Math.max(0, Math.floor(top / height) - 1);
+    const last = Math.min(this.#count, first + Math.ceil(this.area.clientHeight / height) + 3);
+    this.numbers.textContent = Array.from({ length: Math.max(0, last - first) }, (_, place) => first + place + 1).join("\n");
+    this.numbers.style.transform = `translateY(${first * height - top}px)`;
     this.mark.hidden = this.line === null;
-    if (this.line !== null) this.mark.style.transform = `translateY(${(this.line - 1) * this.#height() - top}px)`;
+    if (this.line !== null) this.mark.style.transform = `translateY(${(this.line - 1) * height - top}px)`;
   }
 }

@@ -137,6 +137,18 @@ function markAnswer(number) {
   at("answers").scrollTop = Math.max(0, (number - 4) * height);
 }
 
+// The frame of the line of the answers that was clicked is shown in the picture and in the table.
+function findAnswered(event) {
+  const { offsetNode, offset } = document.caretPositionFromPoint?.(event.clientX, event.clientY) ?? {};
+  if (!ran || offsetNode !== at("answers").firstChild || String(getSelection()).includes("\n")) return;
+  const number = offsetNode.data.slice(0, offset).split("\n").length;
+  const frame = ran.frames.find((it) => it.told === number || it.taken === number);
+  if (frame) {
+    viewer.find(frame);
+    frameTable.mark(frame);
+  }
+}
+
 function hidePicture(why) {
   viewer.show(null);
   at("zoom").hidden = true;
@@ -162,6 +174,7 @@ function showPicture({ output }, values) {
   for (const part of document.querySelectorAll("#zoom [data-step], #zoom details, #zoom .pair")) part.hidden = part.id === "which-row" ? ran.job !== "check" || ran.schedules.length < 2 : false;
   ran.drawn = { text, shown };
   layPicture();
+  performance.mark("picture");
   at("picture-status").textContent = "";
 }
 
@@ -750,6 +763,7 @@ function listen() {
     await draw(mine);
   }));
   at("ps").addEventListener("change", () => ran && showTables());
+  at("answers").addEventListener("click", findAnswered);
   at("frames-box").addEventListener("toggle", () => at("frames-box").open && showFrames());
   at("zoom").addEventListener("click", (event) => event.target.dataset.step && zoom(event.target.dataset.step));
   at("zoom").addEventListener("keydown", (event) => event.key === "Enter" && event.target.matches("input") && runPicture());

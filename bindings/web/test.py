@@ -97,6 +97,8 @@ class Page:
         """The octets that a link of the page saves."""
         for it in self.downloads.iterdir():
             it.unlink()
+        # (Chromium takes no more than ten a second)
+        time.sleep(0.12)
         self.click(f"#{link}")
         end = time.monotonic() + 20
         last = None
