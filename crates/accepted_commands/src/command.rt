@@ -37,7 +37,13 @@ pub enum AcceptedCommand {
 impl AcceptedCommand {
     /// This schedule, with this lead moment, this change moment and where it stands then, takes the place of the command. The
     /// moments are in picoseconds.
-    pub fn put_list(&mut self, schedule: &Schedule, lead: u128, change: u128, position: Position)
+    pub(crate) fn put_list(
+        &mut self,
+        schedule: &Schedule,
+        lead: u128,
+        change: u128,
+        position: Position,
+    )
         ensures { self.new ≡ Install (record { lead = lead; change = change; schedule = schedule.now; position = position }) }
     {
         match self {
@@ -51,7 +57,7 @@ impl AcceptedCommand {
     }
 
     /// Another command takes the place of this one.
-    pub fn copy_from(&mut self, other: &AcceptedCommand)
+    pub(crate) fn copy_from(&mut self, other: &AcceptedCommand)
         ensures { self.new ≡ other.now }
     {
         match other {
@@ -143,7 +149,7 @@ impl AcceptedList {
 
     /// The first boundary from which the last state is held for a change, in picoseconds.
     #[tactic(auto, using(crate::proofs::HoldLaws::boundary_not_before))]
-    pub fn hold_moment(&self, command: &AcceptedCommand) -> u128
+    pub(crate) fn hold_moment(&self, command: &AcceptedCommand) -> u128
         requires sound { IsSchedule self.now.schedule }
         requires start { self.now.change ≤ 2 * greatest_moment }
         requires usable { IsUsable (accepted_in command.now) }

@@ -70,7 +70,7 @@ impl Slot {
 
     /// The command of a schedule that is accepted for a lead moment; the change moment of that command. Both are in picoseconds.
     /// It looks at the last entry of the list and at the first.
-    pub fn put_list(&mut self, schedule: &Schedule, lead: u128, visits: &mut Visits) -> u128
+    pub(crate) fn put_list(&mut self, schedule: &Schedule, lead: u128, visits: &mut Visits) -> u128
         requires { lead ≤ greatest_moment + greatest_lead }
         ensures change { result ≡ (accepted_at lead schedule.now).change }
         ensures value { option_map accepted_in self.new ≡ Some (accepted_at lead schedule.now) }
@@ -106,7 +106,12 @@ impl Slot {
     }
 
     /// Lets the list of the command, if it is one, stand where it stands at `t`, in picoseconds.
-    pub fn place_at(&mut self, pending: Option<&AcceptedCommand>, t: u128, visits: &mut Visits)
+    pub(crate) fn place_at(
+        &mut self,
+        pending: Option<&AcceptedCommand>,
+        t: u128,
+        visits: &mut Visits,
+    )
         requires usable { ForSome (option_map accepted_in self.old) IsUsable }
         requires pending { ForSome (command_of pending) IsUsable }
         requires ends { EndsSo (option_map accepted_in self.old) (option_position self.old) }
@@ -123,7 +128,7 @@ impl Slot {
     }
 
     /// The deletion with this lead moment, in picoseconds.
-    pub fn put_deletion(&mut self, lead: u128)
+    pub(crate) fn put_deletion(&mut self, lead: u128)
         ensures value { option_map accepted_in self.new ≡ Some (deletion_at lead) }
         ensures first { ForSome self.new IsFirst }
     {

@@ -106,7 +106,7 @@ impl Slots {
 
     /// Goes on to a moment, in picoseconds: a command that is replaced before its change, or that another follows in force,
     /// is dropped. The list in force stands where it stood.
-    pub fn settle(&mut self, t: u128)
+    pub(crate) fn settle(&mut self, t: u128)
         requires later { self.old.commands.moment ≤ t }
         requires within { t ≤ greatest_moment }
         ensures value { self.new.commands ≡ settled_at self.old.commands t }
@@ -144,7 +144,7 @@ impl Slots {
     }
 
     /// Whether no command comes up to a moment, in picoseconds.
-    pub fn is_alone_until(&self, t: u128) -> bool
+    pub(crate) fn is_alone_until(&self, t: u128) -> bool
         ensures { IsTrue result ↔ NoneBy self.now.commands.pending self.now.commands.announced t }
     {
         changes_after(self.pending(), t) && leads_after(self.announced(), t)

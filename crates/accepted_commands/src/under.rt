@@ -29,7 +29,7 @@ impl AcceptedList {
     }
 
     /// Where the list stands at the moment `t`, in picoseconds, with this change pending.
-    pub fn position_at(
+    pub(crate) fn position_at(
         &self,
         pending: Option<&AcceptedCommand>,
         t: u128,
@@ -55,7 +55,7 @@ impl AcceptedList {
     }
 
     /// Where the list stands at a later moment `t`, in picoseconds, with the same change pending.
-    pub fn position_later(
+    pub(crate) fn position_later(
         &self,
         pending: Option<&AcceptedCommand>,
         t: u128,
@@ -102,7 +102,12 @@ impl AcceptedCommand {
     }
 
     /// Lets the list of the command, if it is one, stand where it stands at `t`, in picoseconds.
-    pub fn place_at(&mut self, pending: Option<&AcceptedCommand>, t: u128, visits: &mut Visits)
+    pub(crate) fn place_at(
+        &mut self,
+        pending: Option<&AcceptedCommand>,
+        t: u128,
+        visits: &mut Visits,
+    )
         requires usable { IsUsable (accepted_in self.old) }
         requires pending { ForSome (command_of pending) IsUsable }
         requires ends { EndsSo (Some (accepted_in self.old)) (position_in self.old) }

@@ -8,16 +8,16 @@ use crate::ending::{LINE_CAPACITY, Line, text_before};
 use itoa::{Buffer, write_digits};
 
 /// The octets of a line that a number of 8 bits in decimal may take.
-pub const OCTET_CAPACITY: usize = 3;
+pub(crate) const OCTET_CAPACITY: usize = 3;
 
 /// The octets of a line that a number of 64 bits in decimal may take.
-pub const SHORT_CAPACITY: usize = 20;
+pub(crate) const SHORT_CAPACITY: usize = 20;
 
 /// The octets of a line that any number in decimal may take.
-pub const NUMBER_CAPACITY: usize = 40;
+pub(crate) const NUMBER_CAPACITY: usize = 40;
 
 /// The first number of nine digits.
-pub const EIGHT_DIGITS: u64 = 100_000_000;
+pub(crate) const EIGHT_DIGITS: u64 = 100_000_000;
 
 /// The two digits of each number below 100, one after another.
 static PAIRS: [u8; 200] =
@@ -56,7 +56,7 @@ fn four_before(four: u64, line: &mut Line, end: usize) -> usize
 
 /// Puts the last eight digits of a number before what ends a line from `end` on, and answers where they begin.
 #[inline(always)]
-pub fn eight_before(eight: u64, line: &mut Line, end: usize) -> usize
+pub(crate) fn eight_before(eight: u64, line: &mut Line, end: usize) -> usize
     requires eight { eight < EIGHT_DIGITS }
     requires room { 8 ≤ end }
     requires within { end ≤ LINE_CAPACITY }
@@ -69,7 +69,7 @@ pub fn eight_before(eight: u64, line: &mut Line, end: usize) -> usize
 }
 
 /// Puts a number of 64 bits in decimal before what ends a line from `end` on, and answers where the line begins then.
-pub fn short_before(number: u64, line: &mut Line, end: usize) -> usize
+pub(crate) fn short_before(number: u64, line: &mut Line, end: usize) -> usize
     requires room { SHORT_CAPACITY ≤ end }
     requires within { end ≤ LINE_CAPACITY }
     ensures start { end ≤ result + SHORT_CAPACITY }
@@ -85,7 +85,7 @@ pub fn short_before(number: u64, line: &mut Line, end: usize) -> usize
 
 /// Puts a number of 8 bits in decimal before what ends a line from `end` on, and answers where the line begins then.
 #[inline]
-pub fn octet_before(number: u8, line: &mut Line, end: usize) -> usize
+pub(crate) fn octet_before(number: u8, line: &mut Line, end: usize) -> usize
     requires room { OCTET_CAPACITY ≤ end }
     requires within { end ≤ LINE_CAPACITY }
     ensures start { end ≤ result + OCTET_CAPACITY }

@@ -4,13 +4,13 @@ ghost use Rattle.std.specs.Prelude.{◌≡◌, ◌≤◌, ◌+◌, ◌++◌, len
 ghost use Rattle.answer_text.specs.declared.ending.TheConstants.{LINE_CAPACITY};
 
 /// The octets of a line that is put together before it is written.
-pub const LINE_CAPACITY: usize = 128;
+pub(crate) const LINE_CAPACITY: usize = 128;
 
 /// The octets of a line, at its end those that it has so far.
 pub type Line = [u8; LINE_CAPACITY];
 
 /// Puts a text before what ends a line from `end` on, and answers where the line begins then.
-pub fn text_before(text: &[u8], line: &mut Line, end: usize) -> usize
+pub(crate) fn text_before(text: &[u8], line: &mut Line, end: usize) -> usize
     requires room { length text.now ≤ end }
     requires within { end ≤ LINE_CAPACITY }
     ensures start { result + length text.now ≡ end }

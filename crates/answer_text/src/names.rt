@@ -15,7 +15,7 @@ use tc_reader::TcFault;
 const DROPPED_CAPACITY: usize = 7;
 
 /// Puts the name of the reason why a frame was dropped before what ends a line from `end` on, and answers where the line begins then.
-pub fn dropped_before(why: Dropped, line: &mut Line, end: usize) -> usize
+pub(crate) fn dropped_before(why: Dropped, line: &mut Line, end: usize) -> usize
     requires room { DROPPED_CAPACITY ≤ end }
     requires within { end ≤ LINE_CAPACITY }
     ensures start { end ≤ result + DROPPED_CAPACITY }
@@ -53,7 +53,7 @@ fn plan_fault_number(fault: PlanFault) -> Option<u128>
 }
 
 /// The name of the reason why a command was refused.
-pub fn refused_name(why: Refused) -> &'static [u8]
+pub(crate) fn refused_name(why: Refused) -> &'static [u8]
     ensures { result.now ≡ refused_name why }
 {
     match why {
@@ -66,7 +66,7 @@ pub fn refused_name(why: Refused) -> &'static [u8]
 }
 
 /// The number that stands after that name, if it has one.
-pub fn refused_number(why: Refused) -> Option<u128>
+pub(crate) fn refused_number(why: Refused) -> Option<u128>
     ensures { result ≡ refused_number why }
 {
     match why {
@@ -108,7 +108,7 @@ fn gate_fault_name(fault: GateFault) -> &'static [u8]
 }
 
 /// The name of the reason why a line is no command.
-pub fn tc_fault_name(fault: TcFault) -> &'static [u8]
+pub(crate) fn tc_fault_name(fault: TcFault) -> &'static [u8]
     ensures { result.now ≡ tc_fault_name fault }
 {
     match fault {
@@ -125,7 +125,7 @@ pub fn tc_fault_name(fault: TcFault) -> &'static [u8]
 }
 
 /// The option word that stands after that name, if one does.
-pub fn tc_fault_word(fault: TcFault) -> Option<&'static [u8]>
+pub(crate) fn tc_fault_word(fault: TcFault) -> Option<&'static [u8]>
     ensures { option_map (λ word. word.now) result ≡ tc_fault_word fault }
 {
     match fault {
@@ -137,7 +137,7 @@ pub fn tc_fault_word(fault: TcFault) -> Option<&'static [u8]>
 }
 
 /// The place that stands after that name, if one does.
-pub fn tc_fault_place(fault: TcFault) -> Option<u128>
+pub(crate) fn tc_fault_place(fault: TcFault) -> Option<u128>
     ensures { result ≡ tc_fault_place fault }
 {
     match fault {

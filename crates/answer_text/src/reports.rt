@@ -181,7 +181,7 @@ fn put_now<W: Write>(writer: &mut W, report: Report) -> Result<(), WriteFault>
 }
 
 /// Writes the five lines of a report. At a fault a prefix of them is written.
-pub fn put_report<W: Write>(writer: &mut W, report: Report) -> Result<(), WriteFault>
+pub(crate) fn put_report<W: Write>(writer: &mut W, report: Report) -> Result<(), WriteFault>
     ensures { Writes result (W.contents writer.old) (W.contents writer.new) (report_lines report) }
 {
     put_now(writer, report)?;

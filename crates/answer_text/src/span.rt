@@ -10,7 +10,7 @@ use crate::ending::{LINE_CAPACITY, Line, text_before};
 use itoa::write_digits;
 
 /// The octets of a line that two moments may take.
-pub const SPAN_CAPACITY: usize = 85;
+pub(crate) const SPAN_CAPACITY: usize = 85;
 
 /// Two numbers, each by itself.
 #[inline(never)]
@@ -128,7 +128,7 @@ fn near(first: u128, second: u128) -> Option<(u64, u64, u64)>
 /// Puts the moment of a start, ` end ` and the moment of its end before what ends a line from `end` on, and answers where the line begins
 /// then. Both are in picoseconds.
 #[inline(always)]
-pub fn span_before(first: u128, second: u128, line: &mut Line, end: usize) -> usize
+pub(crate) fn span_before(first: u128, second: u128, line: &mut Line, end: usize) -> usize
     requires room { SPAN_CAPACITY ≤ end }
     requires within { end ≤ LINE_CAPACITY }
     ensures start { end ≤ result + SPAN_CAPACITY }

@@ -54,7 +54,7 @@ pub struct RecordHeader {
 }
 
 /// The first two octets as a number.
-pub fn read_u16(endian: Endian, octets: &[u8]) -> u16
+pub(crate) fn read_u16(endian: Endian, octets: &[u8]) -> u16
     requires { 2 ≤ length octets.now }
     ensures { result ≡ u16_at endian octets.now }
 {
@@ -65,7 +65,7 @@ pub fn read_u16(endian: Endian, octets: &[u8]) -> u16
 }
 
 /// The first four octets as a number.
-pub fn read_u32(endian: Endian, octets: &[u8]) -> u32
+pub(crate) fn read_u32(endian: Endian, octets: &[u8]) -> u32
     requires { 4 ≤ length octets.now }
     ensures { result ≡ u32_at endian octets.now }
 {
@@ -76,7 +76,7 @@ pub fn read_u32(endian: Endian, octets: &[u8]) -> u32
 }
 
 /// The 16 octets of a record header as its fields.
-pub fn read_header(format: Format, octets: &[u8]) -> RecordHeader
+pub(crate) fn read_header(format: Format, octets: &[u8]) -> RecordHeader
     requires { 16 ≤ length octets.now }
     ensures { result ≡ header_at format octets.now }
 {
@@ -98,7 +98,11 @@ fn fractions_in(resolution: Resolution) -> u32
 }
 
 /// The faults that a record's header shows, where so many records came before.
-pub fn check_header(format: Format, number: u32, header: RecordHeader) -> Result<(), CapFault>
+pub(crate) fn check_header(
+    format: Format,
+    number: u32,
+    header: RecordHeader,
+) -> Result<(), CapFault>
     ensures fault { result ≡ ok_unless (header_fault format number header) }
     ensures short { IsOk result → header.captured ≤ MAX_RECORD_OCTETS }
     ensures few { IsOk result → number < MAX_RECORDS }

@@ -11,22 +11,22 @@ use std::io;
 use std::io::Read;
 
 /// The octets of a file header.
-pub const FILE_HEADER: usize = 24;
+pub(crate) const FILE_HEADER: usize = 24;
 
 /// The magic number of a capture in microseconds.
-pub const MICROS_MAGIC: u32 = 0xa1b2_c3d4;
+pub(crate) const MICROS_MAGIC: u32 = 0xa1b2_c3d4;
 
 /// The magic number of a capture in nanoseconds.
-pub const NANOS_MAGIC: u32 = 0xa1b2_3c4d;
+pub(crate) const NANOS_MAGIC: u32 = 0xa1b2_3c4d;
 
 /// The version of the format, its first number.
-pub const MAJOR_VERSION: u16 = 2;
+pub(crate) const MAJOR_VERSION: u16 = 2;
 
 /// The version of the format, its second number.
-pub const MINOR_VERSION: u16 = 4;
+pub(crate) const MINOR_VERSION: u16 = 4;
 
 /// The link type of Ethernet.
-pub const ETHERNET: u32 = 1;
+pub(crate) const ETHERNET: u32 = 1;
 
 /// Fills the buffer, or what of it the input has: less only where the input ends.
 fn fill_whole<R: Read>(reader: &mut R, into: &mut [u8]) -> io::Result<usize>
@@ -96,7 +96,7 @@ fn header_format(octets: &[u8]) -> Result<Format, CapFault>
 }
 
 /// Reads the file header and no octet more.
-pub fn read_file_header<R: Read>(reader: &mut R) -> Result<Format, CapFault>
+pub(crate) fn read_file_header<R: Read>(reader: &mut R) -> Result<Format, CapFault>
     ensures format { IfOk result (λ format. IfSome (R.remaining reader.old) (λ octets.
         (format_of octets ≡ Ok format) × (R.remaining reader.new ≡ Some (drop 24 octets)))) }
     ensures fault { IfErr result (λ f. IsHeaderFault (R.remaining reader.old) f) }

@@ -10,7 +10,7 @@ use std::io;
 use std::io::Read;
 
 /// The octets of a record header.
-pub const RECORD_HEADER: usize = 16;
+pub(crate) const RECORD_HEADER: usize = 16;
 
 /// The octets of the longest record, its header among them.
 pub const ROOM: usize = RECORD_HEADER + MAX_RECORD_OCTETS as usize;
@@ -92,7 +92,7 @@ impl<A: Allocator> Window<A> {
     }
 
     /// Reads once, into all the room there is after what is held.
-    pub fn fill<R: Read>(&mut self, reader: &mut R) -> io::Result<usize>
+    pub(crate) fn fill<R: Read>(&mut self, reader: &mut R) -> io::Result<usize>
         requires { self.old.start + length (held self.old) < ROOM }
         ensures octets { Keeps (prepend_known (held self.old) (R.remaining reader.old)) (prepend_known (held self.new) (R.remaining reader.new)) }
         ensures more { IfOk result (λ n. length (held self.new) ≡ length (held self.old) + n) }
@@ -108,7 +108,11 @@ impl<A: Allocator> Window<A> {
 }
 
 /// Reads once, into the octets from `at` on.
-pub fn read_behind<R: Read>(reader: &mut R, buffer: &mut [u8], at: usize) -> io::Result<usize>
+pub(crate) fn read_behind<R: Read>(
+    reader: &mut R,
+    buffer: &mut [u8],
+    at: usize,
+) -> io::Result<usize>
     requires { at < length buffer.old }
     ensures front { take at buffer.new ≡ take at buffer.old }
     ensures octets { MatchResult result

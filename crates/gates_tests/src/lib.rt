@@ -1,7 +1,9 @@
-//! Tests of `stepped` and of `jumping`, by their public calls.
+//! Tests of `gate_list`, `stepped` and `jumping`, by their public calls.
 #![tactic(auto)]
 
 #[cfg(test)]
 mod far;
+#[cfg(test)]
+mod lists;
 #[cfg(test)]
 mod worked;

@@ -172,7 +172,7 @@ impl LoneSearch<'_> {
 }
 
 /// Whether a class stays open from a moment on for so long, both in picoseconds, in a list that stands so then and that nothing follows.
-pub fn stays_open_alone(list: &AcceptedList, from: u128, class: u8, length: u128) -> bool
+pub(crate) fn stays_open_alone(list: &AcceptedList, from: u128, class: u8, length: u128) -> bool
     requires schedule { IsSchedule list.now.schedule }
     requires stands { IsPlaced list.now.schedule list.now.change None from list.now.position }
     requires near { from ≤ 2 * greatest_moment }
@@ -197,7 +197,7 @@ pub fn stays_open_alone(list: &AcceptedList, from: u128, class: u8, length: u128
 
 /// The first moment from `from` on and before `before`, in picoseconds, at which some class with a need stays open through it, in a
 /// list that stands so at `from` and that nothing follows. Where there is none within a cycle, there is none at all.
-pub fn search_alone(
+pub(crate) fn search_alone(
     list: &AcceptedList,
     from: u128,
     needs: &[Option<u128>; CLASSES],

@@ -7,7 +7,7 @@ use std::alloc::{AllocError, Allocator, Global};
 use std::io::Read;
 
 /// How many octets a read asks for.
-pub const CHUNK: usize = 65_536;
+pub(crate) const CHUNK: usize = 65_536;
 
 /// A read failed.
 #[derive(Clone, Copy, Debug, PartialEq, Eq)]
@@ -54,7 +54,7 @@ impl<R: Read + Drop, A: Allocator> Source<R, A> {
     }
 
     /// Takes so many of the octets in hand.
-    pub fn consume(&mut self, count: usize)
+    pub(crate) fn consume(&mut self, count: usize)
         requires { count ≤ length (ahead self.old) }
         ensures octets { ahead self.new ≡ drop count (ahead self.old) }
         ensures reader { self.new.reader ≡ self.old.reader }
@@ -64,7 +64,7 @@ impl<R: Read + Drop, A: Allocator> Source<R, A> {
     }
 
     /// The next octet, or None at the end, and from then on. It fails only where it has to read, with none in hand.
-    pub fn next_octet(&mut self) -> Result<Option<u8>, ReadFault>
+    pub(crate) fn next_octet(&mut self) -> Result<Option<u8>, ReadFault>
         ensures octet { TakesOctet (octets_left R.remaining self.old) result (octets_left R.remaining self.new) }
         ensures none { result ≡ Ok None → self.new.ended ≡ true }
         ensures some { IfOk result (λ o. IsSome o → (self.old.ended ≡ false) × (self.new.ended ≡ false)) }

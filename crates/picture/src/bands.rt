@@ -31,14 +31,23 @@ fn two_classes<A: Allocator + Clone>(
     Ok((first, second))
 }
 
-/// Eight classes without bands: two by two, so that few are given back when out of memory.
-fn no_classes<A: Allocator + Clone>(alloc: &A) -> Result<[ClassBands<A>; 8], AllocError>
-    ensures { IfOk result (λ classes. classes ≡ no_classes) }
+/// Two pairs of classes without bands.
+fn four_classes<A: Allocator + Clone>(
+    alloc: &A,
+) -> Result<(ClassBands<A>, ClassBands<A>, ClassBands<A>, ClassBands<A>), AllocError>
+    ensures { IfOk result (λ four. (four.0 ≡ no_bands) × (four.1 ≡ no_bands) × (four.2 ≡ no_bands) × (four.3 ≡ no_bands)) }
 {
     let (class_0, class_1) = two_classes(alloc)?;
     let (class_2, class_3) = two_classes(alloc)?;
-    let (class_4, class_5) = two_classes(alloc)?;
-    let (class_6, class_7) = two_classes(alloc)?;
+    Ok((class_0, class_1, class_2, class_3))
+}
+
+/// Eight classes without bands: four by four, so that few are given back when out of memory.
+fn no_classes<A: Allocator + Clone>(alloc: &A) -> Result<[ClassBands<A>; 8], AllocError>
+    ensures { IfOk result (λ classes. classes ≡ no_classes) }
+{
+    let (class_0, class_1, class_2, class_3) = four_classes(alloc)?;
+    let (class_4, class_5, class_6, class_7) = four_classes(alloc)?;
     Ok([
         class_0, class_1, class_2, class_3, class_4, class_5, class_6, class_7,
     ])

@@ -68,7 +68,7 @@ fn put_class_line<W: Write>(
 
 /// Writes the line of a class that had frames: what it has counted, how long its frames waited, and the greatest number that waited
 /// at once.
-pub fn put_class_text<W: Write>(
+pub(crate) fn put_class_text<W: Write>(
     class: u8,
     counters: &Counters,
     waits: &Waits,
@@ -93,7 +93,11 @@ fn share_of(busy: u128, now: u128) -> u128
 }
 
 /// Writes how long the wire was busy, in picoseconds, and the share of the time up to a moment.
-pub fn put_wire_line<W: Write>(busy: u128, now: u128, writer: &mut W) -> Result<(), WriteFault>
+pub(crate) fn put_wire_line<W: Write>(
+    busy: u128,
+    now: u128,
+    writer: &mut W,
+) -> Result<(), WriteFault>
     requires busy { busy ≤ now }
     requires within { now ≤ greatest_moment }
     ensures { Writes result (W.contents writer.old) (W.contents writer.new) (wire_line busy now) }

@@ -9,13 +9,13 @@ use gate_list::{Entry, MAX_ENTRIES};
 use wire_time::{CLASSES, PRIORITIES};
 
 /// How many priorities are kept: one more than there may be.
-pub const KEPT_PRIORITIES: usize = PRIORITIES + 1;
+pub(crate) const KEPT_PRIORITIES: usize = PRIORITIES + 1;
 
 /// How many ranges of queues are kept: one more than there may be.
-pub const KEPT_RANGES: usize = CLASSES + 1;
+pub(crate) const KEPT_RANGES: usize = CLASSES + 1;
 
 /// How many entries are kept: one more than there may be.
-pub const KEPT_ENTRIES: usize = MAX_ENTRIES + 1;
+pub(crate) const KEPT_ENTRIES: usize = MAX_ENTRIES + 1;
 
 /// The options of a line so far. Of the priorities, ranges and entries one more than may stand is kept, which shows that there
 /// were too many; of the size limits those that have an effect.

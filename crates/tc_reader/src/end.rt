@@ -13,7 +13,7 @@ use gate_list::GateList;
 use wire_time::CLASSES;
 
 /// Whether the heads are there that every line has.
-pub fn check_heads(seen: Seen) -> Result<(), TcFault>
+pub(crate) fn check_heads(seen: Seen) -> Result<(), TcFault>
     ensures { result ≡ heads_missing seen.dev seen.parent }
 {
     if !seen.dev {
@@ -148,7 +148,7 @@ fn put_command(
 
 /// Answers with a fault. Apart, since it is seldom: the compiler would clear two kilobytes for it in the body of each caller.
 #[inline(never)]
-pub fn put_fault(fault: TcFault, answer: &mut Result<Command, TcFault>)
+pub(crate) fn put_fault(fault: TcFault, answer: &mut Result<Command, TcFault>)
     ensures { answer.new ≡ Err fault }
 {
     *answer = Err(fault);
@@ -156,7 +156,7 @@ pub fn put_fault(fault: TcFault, answer: &mut Result<Command, TcFault>)
 
 /// Answers with the command that the options give. Where there is a change already, it is written over, since a list of entries takes
 /// two kilobytes.
-pub fn give_command(given: &CappedOptions, answer: &mut Result<Command, TcFault>)
+pub(crate) fn give_command(given: &CappedOptions, answer: &mut Result<Command, TcFault>)
     ensures { answer.new ≡ command_given (view given.now) }
 {
     let (map, queues) = match classes_of(given) {

@@ -55,7 +55,7 @@ fn take_head(seen: &mut Seen, words: &mut Words<'_>, word: &[u8]) -> Result<(), 
 }
 
 /// The heads of the words after the verb, and whether `taprio` ends them; else the line does.
-pub fn read_heads(words: &mut Words<'_>) -> Result<(Seen, bool), TcFault>
+pub(crate) fn read_heads(words: &mut Words<'_>) -> Result<(Seen, bool), TcFault>
     ensures heads { MatchResult result
         (λ s. (heads : List Head) × ReadsHeads [] (words_left words.old) heads (Ok (behind_heads s.1 (words_left words.new))) × (s.0 ≡ seen_of heads))
         (λ f. (heads : List Head) × ReadsHeads [] (words_left words.old) heads (Err f)) }

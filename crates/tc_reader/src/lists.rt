@@ -101,7 +101,7 @@ impl ListValue for u32 {
 }
 
 /// Adds the value, unless there are N already.
-pub fn push_capped<T: Copy + Default, const N: usize>(values: &mut ArrayVec<T, N>, value: T)
+pub(crate) fn push_capped<T: Copy + Default, const N: usize>(values: &mut ArrayVec<T, N>, value: T)
     ensures { values.new.items ≡ take N (values.old.items ++ value ∷ []) }
 {
     if !values.is_full() {
@@ -156,7 +156,7 @@ fn take_run<T: ListValue, const N: usize>(words: &mut Words<'_>) -> Result<Array
 
 /// The values of a list, or the first N where there are more.
 #[tactic(auto, unfolding(crate::specs::Options::some_at))]
-pub fn take_list<T: ListValue, const N: usize>(
+pub(crate) fn take_list<T: ListValue, const N: usize>(
     words: &mut Words<'_>,
 ) -> Result<ArrayVec<T, N>, TcFault>
     requires { 0 < N }

@@ -14,7 +14,7 @@ use crate::values::{take_clock_name, take_entry, take_flags, take_number};
 use words::Words;
 
 /// The option that a word names.
-pub fn option_named(word: &[u8]) -> Option<Opt>
+pub(crate) fn option_named(word: &[u8]) -> Option<Opt>
     ensures { result ≡ option_named word.now }
 {
     if word == b"num_tc".as_slice() {
@@ -48,7 +48,7 @@ pub fn option_named(word: &[u8]) -> Option<Opt>
 
 /// The values of an option, after its word.
 #[tactic(auto, unfolding(crate::specs::Options::values_at))]
-pub fn take_values(
+pub(crate) fn take_values(
     given: &mut CappedOptions,
     words: &mut Words<'_>,
     opt: Opt,

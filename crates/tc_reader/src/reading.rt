@@ -67,7 +67,7 @@ fn take_next(given: &mut CappedOptions, words: &mut Words<'_>) -> Result<bool, T
 
 /// Reads the options of the words after `taprio`, up to the end or the first fault. They are written where they are kept, since they
 /// take two kilobytes.
-pub fn read_options(words: Words<'_>, given: &mut CappedOptions) -> Result<(), TcFault>
+pub(crate) fn read_options(words: Words<'_>, given: &mut CappedOptions) -> Result<(), TcFault>
     requires { view given.old ≡ no_options }
     ensures { MatchResult result
         (λ _. (items : List Item) × Reads no_options (total words.entry) (words_left words.entry) items None × (view given.new ≡ capped (given_by items)))

@@ -14,7 +14,7 @@ use gate_list::Entry;
 use words::{Words, hex_number, is_digits, number};
 
 /// The most values of `max-sdu` that may stand.
-pub const MAX_SDU_VALUES: usize = 16;
+pub(crate) const MAX_SDU_VALUES: usize = 16;
 
 fn after_0x(word: &[u8]) -> &[u8]
     ensures { result.now ≡ after_0x word.now }
@@ -28,7 +28,7 @@ fn after_0x(word: &[u8]) -> &[u8]
 /// A decimal number of at most `most`.
 #[inline(always)]
 #[tactic(auto, unfolding(crate::specs::Options::value_at))]
-pub fn take_number(words: &mut Words<'_>, opt: Opt, most: u64) -> Result<u64, TcFault>
+pub(crate) fn take_number(words: &mut Words<'_>, opt: Opt, most: u64) -> Result<u64, TcFault>
     ensures value { MatchResult result
         (λ n. value_at opt (number_in 10 most) (words_taken words.old) (words_left words.old) ≡ Ok (n, words_left words.new))
         (λ f. value_at opt (number_in 10 most) (words_taken words.old) (words_left words.old) ≡ Err f) }
@@ -80,7 +80,7 @@ fn take_command(words: &mut Words<'_>) -> Result<(), TcFault>
 
 /// The words of an entry: its command, its mask, its interval.
 #[tactic(auto, unfolding(crate::specs::Options::entry_at))]
-pub fn take_entry(words: &mut Words<'_>) -> Result<Entry, TcFault>
+pub(crate) fn take_entry(words: &mut Words<'_>) -> Result<Entry, TcFault>
     ensures value { MatchResult result
         (λ e. entry_at (words_taken words.old) (words_left words.old) ≡ Ok (sched_entry e.mask e.interval, words_left words.new))
         (λ f. entry_at (words_taken words.old) (words_left words.old) ≡ Err f) }
@@ -140,7 +140,7 @@ fn take_plain_interval(words: &mut Words<'_>) -> Option<u32>
 
 /// An entry whose words stand as in most lines, with a space before each, and its mask in two digits. None where they don't, and then
 /// no word is taken.
-pub fn take_plain_entry(words: &mut Words<'_>) -> Option<Entry>
+pub(crate) fn take_plain_entry(words: &mut Words<'_>) -> Option<Entry>
     ensures entry { MatchOption result (words.new ≡ words.old)
         (λ e. StandsPlainly (words_taken words.old) (words_left words.old) e (words_left words.new)) }
     ensures moves { Moves words.old words.new }
@@ -158,7 +158,7 @@ pub fn take_plain_entry(words: &mut Words<'_>) -> Option<Entry>
 
 /// Flags that change nothing: 0 or 2.
 #[tactic(auto, unfolding(crate::specs::Options::flags_at))]
-pub fn take_flags(words: &mut Words<'_>) -> Result<u32, TcFault>
+pub(crate) fn take_flags(words: &mut Words<'_>) -> Result<u32, TcFault>
     ensures value { MatchResult result
         (λ n. flags_at (words_taken words.old) (words_left words.old) ≡ Ok (flags n, words_left words.new))
         (λ f. flags_at (words_taken words.old) (words_left words.old) ≡ Err f) }
@@ -187,7 +187,7 @@ fn is_clock(word: &[u8]) -> bool
 
 /// The name of a clock, which has no effect.
 #[tactic(auto, unfolding(crate::specs::Options::value_at))]
-pub fn take_clock_name(words: &mut Words<'_>) -> Result<(), TcFault>
+pub(crate) fn take_clock_name(words: &mut Words<'_>) -> Result<(), TcFault>
     ensures value { MatchResult result
         (λ _. value_at Opt.Clockid clock_item (words_taken words.old) (words_left words.old) ≡ Ok (clock, words_left words.new))
         (λ f. value_at Opt.Clockid clock_item (words_taken words.old) (words_left words.old) ≡ Err f) }
@@ -222,7 +222,7 @@ fn split_range(word: &[u8]) -> (&[u8], &[u8])
 }
 
 /// Whether a word has the form of a range of queues: digits, @, digits.
-pub fn is_range(word: &[u8]) -> bool
+pub(crate) fn is_range(word: &[u8]) -> bool
     ensures { result ≡ is_range word.now }
 {
     let (count, offset) = split_range(word);
@@ -230,7 +230,7 @@ pub fn is_range(word: &[u8]) -> bool
 }
 
 /// The range of queues that a word is: its count and its offset.
-pub fn range_of(word: &[u8]) -> Option<(u16, u16)>
+pub(crate) fn range_of(word: &[u8]) -> Option<(u16, u16)>
     ensures { result ≡ range_of word.now }
 {
     let (count, offset) = split_range(word);
@@ -240,7 +240,7 @@ pub fn range_of(word: &[u8]) -> Option<(u16, u16)>
 }
 
 /// The size limit that a word is, in octets, after so many limits, of which no more than `MAX_SDU_VALUES` may stand.
-pub fn limit_in(word: &[u8], before: usize) -> Option<u32>
+pub(crate) fn limit_in(word: &[u8], before: usize) -> Option<u32>
     ensures { result ≡ limit_in before word.now }
 {
     if before >= MAX_SDU_VALUES {

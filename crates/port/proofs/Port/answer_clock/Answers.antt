@@ -1,4 +1,4 @@
-use Rattle.std.proofs.Common.{sym, ◌∙◌, rules}
+use Rattle.std.proofs.Common.{sym, ◌∙◌}
 use Rattle.abstract_port.proofs.AskedLaws.{gives_start, gives_end}
 use Rattle.port.proofs.Port.answer_clock.Goals as goal
 

@@ -1,5 +1,5 @@
 use native.Mathlib.Omega.{arith}
-use Rattle.std.proofs.Common.{refl, ap, rules}
+use Rattle.std.proofs.Common.{refl, ap}
 use Rattle.std.specs.Prelude.{slice_set}
 use Rattle.std.proofs.Common.{◌<◌}
 use Rattle.abstract_port.specs.Counting.{AreCounted, no_counts}
