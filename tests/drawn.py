@@ -54,3 +54,13 @@ clock 50000000
     without, ran = run(program, ["draw"], script), run(program, words, script)
     assert (without.status, ran.status) == (0, 0) and without.output == ran.output
     assert without.output.startswith(b"<svg "), shown(without.output)
+
+
+def case_a_picture_has_20000_shapes_as_they_are(program):
+    """With one shape more, those of a row that are closer than a pixel are joined. Each class has one open time; four have dropped frames."""
+    for frames, marks in ((19_992, 19_992), (19_993, 4)):
+        ran = run(program, ["draw"], b"".join(b"frame 1 %d 13\n" % (number % 4) for number in range(frames)))
+        assert (ran.status, ran.errors) == (0, b""), ran.errors
+        # The legend has one, too.
+        found = ran.output.count(b'\n<path class="d" ') - 1
+        assert found == marks, (frames, found)

@@ -1,11 +1,13 @@
 """The program and what lies outside it: standard streams that are closed or full or fail, files without a right
 to read them, and too little memory."""
 import os
+import re
 import shutil
 import socket
 import subprocess
 import sys
 import tempfile
+import time
 
 from captures import BOTH_LEFT, BOTH_TOLD, END, FIRST_LEFT, FIRST_SUMMED, FIRST_TOLD, PRIORITY_3, TWO_RECORDS
 from rows import Ran, captured, run, shown
@@ -180,6 +182,31 @@ def case_a_file_as_the_standard_input_of_a_replay(program):
         ran = run(program, words, None, SCRIPT | {"out": b"longer than what is left " * 100}, stdin=file)
     wants(ran, 0, FIRST_TOLD + FIRST_SUMMED, b"")
     assert ran.files["out"] == FIRST_LEFT
+
+
+def case_a_replay_that_says_how_far_it_has_come(program):
+    """A line comes with a record, where half a second has passed since the start or since the line before; it has how many records a second."""
+    record = TWO_RECORDS[24:58]
+    with tempfile.TemporaryDirectory(prefix="taprio-case-") as folder:
+        open(os.path.join(folder, "script"), "wb").close()
+        began = time.monotonic()
+        words = [program, "replay", "--progress", "--until", "1", "script", "-", "out"]
+        pipes = {"stdin": subprocess.PIPE, "stdout": subprocess.PIPE, "stderr": subprocess.PIPE}
+        with subprocess.Popen(words, cwd=folder, bufsize=0, **pipes) as ran:
+            while not os.path.exists(os.path.join(folder, "out")):
+                assert ran.poll() is None and time.monotonic() < began + 60
+                time.sleep(0.01)
+            ran.stdin.write(TWO_RECORDS[:58])
+            for _ in range(2):
+                time.sleep(1)
+                ran.stdin.write(2 * record)
+            _, errors = ran.communicate(timeout=60)
+        longest = 1000 * (time.monotonic() - began) + 1
+    line = rb"taprio_port: %d records, at 2000500000000 ps, (\d+) records a second\n"
+    told = re.fullmatch(line % 2 + line % 4, errors)
+    assert ran.returncode == 0 and told, (ran.returncode, errors)
+    for number, records, passed in ((1, 2, 900), (2, 4, 1900)):
+        assert records * 1000 // longest <= int(told[number]) <= records * 1000 // passed, (longest, errors)
 
 
 def case_too_little_memory(program):

@@ -49,22 +49,49 @@ impl<A: Allocator> ClassArrivals<A> {
     }
 }
 
-/// Eight classes of which no frame waits.
+/// Two classes of which no frame waits.
+fn two_classes<A: Allocator + Clone>(
+    alloc: &A,
+    room: usize,
+) -> Result<(ClassArrivals<A>, ClassArrivals<A>), AllocError>
+    ensures { IfOk result (λ two. (two.0 ≡ none_waits room) × (two.1 ≡ none_waits room)) }
+{
+    let first = ClassArrivals::new(alloc, room)?;
+    let second = ClassArrivals::new(alloc, room)?;
+    Ok((first, second))
+}
+
+/// Four classes of which no frame waits.
+fn four_classes<A: Allocator + Clone>(
+    alloc: &A,
+    room: usize,
+) -> Result<
+    (
+        ClassArrivals<A>,
+        ClassArrivals<A>,
+        ClassArrivals<A>,
+        ClassArrivals<A>,
+    ),
+    AllocError,
+>
+    ensures { IfOk result (λ four. (four.0 ≡ none_waits room) × (four.1 ≡ none_waits room) × (four.2 ≡ none_waits room) × (four.3 ≡ none_waits room)) }
+{
+    let (class_0, class_1) = two_classes(alloc, room)?;
+    let (class_2, class_3) = two_classes(alloc, room)?;
+    Ok((class_0, class_1, class_2, class_3))
+}
+
+/// Eight classes of which no frame waits: four by four, so that few are given back when out of memory.
 fn classes_of<A: Allocator + Clone>(
     alloc: &A,
     room: usize,
 ) -> Result<[ClassArrivals<A>; 8], AllocError>
     ensures { IfOk result (λ classes. classes ≡ none_wait room) }
 {
+    let (class_0, class_1, class_2, class_3) = four_classes(alloc, room)?;
+    let (class_4, class_5, class_6, class_7) = four_classes(alloc, room)?;
     Ok([
-        ClassArrivals::new(alloc, room)?,
-        ClassArrivals::new(alloc, room)?,
-        ClassArrivals::new(alloc, room)?,
-        ClassArrivals::new(alloc, room)?,
-        ClassArrivals::new(alloc, room)?,
-        ClassArrivals::new(alloc, room)?,
-        ClassArrivals::new(alloc, room)?,
-        ClassArrivals::new(alloc, room)?,
+        class_0, class_1, class_2, class_3, class_4, class_5, class_6, class_7,
     ])
 }
 

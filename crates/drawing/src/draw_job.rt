@@ -9,8 +9,8 @@ ghost use Rattle.drawing.specs.Ending.{IsDrawEnding};
 ghost use Rattle.drawing.specs.Given.{words_of_draws};
 ghost use Rattle.drawing.specs.Options.{options_of};
 
+use crate::draw_run::draw;
 use crate::options::{DrawValues, options_given};
-use crate::running::draw;
 use job::{Ended, end_run};
 use script::{Values, end_with_value, settings_given};
 use std::alloc::{Allocator, Global};

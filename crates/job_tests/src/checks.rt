@@ -3,8 +3,8 @@
 use linked_list_allocator::LocalHeap;
 use schedule_check::{CheckSettings, check};
 use script::RunFault;
+use std::alloc::Global;
 use std::process::Abort;
-use std::test::Fail;
 use test_streams::{Narrow, Pieces};
 use wire_time::Rate;
 
@@ -40,66 +40,85 @@ fn settings(rt: &impl Abort, windows: bool) -> CheckSettings {
     CheckSettings { rate, windows }
 }
 
-#[test]
-fn refuses_each_growth(rt: HostRuntime) -> Result<(), Fail> {
-    let mut done = false;
-    for size in 1..40usize {
-        let heap = LocalHeap::new(rt.alloc(), 6000 * size)?;
-        let mut got = Vec::new(rt.alloc());
-        let result = check(&heap, SCHEDULES, &mut got, settings(&rt, false));
-        if result.is_ok() {
-            done = true;
-            assert_eq!(rt; got.as_slice(), TOLD);
-        } else {
-            assert_eq!(rt; result, Err(RunFault::Memory));
-            assert!(rt; !done && TOLD.starts_with(&got));
-        }
+/// Whether a heap of so many octets is enough for the commands; none where what is reported is wrong.
+fn is_enough(alloc: Global, octets: usize, settings: CheckSettings) -> Option<bool> {
+    let heap = LocalHeap::new(alloc, octets).ok()?;
+    let mut got = Vec::new(alloc);
+    match check(&heap, SCHEDULES, &mut got, settings) {
+        Ok(()) => (got.as_slice() == TOLD).then_some(true),
+        Err(fault) => (fault == RunFault::Memory && TOLD.starts_with(&got)).then_some(false),
     }
-    assert!(rt; done);
-    Ok(())
+}
+
+/// Once a heap is enough, each greater one is.
+#[test]
+fn refuses_each_growth(rt: HostRuntime) {
+    let settings = settings(&rt, false);
+    let mut enough = Some(false);
+    for size in 1..40usize {
+        let before = enough;
+        enough = is_enough(rt.alloc(), 6000 * size, settings);
+        assert!(rt; enough >= before, "at {size}");
+    }
+    assert_eq!(rt; enough, Some(true));
+}
+
+/// Whether all is reported, or a failed read of this number, once or for ever, and a prefix of the rest.
+fn is_read(alloc: Global, settings: CheckSettings, fails_at: u32, recovers: bool) -> bool {
+    let mut reader = Pieces::new(SCHEDULES, 60);
+    reader.fails_at = fails_at;
+    reader.recovers = recovers;
+    let mut got = Vec::new(alloc);
+    match check(alloc, reader, &mut got, settings) {
+        Ok(()) => got.as_slice() == TOLD,
+        Err(fault) => fault == RunFault::Read && TOLD.starts_with(&got),
+    }
 }
 
 /// Each read in turn fails, once or for ever: it isn't tried again.
 #[test]
-fn stops_at_each_read(rt: HostRuntime) -> Result<(), Fail> {
+fn stops_at_each_read(rt: HostRuntime) {
+    let settings = settings(&rt, false);
     for fails_at in 0..12u32 {
-        for recovers in [false, true] {
-            let mut reader = Pieces::new(SCHEDULES, 60);
-            reader.fails_at = fails_at;
-            reader.recovers = recovers;
-            let mut got = Vec::new(rt.alloc());
-            let result = check(rt.alloc(), reader, &mut got, settings(&rt, false));
-            assert!(rt; TOLD.starts_with(&got));
-            if result.is_ok() {
-                assert_eq!(rt; got.as_slice(), TOLD);
-            } else {
-                assert_eq!(rt; result, Err(RunFault::Read));
-            }
-        }
+        assert!(rt;
+            is_read(rt.alloc(), settings, fails_at, false),
+            "at {fails_at}"
+        );
+        assert!(rt;
+            is_read(rt.alloc(), settings, fails_at, true),
+            "at {fails_at}, once"
+        );
     }
-    Ok(())
+}
+
+/// Whether a writer with room for so many octets, which then fails or takes nothing, gets what it has room for.
+fn is_written(
+    alloc: Global,
+    settings: CheckSettings,
+    room: usize,
+    fails: bool,
+    recovers: bool,
+) -> bool {
+    let mut writer = Narrow {
+        got: Vec::new(alloc),
+        piece: 7,
+        room,
+        fails,
+        recovers,
+    };
+    let result = check(alloc, SCHEDULES, &mut writer, settings);
+    let fault = (room < TOLD_WITH_WINDOWS.len()).then_some(RunFault::Write);
+    result.err() == fault && writer.got.len() == room && TOLD_WITH_WINDOWS.starts_with(&writer.got)
 }
 
 /// Each write in turn fails, or takes nothing: what was taken before is a prefix of what is reported.
 #[test]
-fn stops_at_each_write(rt: HostRuntime) -> Result<(), Fail> {
+fn stops_at_each_write(rt: HostRuntime) {
+    let settings = settings(&rt, true);
     for room in 0..=TOLD_WITH_WINDOWS.len() {
         for (fails, recovers) in [(false, false), (true, false), (true, true)] {
-            let mut writer = Narrow {
-                got: Vec::new(rt.alloc()),
-                piece: 7,
-                room,
-                fails,
-                recovers,
-            };
-            let result = check(rt.alloc(), SCHEDULES, &mut writer, settings(&rt, true));
-            if room < TOLD_WITH_WINDOWS.len() {
-                assert_eq!(rt; result, Err(RunFault::Write));
-            } else {
-                result?;
-            }
-            assert_eq!(rt; writer.got.as_slice(), &TOLD_WITH_WINDOWS[..room]);
+            let is_right = is_written(rt.alloc(), settings, room, fails, recovers);
+            assert!(rt; is_right, "{room} {fails} {recovers}");
         }
     }
-    Ok(())
 }

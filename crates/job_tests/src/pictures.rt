@@ -2,6 +2,7 @@
 
 use drawing::{DrawOptions, draw};
 use script::{RunFault, Settings};
+use std::alloc::Global;
 use std::process::Abort;
 use std::test::Fail;
 use test_streams::{Narrow, Pieces};
@@ -25,28 +26,40 @@ fn usual(rt: &impl Abort) -> Settings {
     Settings::new(rate, 1500, 128, None).expect(rt, "settings")
 }
 
+/// Whether a read that fails draws nothing.
+fn is_read(alloc: Global, settings: Settings) -> bool {
+    let mut failing = Pieces::new(SCRIPT, 40);
+    failing.fails_at = 2;
+    let mut got = Vec::new(alloc);
+    let run = draw(alloc, failing, &mut got, settings, WHOLE);
+    run == Err(RunFault::Read) && got.is_empty()
+}
+
+/// Whether a writer with room for so many octets, and no more, gets a prefix of the picture.
+fn is_written(alloc: Global, settings: Settings, picture: &[u8], room: usize) -> bool {
+    let mut narrow = Narrow {
+        got: Vec::new(alloc),
+        piece: 7,
+        room,
+        fails: room % 2 == 0,
+        recovers: true,
+    };
+    let run = draw(alloc, SCRIPT, &mut narrow, settings, WHOLE);
+    run == Err(RunFault::Write) && picture.starts_with(narrow.got.as_slice())
+}
+
 /// A read that fails draws nothing, and a writer that takes no more gets a prefix.
 #[test]
 fn failed_reads_and_writes_end_it(rt: HostRuntime) -> Result<(), Fail> {
-    let mut whole = Vec::new(rt.alloc());
-    draw(rt.alloc(), SCRIPT, &mut whole, usual(&rt), WHOLE)?;
-    let mut got = Vec::new(rt.alloc());
-    let mut failing = Pieces::new(SCRIPT, 40);
-    failing.fails_at = 2;
-    let run = draw(rt.alloc(), failing, &mut got, usual(&rt), WHOLE);
-    assert_eq!(rt; run, Err(RunFault::Read));
-    assert!(rt; got.is_empty());
+    let settings = usual(&rt);
+    assert!(rt; is_read(rt.alloc(), settings));
+    let mut picture = Vec::new(rt.alloc());
+    draw(rt.alloc(), SCRIPT, &mut picture, settings, WHOLE)?;
     for room in [0, 1, 100, 3_000] {
-        let mut narrow = Narrow {
-            got: Vec::new(rt.alloc()),
-            piece: 7,
-            room,
-            fails: room % 2 == 0,
-            recovers: true,
-        };
-        let run = draw(rt.alloc(), SCRIPT, &mut narrow, usual(&rt), WHOLE);
-        assert_eq!(rt; run, Err(RunFault::Write));
-        assert!(rt; whole.starts_with(narrow.got.as_slice()));
+        assert!(rt;
+            is_written(rt.alloc(), settings, picture.as_slice(), room),
+            "at {room}"
+        );
     }
     Ok(())
 }

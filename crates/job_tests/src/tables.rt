@@ -1,7 +1,7 @@
 //! Readers and writers of tables and scripts that fail, and heaps that refuse.
 
 use refusing_heap::RefusingHeap;
-use std::test::Fail;
+use std::alloc::Global;
 use test_streams::{Narrow, Pieces};
 use traffic::{StreamsFault, write_streams};
 
@@ -25,80 +25,101 @@ clock 100\ncount 5\nclock 250000000\nquery\nframe 2 5 60\nframe 7 3 64\nframe 8 
 clock 300000000\nquery\nclock 500000000\nframe 3 5 60\nframe 101 7 1514 tagged\n\
 clock 500000001\nquery\n";
 
+/// Whether a growth of this number is refused, which is reported, and nothing is written; or it isn't asked for, and all is written. None where
+/// it comes out otherwise.
+fn is_refused(alloc: Global, number: u64) -> Option<bool> {
+    let heap = RefusingHeap::new(alloc, number, true);
+    let mut got = Vec::new(alloc);
+    let run = write_streams(&heap, TABLE, WITH, &mut got);
+    if heap.asked() > number {
+        (run == Err(StreamsFault::Memory) && got.is_empty()).then_some(true)
+    } else {
+        (run == Ok(()) && got.as_slice() == BOTH).then_some(false)
+    }
+}
+
 /// Each growth refused in turn, until a run asks for no further one.
 #[test]
-fn wants_memory_only_where_it_is_refused(rt: HostRuntime) -> Result<(), Fail> {
+fn wants_memory_only_where_it_is_refused(rt: HostRuntime) {
     let mut refused = 0u32;
-    for number in 0..16 {
-        let heap = RefusingHeap::new(rt.alloc(), number, true);
-        let mut got = Vec::new(rt.alloc());
-        let run = write_streams(&heap, TABLE, WITH, &mut got);
-        if heap.asked() > number {
+    for number in 0..16u64 {
+        let met = is_refused(rt.alloc(), number);
+        assert!(rt; met.is_some(), "growth {number}");
+        if met == Some(true) {
             refused = refused.saturating_add(1);
-            assert_eq!(rt; run, Err(StreamsFault::Memory));
-            assert!(rt; got.is_empty());
-        } else {
-            assert_eq!(rt; run, Ok(()));
-            assert_eq!(rt; got.as_slice(), BOTH);
         }
     }
     assert!(rt; 4 < refused && refused < 16);
-    Ok(())
+}
+
+/// Whether all is written where both inputs come in pieces of so many octets.
+fn is_read_in(alloc: Global, piece: usize) -> bool {
+    let mut got = Vec::new(alloc);
+    let table = Pieces::new(TABLE, piece);
+    let run = write_streams(alloc, table, Pieces::new(WITH, piece), &mut got);
+    run == Ok(()) && got.as_slice() == BOTH
+}
+
+/// Whether a read of the table with this number that fails is the last, and nothing is written.
+fn is_told_at(alloc: Global, fails_at: u32) -> bool {
+    let mut reader = Pieces::new(TABLE, 40);
+    reader.fails_at = fails_at;
+    reader.recovers = true;
+    let mut got = Vec::new(alloc);
+    let run = write_streams(alloc, &mut reader, WITH, &mut got);
+    run == Err(StreamsFault::Read) && got.is_empty() && reader.calls == fails_at.saturating_add(1)
 }
 
 #[test]
-fn reads_pieces_and_stops_at_a_failed_read(rt: HostRuntime) -> Result<(), Fail> {
-    for piece in 1..40 {
-        let mut got = Vec::new(rt.alloc());
-        let table = Pieces::new(TABLE, piece);
-        write_streams(rt.alloc(), table, Pieces::new(WITH, piece), &mut got)?;
-        assert_eq!(rt; got.as_slice(), BOTH);
+fn reads_pieces_and_stops_at_a_failed_read(rt: HostRuntime) {
+    for piece in 1..40usize {
+        assert!(rt; is_read_in(rt.alloc(), piece), "pieces of {piece}");
     }
-    for fails_at in 0..5 {
-        let mut reader = Pieces::new(TABLE, 40);
-        reader.fails_at = fails_at;
-        reader.recovers = true;
-        let mut got = Vec::new(rt.alloc());
-        let run = write_streams(rt.alloc(), &mut reader, WITH, &mut got);
-        assert_eq!(rt; run, Err(StreamsFault::Read));
-        assert!(rt; got.is_empty());
-        assert_eq!(rt; reader.calls, fails_at + 1);
+    for fails_at in 0..5u32 {
+        assert!(rt; is_told_at(rt.alloc(), fails_at), "at {fails_at}");
     }
-    Ok(())
+}
+
+/// How much is written before a read of the script with this number, which fails and is the last; none where it comes out otherwise.
+fn written_before(alloc: Global, fails_at: u32) -> Option<usize> {
+    let mut reader = Pieces::new(WITH, 40);
+    reader.fails_at = fails_at;
+    reader.recovers = true;
+    let mut got = Vec::new(alloc);
+    let run = write_streams(alloc, TABLE, &mut reader, &mut got);
+    let is_front = BOTH.starts_with(&got) && got.len() < BOTH.len();
+    let is_last = reader.calls == fails_at.saturating_add(1);
+    (run == Err(StreamsFault::Read) && is_front && is_last).then_some(got.len())
 }
 
 /// What comes before the line that can't be read is written, and nothing more.
 #[test]
-fn stops_at_a_failed_read_of_the_script(rt: HostRuntime) -> Result<(), Fail> {
-    let mut last = 0;
-    for fails_at in 0..4 {
-        let mut reader = Pieces::new(WITH, 40);
-        reader.fails_at = fails_at;
-        reader.recovers = true;
-        let mut got = Vec::new(rt.alloc());
-        let run = write_streams(rt.alloc(), TABLE, &mut reader, &mut got);
-        assert_eq!(rt; run, Err(StreamsFault::Read));
-        assert!(rt; BOTH.starts_with(&got) && last <= got.len() && got.len() < BOTH.len());
-        last = got.len();
-        assert_eq!(rt; reader.calls, fails_at + 1);
+fn stops_at_a_failed_read_of_the_script(rt: HostRuntime) {
+    let mut last = Some(0);
+    for fails_at in 0..4u32 {
+        let before = last;
+        last = written_before(rt.alloc(), fails_at);
+        assert!(rt; last >= before, "at {fails_at}");
     }
-    assert!(rt; 0 < last);
-    Ok(())
+    assert!(rt; last > Some(0));
+}
+
+/// Whether a writer with room for so many octets, and no more, gets those.
+fn is_written(alloc: Global, room: usize) -> bool {
+    let mut writer = Narrow {
+        got: Vec::new(alloc),
+        piece: 11,
+        room,
+        fails: room % 2 == 0,
+        recovers: room % 4 == 0,
+    };
+    let run = write_streams(alloc, TABLE, WITH, &mut writer);
+    run == Err(StreamsFault::Write) && writer.got.len() == room && BOTH.starts_with(&writer.got)
 }
 
 #[test]
-fn stops_at_each_write(rt: HostRuntime) -> Result<(), Fail> {
+fn stops_at_each_write(rt: HostRuntime) {
     for room in 0..BOTH.len() {
-        let mut writer = Narrow {
-            got: Vec::new(rt.alloc()),
-            piece: 11,
-            room,
-            fails: room % 2 == 0,
-            recovers: room % 4 == 0,
-        };
-        let run = write_streams(rt.alloc(), TABLE, WITH, &mut writer);
-        assert_eq!(rt; run, Err(StreamsFault::Write));
-        assert_eq!(rt; writer.got.as_slice(), &BOTH[..room]);
+        assert!(rt; is_written(rt.alloc(), room), "at {room}");
     }
-    Ok(())
 }

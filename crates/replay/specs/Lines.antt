@@ -10,12 +10,12 @@ use Rattle.line_reader.specs.Script.{Script, End, Broken}
 use Rattle.line_reader.specs.Script as Lines
 use Rattle.script.specs.Requests.{Request, Asks, said_in, tc_request}
 use Rattle.script.specs.Outcome.{Reading, long_line, with_line}
-use Rattle.script.specs.declared.reading.Said.{Said}
-use Rattle.script.specs.declared.reading.Said.TheVariants as Says
+use Rattle.script.specs.declared.script_line.Said.{Said}
+use Rattle.script.specs.declared.script_line.Said.TheVariants as Says
 use Rattle.script.specs.declared.faults.ScriptFault.{ScriptFault}
 use Rattle.script.specs.declared.faults.ScriptFault.TheVariants.{FrameInReplay, ClockTooLate}
-use Rattle.replay.specs.declared.reading.Line.{Line}
-use Rattle.replay.specs.declared.reading.Line.TheVariants.{Clock, Query, Count, Tc}
+use Rattle.replay.specs.declared.line_beside.Line.{Line}
+use Rattle.replay.specs.declared.line_beside.Line.TheVariants.{Clock, Query, Count, Tc}
 
 -- the first word is `frame`
 abbrev pub begins_with_frame : List (List ℕ) → Bool

@@ -13,7 +13,7 @@ ghost use Rattle.replay.specs.Lines.{IsEarly, line_request, reading_of};
 
 use crate::faults::{ReplayFault, ReplayInput};
 use crate::kept_script::{KeptLine, KeptScript};
-use crate::reading::{Line, read_line_beside};
+use crate::line_beside::{Line, read_line_beside};
 use line_reader::LineReader;
 use script::BadLine;
 use std::alloc::{AllocError, Allocator};

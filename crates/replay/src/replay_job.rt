@@ -8,7 +8,7 @@ ghost use Rattle.replay.specs.Ending.{IsReplayEnding};
 ghost use Rattle.replay.specs.Outputs.{got};
 
 use crate::faults::ReplayFault;
-use crate::running::replay;
+use crate::replay_run::replay;
 use crate::watch::Watch;
 use job::{Ended, say_run};
 use script::Settings;

@@ -11,7 +11,8 @@ use Rattle.abstract_port.specs.declared.Refused.{Refused}
 use Rattle.answer_text.specs.Lines.{answer_lines, tc_fault_line}
 use Rattle.octet_writer.specs.Writes.{Writes}
 use Rattle.script.proofs.OutputLaws.{lines_of_answers}
-use Rattle.script.specs.Requests.{NoCommand}
+use Rattle.script.specs.Answered.{IsAnswered}
+use Rattle.script.specs.Requests.{Request, NoCommand}
 use Rattle.script.specs.Responses.{lines_of, responses_to}
 use Rattle.tc_reader.specs.declared.fault.TcFault.{TcFault}
 use Rattle.summary.specs.Observed.{Observed, seen, seen_all}
@@ -20,6 +21,13 @@ use Rattle.summary.specs.Wanted.{noted, noted_at}
 pub always : {T E P : Type 0} (r : Result T E) → P → OnOk r P
 always (Ok x) p = p
 always (Err e) p = tt
+
+-- a call that failed has written a prefix, and says nothing else
+pub fails : {T E : Type 0} {r : Result T E} {y : E} (request : Request) (old new : Option (List ℕ)) (p q : AbstractPort) (a b : Option Observed) → r ≡ Err y → Writes r old new (lines_of (responses_to request p).0)
+    → IsAnswered request r old new p q a b
+fails {T} {E} {r} {y} request old new p q a b e w =
+    let never : (P : Type 0) → OnOk r P = λ P. (let Q : Result T E → Type 0 = λ x. OnOk x P in subst Q (sym e) tt) in
+    record { text = w; port = never _; seen = never _; sound = never _ }
 
 -- its lines are all that is written
 pub one_written : {T E : Type 0} (r : Result T E) (old new : Option (List ℕ)) (answer told : Answer) → answer ≡ told → Writes r old new (answer_lines answer) → Writes r old new (lines_of_answers (told ∷ []))

@@ -9,18 +9,13 @@ use Rattle.separation.specs.Promises.{IsKeepingPromises}
 use Rattle.line_reader.specs.Script.{script_of}
 use Rattle.script.specs.Requests.{Request, Asks, NoCommand}
 use Rattle.script.specs.Responses.{Response, Gave, answers_in, events_of, lines_of, noted_by, response_lines, responses_of, responses_to}
-use Rattle.job.specs.Outcome.{Outcome}
+use Rattle.job.proofs.LineLaws.{behind}
 use Rattle.script.specs.declared.faults.BadLine.{BadLine}
 use Rattle.script.specs.Outcome.{IsFaithfulTo, Reading, asked_in, asked_with, end_unless, outcome_after, reading_of}
 use Rattle.script.specs.Setup.{Setup}
-use Rattle.script.specs.declared.faults.ScriptFault.{ScriptFault}
 use Rattle.summary.specs.Observed.{Observed}
 use Rattle.summary.specs.Wanted.{noted_after}
 use Rattle.summary.proofs.WantedLaws.{noted_after-cons}
-
--- a text, and then the outcome
-abbrev pub after_text : List ℕ → Outcome BadLine → Outcome BadLine
-after_text text rest = record { text = text ++ rest.text; fault = rest.fault }
 
 pub lines_of-append : (xs ys : List Response) → lines_of (xs ++ ys) ≡ lines_of xs ++ lines_of ys
 lines_of-append [] ys = refl
@@ -46,7 +41,7 @@ noted-more (NoCommand fault) rest p o = refl
 
 -- what is written for one request more
 pub outcome-more : (until : Option ℕ) (r : Request) (rest : Reading) (p : AbstractPort) (o : Option Observed)
-    → outcome_after until (record { requests = r ∷ rest.requests; fault = rest.fault }) p o ≡ after_text (lines_of (responses_to r p).0) (outcome_after until rest (responses_to r p).1 (noted_by r p o))
+    → outcome_after until (record { requests = r ∷ rest.requests; fault = rest.fault }) p o ≡ behind (lines_of (responses_to r p).0) (outcome_after until rest (responses_to r p).1 (noted_by r p o))
 outcome-more until r rest p o =
     let q = (responses_to r p).1 in
     let asked = asked_in until rest in

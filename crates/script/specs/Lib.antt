@@ -3,6 +3,7 @@ pub mod Settings
 pub mod Requests
 pub mod Plain
 pub mod Responses
+pub mod Answered
 pub mod Outcome
 pub mod Separated
 pub mod Texts

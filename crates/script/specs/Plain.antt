@@ -9,7 +9,7 @@ use Rattle.line_reader.specs.declared.lines.LineReader.{LineReader}
 use Rattle.words.specs.Words.{words_of}
 use Rattle.script.specs.Requests.{said_in}
 use Rattle.script.specs.declared.faults.ScriptFault.{ScriptFault}
-use Rattle.script.specs.declared.reading.Said.TheVariants as Says
+use Rattle.script.specs.declared.script_line.Said.TheVariants as Says
 
 -- what comes after the numbers of a frame
 abbrev pub tag_text : Bool → List ℕ

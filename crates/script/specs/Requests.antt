@@ -9,8 +9,8 @@ use Rattle.abstract_port.specs.declared.Event.TheVariants.{Arrive, Install, Cloc
 use Rattle.tc_reader.specs.declared.fault.TcFault.{TcFault}
 use Rattle.words.specs.Words.{words_of}
 use Rattle.words.specs.Numbers.{number_in}
-use Rattle.script.specs.declared.reading.Said.{Said}
-use Rattle.script.specs.declared.reading.Said.TheVariants as Says
+use Rattle.script.specs.declared.script_line.Said.{Said}
+use Rattle.script.specs.declared.script_line.Said.TheVariants as Says
 use Rattle.script.specs.declared.faults.ScriptFault.{ScriptFault}
 use Rattle.script.specs.declared.faults.ScriptFault.TheVariants.{UnknownLine, WordCount, BadNumber, ClockTooLate}
 

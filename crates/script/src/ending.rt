@@ -7,7 +7,7 @@ ghost use Rattle.script.specs.Responses.{end_lines};
 ghost use Rattle.summary.specs.Lines.{class_text, summary_lines};
 ghost use Rattle.summary.specs.Observed.{class_at};
 
-use crate::answering::{RunningPort, put_all_left};
+use crate::answers::{RunningPort, put_all_left};
 use answer_text::WriteFault;
 use std::alloc::Allocator;
 use std::io::Write;

@@ -4,23 +4,23 @@
 //! `run_script` and `answer_script` cite it.
 #![tactic(auto)]
 
-mod answering;
+mod answers;
 mod ending;
 mod faults;
 mod fronts;
 pub mod laws;
 mod plain;
-mod reading;
-mod running;
 mod script_job;
+mod script_line;
+mod script_run;
 mod settings;
 
-pub use answering::{RunningPort, put_all_left, put_answers, put_tc};
+pub use answers::{RunningPort, put_all_left, put_answers, put_tc};
 pub use ending::put_end;
 pub use faults::{
     BadLine, RunFault, ScriptFault, limit_fault, put_line_fault, put_value, say_value,
 };
-pub use reading::{Said, read_line, read_tc};
-pub use running::run_script;
 pub use script_job::{Values, answer_script, end_with_value, rate_given, settings_given};
+pub use script_line::{Said, read_line, read_tc};
+pub use script_run::run_script;
 pub use settings::{BadValue, Settings};

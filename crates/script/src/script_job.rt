@@ -7,7 +7,7 @@ ghost use Rattle.script.specs.Given.{octets_of, words_of_values};
 ghost use Rattle.script.specs.Ending.{IsEnding, IsRefusal, rate_given, settings_given, settings_or_usual, whole_script};
 
 use crate::faults::say_value;
-use crate::running::run_script;
+use crate::script_run::run_script;
 use crate::settings::{BadValue, Settings, read_rate};
 use job::{Ended, end_run, end_told};
 use std::alloc::Allocator;

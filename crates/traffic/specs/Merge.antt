@@ -3,8 +3,8 @@ use Rattle.std.specs.Prelude.{ℕ, nat_lt, max, List, [], ◌∷◌, ◌++◌, O
 use Rattle.abstract_port.specs.declared.Event.TheVariants.{Arrive, Install, Clock, Query, Count}
 use Rattle.line_reader.specs.Script.{Script, End, Broken, Line, joins}
 use Rattle.script.specs.Requests.{said_in}
-use Rattle.script.specs.declared.reading.Said.{Said}
-use Rattle.script.specs.declared.reading.Said.TheVariants as Says
+use Rattle.script.specs.declared.script_line.Said.{Said}
+use Rattle.script.specs.declared.script_line.Said.TheVariants as Says
 use Rattle.script.specs.declared.faults.ScriptFault.{ScriptFault}
 use Rattle.traffic.specs.Written.{lines_of}
 use Rattle.traffic.specs.declared.turn.Coming.{Coming}

@@ -2,7 +2,7 @@
 
 ghost use Rattle.std.specs.Prelude.{◌≤◌};
 
-use in_memory::PortValues;
+use in_memory::{PortValues, Ran};
 
 /// So many dots are put where an output goes.
 pub const ROOM: usize = 512;
@@ -18,6 +18,15 @@ pub const USUAL: PortValues = PortValues {
     until: None,
     summary: false,
 };
+
+/// A run that is done, with so many octets of output.
+pub fn done(output: usize) -> Ran {
+    Ran {
+        output,
+        fault: 0,
+        status: 0,
+    }
+}
 
 /// Whether a slice of dots has this text at its front, and nothing else.
 pub fn has(slice: &[u8], text: &[u8]) -> bool {

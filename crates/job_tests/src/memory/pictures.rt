@@ -1,8 +1,8 @@
 //! Pictures in memory.
 
-use crate::memory::lent::{DOTS, USUAL, has};
+use crate::memory::lent::{DOTS, USUAL, done, has};
 use in_memory::{PictureValues, Ran, draw_octets};
-use std::test::Fail;
+use std::alloc::Global;
 
 /// The whole run, as wide as a picture is where no width is given.
 const SHOWN: PictureValues = PictureValues {
@@ -11,28 +11,51 @@ const SHOWN: PictureValues = PictureValues {
     width: 1200,
 };
 
+/// A frame, and a microsecond.
+const SCRIPT: &[u8] = b"frame 1 0 60\nclock 1000000\n";
+
+/// How much room the picture needs, where there is too little and nothing is written; none where it comes out otherwise.
+fn room_told(alloc: Global) -> Option<usize> {
+    let (mut small, mut fault) = (DOTS, DOTS);
+    let ran = draw_octets(alloc, USUAL, SHOWN, SCRIPT, &mut small, &mut fault);
+    (ran.status == 5 && has(&small, b"") && has(&fault, b"")).then_some(ran.output)
+}
+
+/// Whether the picture is drawn where there is just so much room.
+fn is_drawn(alloc: Global, room: usize) -> bool {
+    let Ok(mut picture) = Vec::from_elem(alloc, b'.', room) else {
+        return false;
+    };
+    let mut fault = DOTS;
+    let output = picture.as_mut_slice();
+    let ran = draw_octets(alloc, USUAL, SHOWN, SCRIPT, output, &mut fault);
+    let is_whole = picture.as_slice().starts_with(b"<svg xmlns=")
+        && picture.as_slice().ends_with(b"</svg>\n");
+    ran == done(room) && is_whole && has(&fault, b"")
+}
+
+/// Whether a script with a fault isn't drawn, and the fault is told.
+fn is_refused(alloc: Global) -> bool {
+    let (mut output, mut fault) = (DOTS, DOTS);
+    let ran = draw_octets(alloc, USUAL, SHOWN, b"clok 5\n", &mut output, &mut fault);
+    let text = b"taprio_port: script line 1: UnknownLine\n";
+    let wanted = Ran {
+        output: 0,
+        fault: text.len(),
+        status: 3,
+    };
+    ran == wanted && has(&output, b"") && has(&fault, text)
+}
+
+#[test]
+fn a_bad_script_is_not_drawn(rt: HostRuntime) {
+    assert!(rt; is_refused(rt.alloc()));
+}
+
 /// With too little room first, and then with the room that was reported.
 #[test]
-fn draws_where_there_is_room(rt: HostRuntime) -> Result<(), Fail> {
-    let (mut small, mut fault) = (DOTS, DOTS);
-    let script = b"frame 1 0 60\nclock 1000000\n";
-    let ran = draw_octets(rt.alloc(), USUAL, SHOWN, script, &mut small, &mut fault);
-    assert_eq!(rt; ran.status, 5);
-    assert!(rt; has(&small, b""));
-    let mut picture = Vec::from_elem(rt.alloc(), b'.', ran.output)?;
-    let output = picture.as_mut_slice();
-    let drawn = draw_octets(rt.alloc(), USUAL, SHOWN, script, output, &mut fault);
-    assert_eq!(rt;
-        drawn,
-        Ran {
-            output: ran.output,
-            fault: 0,
-            status: 0,
-        }
-    );
-    assert!(rt;
-        picture.as_slice().starts_with(b"<svg xmlns=") && picture.as_slice().ends_with(b"</svg>\n")
-    );
-    assert!(rt; has(&fault, b""));
-    Ok(())
+fn draws_where_there_is_room(rt: HostRuntime) {
+    let room = room_told(rt.alloc());
+    assert!(rt; room.is_some());
+    assert!(rt; is_drawn(rt.alloc(), room.unwrap_or(0)));
 }

@@ -1,9 +1,9 @@
 //! Scripts in memory.
 
-use crate::memory::lent::{DOTS, USUAL, has, room_for};
+use crate::memory::lent::{DOTS, USUAL, done, has, room_for};
 use in_memory::{Ran, run_octets};
 use refusing_heap::RefusingHeap;
-use std::test::Fail;
+use std::alloc::Global;
 
 /// A frame, and a microsecond.
 const SCRIPT: &[u8] = b"frame 1 0 60\nclock 1000000\n";
@@ -11,96 +11,89 @@ const SCRIPT: &[u8] = b"frame 1 0 60\nclock 1000000\n";
 /// What is answered.
 const ANSWERS: &[u8] = b"queued 1 class 0\nstart 1 class 0 at 0 end 672000\n";
 
-#[test]
-fn the_answers_stand_at_the_front(rt: HostRuntime) -> Result<(), Fail> {
+/// Whether the script is answered.
+fn is_answered(alloc: Global) -> bool {
     let (mut output, mut fault) = (DOTS, DOTS);
-    let ran = run_octets(&rt.alloc(), USUAL, SCRIPT, &mut output, &mut fault);
-    assert_eq!(rt;
-        ran,
-        Ran {
-            output: ANSWERS.len(),
-            fault: 0,
-            status: 0,
-        }
-    );
-    assert!(rt; has(&output, ANSWERS));
-    assert!(rt; has(&fault, b""));
-    Ok(())
+    let ran = run_octets(&alloc, USUAL, SCRIPT, &mut output, &mut fault);
+    ran == done(ANSWERS.len()) && has(&output, ANSWERS) && has(&fault, b"")
 }
 
 #[test]
-fn an_empty_script_has_no_answers(rt: HostRuntime) -> Result<(), Fail> {
+fn the_answers_stand_at_the_front(rt: HostRuntime) {
+    assert!(rt; is_answered(rt.alloc()));
+}
+
+#[test]
+fn an_empty_script_has_no_answers(rt: HostRuntime) {
     let ran = run_octets(&rt.alloc(), USUAL, b"", &mut [], &mut []);
-    assert_eq!(rt;
-        ran,
-        Ran {
-            output: 0,
-            fault: 0,
-            status: 0,
-        }
+    assert_eq!(rt; ran, done(0));
+}
+
+/// The script with a fault behind it.
+const BROKEN: &[u8] = b"frame 1 0 60\nclock 1000000\nclok 5\n";
+
+/// The text of that fault.
+const UNKNOWN: &[u8] = b"taprio_port: script line 3: UnknownLine\n";
+
+/// Whether the script is answered and the fault told; or, where the slice of this number lacks an octet, nothing is written.
+fn is_told(alloc: Global, lacking: u8) -> bool {
+    let (mut output, mut fault) = (DOTS, DOTS);
+    let ran = run_octets(
+        &alloc,
+        USUAL,
+        BROKEN,
+        &mut output[..room_for(ANSWERS, lacking == 0)],
+        &mut fault[..room_for(UNKNOWN, lacking == 1)],
     );
-    Ok(())
+    let lacks = lacking < 2;
+    let wanted = Ran {
+        output: ANSWERS.len(),
+        fault: UNKNOWN.len(),
+        status: if lacks { 5 } else { 3 },
+    };
+    let (answers, text): (&[u8], &[u8]) = if lacks {
+        (b"", b"")
+    } else {
+        (ANSWERS, UNKNOWN)
+    };
+    ran == wanted && has(&output, answers) && has(&fault, text)
 }
 
 /// With too little room for the answers by one octet, and for the text of the fault, and then with just enough.
 #[test]
-fn the_room_that_is_told_is_enough(rt: HostRuntime) -> Result<(), Fail> {
-    let script = b"frame 1 0 60\nclock 1000000\nclok 5\n";
-    let text: &[u8] = b"taprio_port: script line 3: UnknownLine\n";
+fn the_room_that_is_told_is_enough(rt: HostRuntime) {
     for lacking in 0..3u8 {
-        let (mut output, mut fault) = (DOTS, DOTS);
-        let ran = run_octets(
-            &rt.alloc(),
-            USUAL,
-            script,
-            &mut output[..room_for(ANSWERS, lacking == 0)],
-            &mut fault[..room_for(text, lacking == 1)],
-        );
-        assert_eq!(rt;
-            ran,
-            Ran {
-                output: ANSWERS.len(),
-                fault: text.len(),
-                status: if lacking < 2 { 5 } else { 3 },
-            }
-        );
-        if lacking < 2 {
-            assert!(rt; has(&output, b"") && has(&fault, b""));
-        } else {
-            assert!(rt; has(&output, ANSWERS) && has(&fault, text));
-        }
+        assert!(rt; is_told(rt.alloc(), lacking), "slice {lacking}");
     }
-    Ok(())
+}
+
+/// Whether a growth of this number is refused, which is told by the status alone, and nothing is written; or it isn't asked for. None where it
+/// comes out otherwise.
+fn is_refused(alloc: Global, number: u64) -> Option<bool> {
+    let (mut output, mut fault) = (DOTS, DOTS);
+    let heap = RefusingHeap::new(alloc, number, false);
+    let ran = run_octets(&heap, USUAL, BROKEN, &mut output, &mut fault);
+    if heap.asked() > number {
+        let wanted = Ran {
+            status: 4,
+            ..done(0)
+        };
+        (ran == wanted && has(&output, b"") && has(&fault, b"")).then_some(true)
+    } else {
+        (ran.status == 3 && has(&output, ANSWERS) && has(&fault, UNKNOWN)).then_some(false)
+    }
 }
 
 /// Each growth refused in turn, until a run asks for no further one.
 #[test]
-fn memory_is_wanting_only_where_it_is_refused(rt: HostRuntime) -> Result<(), Fail> {
-    let script = b"frame 1 0 60\nclock 1000000\nclok 5\n";
-    let text: &[u8] = b"taprio_port: script line 3: UnknownLine\n";
+fn memory_is_wanting_only_where_it_is_refused(rt: HostRuntime) {
     let mut refused = 0u32;
-    for number in 0..64 {
-        let (mut output, mut fault) = (DOTS, DOTS);
-        let heap = RefusingHeap::new(rt.alloc(), number, false);
-        let ran = run_octets(&heap, USUAL, script, &mut output, &mut fault);
-        if heap.asked() > number {
+    for number in 0..64u64 {
+        let met = is_refused(rt.alloc(), number);
+        assert!(rt; met.is_some(), "growth {number}");
+        if met == Some(true) {
             refused = refused.saturating_add(1);
-            assert_eq!(rt;
-                ran,
-                Ran {
-                    output: 0,
-                    fault: 0,
-                    status: 4,
-                }
-            );
-            assert!(rt; has(&output, b""));
-            assert!(rt; has(&fault, b""));
-        } else {
-            assert_eq!(rt; ran.status, 3);
-            assert!(rt; has(&output, ANSWERS));
-            assert!(rt; has(&fault, text));
         }
     }
     assert!(rt; 4 < refused && refused < 64);
-    Ok(())
 }

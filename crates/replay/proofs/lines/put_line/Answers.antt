@@ -79,7 +79,7 @@ returns-in_err-put_tc-in-Tc-clause-answers g c = λ read is es k.
     let t = at c.put_tc.new.port.port s.store c.put_tc.new.summary (g.V.Write.contents c.put_tc.new.writer) (g.W.Write.contents c.args.capture.now) in
     let P : KeptLine → Type 0 = λ l. Answers es r (kept_request read c.args.script.now.octets.items l ∷ []) s t in
     subst P (sym c.in-Tc.is)
-    (told_short es (tc_request (read (words_of (slice_range c.args.script.now.octets.items c.in-Tc.start c.in-Tc.end)))) p t.port s.store s.seen t.seen (g.V.Write.contents c.args.report.now) (g.V.Write.contents c.put_tc.new.writer) (g.W.Write.contents c.args.capture.now) (silent_tc es (read (words_of (slice_range c.args.script.now.octets.items c.in-Tc.start c.in-Tc.end))) p) r e.1 (rw c.deref.ensures.value at (c.in_err-put_tc-in-Tc.ensures.text read is)))
+    (told_short es (tc_request (read (words_of (slice_range c.args.script.now.octets.items c.in-Tc.start c.in-Tc.end)))) p t.port s.store s.seen t.seen (g.V.Write.contents c.args.report.now) (g.V.Write.contents c.put_tc.new.writer) (g.W.Write.contents c.args.capture.now) (silent_tc es (read (words_of (slice_range c.args.script.now.octets.items c.in-Tc.start c.in-Tc.end))) p) r e.1 (rw c.deref.ensures.value at (c.in_err-put_tc-in-Tc.ensures.answered read is).text))
 
 pub returns-in_ok-put_tc-in-Tc-clause-answers : goal.returns-in_ok-put_tc-in-Tc-clause-answers
 returns-in_ok-put_tc-in-Tc-clause-answers g c = λ read is es k.
@@ -88,14 +88,14 @@ returns-in_ok-put_tc-in-Tc-clause-answers g c = λ read is es k.
     let t = at c.put_tc.new.port.port s.store c.put_tc.new.summary (g.V.Write.contents c.put_tc.new.writer) (g.W.Write.contents c.args.capture.now) in
     let P : KeptLine → Type 0 = λ l. Answers {T = Unit {0}} es (Ok tt) (kept_request read c.args.script.now.octets.items l ∷ []) s t in
     subst P (sym c.in-Tc.is)
-    (told_line es (tc_request (read (words_of (slice_range c.args.script.now.octets.items c.in-Tc.start c.in-Tc.end)))) p t.port s.store s.seen t.seen (g.V.Write.contents c.args.report.now) (g.V.Write.contents c.put_tc.new.writer) (g.W.Write.contents c.args.capture.now) (silent_tc es (read (words_of (slice_range c.args.script.now.octets.items c.in-Tc.start c.in-Tc.end))) p) tt (rw c.deref.ensures.value at (c.in_ok-put_tc-in-Tc.ensures.text read is)) (rw c.deref.ensures.value at (c.in_ok-put_tc-in-Tc.ensures.port read is)) (rw c.deref.ensures.value at (c.in_ok-put_tc-in-Tc.ensures.seen read is)) k)
+    (told_line es (tc_request (read (words_of (slice_range c.args.script.now.octets.items c.in-Tc.start c.in-Tc.end)))) p t.port s.store s.seen t.seen (g.V.Write.contents c.args.report.now) (g.V.Write.contents c.put_tc.new.writer) (g.W.Write.contents c.args.capture.now) (silent_tc es (read (words_of (slice_range c.args.script.now.octets.items c.in-Tc.start c.in-Tc.end))) p) tt (rw c.deref.ensures.value at (c.in_ok-put_tc-in-Tc.ensures.answered read is).text) (rw c.deref.ensures.value at (c.in_ok-put_tc-in-Tc.ensures.answered read is).port) (rw c.deref.ensures.value at (c.in_ok-put_tc-in-Tc.ensures.answered read is).seen) k)
 
 pub returns-in_ok-put_tc-in-Tc-clause-together : goal.returns-in_ok-put_tc-in-Tc-clause-together
 returns-in_ok-put_tc-in-Tc-clause-together g c =
     let s = state c.args.sending.now (g.V.Write.contents c.args.report.now) (g.W.Write.contents c.args.capture.now) in
     let some = c.one_reader.ensures.some in
     let command = some.0 (words_of (slice_range c.args.script.now.octets.items c.in-Tc.start c.in-Tc.end)) in
-    told_together [] (tc_request command) s.port c.put_tc.new.port.port s.store _ _ _ _ _ (silent_tc [] command s.port) (rw c.deref.ensures.value at (c.in_ok-put_tc-in-Tc.ensures.port some.0 some.1)) c.in_ok-put_tc-in-Tc.ensures.sound c.requires.together
+    told_together [] (tc_request command) s.port c.put_tc.new.port.port s.store _ _ _ _ _ (silent_tc [] command s.port) (rw c.deref.ensures.value at (c.in_ok-put_tc-in-Tc.ensures.answered some.0 some.1).port) c.in_ok-put_tc-in-Tc.ensures.sound c.requires.together
 
 pub returns-in-Clock-clause-together : goal.returns-in-Clock-clause-together
 returns-in-Clock-clause-together g c = c.put_clock.ensures.together

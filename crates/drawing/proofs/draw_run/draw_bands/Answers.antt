@@ -1,0 +1,10 @@
+use Rattle.std.proofs.Common.{Err, ap, ◌∙◌}
+use Rattle.std.proofs.lemmas.Result.{err_from_is_err_and}
+use Rattle.script.specs.Outcome.{reading_of}
+use Rattle.drawing.proofs.EndLaws.{without_memory}
+use Rattle.drawing.proofs.draw_run.draw_bands.Goals as goal
+
+pub returns-in_err-bands : goal.returns-in_err-bands
+returns-in_err-bands g c = λ read is.
+    let p = err_from_is_err_and c.from_residual.result c.from_residual.ensures.1 in
+    without_memory _ (λ script. (reading_of read script).fault) (g.W.Write.contents c.args.writer.now) (p.1 ∙ ap Err p.2)

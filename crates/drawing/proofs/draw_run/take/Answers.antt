@@ -1,0 +1,27 @@
+use Rattle.std.proofs.Common.{refl, sym, ap, ◌∙◌, arith}
+use Rattle.abstract_port.proofs.AskedLaws.{given_fewer}
+use Rattle.abstract_port.specs.Asked.{with_answer, answers_left}
+use Rattle.drawing.specs.Course.{seen_all}
+use Rattle.drawing.proofs.draw_run.take.Goals as goal
+
+pub loop-answer-smaller : goal.loop-answer-smaller
+loop-answer-smaller g c =
+    let n = c.next_answer.ensures in
+    let fewer = given_fewer _ _ c.next_answer.result c.in-Some.answer _ _ c.in-Some.is (record { answers = n.answers; port = n.port; none = n.none; more = n.more }) in
+    omega (arith, fewer)
+
+pub loop-answer-init : goal.loop-answer-init
+loop-answer-init g c = record { seen = refl; same_end = refl }
+
+pub loop-answer-preserved : goal.loop-answer-preserved
+loop-answer-preserved g c =
+    let n = c.next_answer.ensures in
+    let i = c.loop-answer.invariant in
+    let all = sym n.answers ∙ ap (λ x. with_answer x (answers_left c.next_answer.new.asked c.next_answer.new.self.port).0) c.in-Some.is in
+    record {
+      seen =
+          ap (λ x. seen_all c.now-now.result c.class_at-class.result (answers_left c.next_answer.new.asked c.next_answer.new.self.port).0 x) c.see.ensures
+          ∙ ap (λ answers. seen_all c.now-now.result c.class_at-class.result answers c.loop-answer.course) (sym all)
+          ∙ i.seen;
+      same_end = n.port ∙ i.same_end;
+    }

@@ -1,0 +1,17 @@
+use Rattle.std.proofs.Common.{◌≡◌}
+use Rattle.abstract_port.specs.AbstractPort.{settled}
+use Rattle.abstract_port.specs.Answers.{answers_to}
+use Rattle.abstract_port.specs.Asked.{answers_left}
+use Rattle.abstract_port.proofs.AskedLaws.{left_count}
+use Rattle.drawing.specs.Course.{seen_all}
+use Rattle.drawing.proofs.draw_run.take.Given as goal
+
+-- What is drawn, and then the answers to come, are what all of them draw.
+abbrev pub invariant-loop-answer : goal.invariant-loop-answer
+invariant-loop-answer g l = record {
+  seen : seen_all l.now l.class (answers_left l.asked l.port.port).0 l.course ≡ seen_all l.now l.class (answers_to l.event l.fn.port.port).0 l.fn.course;
+  same_end : settled (answers_left l.asked l.port.port).1 ≡ settled (answers_to l.event l.fn.port.port).1;
+}
+
+abbrev pub decreases-loop-answer : goal.decreases-loop-answer
+decreases-loop-answer g l = left_count l.asked l.port.port

@@ -1,0 +1,41 @@
+use Rattle.std.proofs.Common.{◌≡◌, Option, Some, None, Result, Ok, refl, sym, ap, ◌∙◌, subst}
+use Rattle.abstract_port.specs.AbstractPort.{settled}
+use Rattle.words.specs.Words.{words_of}
+use Rattle.script.specs.Requests.{Request, Asks, request_of, request_said, said_in, tc_request}
+use Rattle.script.specs.declared.script_line.Said.TheVariants as Says
+use Rattle.script.specs.declared.faults.ScriptFault.{ScriptFault}
+use Rattle.script.proofs.StartsLaws.{settled-sound}
+use Rattle.drawing.specs.Taken.{TakesLine}
+use Rattle.drawing.proofs.draw_run.take_line.Goals as goal
+
+pub returns-in-Ok-clause-taken : goal.returns-in-Ok-clause-taken
+returns-in-Ok-clause-taken g c = λ read is.
+    let said : said_in c.args.line.now ≡ Ok (Some Says.Tc) = cc in
+    let asked : request_of read c.args.line.now ≡ Ok (Some (tc_request (read (words_of c.args.line.now)))) = ap (request_said (read (words_of c.args.line.now))) said in
+    let t = c.take_command.ensures in
+    let P : Result (Option Request) ScriptFault → Type 0 = λ a. TakesLine {T = Unit {0}} (Ok tt) a c.args.port.now.port c.args.course.now c.take_command.new.port.port c.take_command.new.course in
+    subst P (sym (asked ∙ ap (λ k. Ok (Some (tc_request k))) (sym (c.in-Ok.ensures read is)))) (sym (settled-sound c.take_command.new.port.port t.sound) ∙ ap settled t.port, t.course)
+
+pub returns-in-Err-read_tc-clause-taken : goal.returns-in-Err-read_tc-clause-taken
+returns-in-Err-read_tc-clause-taken g c = λ read is.
+    let said : said_in c.args.line.now ≡ Ok (Some Says.Tc) = cc in
+    let asked : request_of read c.args.line.now ≡ Ok (Some (tc_request (read (words_of c.args.line.now)))) = ap (request_said (read (words_of c.args.line.now))) said in
+    let P : Result (Option Request) ScriptFault → Type 0 = λ a. TakesLine {T = Unit {0}} (Ok tt) a c.args.port.now.port c.args.course.now c.args.port.now.port c.args.course.now in
+    subst P (sym (asked ∙ ap (λ k. Ok (Some (tc_request k))) (sym (c.in-Err-read_tc.ensures read is)))) (sym (settled-sound c.args.port.now.port c.now-now.ensures.sound), refl)
+
+pub returns-in-Err-clause-taken : goal.returns-in-Err-clause-taken
+returns-in-Err-clause-taken g c = λ read is. ap (request_said (read (words_of c.args.line.now))) (sym c.read_line.ensures ∙ c.in-Err.is)
+
+pub returns-in-Ok-None-clause-taken : goal.returns-in-Ok-None-clause-taken
+returns-in-Ok-None-clause-taken g c = λ read is.
+    let said : said_in c.args.line.now ≡ Ok None = cc in
+    let asked : request_of read c.args.line.now ≡ Ok None = ap (request_said (read (words_of c.args.line.now))) said in
+    let P : Result (Option Request) ScriptFault → Type 0 = λ a. TakesLine {T = Unit {0}} (Ok tt) a c.args.port.now.port c.args.course.now c.args.port.now.port c.args.course.now in
+    subst P (sym asked) (refl, refl)
+
+pub returns-in-Ok-Some-Asked-clause-taken : goal.returns-in-Ok-Some-Asked-clause-taken
+returns-in-Ok-Some-Asked-clause-taken g c = λ read is.
+    let said : said_in c.args.line.now ≡ Ok (Some (Says.Asked c.in-Ok-Some-Asked.event)) = cc in
+    let asked : request_of read c.args.line.now ≡ Ok (Some (Asks c.in-Ok-Some-Asked.event)) = ap (request_said (read (words_of c.args.line.now))) said in
+    let P : Result (Option Request) ScriptFault → Type 0 = λ a. TakesLine {T = Unit {0}} (Ok tt) a c.args.port.now.port c.args.course.now c.take.new.port.port c.take.new.course in
+    subst P (sym asked) (c.take.ensures.port, c.take.ensures.course)

@@ -1,0 +1,13 @@
+use Rattle.std.proofs.Common.{ℕ, List, Result}
+use Rattle.abstract_port.specs.declared.Command.{Command}
+use Rattle.tc_reader.specs.declared.fault.TcFault.{TcFault}
+use Rattle.tc_reader.specs.Reader.{IsReader}
+use Rattle.line_reader.specs.LineReader.{script_left, most_lines}
+use Rattle.drawing.proofs.Taking.{IsTaking}
+use Rattle.drawing.proofs.draw_run.take_lines.Given as goal
+
+abbrev pub invariant-lines : goal.invariant-lines
+invariant-lines g l = (read : List (List ℕ) → Result Command TcFault) → IsReader read → IsTaking read l.fn.port.port l.fn.course (script_left g.R.Read.remaining l.fn.lines) (script_left g.R.Read.remaining l.lines) l.port.port l.course
+
+abbrev pub decreases-lines : goal.decreases-lines
+decreases-lines g l = most_lines l.lines

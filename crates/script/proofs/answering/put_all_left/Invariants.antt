@@ -1,7 +1,0 @@
-use Rattle.std.proofs.Common.{◌-◌}
-use Rattle.octet_writer.specs.Writes.{Sent}
-use Rattle.script.specs.Responses.{left_lines, left_from}
-use Rattle.script.proofs.answering.put_all_left.Given as goal
-
-abbrev pub invariant-loop-class : goal.invariant-loop-class
-invariant-loop-class g l = Sent (g.W.Write.contents l.fn.writer) (g.W.Write.contents l.writer) (left_lines l.port.port) (left_from (8 - l.class) l.class l.port.port)

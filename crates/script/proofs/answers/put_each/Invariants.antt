@@ -1,0 +1,20 @@
+use Rattle.std.proofs.Common.{◌≡◌}
+use Rattle.abstract_port.specs.AbstractPort.{settled}
+use Rattle.abstract_port.specs.Answers.{answers_to}
+use Rattle.abstract_port.specs.Asked.{answers_left}
+use Rattle.abstract_port.proofs.AskedLaws.{left_count}
+use Rattle.octet_writer.specs.Writes.{Sent}
+use Rattle.script.proofs.OutputLaws.{lines_of_answers}
+use Rattle.summary.specs.Wanted.{noted_all, noted_at}
+use Rattle.script.proofs.answers.put_each.Given as goal
+
+-- What is written and the lines of the answers to come are those of all, and so is what is seen of them.
+abbrev pub invariant-loop-answer : goal.invariant-loop-answer
+invariant-loop-answer g l = record {
+  sent : Sent (g.W.Write.contents l.fn.writer) (g.W.Write.contents l.writer) (lines_of_answers (answers_to l.event l.fn.port.port).0) (lines_of_answers (answers_left l.asked l.port.port).0);
+  same_seen : noted_all l.now (answers_left l.asked l.port.port).0 l.summary ≡ noted_at l.event l.fn.port.port l.fn.summary;
+  same_end : settled (answers_left l.asked l.port.port).1 ≡ settled (answers_to l.event l.fn.port.port).1;
+}
+
+abbrev pub decreases-loop-answer : goal.decreases-loop-answer
+decreases-loop-answer g l = left_count l.asked l.port.port

@@ -1,0 +1,17 @@
+use Rattle.std.proofs.Common.{sym, ap, ◌∙◌}
+use Rattle.abstract_port.specs.AbstractPort.{settled}
+use Rattle.abstract_port.specs.Answers.{command_answer}
+use Rattle.script.proofs.GivenLaws.{always, command_unseen, one_written}
+use Rattle.script.proofs.StartsLaws.{settled-sound}
+use Rattle.script.proofs.answers.put_install.Goals as goal
+
+pub returns : goal.returns
+returns g c =
+    let e = c.install-answer.ensures in
+    let r = c.put_installation.result in
+    record {
+      text = one_written r _ _ _ _ (ap command_answer e.answer) c.put_installation.ensures;
+      port = always r (sym (settled-sound c.install-answer.new.self.port e.sound) ∙ ap settled e.port);
+      seen = always r (command_unseen c.args.command c.args.port.now.port c.args.summary.now);
+      sound = always r e.sound;
+    }

@@ -1,0 +1,7 @@
+use Rattle.script.proofs.answers.put_tc.Goals as goal
+
+pub returns-clause-answered : goal.returns-clause-answered
+returns-clause-answered g c = λ read is. rw (c.read_tc_into.ensures read is) at c.put_command.ensures
+
+pub returns-clause-sound : goal.returns-clause-sound
+returns-clause-sound g c = c.put_command.ensures.sound

@@ -1,0 +1,13 @@
+use Rattle.std.proofs.Common.{ℕ, List, Result}
+use Rattle.abstract_port.specs.declared.Command.{Command}
+use Rattle.tc_reader.specs.declared.fault.TcFault.{TcFault}
+use Rattle.tc_reader.specs.Reader.{IsReader}
+use Rattle.line_reader.specs.LineReader.{script_left, most_lines}
+use Rattle.script.proofs.Going.{IsRunning}
+use Rattle.script.proofs.script_run.run_lines.Given as goal
+
+abbrev pub invariant-lines : goal.invariant-lines
+invariant-lines g l = (read : List (List ℕ) → Result Command TcFault) → IsReader read → IsRunning read l.until (record { port = l.fn.port.port; seen = l.fn.summary }) (script_left g.R.Read.remaining l.fn.lines) (g.W.Write.contents l.fn.writer) (g.W.Write.contents l.writer) (script_left g.R.Read.remaining l.lines) l.port.port l.summary
+
+abbrev pub decreases-lines : goal.decreases-lines
+decreases-lines g l = most_lines l.lines

@@ -1,0 +1,221 @@
+//! What a port answers to the lines of a script, written as it comes.
+
+ghost use Rattle.std.specs.Prelude.{ℕ, List, Result, ◌<◌, ◌≤◌, length, OnOk};
+ghost use Rattle.abstract_port.specs.AbstractPort.{queue_of};
+ghost use Rattle.abstract_port.specs.Sound.{IsSoundPort};
+ghost use Rattle.abstract_port.specs.declared.Command.{Command};
+ghost use Rattle.abstract_port.specs.declared.Event.TheVariants as Events;
+ghost use Rattle.octet_writer.specs.Writes.{Writes};
+ghost use Rattle.script.specs.Answered.{IsAnswered};
+ghost use Rattle.script.specs.Requests.{Asks, tc_request};
+ghost use Rattle.script.specs.Responses.{left_lines, left_text};
+ghost use Rattle.tc_reader.specs.Reader.{IsReader};
+ghost use Rattle.tc_reader.specs.declared.fault.TcFault.{TcFault};
+ghost use Rattle.wire_time.specs.Moment.{greatest_moment};
+ghost use Rattle.words.specs.Words.{words_of};
+
+use crate::script_line::read_tc_into;
+use abstract_port::{Command, Event};
+use answer_text::{
+    WriteFault, put_answer, put_arrival, put_installation, put_left, put_start, put_tc_fault,
+};
+use jumping::Jumping;
+use port::Port;
+use std::alloc::Allocator;
+use std::io::Write;
+use summary::{Summary, note, note_start, note_verdict};
+use tc_reader::{TcFault, closed_command};
+use wire_time::{Frame, MAX_MOMENT};
+
+/// The port that runs. Another implementation of the gates takes the place of this one here.
+pub type RunningPort<A> = Port<Jumping, A>;
+
+/// Takes a frame that arrives, and writes the answer.
+#[inline(always)]
+fn put_frame<A: Allocator, W: Write>(
+    port: &mut RunningPort<A>,
+    summary: &mut Option<Summary<A>>,
+    frame: &Frame,
+    writer: &mut W,
+) -> Result<(), WriteFault>
+    ensures { IsAnswered (Asks (Events.Arrive frame.now)) result (W.contents writer.old) (W.contents writer.new) port.old.port port.new.port summary.old summary.new }
+{
+    let now = port.now();
+    let verdict = port.arrive(*frame);
+    note_verdict(summary, now, frame, verdict);
+    put_arrival(writer, frame, verdict)
+}
+
+/// Runs to a moment that is not refused, in picoseconds, and writes the starts before it as the port finds them.
+fn put_each_start<A: Allocator, W: Write>(
+    port: &mut RunningPort<A>,
+    summary: &mut Option<Summary<A>>,
+    until: u128,
+    writer: &mut W,
+) -> Result<(), WriteFault>
+    requires later { port.old.port.now ≤ until }
+    requires within { until ≤ greatest_moment }
+    ensures { IsAnswered (Asks (Events.Clock until)) result (W.contents writer.old) (W.contents writer.new) port.old.port port.new.port summary.old summary.new }
+{
+    let now = port.now();
+    while let Some(start) = port.step(until) {
+        note_start(summary, now, &start);
+        put_start(writer, &start)?;
+    }
+    Ok(())
+}
+
+/// Runs to a moment and writes the starts before it, where it may be known that there are none.
+#[inline(always)]
+fn put_starts<A: Allocator, W: Write>(
+    port: &mut RunningPort<A>,
+    summary: &mut Option<Summary<A>>,
+    until: u128,
+    writer: &mut W,
+) -> Result<(), WriteFault>
+    requires later { port.old.port.now ≤ until }
+    requires within { until ≤ greatest_moment }
+    ensures { IsAnswered (Asks (Events.Clock until)) result (W.contents writer.old) (W.contents writer.new) port.old.port port.new.port summary.old summary.new }
+{
+    // For the prover: a call on a port says what holds of every port.
+    let _now = port.now();
+    if port.rest_until(until) {
+        return Ok(());
+    }
+    put_each_start(port, summary, until, writer)
+}
+
+/// Takes an event of any kind, and writes the answers to it as the port gives them. Apart, since its locals are large.
+#[inline(never)]
+fn put_each<A: Allocator, W: Write>(
+    port: &mut RunningPort<A>,
+    summary: &mut Option<Summary<A>>,
+    event: &Event<'_>,
+    writer: &mut W,
+) -> Result<(), WriteFault>
+    ensures { IsAnswered (Asks event.now) result (W.contents writer.old) (W.contents writer.new) port.old.port port.new.port summary.old summary.new }
+{
+    let now = port.now();
+    let mut asked = Some(*event);
+    while let Some(answer) = port.next_answer(&mut asked) {
+        note(summary, now, &answer);
+        put_answer(writer, &answer)?;
+    }
+    Ok(())
+}
+
+/// Gives a command to the port, and writes the answer.
+fn put_install<A: Allocator, W: Write>(
+    port: &mut RunningPort<A>,
+    summary: &mut Option<Summary<A>>,
+    command: &Command,
+    writer: &mut W,
+) -> Result<(), WriteFault>
+    ensures { IsAnswered (Asks (Events.Install command.entry)) result (W.contents writer.old) (W.contents writer.new) port.old.port port.new.port summary.old summary.new }
+{
+    // For the prover: a call on a port says what holds of every port.
+    let _now = port.now();
+    let answer = port.install(command);
+    put_installation(writer, answer)
+}
+
+/// Takes a clock event, with its moment in picoseconds, and writes the answers to it.
+#[inline(always)]
+fn put_clock<A: Allocator, W: Write>(
+    port: &mut RunningPort<A>,
+    summary: &mut Option<Summary<A>>,
+    until: u128,
+    writer: &mut W,
+) -> Result<(), WriteFault>
+    ensures { IsAnswered (Asks (Events.Clock until)) result (W.contents writer.old) (W.contents writer.new) port.old.port port.new.port summary.old summary.new }
+{
+    if port.now() <= until && until <= MAX_MOMENT {
+        put_starts(port, summary, until, writer)
+    } else {
+        put_each(port, summary, &Event::Clock(until), writer)
+    }
+}
+
+/// Takes an event, and writes the answers to it as they come, each noted where a summary is wanted. At a fault a prefix of them is
+/// written.
+#[inline(always)]
+pub fn put_answers<A: Allocator, W: Write>(
+    port: &mut RunningPort<A>,
+    summary: &mut Option<Summary<A>>,
+    event: &Event<'_>,
+    writer: &mut W,
+) -> Result<(), WriteFault>
+    ensures { IsAnswered (Asks event.now) result (W.contents writer.old) (W.contents writer.new) port.old.port port.new.port summary.old summary.new }
+{
+    match event {
+        Event::Arrive(frame) => put_frame(port, summary, frame, writer),
+        Event::Clock(until) => put_clock(port, summary, *until, writer),
+        Event::Install(command) => put_install(port, summary, command, writer),
+        _ => put_each(port, summary, event, writer),
+    }
+}
+
+/// Gives a command to the port and writes its answer, or writes why there is none.
+fn put_command<A: Allocator, W: Write>(
+    port: &mut RunningPort<A>,
+    summary: &mut Option<Summary<A>>,
+    read: &Result<Command, TcFault>,
+    writer: &mut W,
+) -> Result<(), WriteFault>
+    ensures { IsAnswered (tc_request read.now) result (W.contents writer.old) (W.contents writer.new) port.old.port port.new.port summary.old summary.new }
+{
+    // For the prover: a call on a port says what holds of every port.
+    let _now = port.now();
+    match read {
+        Ok(command) => put_answers(port, summary, &Event::Install(command), writer),
+        Err(fault) => put_tc_fault(writer, *fault),
+    }
+}
+
+/// Takes a line that begins with `tc`, and writes what is reported of it. At a fault a prefix of that is written. Apart, since its
+/// locals are large.
+#[inline(never)]
+pub fn put_tc<A: Allocator, W: Write>(
+    port: &mut RunningPort<A>,
+    summary: &mut Option<Summary<A>>,
+    line: &[u8],
+    writer: &mut W,
+) -> Result<(), WriteFault>
+    ensures answered { (read : List (List ℕ) → Result Command TcFault) → IsReader read →
+        IsAnswered (tc_request (read (words_of line.now))) result (W.contents writer.old) (W.contents writer.new) port.old.port port.new.port summary.old summary.new }
+    ensures sound { OnOk result (IsSoundPort port.new.port) }
+{
+    let mut answer = Ok(closed_command());
+    read_tc_into(line, &mut answer);
+    put_command(port, summary, &answer, writer)
+}
+
+/// Writes how many frames a class still has, where it has some.
+fn put_left_in<A: Allocator, W: Write>(
+    port: &RunningPort<A>,
+    class: u8,
+    writer: &mut W,
+) -> Result<(), WriteFault>
+    requires { class < 8 }
+    ensures { Writes result (W.contents writer.old) (W.contents writer.new) (left_text class (length (queue_of port.now.port class))) }
+{
+    let waiting = port.counters(class).waiting;
+    if waiting == 0 {
+        Ok(())
+    } else {
+        put_left(writer, class, waiting)
+    }
+}
+
+/// Writes how many frames each class still has, where it has some.
+pub fn put_all_left<A: Allocator, W: Write>(
+    port: &RunningPort<A>,
+    writer: &mut W,
+) -> Result<(), WriteFault>
+    ensures { Writes result (W.contents writer.old) (W.contents writer.new) (left_lines port.now.port) }
+{
+    for class in 0..8u8 {
+        put_left_in(port, class, writer)?;
+    }
+    Ok(())
+}

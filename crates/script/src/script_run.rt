@@ -1,0 +1,118 @@
+//! Runs a script.
+
+ghost use Rattle.std.specs.Prelude.{◌≡◌, ◌++◌, ℕ, List, Result, IfSome};
+ghost use Rattle.abstract_port.specs.AbstractPort.{new_port};
+ghost use Rattle.abstract_port.specs.declared.Command.{Command};
+ghost use Rattle.octet_writer.specs.Writes.{Writes};
+ghost use Rattle.line_reader.specs.LineReader.{script_left};
+ghost use Rattle.tc_reader.specs.declared.fault.TcFault.{TcFault};
+ghost use Rattle.job.specs.Outcome.{Runs};
+ghost use Rattle.script.specs.Outcome.{IsFaithfulTo, ending_text, outcome_from, outcome_of};
+ghost use Rattle.tc_reader.specs.Reader.{IsReader};
+
+use crate::answers::{RunningPort, put_answers, put_tc};
+use crate::ending::put_end;
+use crate::faults::{BadLine, RunFault};
+use crate::laws::faithful;
+use crate::plain::pass_plain;
+use crate::script_line::{Said, read_line};
+use crate::settings::Settings;
+use abstract_port::Event;
+use answer_text::WriteFault;
+use line_reader::LineReader;
+use separation::settling;
+use std::alloc::Allocator;
+use std::io::{Read, Write};
+use summary::{Summary, summary_wanted};
+
+/// Runs to the moment after the input, if there is one, and writes the answers, then how many frames are left, and the summary where
+/// one is wanted.
+fn end<A: Allocator, W: Write>(
+    port: &mut RunningPort<A>,
+    summary: &mut Option<Summary<A>>,
+    until: Option<u128>,
+    writer: &mut W,
+) -> Result<(), WriteFault>
+    ensures { Writes result (W.contents writer.old) (W.contents writer.new) (ending_text until port.old.port summary.old) }
+{
+    match until {
+        None => put_end(port, summary, writer),
+        Some(moment) => {
+            put_answers(port, summary, &Event::Clock(moment), writer)?;
+            put_end(port, summary, writer)
+        }
+    }
+}
+
+/// Runs the lines that are to come, and the end.
+fn run_lines<A: Allocator, B: Allocator, R: Read + Drop, W: Write>(
+    port: &mut RunningPort<A>,
+    summary: &mut Option<Summary<A>>,
+    lines: &mut LineReader<R, B>,
+    until: Option<u128>,
+    writer: &mut W,
+) -> Result<(), RunFault>
+    ensures { (read : List (List ℕ) → Result Command TcFault) → IsReader read → IfSome (script_left R.remaining lines.old) (λ script.
+        Runs result (W.contents writer.old) (W.contents writer.new) (outcome_from read until script port.old.port summary.old)) }
+{
+    settling();
+    // For the prover: a call on a port says what holds of every port.
+    let _now = port.now();
+    'lines: loop {
+        if let Some(event) = pass_plain(lines) {
+            put_answers(port, summary, &event, writer)?;
+            continue;
+        }
+        if !lines.advance()? {
+            break;
+        }
+        let line = lines.line();
+        match read_line(line) {
+            Ok(None) => {}
+            Ok(Some(Said::Asked(event))) => put_answers(port, summary, &event, writer)?,
+            Ok(Some(Said::Tc)) => put_tc(port, summary, line, writer)?,
+            Err(fault) => return Err(RunFault::Input(BadLine::new(lines.line_number(), fault))),
+        }
+    }
+    end(port, summary, until, writer)?;
+    Ok(())
+}
+
+/// Reads a script to its end, and writes the answers to each line in turn; then those to a clock event at the moment to run to,
+/// where the settings have one, how many frames each class still has, and a summary where the settings want one.
+///
+/// A malformed line ends the run after the answers of the lines before it. A read or a write that fails, or takes nothing,
+/// isn't tried again.
+///
+/// What is written are the lines of the abstract port's answers to the events of the script, with the faults of `tc` lines at
+/// their places; so what holds of those answers holds of the output (`faithful`).
+pub fn run_script<A: Allocator, R: Read + Drop, W: Write>(
+    alloc: A,
+    reader: R,
+    writer: &mut W,
+    settings: Settings,
+) -> Result<(), RunFault>
+    ensures script { (read : List (List ℕ) → Result Command TcFault) → IsReader read → IfSome (R.remaining reader) (λ input.
+        Runs result (W.contents writer.old) (W.contents writer.new) (outcome_of read settings input)) }
+    ensures faithful { (read : List (List ℕ) → Result Command TcFault) (input : List ℕ) → IsFaithfulTo read settings input }
+{
+    faithful();
+    let rate = settings.rate();
+    // For the prover: the getter says within which limits a rate lies.
+    let _ps = rate.ps_per_octet();
+    let mtu = settings.mtu();
+    let Ok(mut port) = RunningPort::new(&alloc, rate, mtu, settings.room()) else {
+        return Err(RunFault::Memory);
+    };
+    let Ok(mut summary) = summary_wanted(&&alloc, settings.summary(), settings.room()) else {
+        return Err(RunFault::Memory);
+    };
+    let mut lines = LineReader::new(&alloc, reader)?;
+    run_lines(
+        &mut port,
+        &mut summary,
+        &mut lines,
+        settings.until(),
+        writer,
+    )
+}
