@@ -3,8 +3,8 @@
 use linked_list_allocator::LocalHeap;
 use schedule_check::{CheckSettings, check};
 use script::RunFault;
-use std::alloc::Global;
-use std::process::Abort;
+use std::alloc::{Allocator, Global};
+use std::io::{Read, Write};
 use test_streams::{Narrow, Pieces};
 use wire_time::Rate;
 
@@ -34,17 +34,24 @@ apart none\n\
 refused IntervalTooShort 0\n\
 tc-fault NoEntries\n";
 
-/// With windows or without, at 1 Gb/s.
-fn settings(rt: &impl Abort, windows: bool) -> CheckSettings {
-    let rate = Rate::from_mbps(1000).expect(rt, "a rate");
-    CheckSettings { rate, windows }
+/// What is reported of the commands from a reader at 1 Gb/s, with windows or without, in this memory.
+fn check_of<A: Allocator, R: Read + Drop, W: Write>(
+    alloc: A,
+    reader: R,
+    writer: &mut W,
+    windows: bool,
+) -> Result<(), RunFault> {
+    let Ok(rate) = Rate::from_mbps(1000) else {
+        return Err(RunFault::Memory);
+    };
+    check(alloc, reader, writer, CheckSettings { rate, windows })
 }
 
 /// Whether a heap of so many octets is enough for the commands; none where what is reported is wrong.
-fn is_enough(alloc: Global, octets: usize, settings: CheckSettings) -> Option<bool> {
+fn is_enough(alloc: Global, octets: usize) -> Option<bool> {
     let heap = LocalHeap::new(alloc, octets).ok()?;
     let mut got = Vec::new(alloc);
-    match check(&heap, SCHEDULES, &mut got, settings) {
+    match check_of(&heap, SCHEDULES, &mut got, false) {
         Ok(()) => (got.as_slice() == TOLD).then_some(true),
         Err(fault) => (fault == RunFault::Memory && TOLD.starts_with(&got)).then_some(false),
     }
@@ -53,23 +60,22 @@ fn is_enough(alloc: Global, octets: usize, settings: CheckSettings) -> Option<bo
 /// Once a heap is enough, each greater one is.
 #[test]
 fn refuses_each_growth(rt: HostRuntime) {
-    let settings = settings(&rt, false);
     let mut enough = Some(false);
     for size in 1..40usize {
         let before = enough;
-        enough = is_enough(rt.alloc(), 6000 * size, settings);
+        enough = is_enough(rt.alloc(), 6000 * size);
         assert!(rt; enough >= before, "at {size}");
     }
     assert_eq!(rt; enough, Some(true));
 }
 
 /// Whether all is reported, or a failed read of this number, once or for ever, and a prefix of the rest.
-fn is_read(alloc: Global, settings: CheckSettings, fails_at: u32, recovers: bool) -> bool {
+fn is_read(alloc: Global, fails_at: u32, recovers: bool) -> bool {
     let mut reader = Pieces::new(SCHEDULES, 60);
     reader.fails_at = fails_at;
     reader.recovers = recovers;
     let mut got = Vec::new(alloc);
-    match check(alloc, reader, &mut got, settings) {
+    match check_of(alloc, reader, &mut got, false) {
         Ok(()) => got.as_slice() == TOLD,
         Err(fault) => fault == RunFault::Read && TOLD.starts_with(&got),
     }
@@ -78,27 +84,14 @@ fn is_read(alloc: Global, settings: CheckSettings, fails_at: u32, recovers: bool
 /// Each read in turn fails, once or for ever: it isn't tried again.
 #[test]
 fn stops_at_each_read(rt: HostRuntime) {
-    let settings = settings(&rt, false);
     for fails_at in 0..12u32 {
-        assert!(rt;
-            is_read(rt.alloc(), settings, fails_at, false),
-            "at {fails_at}"
-        );
-        assert!(rt;
-            is_read(rt.alloc(), settings, fails_at, true),
-            "at {fails_at}, once"
-        );
+        assert!(rt; is_read(rt.alloc(), fails_at, false), "at {fails_at}");
+        assert!(rt; is_read(rt.alloc(), fails_at, true), "at {fails_at}, once");
     }
 }
 
 /// Whether a writer with room for so many octets, which then fails or takes nothing, gets what it has room for.
-fn is_written(
-    alloc: Global,
-    settings: CheckSettings,
-    room: usize,
-    fails: bool,
-    recovers: bool,
-) -> bool {
+fn is_written(alloc: Global, room: usize, fails: bool, recovers: bool) -> bool {
     let mut writer = Narrow {
         got: Vec::new(alloc),
         piece: 7,
@@ -106,7 +99,7 @@ fn is_written(
         fails,
         recovers,
     };
-    let result = check(alloc, SCHEDULES, &mut writer, settings);
+    let result = check_of(alloc, SCHEDULES, &mut writer, true);
     let fault = (room < TOLD_WITH_WINDOWS.len()).then_some(RunFault::Write);
     result.err() == fault && writer.got.len() == room && TOLD_WITH_WINDOWS.starts_with(&writer.got)
 }
@@ -114,10 +107,9 @@ fn is_written(
 /// Each write in turn fails, or takes nothing: what was taken before is a prefix of what is reported.
 #[test]
 fn stops_at_each_write(rt: HostRuntime) {
-    let settings = settings(&rt, true);
     for room in 0..=TOLD_WITH_WINDOWS.len() {
         for (fails, recovers) in [(false, false), (true, false), (true, true)] {
-            let is_right = is_written(rt.alloc(), settings, room, fails, recovers);
+            let is_right = is_written(rt.alloc(), room, fails, recovers);
             assert!(rt; is_right, "{room} {fails} {recovers}");
         }
     }
