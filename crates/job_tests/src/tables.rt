@@ -32,7 +32,7 @@ fn wants_memory_only_where_it_is_refused(rt: HostRuntime) -> Result<(), Fail> {
     for number in 0..16 {
         let heap = RefusingHeap::new(rt.alloc(), number, true);
         let mut got = Vec::new(rt.alloc());
-        let run = write_streams(&heap, TABLE, WITH, &mut got);
+        let run = write_streams(&heap, TABLE, WITH, &mut got, 0);
         if heap.asked() > number {
             refused = refused.saturating_add(1);
             assert_eq!(rt; run, Err(StreamsFault::Memory));
@@ -51,7 +51,7 @@ fn reads_pieces_and_stops_at_a_failed_read(rt: HostRuntime) -> Result<(), Fail> 
     for piece in 1..40 {
         let mut got = Vec::new(rt.alloc());
         let table = Pieces::new(TABLE, piece);
-        write_streams(rt.alloc(), table, Pieces::new(WITH, piece), &mut got)?;
+        write_streams(rt.alloc(), table, Pieces::new(WITH, piece), &mut got, 0)?;
         assert_eq!(rt; got.as_slice(), BOTH);
     }
     for fails_at in 0..5 {
@@ -59,7 +59,7 @@ fn reads_pieces_and_stops_at_a_failed_read(rt: HostRuntime) -> Result<(), Fail> 
         reader.fails_at = fails_at;
         reader.recovers = true;
         let mut got = Vec::new(rt.alloc());
-        let run = write_streams(rt.alloc(), &mut reader, WITH, &mut got);
+        let run = write_streams(rt.alloc(), &mut reader, WITH, &mut got, 0);
         assert_eq!(rt; run, Err(StreamsFault::Read));
         assert!(rt; got.is_empty());
         assert_eq!(rt; reader.calls, fails_at + 1);
@@ -76,7 +76,7 @@ fn stops_at_a_failed_read_of_the_script(rt: HostRuntime) -> Result<(), Fail> {
         reader.fails_at = fails_at;
         reader.recovers = true;
         let mut got = Vec::new(rt.alloc());
-        let run = write_streams(rt.alloc(), TABLE, &mut reader, &mut got);
+        let run = write_streams(rt.alloc(), TABLE, &mut reader, &mut got, 0);
         assert_eq!(rt; run, Err(StreamsFault::Read));
         assert!(rt; BOTH.starts_with(&got) && last <= got.len() && got.len() < BOTH.len());
         last = got.len();
@@ -96,7 +96,7 @@ fn stops_at_each_write(rt: HostRuntime) -> Result<(), Fail> {
             fails: room % 2 == 0,
             recovers: room % 4 == 0,
         };
-        let run = write_streams(rt.alloc(), TABLE, WITH, &mut writer);
+        let run = write_streams(rt.alloc(), TABLE, WITH, &mut writer, 0);
         assert_eq!(rt; run, Err(StreamsFault::Write));
         assert_eq!(rt; writer.got.as_slice(), &BOTH[..room]);
     }
