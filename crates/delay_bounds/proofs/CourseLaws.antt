@@ -6,6 +6,7 @@ use Rattle.wire_time.specs.Moment.{greatest_moment}
 use Rattle.gate_list.specs.Gate.{Plan, in_ps}
 use Rattle.delay_bounds.specs.declared.Bound.{Bound}
 use Rattle.delay_bounds.specs.declared.Flow.{Flow}
+use Rattle.delay_bounds.specs.declared.Refused.{Refused}
 use Rattle.delay_bounds.specs.declared.Told.{Told}
 use Rattle.delay_bounds.specs.Bounds.{earlier, Track, offsets_of, earliest, from_on, first_fit, flow_at, arrives, step, told}
 use Rattle.delay_bounds.specs.Walk.{may_by, begun, after}
@@ -249,12 +250,12 @@ module _ (plan : Plan) (class room : ℕ) (flows : List Flow) where
         (step_is (may_by plan class) (in_ps plan.cycle) room flows line.track e (told, now) next stepped).place
 
     -- why it stops
-    pub stops : (t place before : ℕ) (stop : Stop) → earliest line.track.nexts ≡ Some (t, place) → t ≡ (flow_at flows place).offset + (flow_at flows place).period * before
+    pub stops : (t place before : ℕ) (stop : Stop) (refused : Option Refused) → earliest line.track.nexts ≡ Some (t, place) → t ≡ (flow_at flows place).offset + (flow_at flows place).period * before
         → (stop ≡ Stops.Full → line.room ≤ length (counting line.track).starts) → (line.room ≤ length (counting line.track).starts → stop ≡ Stops.Full)
         → (stop ≡ Stops.Late → greatest_moment < max t (counting line.track).free)
         → (stop ≡ Stops.Never → first_fit (may_by plan class) (flow_at flows place).need (max t (counting line.track).free) (in_ps plan.cycle) ≡ None)
-        → IsUnbound plan class room flows limit (unbound_by stop (record { place = place; before = before; earlier = frames; moment = t }))
-    stops t place before stop next turn full not_full late never = go stop full not_full late never
+        → IsUnbound plan class room flows limit (unbound_by stop (record { place = place; before = before; earlier = frames; moment = t }) refused)
+    stops t place before stop refused next turn full not_full late never = go stop full not_full late never
       where
         is_next : IsNext plan class room flows (record { place = place; before = before; earlier = frames; moment = t }) line.track
         is_next = record { there = h.there; next = next; before = turn }
@@ -274,7 +275,7 @@ module _ (plan : Plan) (class room : ℕ) (flows : List Flow) where
         go : (stop : Stop) → (stop ≡ Stops.Full → line.room ≤ length (counting line.track).starts) → (line.room ≤ length (counting line.track).starts → stop ≡ Stops.Full)
             → (stop ≡ Stops.Late → greatest_moment < max t (counting line.track).free)
             → (stop ≡ Stops.Never → first_fit (may_by plan class) (flow_at flows place).need (max t (counting line.track).free) (in_ps plan.cycle) ≡ None)
-            → IsUnbound plan class room flows limit (unbound_by stop (record { place = place; before = before; earlier = frames; moment = t }))
+            → IsUnbound plan class room flows limit (unbound_by stop (record { place = place; before = before; earlier = frames; moment = t }) refused)
         go Stops.Full f b l n = (line.track, is_next, (let many = f refl in let same = ap length starts_are in let is = h.room_is in omega arith))
         go Stops.Never f b l n =
             let most : max t (counting line.track).free ≡ max t line.track.free = (let same = free_is in omega arith) in
@@ -330,13 +331,13 @@ module _ (plan : Plan) (class room : ℕ) (flows : List Flow) where
         let m = marks b place old here mark come there mark_is there_is was_earlier was_since now_earlier (next ∙ ap (λ (k : ℕ). Some (k, place)) (sym now_since)) come_is in
         goes_on t place told now mark.earlier mark.since there more next (told_come t place f told now.track come come_is f_is is) small (same ∙ ap (λ (l : Standing). l.room) come_is) m.0 m.1 within
 
-    pub stops_come : (t place before : ℕ) (f : Flow) (stop : Stop) (come : Standing) → earliest line.track.nexts ≡ Some (t, place) → t ≡ f.offset + f.period * before → come ≡ when_come line → f ≡ flow_at flows place
+    pub stops_come : (t place before : ℕ) (f : Flow) (stop : Stop) (refused : Option Refused) (come : Standing) → earliest line.track.nexts ≡ Some (t, place) → t ≡ f.offset + f.period * before → come ≡ when_come line → f ≡ flow_at flows place
         → (◌≡◌ {A = Result Told Stop} (Err stop) (Err Stops.Full) → come.room ≤ length come.track.starts) × (come.room ≤ length come.track.starts → ◌≡◌ {A = Result Told Stop} (Err stop) (Err Stops.Full))
         → (◌≡◌ {A = Result Told Stop} (Err stop) (Err Stops.Late) → greatest_moment < max t come.track.free)
         → (◌≡◌ {A = Result Told Stop} (Err stop) (Err Stops.Never) → first_fit (may_by plan class) f.need (max t come.track.free) (in_ps plan.cycle) ≡ None)
-        → IsUnbound plan class room flows limit (unbound_by stop (record { place = place; before = before; earlier = frames; moment = t }))
-    stops_come t place before f stop come next turn come_is f_is full late never =
-        stops t place before stop next (turn ∙ ap (λ (x : Flow). x.offset + x.period * before) f_is)
+        → IsUnbound plan class room flows limit (unbound_by stop (record { place = place; before = before; earlier = frames; moment = t }) refused)
+    stops_come t place before f stop refused come next turn come_is f_is full late never =
+        stops t place before stop refused next (turn ∙ ap (λ (x : Flow). x.offset + x.period * before) f_is)
         (λ e. subst (λ (l : Standing). l.room ≤ length l.track.starts) come_is (full.0 (ap Err e)))
         (λ le. (let e = full.1 (subst (λ (l : Standing). l.room ≤ length l.track.starts) (sym come_is) le) in cc))
         (λ e. subst (λ (l : Standing). greatest_moment < max t l.track.free) come_is (late (ap Err e)))

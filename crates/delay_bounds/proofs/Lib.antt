@@ -11,3 +11,4 @@ pub mod FitLaws
 pub mod MomentLaws
 pub mod SeenLaws
 pub mod CourseLaws
+pub mod WalkedLaws

@@ -1,5 +1,5 @@
 -- What is answered of flows: their bounds, or why they have none.
-use Rattle.std.specs.Prelude.{◌+◌, ◌*◌, ◌≡◌, ◌<◌, ◌≤◌, ℕ, max, Bool, true, false, List, length, Some, None, IsSome}
+use Rattle.std.specs.Prelude.{◌+◌, ◌*◌, ◌≡◌, ◌<◌, ◌≤◌, ℕ, max, Bool, true, false, List, length, Option, Some, None, IsSome}
 use Rattle.wire_time.specs.Moment.{greatest_moment}
 use Rattle.gate_list.specs.Gate.{Plan, in_ps}
 use Rattle.delay_bounds.specs.Bounds.{Track, offsets_of, earliest, from_on, first_fit, flow_at, told_by}
@@ -11,6 +11,7 @@ use Rattle.delay_bounds.specs.declared.bounding.Look.{Look}
 use Rattle.delay_bounds.specs.declared.bounding.Look.TheVariants.{FromHere}
 use Rattle.delay_bounds.specs.declared.line.Stop.{Stop}
 use Rattle.delay_bounds.specs.declared.line.Stop.TheVariants as Stops
+use Rattle.delay_bounds.specs.declared.Refused.{Refused}
 use Rattle.delay_bounds.specs.declared.Unbound.{Unbound}
 use Rattle.delay_bounds.specs.declared.Unbound.TheVariants.{Full, Never, Long, Late, Memory}
 
@@ -34,17 +35,17 @@ abbrev pub is_from_here : Look → Bool
 is_from_here FromHere = true
 is_from_here _ = false
 
--- why flows have no bounds, where a walk stops at a frame
-abbrev pub unbound_by : Stop → FlowFrame → Unbound
-unbound_by Stops.Full f = Full f
-unbound_by Stops.Never f = Never f
-unbound_by Stops.Late f = Late
+-- why flows have no bounds, where a walk stops at a frame, and where nothing starts any more this is the first to find no room
+abbrev pub unbound_by : Stop → FlowFrame → Option Refused → Unbound
+unbound_by Stops.Full f refused = Full f
+unbound_by Stops.Never f refused = Never f refused
+unbound_by Stops.Late f refused = Late
 
 -- Why flows have no bounds: a frame finds no room; one finds room, but fits into no window of a cycle; so many frames as may be were walked;
 -- or a frame finds room, but can't start before the greatest moment.
 abbrev pub IsUnbound : Plan → ℕ → ℕ → List Flow → ℕ → Unbound → Type 0
 IsUnbound plan class room flows limit (Full f) = (z : Track) × IsNext plan class room flows f z × (room ≤ length (from_on f.moment z.starts))
-IsUnbound plan class room flows limit (Never f) =
+IsUnbound plan class room flows limit (Never f refused) =
     (z : Track) × IsNext plan class room flows f z × (length (from_on f.moment z.starts) < room)
     × (first_fit (may_by plan class) (flow_at flows f.place).need (max f.moment z.free) (in_ps plan.cycle) ≡ None)
 IsUnbound plan class room flows limit Long = IsSome (after (may_by plan class) (in_ps plan.cycle) room flows limit (begun (offsets_of flows)))

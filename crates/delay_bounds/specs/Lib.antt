@@ -8,3 +8,4 @@ pub mod Never
 pub mod Less
 pub mod Noted
 pub mod Bounded
+pub mod Walked

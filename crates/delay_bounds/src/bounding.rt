@@ -1,21 +1,22 @@
 //! The bounds of flows, by a walk over their frames until its state comes again.
 
-ghost use Rattle.std.specs.Prelude.{◌+◌, ◌*◌, ℕ, if◌then◌else◌, ◌≡◌, ◌<◌, ◌≤◌, ◌-◌, ◌%◌, ◌↔◌, All, IfOk, IfErr, length};
+ghost use Rattle.std.specs.Prelude.{◌+◌, ◌*◌, ℕ, if◌then◌else◌, ◌≡◌, ◌<◌, ◌≤◌, ◌-◌, ◌%◌, ◌↔◌, ◌⊎◌, All, Err, IfErr, IfOk, MatchResult, Ok, length, map};
 ghost use Rattle.gate_list.specs.Gate.{IsSchedule};
-ghost use Rattle.delay_bounds.specs.Bounded.{ComesAt, is_from_here, unbound_by, IsMost, IsUnbound};
+ghost use Rattle.delay_bounds.specs.Bounded.{is_from_here, unbound_by, IsMost, IsUnbound};
 ghost use Rattle.delay_bounds.specs.Bounds.{AreBounds, flow_at};
-ghost use Rattle.delay_bounds.specs.ForEver.{Recurs, later};
+ghost use Rattle.delay_bounds.specs.ForEver.{Recurs};
 ghost use Rattle.delay_bounds.specs.Line.{before_any};
 ghost use Rattle.delay_bounds.specs.Noted.{unseen};
 ghost use Rattle.delay_bounds.specs.Walk.{IsFlow};
+ghost use Rattle.delay_bounds.specs.Walked.{answer_of, before_of, comes_again, first_refused, frame_of, last_offset, look, refused_of, starting, walked};
 
 use crate::line::{Line, Stop};
 use crate::noting::{all_unseen, note};
-use crate::{Bound, Bounded, Flow, FlowFrame, Unbound};
+use crate::{Bound, Bounded, Flow, FlowFrame, Refused, Unbound};
 use gate_list::{Schedule, Visits};
 use list_position::Position;
 use std::alloc::Allocator;
-use wire_time::CLASSES;
+use wire_time::{CLASSES, MAX_MOMENT};
 
 /// A frame to look from: when it comes, and how many come before it.
 #[derive(Clone, Copy)]
@@ -48,7 +49,7 @@ enum Look {
 
 // The latest first frame of all flows.
 fn last_offset(flows: &[Flow]) -> u128
-    ensures { (place : ℕ) → place < length flows.now → (flow_at flows.now place).offset ≤ result }
+    ensures { result ≡ last_offset flows.now }
 {
     let mut last = 0;
     for flow in flows {
@@ -66,6 +67,20 @@ fn flow_at(flows: &[Flow], place: usize) -> Flow
     flows[place]
 }
 
+// Whether the frames of a walk, whose next frame comes at `t`, come as those did of another one, whose next came at `since`, whole cycles before.
+fn comes_again<A: Allocator>(
+    line: &Line<A>,
+    base: &Line<A>,
+    since: u128,
+    t: u128,
+    cycle: u128,
+) -> bool
+    requires { 0 < cycle }
+    ensures { result ≡ comes_again cycle since t line.now.track base.now.track }
+{
+    since < t && (t - since) % cycle == 0 && line.comes_later(base, t - since)
+}
+
 // Looks at a walk whose next frame comes at `t`, beside where it stood when one came at `since`.
 fn look_back<A: Allocator>(
     line: &Line<A>,
@@ -75,11 +90,11 @@ fn look_back<A: Allocator>(
     cycle: u128,
     last: u128,
 ) -> Look
-    requires cycle { 0 < cycle }
-    ensures again { (result ≡ Look.Again) ↔ ((since < t) × ((t - since) % cycle ≡ 0) × (line.now.track ≡ later (t - since) base.now.track)) }
+    requires { 0 < cycle }
+    ensures { result ≡ look cycle last since t line.now.track base.now.track }
 {
-    if since < t && (t - since) % cycle == 0 && line.comes_later(base, t - since) {
-        if line.is_later(base, t - since) {
+    if comes_again(line, base, since, t, cycle) {
+        if line.is_later(base, t.saturating_sub(since)) {
             return Look::Again;
         }
         return Look::FromHere;
@@ -110,27 +125,77 @@ fn look_from<A: Allocator>(
     mark
 }
 
-// The frame of a flow that comes at `t`, behind so many of all flows.
-fn frame_at(flow: Flow, place: usize, t: u128, earlier: u64) -> FlowFrame
-    requires above { 0 < flow.period }
-    requires comes { ComesAt flow t }
-    ensures { (before : ℕ) → t ≡ flow.offset + flow.period * before → result ≡ record { place = place; before = before; earlier = earlier; moment = t } }
+// How many frames of a flow come before the one that comes at `t`.
+fn before_of(flow: Flow, t: u128) -> u128
+    requires { 0 < flow.period }
+    ensures { result ≡ before_of flow t }
+{
+    t.saturating_sub(flow.offset) / flow.period
+}
+
+// The frame of the flow at a place that comes at `t`, behind so many of all flows.
+fn frame_at(flows: &[Flow], place: usize, t: u128, earlier: u64) -> FlowFrame
+    requires within { place < length flows.now }
+    requires flows { All IsFlow flows.now }
+    ensures { result ≡ frame_of flows.now (t, place) earlier }
 {
     FlowFrame {
         place,
-        before: (t - flow.offset) / flow.period,
+        before: before_of(flow_at(flows, place), t),
         earlier,
         moment: t,
     }
 }
 
+// The frame of the flow at a place that comes at `t`, and finds no room.
+fn refused_at(flows: &[Flow], place: usize, t: u128) -> Refused
+    requires within { place < length flows.now }
+    requires flows { All IsFlow flows.now }
+    ensures { result ≡ refused_of flows.now (t, place) }
+{
+    Refused {
+        place,
+        before: before_of(flow_at(flows, place), t),
+        moment: t,
+    }
+}
+
+// The first frame that finds no room, where no frame starts any more; none: it comes after the greatest moment.
+fn first_refused<A: Allocator>(line: &mut Line<A>, flows: &[Flow]) -> Option<Refused>
+    requires some { 0 < length flows.now }
+    requires flows { All IsFlow flows.now }
+    requires places { length line.old.track.nexts ≡ length flows.now }
+    ensures { result ≡ first_refused line.old.room flows.now line.old.track }
+{
+    let mut left = line.room();
+    'frames: loop {
+        let (t, place) = line.next();
+        if line.is_full() {
+            return Some(refused_at(flows, place, t));
+        }
+        if t > MAX_MOMENT || left == 0 {
+            return None;
+        }
+        line.stay(flow_at(flows, place), t, place);
+        left -= 1;
+    }
+}
+
 // Why flows have no bounds, where a walk stops at a frame.
-fn unbound(stop: Stop, frame: FlowFrame) -> Unbound
-    ensures { result ≡ unbound_by stop frame }
+fn unbound<A: Allocator>(
+    stop: Stop,
+    frame: FlowFrame,
+    line: &mut Line<A>,
+    flows: &[Flow],
+) -> Unbound
+    requires some { 0 < length flows.now }
+    requires flows { All IsFlow flows.now }
+    requires places { length line.old.track.nexts ≡ length flows.now }
+    ensures { result ≡ unbound_by stop frame (first_refused line.old.room flows.now line.old.track) }
 {
     match stop {
         Stop::Full => Unbound::Full(frame),
-        Stop::Never => Unbound::Never(frame),
+        Stop::Never => Unbound::Never(frame, first_refused(line, flows)),
         Stop::Late => Unbound::Late,
     }
 }
@@ -157,6 +222,9 @@ fn walk<A: Allocator>(
     ensures most { IfOk result (λ seen. IsMost schedule.now class line.old.room flows.now seen.most) }
     ensures recurs { IfOk result (λ seen. Recurs schedule.now class line.old.room flows.now seen.frames seen.every) }
     ensures unbound { IfErr result (IsUnbound schedule.now class line.old.room flows.now limit) }
+    ensures answer { MatchResult result
+        (λ seen. answer_of schedule.now class line.old.room flows.now limit ≡ Ok (record { bounds = bounds.new; most = seen.most; frames = seen.frames; every = seen.every }))
+        (λ why. answer_of schedule.now class line.old.room flows.now limit ≡ Err why) }
 {
     let position = Position::first(schedule, 0, &mut Visits::zero());
     let cycle = 1000 * u128::from(schedule.cycle_ns());
@@ -183,7 +251,10 @@ fn walk<A: Allocator>(
         let flow = flow_at(flows, place);
         let told = match line.start(schedule, &position, class, flow, t, place) {
             Ok(told) => told,
-            Err(stop) => return Err(unbound(stop, frame_at(flow, place, t, frames))),
+            Err(stop) => {
+                let frame = frame_at(flows, place, t, frames);
+                return Err(unbound(stop, frame, line, flows));
+            }
         };
         note(bounds, told);
         most = told.waiting.max(most);
@@ -201,7 +272,7 @@ fn walk<A: Allocator>(
 /// and each place of the queue alone.
 ///
 /// # Errors
-/// `Full` and `Never` tell of the first frame that finds no room, or that never starts. `Long`: after `limit` frames it does not yet
+/// `Full` and `Never` tell of the first frame that finds no room, or that never starts, and then of the first that finds no room. `Long`: after `limit` frames it does not yet
 /// stand as it did. `Late`: a frame can't start before `MAX_MOMENT`. `Memory`: out of memory.
 ///
 /// IEEE Std 802.1Q-2018, 8.6.8.4 and 8.6.9. `laws` say what these bounds are worth.
@@ -224,6 +295,9 @@ where
     ensures most { IfOk result (λ b. IsMost schedule.now class room flows.now b.most) }
     ensures recurs { IfOk result (λ b. Recurs schedule.now class room flows.now b.frames b.every) }
     ensures unbound { IfErr result (IsUnbound schedule.now class room flows.now limit) }
+    ensures answer { MatchResult result
+        (λ b. answer_of schedule.now class room flows.now limit ≡ Ok (record { bounds = b.bounds.items; most = b.most; frames = b.frames; every = b.every }))
+        (λ why. (why ≡ Unbound.Memory) ⊎ (answer_of schedule.now class room flows.now limit ≡ Err why)) }
 {
     let Ok(mut line) = Line::new(alloc, flows, room as usize) else {
         return Err(Unbound::Memory);

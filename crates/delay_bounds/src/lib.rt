@@ -69,13 +69,25 @@ pub struct FlowFrame {
     pub moment: u128,
 }
 
+/// A frame that finds no room.
+#[derive(Clone, Copy, Debug, PartialEq, Eq)]
+pub struct Refused {
+    /// The place of its flow.
+    pub place: usize,
+    /// How many frames of its flow come before it.
+    pub before: u128,
+    /// When it comes, in picoseconds since the change moment of the schedule.
+    pub moment: u128,
+}
+
 /// Why flows have no bounds.
 #[derive(Clone, Copy, Debug, PartialEq, Eq)]
 pub enum Unbound {
     /// The first frame that finds no room.
     Full(FlowFrame),
-    /// The first frame that fits into no window of a cycle, so that it never starts.
-    Never(FlowFrame),
+    /// The first frame that fits into no window of a cycle, so that it never starts; and the first that then finds no room, if it comes by the
+    /// greatest moment.
+    Never(FlowFrame, Option<Refused>),
     /// So many frames as may be were walked, and the state did not come again.
     Long,
     /// A frame can't start before the greatest moment.

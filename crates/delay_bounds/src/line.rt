@@ -1,16 +1,16 @@
 //! A walk over the frames of the flows of one class, as if there were no other class.
 
-ghost use Rattle.std.specs.Prelude.{◌≡◌, ◌<◌, ◌≤◌, ◌↔◌, ◌+◌, ◌^◌, Some, None, Err, IfOk, IsTrue, length, map, max};
+ghost use Rattle.std.specs.Prelude.{◌≡◌, ◌<◌, ◌≤◌, ◌↔◌, ◌+◌, ◌^◌, Some, None, Err, IfErr, IfOk, MatchResult, length, max, nat_le};
 ghost use Rattle.wire_time.specs.Moment.{greatest_moment};
 ghost use Rattle.gate_list.specs.Gate.{IsSchedule, in_ps};
 ghost use Rattle.list_position.specs.Position.{IsPlaced};
-ghost use Rattle.delay_bounds.specs.ForEver.{later};
 ghost use Rattle.delay_bounds.specs.Line.{before_any, when_come};
 ghost use Rattle.delay_bounds.specs.Bounds.{arrives, earliest, first_fit, offsets_of};
 ghost use Rattle.delay_bounds.specs.Walk.{may_by, IsFlow};
+ghost use Rattle.delay_bounds.specs.Walked.{are_later, is_later, staying, stop_of};
 
 use crate::fit::fit;
-use crate::moments::{are_later, copy_ring, drop_before, earliest, is_ring_later};
+use crate::moments::{come_later, copy_ring, drop_before, earliest, is_later, start_later};
 use crate::{Flow, Told};
 use circular_buffer::HeapCircularBuffer;
 use gate_list::Schedule;
@@ -106,6 +106,8 @@ impl<A: Allocator> Line<A> {
         ensures told { IfOk result (λ told. arrives (may_by schedule.now class) (in_ps schedule.now.cycle) self.old.room t place flow self.old.track.free self.old.track.nexts self.old.track.starts ≡ Some (told, self.new.track)) }
         ensures fits { IfOk result (λ told. told.wait < 2 ^ 128) }
         ensures room { self.new.room ≡ self.old.room }
+        ensures stop { MatchResult result (λ _. stop_of (may_by schedule.now class) (in_ps schedule.now.cycle) self.old.room t flow self.old.track.free self.old.track.starts ≡ None) (λ stop. stop_of (may_by schedule.now class) (in_ps schedule.now.cycle) self.old.room t flow self.old.track.free self.old.track.starts ≡ Some stop) }
+        ensures same { IfErr result (λ _. self.new ≡ self.old) }
         ensures full { (result ≡ Err Stop.Full) ↔ (self.old.room ≤ length self.old.track.starts) }
         ensures late { (result ≡ Err Stop.Late) → (greatest_moment < max t self.old.track.free) }
         ensures never { (result ≡ Err Stop.Never) → first_fit (may_by schedule.now class) flow.need (max t self.old.track.free) (in_ps schedule.now.cycle) ≡ None }
@@ -130,21 +132,46 @@ impl<A: Allocator> Line<A> {
         })
     }
 
+    /// For how many frames there is room.
+    pub fn room(&self) -> usize
+        ensures { result ≡ self.now.room }
+    {
+        self.starts.capacity()
+    }
+
+    /// Whether there is no room for one more frame.
+    pub fn is_full(&self) -> bool
+        ensures { result ≡ nat_le self.now.room (length self.now.track.starts) }
+    {
+        self.starts.len() >= self.starts.capacity()
+    }
+
+    /// The frame that came at `t`, of the flow at a place, is queued, and never starts.
+    pub fn stay(&mut self, flow: Flow, t: u128, place: usize)
+        requires flow { IsFlow flow }
+        requires place { place < length self.old.track.nexts }
+        requires t { t ≤ greatest_moment }
+        requires room { length self.old.track.starts < self.old.room }
+        ensures { self.new ≡ record { track = staying flow (t, place) self.old.track; room = self.old.room } }
+    {
+        let _ = self.starts.try_push_back(u128::MAX);
+        self.nexts[place] = t + flow.period;
+    }
+
     /// Whether the next frames come as those of another walk, each so much later.
     pub fn comes_later(&self, old: &Line<A>, by: u128) -> bool
-        ensures { IsTrue result ↔ (self.now.track.nexts ≡ map (λ t. t + by) old.now.track.nexts) }
+        ensures { result ≡ are_later by self.now.track.nexts old.now.track.nexts }
     {
-        are_later(&self.nexts, &old.nexts, by)
+        come_later(&self.nexts, &old.nexts, by)
     }
 
     /// Whether the walk stands as another one, so much later.
     pub fn is_later(&self, old: &Line<A>, by: u128) -> bool
-        ensures { IsTrue result ↔ (self.now.track ≡ later by old.now.track) }
+        ensures { result ≡ is_later by self.now.track old.now.track }
     {
-        self.free >= by
-            && self.free - by == old.free
-            && are_later(&self.nexts, &old.nexts, by)
-            && is_ring_later(&self.starts, &old.starts, by)
+        is_later(self.free, old.free, by)
+            && self.comes_later(old, by)
+            && start_later(&self.starts, &old.starts, by)
     }
 
     /// Stands where another walk stands.

@@ -1,8 +1,9 @@
 //! Lists of moments, in picoseconds.
 
-ghost use Rattle.std.specs.Prelude.{◌≡◌, ◌<◌, ◌≤◌, ◌↔◌, ◌+◌, map, IfSome, IsSome, IsTrue, length, slice_index_or};
+ghost use Rattle.std.specs.Prelude.{◌≡◌, ◌<◌, ◌≤◌, ◌↔◌, ◌+◌, ◌==◌, map, IfSome, IsSome, IsTrue, length, slice_index_or};
 ghost use Rattle.delay_bounds.specs.Bounds.{earliest, from_on};
 ghost use Rattle.delay_bounds.specs.Walk.{begins_before, with_place};
+ghost use Rattle.delay_bounds.specs.Walked.{are_later};
 
 use circular_buffer::HeapCircularBuffer;
 use std::alloc::Allocator;
@@ -52,15 +53,16 @@ fn is_before<A: Allocator>(moments: &HeapCircularBuffer<u128, A>, t: u128) -> bo
     }
 }
 
-// Whether a moment is another one, so much later.
-fn is_later(moment: u128, old: u128, by: u128) -> bool
-    ensures { IsTrue result ↔ (moment ≡ old + by) }
+/// Whether a moment is another one, so much later.
+pub fn is_later(moment: u128, old: u128, by: u128) -> bool
+    ensures later { IsTrue result ↔ (moment ≡ old + by) }
+    ensures is { result ≡ (moment == old + by) }
 {
     moment >= by && moment - by == old
 }
 
-/// Whether moments are others, each so much later.
-pub fn are_later(moments: &[u128], old: &[u128], by: u128) -> bool
+// Whether moments are others, each so much later.
+fn are_later(moments: &[u128], old: &[u128], by: u128) -> bool
     ensures { IsTrue result ↔ (moments.now ≡ map (λ t. t + by) old.now) }
 {
     if moments.len() != old.len() {
@@ -92,8 +94,8 @@ fn is_later_at<A: Allocator>(
     }
 }
 
-/// Whether moments are others, each so much later.
-pub fn is_ring_later<A: Allocator>(
+// Whether moments are others, each so much later.
+fn is_ring_later<A: Allocator>(
     moments: &HeapCircularBuffer<u128, A>,
     old: &HeapCircularBuffer<u128, A>,
     by: u128,
@@ -131,4 +133,22 @@ pub fn copy_ring<A: Allocator>(
         }
         place += 1;
     }
+}
+
+/// Whether moments are others, each so much later.
+pub fn come_later(moments: &[u128], old: &[u128], by: u128) -> bool
+    ensures { result ≡ are_later by moments.now old.now }
+{
+    are_later(moments, old, by)
+}
+
+/// Whether moments are others, each so much later.
+pub fn start_later<A: Allocator>(
+    moments: &HeapCircularBuffer<u128, A>,
+    old: &HeapCircularBuffer<u128, A>,
+    by: u128,
+) -> bool
+    ensures { result ≡ are_later by moments.now.items old.now.items }
+{
+    is_ring_later(moments, old, by)
 }

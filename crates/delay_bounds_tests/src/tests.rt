@@ -5,7 +5,7 @@ ghost use Rattle.delay_bounds.specs.Walk.{IsFlow};
 ghost use Rattle.gate_list.specs.Gate.{IsSchedule};
 ghost use Rattle.wire_time.specs.declared.TheConstants.{CLASSES};
 
-use delay_bounds::{Bound, Flow, FlowFrame, Unbound, bound_flows};
+use delay_bounds::{Bound, Flow, FlowFrame, Refused, Unbound, bound_flows};
 use gate_list::{Entry, GateList, Schedule};
 use refusing_heap::RefusingHeap;
 use std::alloc::Allocator;
@@ -204,9 +204,14 @@ fn a_frame_that_never_fits(rt: HostRuntime) -> Result<(), Fail> {
         earlier: 0,
         moment: 0,
     };
+    let refused = Refused {
+        place: 0,
+        before: 128,
+        moment: 128_000_000_000,
+    };
     assert_eq!(rt;
         why(&rt.alloc(), &schedule, 6, &SENSOR, 1_000_000),
-        Some(Unbound::Never(first))
+        Some(Unbound::Never(first, Some(refused)))
     );
     Ok(())
 }

@@ -19,9 +19,9 @@ pub fn streams_octets<A: Allocator>(
     output: &mut [u8],
     fault: &mut [u8],
 ) -> Ran
-    ensures { Answers (told_of streams_telling (outcome_of table.now script.now)) result (slices output.old fault.old) (slices output.new fault.new) }
+    ensures { Answers (told_of streams_telling (outcome_of 0 table.now script.now)) result (slices output.old fault.old) (slices output.new fault.new) }
 {
     let mut written = Vec::new(alloc);
-    let run = write_streams(alloc, table, script, &mut written);
+    let run = write_streams(alloc, table, script, &mut written, 0);
     end_in_memory(alloc, run, written.as_slice(), output, fault)
 }

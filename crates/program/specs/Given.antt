@@ -14,7 +14,7 @@ use Rattle.script.specs.Given.{GivenWords}
 use Rattle.script.specs.Setup.{Setup}
 use Rattle.job.specs.declared.telling.Ended.{Ended}
 use Rattle.script.specs.declared.settings.BadValue.{BadValue}
-use Rattle.traffic.specs.Ending.{IsStreamsEnding}
+use Rattle.traffic.specs.Ending.{IsStreamsEnding, from_given}
 
 -- whether a flag is given: it is then true
 abbrev pub flag_in : List ℕ → Found → Bool
@@ -45,9 +45,13 @@ draws_in found = options_of (draw_words_in found)
 abbrev pub windows_in : Found → Bool
 windows_in found = flag_in (codes "windows") found
 
+-- the moment that the offsets of a table count from
+abbrev pub from_in : Found → Result ℕ BadValue
+from_in found = from_given (first_value found (codes "from"))
+
 -- The end of a run on a table, where a script is named or none is. Without one, that of the table and a script of no octets; else that of
 -- the table and of some octets, since what a file gives is not known, or of the path that can't be opened.
-abbrev pub IsGivenStreams : Option (List ℕ) → Option (List ℕ) → Ended → (old got errors_old errors_new : Option (List ℕ)) → Type 0
-IsGivenStreams None table ended old got errors_old errors_new = IsStreamsEnding table (Some []) ended old got errors_old errors_new
-IsGivenStreams (Some path) table ended old got errors_old errors_new =
-    ((script : Option (List ℕ)) × IsStreamsEnding table script ended old got errors_old errors_new) ⊎ IsUnanswered 4 (open_text path) ended old got errors_old errors_new
+abbrev pub IsGivenStreams : Result ℕ BadValue → Option (List ℕ) → Option (List ℕ) → Ended → (old got errors_old errors_new : Option (List ℕ)) → Type 0
+IsGivenStreams from None table ended old got errors_old errors_new = IsStreamsEnding from table (Some []) ended old got errors_old errors_new
+IsGivenStreams from (Some path) table ended old got errors_old errors_new =
+    ((script : Option (List ℕ)) × IsStreamsEnding from table script ended old got errors_old errors_new) ⊎ IsUnanswered 4 (open_text path) ended old got errors_old errors_new

@@ -178,6 +178,13 @@ const FROM: Word = Word {
     help: "The moment that the picture begins at, in picoseconds [default: 0]",
 };
 
+const OFFSETS_FROM: Word = Word {
+    given: Given::Value,
+    name: "from",
+    value: "PS",
+    help: "A moment that is added to each offset, in picoseconds [default: 0]",
+};
+
 const TO: Word = Word {
     given: Given::Value,
     name: "to",
@@ -221,7 +228,7 @@ const JOBS: [Job; 5] = [
     Job {
         name: "streams",
         about: "Writes a script with the frames of the streams in a table on standard input",
-        words: &[LINES],
+        words: &[LINES, OFFSETS_FROM],
     },
     Job {
         name: "draw",

@@ -22,7 +22,7 @@ use std::io::{Read, Write};
 use words::Words;
 
 /// Whether a line is a schedule command. It is skipped where it has no words or is a comment.
-fn is_command(line: &[u8]) -> Result<bool, ScriptFault>
+pub fn is_command(line: &[u8]) -> Result<bool, ScriptFault>
     ensures { result ≡ is_command (words_of line.now) }
 {
     let mut words = Words::new(line);

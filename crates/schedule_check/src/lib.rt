@@ -14,7 +14,8 @@ mod window_lines;
 mod windows;
 
 pub use check_job::answer_check;
-pub use checking::check;
+pub use checking::{check, is_command};
 pub use laws::{ever_open, one_teller, turned_masks};
 pub use settings::CheckSettings;
+pub use telling::{class_count, classes_apart, put_apart};
 pub use windows::{Longest, Window, Windows};

@@ -27,7 +27,7 @@ use tc_reader::TcFault;
 use wire_time::CLASSES;
 
 /// How many classes a change speaks of: those of its map, or all.
-fn class_count(map: Option<ClassMap>) -> u8
+pub fn class_count(map: Option<ClassMap>) -> u8
     ensures count { result ≡ class_count map }
     ensures within { result ≤ CLASSES }
 {
@@ -50,7 +50,7 @@ fn add_apart(classes: &mut ArrayVec<u8, CLASSES>, schedule: &Schedule, class: u8
 }
 
 /// The classes below a count that a schedule keeps apart, in rising order.
-fn classes_apart(schedule: &Schedule, count: u8) -> ArrayVec<u8, CLASSES>
+pub fn classes_apart(schedule: &Schedule, count: u8) -> ArrayVec<u8, CLASSES>
     requires { count ≤ CLASSES }
     ensures { result.items ≡ classes_apart count 0 schedule.now.entries }
 {
@@ -88,7 +88,7 @@ fn put_some<W: Write>(writer: &mut W, classes: &[u8]) -> Result<(), WriteFault>
 }
 
 /// Writes the line of classes that are kept apart.
-fn put_apart<W: Write>(writer: &mut W, classes: &[u8]) -> Result<(), WriteFault>
+pub fn put_apart<W: Write>(writer: &mut W, classes: &[u8]) -> Result<(), WriteFault>
     ensures { Writes result (W.contents writer.old) (W.contents writer.new) (apart_line classes.now) }
 {
     match classes {

@@ -6,4 +6,4 @@ mod LineLaws
 mod MergeLaws
 mod OrderLaws
 mod OutcomeLaws
-mod TableLaws
+pub mod TableLaws

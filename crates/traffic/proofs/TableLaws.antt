@@ -14,7 +14,7 @@ use Rattle.script.specs.declared.faults.ScriptFault.{ScriptFault}
 use Rattle.traffic.specs.Faults.{table_fault}
 use Rattle.traffic.specs.Frames.{frames_of}
 use Rattle.traffic.specs.Reading.{ReadsTable}
-use Rattle.traffic.specs.Table.{Table, line_said, table_of, with_line}
+use Rattle.traffic.specs.Table.{Table, judged, line_judged, table_by, table_of, with_line}
 use Rattle.traffic.specs.Turns.{left_of}
 use Rattle.job.specs.declared.fault.Fault.{Fault}
 use Rattle.job.specs.declared.fault.Fault.TheVariants as Faults
@@ -24,96 +24,115 @@ use Rattle.traffic.specs.declared.table.Stream.{Stream}
 use Rattle.traffic.specs.declared.turn.Coming.{Coming}
 use Rattle.traffic.specs.declared.turn.Turn.{Turn}
 
--- the frames of a table
-abbrev frames_in : Table → List Coming
-frames_in table = flat_map frames_of table.streams
+-- By what is judged of a stream, and what is kept of one.
+module _ {X : Type 0} (judge : Stream → Result Stream ScriptFault) (of : Stream → List X) where
+  -- what is kept of a table's streams
+  abbrev kept_of : Table → List X
+  kept_of table = flat_map of table.streams
 
--- The frames of known lines are those of the lines that were read and of those to come.
-abbrev pub Goes : Option Script → List Coming → List Coming → Option Script → Type 0
-Goes None before now left = Unit {0}
-Goes (Some all) before now None = ⊥
-Goes (Some all) before now (Some script) =
-    (before ++ flat_map frames_of (table_of all).streams ≡ now ++ flat_map frames_of (table_of script).streams) × ((table_of all).fault ≡ (table_of script).fault)
+  -- What is kept of known lines is what was kept and what will be of those to come.
+  abbrev pub Goes : Option Script → List X → List X → Option Script → Type 0
+  Goes None before now left = Unit {0}
+  Goes (Some all) before now None = ⊥
+  Goes (Some all) before now (Some script) =
+      (before ++ flat_map of (table_by judge all).streams ≡ now ++ flat_map of (table_by judge script).streams) × ((table_by judge all).fault ≡ (table_by judge script).fault)
 
-pub begun : (all : Option Script) (before : List Coming) → Goes all before before all
-begun None before = tt
-begun (Some script) before = (refl, refl)
+  pub begun : (all : Option Script) (before : List X) → Goes all before before all
+  begun None before = tt
+  begun (Some script) before = (refl, refl)
 
-of_line : (number : ℕ) (line : List ℕ) (rest : Script) → table_of (Line number line rest) ≡ with_line number (line_said (words_of line)) (table_of rest)
-unfolding table_of
-of_line number line rest = refl
+  of_line : (number : ℕ) (line : List ℕ) (rest : Script) → table_by judge (Line number line rest) ≡ with_line number (line_judged judge (words_of line)) (table_by judge rest)
+  unfolding table_by
+  of_line number line rest = refl
 
-of_limit : (number : ℕ) (limit : Limit) → (table_of (Broken number limit)).fault ≡ Some (number, limit_fault limit)
-unfolding table_of
-of_limit number limit = refl
+  of_limit : (number : ℕ) (limit : Limit) → (table_by judge (Broken number limit)).fault ≡ Some (number, limit_fault limit)
+  unfolding table_by
+  of_limit number limit = refl
 
-of_end : (table_of End ≡ record { streams = []; fault = None })
-unfolding table_of
-of_end = refl
+  of_end : (table_by judge End ≡ record { streams = []; fault = None })
+  unfolding table_by
+  of_end = refl
 
-module _ (number : ℕ) (line : List ℕ) where
-  -- a line before the rest, by what it says
-  table_is : (script rest : Script) (said : Result (Option Stream) ScriptFault) → script ≡ Line number line rest → line_said (words_of line) ≡ said → table_of script ≡ with_line number said (table_of rest)
-  table_is script rest said e f = ap table_of e ∙ of_line number line rest ∙ ap (λ x. with_line number x (table_of rest)) f
+  module _ (number : ℕ) (line : List ℕ) where
+    -- a line before the rest, by what it says
+    table_is : (script rest : Script) (said : Result (Option Stream) ScriptFault) → script ≡ Line number line rest → line_judged judge (words_of line) ≡ said → table_by judge script ≡ with_line number said (table_by judge rest)
+    table_is script rest said e f = ap (table_by judge) e ∙ of_line number line rest ∙ ap (λ x. with_line number x (table_by judge rest)) f
 
-  -- a line is skipped
-  pub goes_past : (all : Option Script) (before now : List Coming) (s t : Option Script)
-      → Goes all before now s → Advances s (Ok true) number line t → line_said (words_of line) ≡ Ok None → Goes all before now t
-  goes_past None before now s t g a e = tt
-  goes_past (Some all) before now None t g a e = absurd g
-  goes_past (Some all) before now (Some script) t g (rest, left, is) e =
-      let same = table_is script rest (Ok None) is e in
-      let P : Option Script → Type 0 = λ u. Goes (Some all) before now u in
-      subst P (sym left) (g.0 ∙ ap (λ x. now ++ frames_in x) same, g.1 ∙ ap (λ x. x.fault) same)
+    -- a line is skipped
+    pub goes_past : (all : Option Script) (before now : List X) (s t : Option Script)
+        → Goes all before now s → Advances s (Ok true) number line t → line_judged judge (words_of line) ≡ Ok None → Goes all before now t
+    goes_past None before now s t g a e = tt
+    goes_past (Some all) before now None t g a e = absurd g
+    goes_past (Some all) before now (Some script) t g (rest, left, is) e =
+        let same = table_is script rest (Ok None) is e in
+        let P : Option Script → Type 0 = λ u. Goes (Some all) before now u in
+        subst P (sym left) (g.0 ∙ ap (λ x. now ++ kept_of x) same, g.1 ∙ ap (λ x. x.fault) same)
 
-  -- a stream is read
-  pub goes_on : (all : Option Script) (before now : List Coming) (s t : Option Script) (stream : Stream)
-      → Goes all before now s → Advances s (Ok true) number line t → line_said (words_of line) ≡ Ok (Some stream) → Goes all before (now ++ frames_of stream) t
-  goes_on None before now s t stream g a e = tt
-  goes_on (Some all) before now None t stream g a e = absurd g
-  goes_on (Some all) before now (Some script) t stream g (rest, left, is) e =
-      let same = table_is script rest (Ok (Some stream)) is e in
-      let P : Option Script → Type 0 = λ u. Goes (Some all) before (now ++ frames_of stream) u in
-      subst P (sym left) (g.0 ∙ ap (λ x. now ++ frames_in x) same ∙ sym (append_assoc now (frames_of stream) (frames_in (table_of rest))), g.1 ∙ ap (λ x. x.fault) same)
+    -- a stream is read
+    pub goes_on : (all : Option Script) (before now : List X) (s t : Option Script) (stream : Stream)
+        → Goes all before now s → Advances s (Ok true) number line t → line_judged judge (words_of line) ≡ Ok (Some stream) → Goes all before (now ++ of stream) t
+    goes_on None before now s t stream g a e = tt
+    goes_on (Some all) before now None t stream g a e = absurd g
+    goes_on (Some all) before now (Some script) t stream g (rest, left, is) e =
+        let same = table_is script rest (Ok (Some stream)) is e in
+        let P : Option Script → Type 0 = λ u. Goes (Some all) before (now ++ of stream) u in
+        subst P (sym left) (g.0 ∙ ap (λ x. now ++ kept_of x) same ∙ sym (append_assoc now (of stream) (kept_of (table_by judge rest))), g.1 ∙ ap (λ x. x.fault) same)
 
+    -- a line has a fault
+    pub wrong_at : (all script : Script) (before now : List X) (t : Option Script) (fault : ScriptFault)
+        → Goes (Some all) before now (Some script) → Advances (Some script) (Ok true) number line t → line_judged judge (words_of line) ≡ Err fault → (table_by judge all).fault ≡ Some (number, fault)
+    wrong_at all script before now t fault g (rest, left, is) e = g.1 ∙ ap (λ x. x.fault) (table_is script rest (Err fault) is e)
+
+    -- the lines end
+    pub ended : (all script : Script) (before now : List X) (t : Option Script)
+        → Goes (Some all) before now (Some script) → Advances (Some script) (Ok false) number line t → ((table_by judge all).fault ≡ None) × (now ≡ before ++ flat_map of (table_by judge all).streams)
+    ended all script before now t g a =
+        let same = ap (table_by judge) a ∙ of_end in
+        (g.1 ∙ ap (λ y. y.fault) same, sym (g.0 ∙ ap (λ y. now ++ kept_of y) same ∙ append-nil now))
+
+    -- a line passes a limit
+    pub stopped : (all script : Script) (before now : List X) (t : Option Script) (n : ℕ) (limit : Limit)
+        → Goes (Some all) before now (Some script) → Advances (Some script) (Err (LineFaults.Limit n limit)) number line t → (table_by judge all).fault ≡ Some (n, limit_fault limit)
+    stopped all script before now t n limit g a = g.1 ∙ ap (λ x. (table_by judge x).fault) a ∙ of_limit n limit
+
+-- Frames of a script, each so much later.
+module _ (from number : ℕ) (line : List ℕ) where
   -- a line with a fault
   pub goes_wrong : {T : Type 0} {f : Result T (Fault StreamsInput)} (all : Option Script) (before now : List Coming) (s t : Option Script) (fault : ScriptFault) (old new : List Turn)
-      → Goes all before now s → Advances s (Ok true) number line t → line_said (words_of line) ≡ Err fault → f ≡ Err (Faults.Input (Inputs.Table number fault))
-      → IfSome all (λ script. ReadsTable f (table_of script) old new)
+      → Goes (judged from) frames_of all before now s → Advances s (Ok true) number line t → line_judged (judged from) (words_of line) ≡ Err fault → f ≡ Err (Faults.Input (Inputs.Table number fault))
+      → IfSome all (λ script. ReadsTable f (table_of from script) old new)
   goes_wrong None before now s t fault old new g a e h = tt
   goes_wrong (Some all) before now None t fault old new g a e h = absurd g
-  goes_wrong {T} {f} (Some all) before now (Some script) t fault old new g (rest, left, is) e h =
-      let same = table_is script rest (Err fault) is e in
-      let P : Result T (Fault StreamsInput) → Type 0 = λ x. ReadsTable x (table_of all) old new in
-      subst P (sym h) (g.1 ∙ ap (λ x. x.fault) same)
+  goes_wrong {T} {f} (Some all) before now (Some script) t fault old new g a e h =
+      let P : Result T (Fault StreamsInput) → Type 0 = λ x. ReadsTable x (table_of from all) old new in
+      subst P (sym h) (wrong_at (judged from) frames_of number line all script before now t fault g a e)
 
   -- the lines end
   pub ends : {T : Type 0} {f : Result T (Fault StreamsInput)} (x : T) (all : Option Script) (s t : Option Script) (old new : List Turn)
-      → Goes all (flat_map left_of old) (flat_map left_of new) s → Advances s (Ok false) number line t → f ≡ Ok x → IfSome all (λ script. ReadsTable f (table_of script) old new)
+      → Goes (judged from) frames_of all (flat_map left_of old) (flat_map left_of new) s → Advances s (Ok false) number line t → f ≡ Ok x → IfSome all (λ script. ReadsTable f (table_of from script) old new)
   ends x None s t old new g a h = tt
   ends x (Some all) None t old new g a h = absurd g
   ends {T} {f} x (Some all) (Some script) t old new g a h =
-      let same = ap table_of a ∙ of_end in
-      let P : Result T (Fault StreamsInput) → Type 0 = λ y. ReadsTable y (table_of all) old new in
-      subst P (sym h) (g.1 ∙ ap (λ y. y.fault) same, sym (g.0 ∙ ap (λ y. flat_map left_of new ++ frames_in y) same ∙ append-nil (flat_map left_of new)))
+      let P : Result T (Fault StreamsInput) → Type 0 = λ y. ReadsTable y (table_of from all) old new in
+      subst P (sym h) (ended (judged from) frames_of number line all script (flat_map left_of old) (flat_map left_of new) t g a)
 
   -- the lines stop
   pub stops : {T : Type 0} {f : Result T (Fault StreamsInput)} (fault : LineFault) (all : Option Script) (before now : List Coming) (s t : Option Script) (old new : List Turn)
-      → Goes all before now s → Advances s (Err fault) number line t → f ≡ Err (table_fault fault) → IfSome all (λ script. ReadsTable f (table_of script) old new)
+      → Goes (judged from) frames_of all before now s → Advances s (Err fault) number line t → f ≡ Err (table_fault fault) → IfSome all (λ script. ReadsTable f (table_of from script) old new)
   stops fault None before now s t old new g a h = tt
   stops fault (Some all) before now None t old new g a h = absurd g
   stops {T} {f} (LineFaults.Limit n limit) (Some all) before now (Some script) t old new g a h =
-      let P : Result T (Fault StreamsInput) → Type 0 = λ x. ReadsTable x (table_of all) old new in
-      subst P (sym h) (g.1 ∙ ap (λ x. (table_of x).fault) a ∙ of_limit n limit)
+      let P : Result T (Fault StreamsInput) → Type 0 = λ x. ReadsTable x (table_of from all) old new in
+      subst P (sym h) (stopped (judged from) frames_of number line all script before now t n limit g a)
   stops {T} {f} LineFaults.Read (Some all) before now (Some script) t old new g a h =
-      let P : Result T (Fault StreamsInput) → Type 0 = λ x. ReadsTable x (table_of all) old new in
+      let P : Result T (Fault StreamsInput) → Type 0 = λ x. ReadsTable x (table_of from all) old new in
       subst P (sym h) tt
 
 -- out of memory
-pub memory : {T : Type 0} {f : Result T (Fault StreamsInput)} (all : Option Script) (old new : List Turn) → f ≡ Err Faults.Memory → IfSome all (λ script. ReadsTable f (table_of script) old new)
-memory None old new e = tt
-memory {T} {f} (Some all) old new e =
-    let P : Result T (Fault StreamsInput) → Type 0 = λ x. ReadsTable x (table_of all) old new in
+pub memory : (from : ℕ) {T : Type 0} {f : Result T (Fault StreamsInput)} (all : Option Script) (old new : List Turn) → f ≡ Err Faults.Memory → IfSome all (λ script. ReadsTable f (table_of from script) old new)
+memory from None old new e = tt
+memory from {T} {f} (Some all) old new e =
+    let P : Result T (Fault StreamsInput) → Type 0 = λ x. ReadsTable x (table_of from all) old new in
     subst P (sym e) tt
 
 -- what is to come, one stream more

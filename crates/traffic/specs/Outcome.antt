@@ -31,6 +31,6 @@ outcome_unless (Some (number, fault)) streams script = record { text = []; fault
 abbrev pub outcome_in : Table → Script → Outcome StreamsInput
 outcome_in table script = outcome_unless table.fault table.streams script
 
--- the outcome by the octets of both inputs; a script with no octets is none
-abbrev pub outcome_of : List ℕ → List ℕ → Outcome StreamsInput
-outcome_of table script = outcome_in (table_of (script_of table)) (script_of script)
+-- the outcome by the octets of both inputs, with each frame so much later; a script with no octets is none
+abbrev pub outcome_of : ℕ → List ℕ → List ℕ → Outcome StreamsInput
+outcome_of from table script = outcome_in (table_of from (script_of table)) (script_of script)

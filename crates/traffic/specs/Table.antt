@@ -10,6 +10,7 @@ use Rattle.script.specs.Requests.{is_comment}
 use Rattle.script.specs.declared.faults.ScriptFault.{ScriptFault}
 use Rattle.script.specs.declared.faults.ScriptFault.TheVariants.{UnknownLine, WordCount, BadNumber, ClockTooLate}
 use Rattle.traffic.specs.declared.table.Stream.{Stream}
+use Rattle.traffic.specs.declared.table.Ends.{Ends}
 
 -- 1. Times
 
@@ -43,6 +44,15 @@ time_in word = time_with (number_in 10 greatest_moment (take (leading_digits wor
 
 -- 2. Streams
 
+-- the times of a stream are at most the greatest moment
+pub record HasTimes (s : Stream) : Type 0 where
+  pub period : s.period ≤ greatest_moment
+  pub offset : s.offset ≤ greatest_moment
+
+-- a stream with each frame so much later
+abbrev pub moved : ℕ → Stream → Stream
+moved from s = record s { offset = from + s.offset }
+
 -- the ids of a stream's frames are all less than 2^64
 abbrev pub has_ids : Stream → Bool
 has_ids s = nat_le (s.first_id + s.count) (2 ^ 64)
@@ -57,8 +67,12 @@ pub record IsStream (s : Stream) : Type 0 where
   pub ends : s.offset + s.period * (s.count - 1) ≤ greatest_moment
 
 -- such a stream, or its fault
-abbrev pub judged : Stream → Result Stream ScriptFault
-judged s = if has_ids s then (if ends_in_time s then Ok s else Err ClockTooLate) else Err BadNumber
+abbrev pub judged_now : Stream → Result Stream ScriptFault
+judged_now s = if has_ids s then (if ends_in_time s then Ok s else Err ClockTooLate) else Err BadNumber
+
+-- a stream with each frame so much later, whose frames can be frames of a script, or its fault
+abbrev pub judged : ℕ → Stream → Result Stream ScriptFault
+judged from s = judged_now (moved from s)
 
 -- by a number, where a word is one
 abbrev pub by_number : Option ℕ → (ℕ → Result Stream ScriptFault) → Result Stream ScriptFault
@@ -66,45 +80,56 @@ by_number None f = Err BadNumber
 by_number (Some n) f = f n
 
 -- a stream of words: ID, PRIORITY, LEN, PERIOD, OFFSET and COUNT, each a number of its width or a time
-abbrev pub stream_in_words : List ℕ → List ℕ → List ℕ → List ℕ → List ℕ → List ℕ → Bool → Result Stream ScriptFault
-stream_in_words id priority len period offset count tagged =
+abbrev pub stream_in_words : List ℕ → List ℕ → List ℕ → List ℕ → List ℕ → List ℕ → Ends → Result Stream ScriptFault
+stream_in_words id priority len period offset count ends =
     by_number (number_in 10 (2 ^ 64 - 1) id) (λ id.
     by_number (number_in 10 (2 ^ 8 - 1) priority) (λ priority.
     by_number (number_in 10 (2 ^ 32 - 1) len) (λ len.
     by_number (time_in period) (λ period.
     by_number (time_in offset) (λ offset.
     by_number (number_in 10 (2 ^ 32 - 1) count) (λ count.
-    judged (record { first_id = id; priority = priority; len = len; period = period; offset = offset; count = count; tagged = tagged })))))))
+    Ok (record { first_id = id; priority = priority; len = len; period = period; offset = offset; count = count; tagged = ends.tagged; deadline = ends.deadline })))))))
 
 -- by the next word and those after it, where there is one
 abbrev pub by_word : List (List ℕ) → (List ℕ → List (List ℕ) → Result Stream ScriptFault) → Result Stream ScriptFault
 by_word [] f = Err WordCount
 by_word (w ∷ ws) f = f w ws
 
--- whether the last words say that the frames are tagged: there are none, or that one
-abbrev pub tag_in : List (List ℕ) → Result Bool ScriptFault
-tag_in [] = Ok false
-tag_in (tag ∷ []) = if bytes_eq tag (codes "tagged") then Ok true else Err WordCount
-tag_in (tag ∷ more ∷ ws) = Err WordCount
+-- with a deadline, where its word is a time
+abbrev pub with_deadline : Bool → Option ℕ → Result Ends ScriptFault
+with_deadline tagged (Some deadline) = Ok (record { tagged = tagged; deadline = Some deadline })
+with_deadline tagged None = Err BadNumber
+
+-- what the last words say where a deadline may still come: there are none, or deadline and a time
+abbrev pub deadline_in : Bool → List (List ℕ) → Result Ends ScriptFault
+deadline_in tagged [] = Ok (record { tagged = tagged; deadline = None })
+deadline_in tagged (w ∷ []) = Err WordCount
+deadline_in tagged (w ∷ time ∷ []) = if bytes_eq w (codes "deadline") then with_deadline tagged (time_in time) else Err WordCount
+deadline_in tagged (w ∷ time ∷ more ∷ ws) = Err WordCount
+
+-- what the last words say: tagged or nothing, and then a deadline or nothing
+abbrev pub ends_in : List (List ℕ) → Result Ends ScriptFault
+ends_in [] = deadline_in false []
+ends_in (w ∷ ws) = if bytes_eq w (codes "tagged") then deadline_in true ws else deadline_in false (w ∷ ws)
 
 -- by the last words
-abbrev pub by_tag : Result Bool ScriptFault → (Bool → Result Stream ScriptFault) → Result Stream ScriptFault
-by_tag (Ok tagged) f = f tagged
-by_tag (Err fault) f = Err fault
+abbrev pub by_ends : Result Ends ScriptFault → (Ends → Result Stream ScriptFault) → Result Stream ScriptFault
+by_ends (Ok ends) f = f ends
+by_ends (Err fault) f = Err fault
 
 -- what the words after the first say
 abbrev pub stream_said : List (List ℕ) → Result Stream ScriptFault
 stream_said ws =
     by_word ws (λ id ws. by_word ws (λ priority ws. by_word ws (λ len ws.
     by_word ws (λ period ws. by_word ws (λ offset ws. by_word ws (λ count ws.
-    by_tag (tag_in ws) (λ tagged. stream_in_words id priority len period offset count tagged)))))))
+    by_ends (ends_in ws) (λ ends. stream_in_words id priority len period offset count ends)))))))
 
 -- a stream of a line, or its fault
 abbrev pub in_line : Result Stream ScriptFault → Result (Option Stream) ScriptFault
 in_line (Ok s) = Ok (Some s)
 in_line (Err fault) = Err fault
 
--- what a line says, if anything: a line without words and a comment say nothing
+-- what a line says, if anything, where how many frames come is not judged: a line without words and a comment say nothing
 abbrev pub line_said : List (List ℕ) → Result (Option Stream) ScriptFault
 line_said [] = Ok None
 line_said (w ∷ ws) =
@@ -119,14 +144,27 @@ pub record Table : Type 0 where
   pub streams : List Stream
   pub fault : Option (ℕ × ScriptFault)
 
+-- what a line says, by what is judged of its stream
+abbrev pub judged_line : (Stream → Result Stream ScriptFault) → Result (Option Stream) ScriptFault → Result (Option Stream) ScriptFault
+judged_line judge (Ok None) = Ok None
+judged_line judge (Ok (Some s)) = in_line (judge s)
+judged_line judge (Err fault) = Err fault
+
+abbrev pub line_judged : (Stream → Result Stream ScriptFault) → List (List ℕ) → Result (Option Stream) ScriptFault
+line_judged judge ws = judged_line judge (line_said ws)
+
 -- a line before the rest of a table
 abbrev pub with_line : ℕ → Result (Option Stream) ScriptFault → Table → Table
 with_line number (Err fault) rest = record { streams = []; fault = Some (number, fault) }
 with_line number (Ok None) rest = rest
 with_line number (Ok (Some s)) rest = record { streams = s ∷ rest.streams; fault = rest.fault }
 
--- the table that lines are
-unfoldable pub table_of : Script → Table
-table_of End = record { streams = []; fault = None }
-table_of (Broken number limit) = record { streams = []; fault = Some (number, limit_fault limit) }
-table_of (Line number octets rest) = with_line number (line_said (words_of octets)) (table_of rest)
+-- the table that lines are, by what is judged of a stream
+unfoldable pub table_by : (Stream → Result Stream ScriptFault) → Script → Table
+table_by judge End = record { streams = []; fault = None }
+table_by judge (Broken number limit) = record { streams = []; fault = Some (number, limit_fault limit) }
+table_by judge (Line number octets rest) = with_line number (line_judged judge (words_of octets)) (table_by judge rest)
+
+-- the table of frames of a script, each so much later
+abbrev pub table_of : ℕ → Script → Table
+table_of from script = table_by (judged from) script

@@ -16,3 +16,4 @@ mod writing;
 pub use faults::{StreamsFault, StreamsInput};
 pub use streaming::write_streams;
 pub use streams_job::answer_streams;
+pub use table::{Stream, read_stream_line};

@@ -1,6 +1,7 @@
 //! A table of streams becomes a script.
 
-ghost use Rattle.std.specs.Prelude.{◌≡◌, ◌++◌, IfErr, IfSome, OnOk};
+ghost use Rattle.std.specs.Prelude.{◌≡◌, ◌≤◌, ◌++◌, IfErr, IfSome, OnOk};
+ghost use Rattle.wire_time.specs.Moment.{greatest_moment};
 ghost use Rattle.std.specs.List.{flat_map};
 ghost use Rattle.line_reader.specs.LineReader.{script_left};
 ghost use Rattle.job.specs.Outcome.{Runs};
@@ -32,12 +33,14 @@ fn keep<A: Allocator>(turns: &mut Vec<Turn, A>, stream: Stream) -> Result<(), St
     }
 }
 
-/// Reads the lines of a table that are to come, after the streams that are read.
+/// Reads the lines of a table that are to come, whose frames come so much later, after the streams that are read.
 fn read_streams<A: Allocator, B: Allocator, R: Read + Drop>(
     lines: &mut LineReader<R, A>,
     turns: &mut Vec<Turn, B>,
+    from: u128,
 ) -> Result<(), StreamsFault>
-    ensures { IfSome (script_left R.remaining lines.old) (λ script. ReadsTable result (table_of script) turns.old.items turns.new.items) }
+    requires { from ≤ greatest_moment }
+    ensures { IfSome (script_left R.remaining lines.old) (λ script. ReadsTable result (table_of from script) turns.old.items turns.new.items) }
 {
     'lines: loop {
         let more = match lines.advance() {
@@ -47,7 +50,7 @@ fn read_streams<A: Allocator, B: Allocator, R: Read + Drop>(
         if !more {
             break;
         }
-        match read_line(lines.line()) {
+        match read_line(lines.line(), from) {
             Ok(None) => {}
             Ok(Some(stream)) => keep(turns, stream)?,
             Err(fault) => return Err(StreamsFault::Input(StreamsInput::Table(
@@ -65,17 +68,20 @@ fn write_table<A: Allocator, B: Allocator, R: Read + Drop, S: Read + Drop, W: Wr
     table: &mut LineReader<R, A>,
     script: &mut LineReader<S, A>,
     writer: &mut W,
+    from: u128,
 ) -> Result<(), StreamsFault>
-    ensures { IfSome (script_left R.remaining table.old) (λ table. IfSome (script_left S.remaining script.old) (λ script. Runs result (W.contents writer.old) (W.contents writer.new) (outcome_in (table_of table) script))) }
+    requires { from ≤ greatest_moment }
+    ensures { IfSome (script_left R.remaining table.old) (λ table. IfSome (script_left S.remaining script.old) (λ script. Runs result (W.contents writer.old) (W.contents writer.new) (outcome_in (table_of from table) script))) }
 {
     let mut turns = Vec::new(alloc);
-    read_streams(table, &mut turns)?;
+    read_streams(table, &mut turns, from)?;
     write_merged(script, turns.as_mut_slice(), writer)
 }
 
 /// Reads a table of streams to its end, and then writes a script that has the frames of all of them: each after a clock line of
 /// its moment, which stands once, by rising moment, and at one moment in the order of the table. Among them it puts in the lines of another
-/// script, each at its moment and before the frames of that moment; where that script has no octets there are the frames alone.
+/// script, each at its moment and before the frames of that moment; where that script has no octets there are the frames alone. `from`, in
+/// picoseconds, is added to each offset.
 ///
 /// A malformed line of the table is the fault, and nothing is written. What the lines of the script say is no matter, but that a good clock line
 /// sets the moment of the lines from it on; one that passes a limit is the fault, once what comes before it is written. What is kept is the
@@ -85,10 +91,12 @@ pub fn write_streams<A: Allocator, R: Read + Drop, S: Read + Drop, W: Write>(
     table: R,
     script: S,
     writer: &mut W,
+    from: u128,
 ) -> Result<(), StreamsFault>
-    ensures { IfSome (R.remaining table) (λ table. IfSome (S.remaining script) (λ script. Runs result (W.contents writer.old) (W.contents writer.new) (outcome_of table script))) }
+    requires { from ≤ greatest_moment }
+    ensures { IfSome (R.remaining table) (λ table. IfSome (S.remaining script) (λ script. Runs result (W.contents writer.old) (W.contents writer.new) (outcome_of from table script))) }
 {
     let mut table = LineReader::new(&alloc, table)?;
     let mut script = LineReader::new(&alloc, script)?;
-    write_table(&alloc, &mut table, &mut script, writer)
+    write_table(&alloc, &mut table, &mut script, writer, from)
 }

@@ -1,16 +1,34 @@
 //! The program's job: a table of streams becomes a script.
 
+ghost use Rattle.std.specs.Prelude.{◌≡◌, ◌≤◌, IfErr, IfOk};
 ghost use Rattle.std.specs.Io.Buffered.{writer_contents};
-ghost use Rattle.traffic.specs.Ending.{IsStreamsEnding};
+ghost use Rattle.script.specs.Given.{octets_of};
+ghost use Rattle.traffic.specs.Ending.{IsStreamsEnding, from_given};
+ghost use Rattle.wire_time.specs.Moment.{greatest_moment};
 
 use crate::streaming::write_streams;
 use job::{Ended, end_run};
+use script::{BadValue, end_with_value};
 use std::alloc::Allocator;
 use std::io::{BufWriter, Read, Write};
+use wire_time::MAX_MOMENT;
+use words::number;
+
+/// The moment that is given, in picoseconds, 0 where none is.
+fn from_given(from: Option<&str>) -> Result<u128, BadValue>
+    ensures given { result ≡ from_given (octets_of from.entry) }
+    ensures within { IfOk result (λ moment. moment ≤ greatest_moment) }
+{
+    let text = from.unwrap_or("0");
+    match number(text.as_bytes(), MAX_MOMENT) {
+        Some(moment) => Ok(moment),
+        None => Err(BadValue::From),
+    }
+}
 
 /// Writes the script of the table of streams that `reader` gives through `answers`, with the lines of `script` among the frames, and with the
-/// text of a fault on `errors`; and gives the writer of the answers back. What was written is let out before a fault is reported; after a failed
-/// write no other is tried.
+/// text of a fault on `errors`; and gives the writer of the answers back. `from` is a moment in picoseconds, which is added to each offset; where
+/// it is bad nothing is read. What was written is let out before a fault is reported; after a failed write no other is tried.
 pub fn answer_streams<
     A: Allocator,
     B: Allocator,
@@ -18,9 +36,22 @@ pub fn answer_streams<
     S: Read + Drop,
     W: Write + Drop,
     E: Write,
->(alloc: A, reader: &mut R, script: S, mut answers: BufWriter<W, B>, errors: &mut E) -> (Ended, W)
-    ensures { IsStreamsEnding (R.remaining reader.old) (S.remaining script) result.0 (writer_contents W.contents answers) (W.contents result.1) (E.contents errors.old) (E.contents errors.new) }
+>(
+    alloc: A,
+    from: Option<&str>,
+    reader: &mut R,
+    script: S,
+    mut answers: BufWriter<W, B>,
+    errors: &mut E,
+) -> (Ended, W)
+    ensures ending { IsStreamsEnding (from_given (octets_of from.entry)) (R.remaining reader.old) (S.remaining script) result.0 (writer_contents W.contents answers) (W.contents result.1) (E.contents errors.old) (E.contents errors.new) }
+    ensures unread { IfErr (from_given (octets_of from.entry)) (λ _. reader.new ≡ reader.old) }
 {
-    let run = write_streams(alloc, reader, script, &mut answers);
-    end_run(run, answers, errors)
+    match from_given(from) {
+        Ok(from) => {
+            let run = write_streams(alloc, reader, script, &mut answers, from);
+            end_run(run, answers, errors)
+        }
+        Err(value) => end_with_value(value, answers, errors),
+    }
 }

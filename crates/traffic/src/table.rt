@@ -1,10 +1,10 @@
 //! What the lines of a table of streams say.
 
-ghost use Rattle.std.specs.Prelude.{◌≡◌, ◌≤◌, ◌^◌, IfSome, IfOk, OnOk, true, take, drop};
+ghost use Rattle.std.specs.Prelude.{◌≡◌, ◌≤◌, ◌^◌, ◌∷◌, IfSome, IfOk, OnOk, true, take, drop};
 ghost use Rattle.wire_time.specs.Moment.{greatest_moment};
 ghost use Rattle.words.specs.Words.{words_of};
 ghost use Rattle.words.specs.WordsLeft.{words_left};
-ghost use Rattle.traffic.specs.Table.{has_ids, ends_in_time, judged, leading_digits, line_said, stream_in_words, starts_with_digit, stream_said, tag_in, time_in, unit_of, IsStream};
+ghost use Rattle.traffic.specs.Table.{deadline_in, ends_in, ends_in_time, has_ids, judged, leading_digits, line_judged, line_said, moved, starts_with_digit, stream_in_words, stream_said, time_in, unit_of, HasTimes, IsStream};
 
 use script::ScriptFault;
 use wire_time::MAX_MOMENT;
@@ -27,6 +27,8 @@ pub struct Stream {
     pub count: u32,
     /// Whether the frames have a customer VLAN tag.
     pub tagged: bool,
+    /// How long after its arrival a frame is to have left, in picoseconds, where that is said.
+    pub deadline: Option<u128>,
 }
 
 /// How many picoseconds a unit has.
@@ -81,13 +83,26 @@ fn time_in(word: &[u8]) -> Option<u128>
     if time <= MAX_MOMENT { Some(time) } else { None }
 }
 
-/// A stream whose frames can be frames of a script, or its fault.
-fn judged(stream: Stream) -> Result<Stream, ScriptFault>
-    requires period { stream.period ≤ greatest_moment }
+/// A stream with each frame so much later, in picoseconds.
+fn moved(stream: Stream, from: u128) -> Stream
+    requires from { from ≤ greatest_moment }
     requires offset { stream.offset ≤ greatest_moment }
-    ensures judged { result ≡ judged stream }
+    ensures moved { result ≡ moved from stream }
+{
+    Stream {
+        offset: from + stream.offset,
+        ..stream
+    }
+}
+
+/// A stream whose frames can be frames of a script, each so much later, in picoseconds; or its fault.
+pub fn judged(stream: Stream, from: u128) -> Result<Stream, ScriptFault>
+    requires from { from ≤ greatest_moment }
+    requires times { HasTimes stream }
+    ensures judged { result ≡ judged from stream }
     ensures fits { IfOk result IsStream }
 {
+    let stream = moved(stream, from);
     if u128::from(stream.first_id) + u128::from(stream.count) > 1 << 64 {
         return Err(ScriptFault::BadNumber);
     }
@@ -98,7 +113,7 @@ fn judged(stream: Stream) -> Result<Stream, ScriptFault>
     Ok(stream)
 }
 
-/// The words of a stream's line after the first, without `tagged`.
+/// The words of a stream's line after the first, without those at its end that may be left out.
 #[derive(Clone, Copy)]
 struct StreamWords<'a> {
     id: &'a [u8],
@@ -109,10 +124,17 @@ struct StreamWords<'a> {
     count: &'a [u8],
 }
 
+/// What a stream's line says at its end: whether the frames are tagged, and their deadline, in picoseconds, where there is one.
+#[derive(Clone, Copy, Debug, PartialEq, Eq)]
+pub struct Ends {
+    pub tagged: bool,
+    pub deadline: Option<u128>,
+}
+
 /// The stream that words say.
-fn stream_in_words(words: &StreamWords<'_>, tagged: bool) -> Result<Stream, ScriptFault>
-    ensures fits { IfOk result IsStream }
-    ensures said { result ≡ stream_in_words words.now.id.now words.now.priority.now words.now.len.now words.now.period.now words.now.offset.now words.now.count.now tagged }
+fn stream_in_words(words: &StreamWords<'_>, ends: Ends) -> Result<Stream, ScriptFault>
+    ensures times { IfOk result HasTimes }
+    ensures said { result ≡ stream_in_words words.now.id.now words.now.priority.now words.now.len.now words.now.period.now words.now.offset.now words.now.count.now ends }
 {
     let Some(id) = number(words.id, u128::from(u64::MAX)) else {
         return Err(ScriptFault::BadNumber);
@@ -132,34 +154,63 @@ fn stream_in_words(words: &StreamWords<'_>, tagged: bool) -> Result<Stream, Scri
     let Some(count) = number(words.count, u128::from(u32::MAX)) else {
         return Err(ScriptFault::BadNumber);
     };
-    judged(Stream {
+    Ok(Stream {
         first_id: id as u64,
         priority: priority as u8,
         len: len as u32,
         period,
         offset,
         count: count as u32,
-        tagged,
+        tagged: ends.tagged,
+        deadline: ends.deadline,
     })
 }
 
-/// Whether the last words say that the frames are tagged, or that there are none.
-fn tag_in(mut words: Words<'_>) -> Result<bool, ScriptFault>
-    ensures { result ≡ tag_in (words_left words.entry) }
+/// The end of a line that has this word and those after it, where a deadline may still come.
+fn deadline_in(tagged: bool, word: &[u8], mut words: Words<'_>) -> Result<Ends, ScriptFault>
+    ensures { result ≡ deadline_in tagged (word.now ∷ words_left words.entry) }
 {
-    let Some(tag) = words.next_word() else {
-        return Ok(false);
+    let Some(time) = words.next_word() else {
+        return Err(ScriptFault::WordCount);
     };
-    if words.next_word().is_some() || tag != b"tagged".as_slice() {
+    if words.next_word().is_some() || word != b"deadline".as_slice() {
         return Err(ScriptFault::WordCount);
     }
-    Ok(true)
+    match time_in(time) {
+        Some(deadline) => Ok(Ends {
+            tagged,
+            deadline: Some(deadline),
+        }),
+        None => Err(ScriptFault::BadNumber),
+    }
+}
+
+/// What the last words of a line say: `tagged` or nothing, and then `deadline` with a time or nothing.
+fn ends_in(mut words: Words<'_>) -> Result<Ends, ScriptFault>
+    ensures { result ≡ ends_in (words_left words.entry) }
+{
+    let Some(first) = words.next_word() else {
+        return Ok(Ends {
+            tagged: false,
+            deadline: None,
+        });
+    };
+    if first != b"tagged".as_slice() {
+        return deadline_in(false, first, words);
+    }
+    let Some(word) = words.next_word() else {
+        return Ok(Ends {
+            tagged: true,
+            deadline: None,
+        });
+    };
+    deadline_in(true, word, words)
 }
 
 /// The stream that the words after the first say.
 fn read_stream(mut words: Words<'_>) -> Result<Stream, ScriptFault>
     ensures said { result ≡ stream_said (words_left words.entry) }
-    ensures fits { IfOk result IsStream }
+    ensures times { IfOk result HasTimes }
 {
     let Some(id) = words.next_word() else {
         return Err(ScriptFault::WordCount);
@@ -179,7 +230,7 @@ fn read_stream(mut words: Words<'_>) -> Result<Stream, ScriptFault>
     let Some(count) = words.next_word() else {
         return Err(ScriptFault::WordCount);
     };
-    let tagged = tag_in(words)?;
+    let ends = ends_in(words)?;
     stream_in_words(
         &StreamWords {
             id,
@@ -189,14 +240,14 @@ fn read_stream(mut words: Words<'_>) -> Result<Stream, ScriptFault>
             offset,
             count,
         },
-        tagged,
+        ends,
     )
 }
 
-/// What a line of a table says, or None where it is skipped: it has no words, or is a comment.
-pub fn read_line(line: &[u8]) -> Result<Option<Stream>, ScriptFault>
+/// What a line of a table says, or None where it is skipped: it has no words, or is a comment. How many frames come is not judged.
+pub fn read_stream_line(line: &[u8]) -> Result<Option<Stream>, ScriptFault>
     ensures said { result ≡ line_said (words_of line.now) }
-    ensures fits { IfOk result (λ said. IfSome said IsStream) }
+    ensures times { IfOk result (λ said. IfSome said HasTimes) }
 {
     let mut words = Words::new(line);
     let Some(first) = words.next_word() else {
@@ -209,5 +260,21 @@ pub fn read_line(line: &[u8]) -> Result<Option<Stream>, ScriptFault>
         Ok(Some(read_stream(words)?))
     } else {
         Err(ScriptFault::UnknownLine)
+    }
+}
+
+/// What a line of a table says whose frames come so much later, in picoseconds, or None where it is skipped.
+pub fn read_line(line: &[u8], from: u128) -> Result<Option<Stream>, ScriptFault>
+    requires from { from ≤ greatest_moment }
+    ensures said { result ≡ line_judged (judged from) (words_of line.now) }
+    ensures fits { IfOk result (λ said. IfSome said IsStream) }
+{
+    match read_stream_line(line) {
+        Ok(None) => Ok(None),
+        Ok(Some(stream)) => match judged(stream, from) {
+            Ok(stream) => Ok(Some(stream)),
+            Err(fault) => Err(fault),
+        },
+        Err(fault) => Err(fault),
     }
 }

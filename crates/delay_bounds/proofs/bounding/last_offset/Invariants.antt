@@ -1,6 +1,7 @@
-use Rattle.std.proofs.Common.{◌≤◌, ◌<◌, ℕ}
-use Rattle.delay_bounds.specs.Bounds.{flow_at}
+use Rattle.std.proofs.Common.{◌≡◌, max, drop}
+use Rattle.delay_bounds.specs.Walked.{last_offset}
 use Rattle.delay_bounds.proofs.bounding.last_offset.Given as goal
 
+-- the latest so far, and of those to come
 abbrev pub invariant-loop-flow : goal.invariant-loop-flow
-invariant-loop-flow l = (place : ℕ) → place < l.flow-index → (flow_at l.flows place).offset ≤ l.last
+invariant-loop-flow l = max l.last (last_offset (drop l.flow-index l.flows)) ≡ last_offset l.flows

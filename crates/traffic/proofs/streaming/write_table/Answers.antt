@@ -6,4 +6,4 @@ use Rattle.traffic.proofs.streaming.write_table.Goals as goal
 pub returns-in_err-read_streams : goal.returns-in_err-read_streams
 returns-in_err-read_streams g c =
     let p = err_from_is_err_and c.from_residual.result c.from_residual.ensures.1 in
-    unread _ _ _ _ _ _ c.in_err-read_streams.ensures (p.1 ∙ ap Err p.2)
+    unread c.args.from _ _ _ _ _ _ c.in_err-read_streams.ensures (p.1 ∙ ap Err p.2)

@@ -4,9 +4,9 @@ use Rattle.traffic.specs.Faults.{streams_telling}
 use Rattle.traffic.specs.Outcome.{outcome_of}
 use Rattle.traffic.proofs.streams_job.answer_streams.Goals as goal
 
-pub returns : goal.returns
-returns g c =
+pub returns-in-Ok-clause-ending : goal.returns-in-Ok-clause-ending
+returns-in-Ok-clause-ending g c =
     let table = g.R.Read.remaining c.args.reader.now in
     let script = g.S.Read.remaining c.args.script in
-    ended streams_telling _ _ _ _ _ _ _ c.end_run.ensures
-    (λ run out same keeps. out_of_inputs table script outcome_of _ _ out _ run keeps same c.write_streams-run.ensures)
+    rw (← c.in-Ok.ensures.given) (ended streams_telling _ _ _ _ _ _ _ c.end_run.ensures
+    (λ run out same keeps. out_of_inputs table script (outcome_of c.in-Ok.from) _ _ out _ run keeps same c.write_streams-run.ensures))

@@ -1,0 +1,162 @@
+-- What `bound_flows` answers, exactly: the walk over the frames of flows, frame after frame, until its state comes again.
+use Rattle.std.specs.Prelude.{ℕ, ◌+◌, ◌-◌, ◌/◌, ◌%◌, ◌^◌, ◌==◌, zero, suc, max, Bool, true, false, ◌&&◌, if◌then◌else◌, nat_lt, nat_le, List, [], ◌∷◌, ◌++◌, length, map, slice_set, Option, Some, None, is_some, Result, Ok, Err}
+use Rattle.std.specs.Option.{option_map_or}
+use Rattle.wire_time.specs.Moment.{greatest_moment}
+use Rattle.gate_list.specs.Gate.{Plan, in_ps}
+use Rattle.delay_bounds.specs.Bounds.{Track, arrives, earliest, first_fit, flow_at, offsets_of}
+use Rattle.delay_bounds.specs.Bounded.{unbound_by}
+use Rattle.delay_bounds.specs.ForEver.{counting}
+use Rattle.delay_bounds.specs.Noted.{noted, unseen}
+use Rattle.delay_bounds.specs.Walk.{begun, may_by}
+use Rattle.delay_bounds.specs.declared.Bound.{Bound}
+use Rattle.delay_bounds.specs.declared.Flow.{Flow}
+use Rattle.delay_bounds.specs.declared.FlowFrame.{FlowFrame}
+use Rattle.delay_bounds.specs.declared.Refused.{Refused}
+use Rattle.delay_bounds.specs.declared.Told.{Told}
+use Rattle.delay_bounds.specs.declared.Unbound.{Unbound}
+use Rattle.delay_bounds.specs.declared.Unbound.TheVariants.{Long}
+use Rattle.delay_bounds.specs.declared.bounding.Look.{Look}
+use Rattle.delay_bounds.specs.declared.bounding.Look.TheVariants as Looks
+use Rattle.delay_bounds.specs.declared.line.Stop.{Stop}
+use Rattle.delay_bounds.specs.declared.line.Stop.TheVariants as Stops
+
+-- the bounds of each flow, the greatest number of frames that wait at once, and how many frames come in how long
+pub record Answer : Type 0 where
+  pub bounds : List Bound
+  pub most : ℕ
+  pub frames : ℕ
+  pub every : ℕ
+
+-- Where a walk stands after so many frames: its track, the bounds and the most so far; and where it looks back to: after how many frames that
+-- was, when the next one came, and the track then.
+pub record Walking : Type 0 where
+  pub frames : ℕ
+  pub track : Track
+  pub bounds : List Bound
+  pub most : ℕ
+  pub earlier : ℕ
+  pub since : ℕ
+  pub base : Track
+
+-- 1. Looking back
+
+-- whether moments are others, each so much later
+unfoldable pub are_later : ℕ → List ℕ → List ℕ → Bool
+are_later d [] [] = true
+are_later d [] (y ∷ ys) = false
+are_later d (x ∷ xs) [] = false
+are_later d (x ∷ xs) (y ∷ ys) = x == y + d && are_later d xs ys
+
+-- whether a track is another one, so much later
+abbrev pub is_later : ℕ → Track → Track → Bool
+is_later d new old = new.free == old.free + d && are_later d new.nexts old.nexts && are_later d new.starts old.starts
+
+-- the latest first frame of all flows
+unfoldable pub last_offset : List Flow → ℕ
+last_offset [] = 0
+last_offset (f ∷ rest) = max f.offset (last_offset rest)
+
+-- whether the frames of a track whose next one comes at t come as those of one whose next came at `since`, whole cycles before
+abbrev pub comes_again : ℕ → ℕ → ℕ → Track → Track → Bool
+comes_again cycle since t new old = nat_lt since t && (t - since) % cycle == 0 && are_later (t - since) new.nexts old.nexts
+
+-- What comes of a look at a track whose next frame comes at t, beside one whose next frame came at `since`: it is the same, whole cycles later;
+-- or only the frames come as they did, or the first ones of all flows have come; or neither.
+abbrev pub look : ℕ → ℕ → ℕ → ℕ → Track → Track → Look
+look cycle last since t new old =
+    if comes_again cycle since t new old
+    then (if is_later (t - since) new old then Looks.Again else Looks.FromHere)
+    else if nat_lt since last && nat_le last t then Looks.FromHere else Looks.On
+
+-- 2. A frame
+
+-- why a frame doesn't start that comes at t, where these frames wait
+abbrev pub stop_of : (ℕ → ℕ → Bool) → ℕ → ℕ → ℕ → Flow → ℕ → List ℕ → Option Stop
+stop_of may cycle room t flow free waiting =
+    if nat_le room (length waiting) then Some Stops.Full
+    else if nat_lt greatest_moment (max t free) then Some Stops.Late
+    else if is_some (first_fit may flow.need (max t free) cycle) then None
+    else Some Stops.Never
+
+-- how many frames of a flow come before the one that comes at t
+abbrev pub before_of : Flow → ℕ → ℕ
+before_of f t = (t - f.offset) / f.period
+
+-- the frame of the flow at a place that comes at a moment, after so many of all flows
+abbrev pub frame_of : List Flow → ℕ × ℕ → ℕ → FlowFrame
+frame_of flows e earlier = record { place = e.1; before = before_of (flow_at flows e.1) e.0; earlier = earlier; moment = e.0 }
+
+-- 3. Where nothing starts any more
+
+-- the frame of a flow that comes stays in the queue for ever: all moments are less than 2^128
+abbrev pub staying : Flow → ℕ × ℕ → Track → Track
+staying f e s = record { nexts = slice_set s.nexts e.1 (e.0 + f.period); free = s.free; starts = s.starts ++ (2 ^ 128 - 1) ∷ [] }
+
+-- the frame of the flow at a place that comes at a moment and finds no room
+abbrev pub refused_of : List Flow → ℕ × ℕ → Refused
+refused_of flows e = record { place = e.1; before = before_of (flow_at flows e.1) e.0; moment = e.0 }
+
+-- by the next frame: it finds no room, or it comes after the greatest moment, or it stays
+abbrev pub refused_at : ℕ → List Flow → (Track → Option Refused) → Option (ℕ × ℕ) → Track → Option Refused
+refused_at room flows on None s = None
+refused_at room flows on (Some e) s =
+    if nat_le room (length s.starts) then Some (refused_of flows e)
+    else if nat_lt greatest_moment e.0 then None
+    else on (staying (flow_at flows e.1) e s)
+
+-- of so many frames the first that finds no room, where no frame starts any more
+unfoldable pub refused_in : ℕ → List Flow → ℕ → Track → Option Refused
+refused_in room flows zero s = None
+refused_in room flows (suc n) s = refused_at room flows (refused_in room flows n) (earliest s.nexts) (counting s)
+
+-- the first frame that finds no room, where no frame starts any more, if it comes by the greatest moment: each of as many as there is room for takes a place
+abbrev pub first_refused : ℕ → List Flow → Track → Option Refused
+first_refused room flows s = refused_in room flows (room + 1) s
+
+-- 4. The walk
+
+module _ (plan : Plan) (class room : ℕ) (flows : List Flow) where
+  -- one frame more, as it is told of
+  abbrev pub with_told : (Walking → Result Answer Unbound) → Walking → Option (Told × Track) → Result Answer Unbound
+  with_told on w None = Err Long
+  with_told on w (Some r) = on (record { frames = w.frames + 1; track = r.1; bounds = noted r.0 w.bounds; most = max (r.0).waiting w.most; earlier = w.earlier; since = w.since; base = w.base })
+
+  -- the next frame starts, or the walk stops there
+  abbrev pub by_stop : (Walking → Result Answer Unbound) → ℕ × ℕ → Track → Walking → Option Stop → Result Answer Unbound
+  by_stop on e new w (Some stop) = Err (unbound_by stop (frame_of flows e w.frames) (first_refused room flows new))
+  by_stop on e new w None = with_told on w (arrives (may_by plan class) (in_ps plan.cycle) room e.0 e.1 (flow_at flows e.1) new.free new.nexts new.starts)
+
+  abbrev pub goes_on : (Walking → Result Answer Unbound) → ℕ × ℕ → Track → Walking → Result Answer Unbound
+  goes_on on e new w = by_stop on e new w (stop_of (may_by plan class) (in_ps plan.cycle) room e.0 (flow_at flows e.1) new.free new.starts)
+
+  -- by a look back
+  abbrev pub by_look : (Walking → Result Answer Unbound) → ℕ × ℕ → Track → Walking → Look → Result Answer Unbound
+  by_look on e new w Looks.Again = Ok (record { bounds = w.bounds; most = w.most; frames = w.frames - w.earlier; every = e.0 - w.since })
+  by_look on e new w Looks.FromHere = goes_on on e new (record { frames = w.frames; track = w.track; bounds = w.bounds; most = w.most; earlier = w.frames; since = e.0; base = new })
+  by_look on e new w Looks.On = goes_on on e new w
+
+  -- by the next frame
+  abbrev pub by_next : (Walking → Result Answer Unbound) → Walking → Track → Option (ℕ × ℕ) → Result Answer Unbound
+  by_next on w new None = Err Long
+  by_next on w new (Some e) = by_look on e new w (look (in_ps plan.cycle) (last_offset flows) w.since e.0 new w.base)
+
+  -- from where a walk stands, after so many frames more at most
+  unfoldable pub walked : ℕ → Walking → Result Answer Unbound
+  walked zero w = Err Long
+  walked (suc n) w = by_next (walked n) w (counting w.track) (earliest w.track.nexts)
+
+-- before any frame
+abbrev pub starting : List Flow → Walking
+starting flows = record {
+  frames = 0;
+  track = begun (offsets_of flows);
+  bounds = map (λ f. unseen) flows;
+  most = 0;
+  earlier = 0;
+  since = option_map_or (λ e. e.0) (earliest (offsets_of flows)) 0;
+  base = counting (begun (offsets_of flows));
+}
+
+-- the answer about the flows of a class in a plan, by a walk over so many frames at most: their bounds, or why they have none
+abbrev pub answer_of : Plan → ℕ → ℕ → List Flow → ℕ → Result Answer Unbound
+answer_of plan class room flows limit = walked plan class room flows limit (starting flows)

@@ -1,0 +1,156 @@
+-- The lines of schedules, one after another, and the ends of a run.
+use Rattle.std.proofs.Common.{◌≡◌, ℕ, Bool, List, [], ◌∷◌, ◌++◌, Option, Some, None, Result, Ok, Err, true, false, refl, sym, ap, ◌∙◌, subst, append_assoc}
+use Rattle.std.specs.Prelude.{IfSome, option_map}
+use Rattle.std.specs.Io.KnownBytes.{Appends}
+use Rattle.octet_writer.specs.Writes.{AppendsFront, Sent}
+use Rattle.octet_writer.proofs.Fronts.{Appends-append, Appends-nil, sent_all, sent_none}
+use Rattle.words.specs.Words.{words_of}
+use Rattle.line_reader.specs.Script.{Script, End, Line, script_of}
+use Rattle.line_reader.specs.LineReader.{Advances}
+use Rattle.abstract_port.specs.declared.Command.{Command}
+use Rattle.gate_list.specs.Gate.{Plan, ok_unless}
+use Rattle.gate_list.specs.declared.PlanFault.{PlanFault}
+use Rattle.job.specs.Outcome.{Outcome, Runs}
+use Rattle.job.specs.declared.fault.Fault.{Fault}
+use Rattle.job.specs.declared.fault.Fault.TheVariants as Faults
+use Rattle.job.proofs.LineLaws.{Goes, behind, faulty, goes_no_further}
+use Rattle.schedule_check.specs.Checked.{is_command}
+use Rattle.script.specs.declared.faults.ScriptFault.{ScriptFault}
+use Rattle.stream_bounds.specs.BoundLines.{command_finding, command_lines, first_of}
+use Rattle.stream_bounds.specs.Faults.{schedules_limited}
+use Rattle.stream_bounds.specs.Outcome.{bounds_in, end_fault, outcome_in, outcome_of, outcome_unless, periodic, with_command}
+use Rattle.stream_bounds.specs.Reading.{IsEnd, ReadsTable, Tells}
+use Rattle.stream_bounds.specs.declared.faults.BoundsInput.{BoundsInput}
+use Rattle.stream_bounds.specs.declared.faults.BoundsInput.TheVariants as Inputs
+use Rattle.stream_bounds.specs.declared.faults.Finding.{Finding}
+use Rattle.stream_bounds.specs.declared.settings.BoundsSettings.{BoundsSettings}
+use Rattle.tc_reader.specs.declared.fault.TcFault.{TcFault}
+use Rattle.traffic.specs.Table.{Table, table_by}
+use Rattle.traffic.specs.declared.table.Stream.{Stream}
+
+-- why a schedule is refused
+pub refused_by : (o : Option PlanFault) (asked : Plan) (fault : PlanFault) → ok_unless o asked ≡ Err fault → o ≡ Some fault
+refused_by None asked fault e = absurd (let no : ⊥ = cc in no)
+refused_by (Some other) asked fault e = ap Some (let same : other ≡ fault = cc in same)
+
+-- a prefix of the next part
+front_on : {a b : Option (List ℕ)} {text left : List ℕ} (c : Option (List ℕ)) (x rest : List ℕ) → Sent a b text left → left ≡ x ++ rest → AppendsFront b c x → AppendsFront a c text
+front_on {a} {b} c x rest s e (back, t) = (
+  back ++ rest,
+  record {
+    done = s.done ++ t.done;
+    appended = Appends-append a b c s.done t.done s.appended t.appended;
+    parts = s.parts ∙ ap (λ u. s.done ++ u) (e ∙ ap (λ u. u ++ rest) t.parts ∙ append_assoc t.done back rest) ∙ sym (append_assoc s.done t.done (back ++ rest));
+  },
+)
+
+module _ (read : List (List ℕ) → Result Command TcFault) (s : BoundsSettings) (streams : List Stream) where
+  -- what is answered about lines, after a first finding
+  abbrev pub bounded : Option Finding → Script → Outcome BoundsInput
+  bounded first script = bounds_in read s streams first script
+
+  module _ (number : ℕ) (line : List ℕ) (first : Option Finding) where
+    by_command : (is : Result Bool ScriptFault) → is_command (words_of line) ≡ is → (rest : Script)
+        → bounded first (Line number line rest) ≡ with_command number is (command_lines s streams (read (words_of line))) (bounded first rest) (bounded (first_of first (command_finding number s streams (read (words_of line)))) rest)
+    by_command is e rest = ap (λ x. with_command number x (command_lines s streams (read (words_of line))) (bounded first rest) (bounded (first_of first (command_finding number s streams (read (words_of line)))) rest)) e
+
+    pub skipped : is_command (words_of line) ≡ Ok false → (rest : Script) → bounded first (Line number line rest) ≡ bounded first rest
+    skipped = by_command (Ok false)
+
+    pub answered : is_command (words_of line) ≡ Ok true → (rest : Script)
+        → bounded first (Line number line rest) ≡ behind (command_lines s streams (read (words_of line))) (bounded (first_of first (command_finding number s streams (read (words_of line)))) rest)
+    answered = by_command (Ok true)
+
+    pub wrong : (fault : ScriptFault) → is_command (words_of line) ≡ Err fault → (rest : Script) → bounded first (Line number line rest) ≡ faulty (Inputs.Schedules number fault)
+    wrong fault = by_command (Err fault)
+
+  -- a line can't be answered whole
+  pub stops_short : (number : ℕ) (line : List ℕ) (first state next : Option Finding) (old now new : Option (List ℕ)) (text : List ℕ) (finding : Option Finding) (fault : Fault BoundsInput) (all left t : Option Script)
+      → Goes schedules_limited bounded first all old now state left → Advances left (Ok true) number line t
+      → ((rest : Script) → bounded state (Line number line rest) ≡ behind text (bounded next rest)) → Tells (Err fault) now new text finding
+      → IfSome all (λ script. Runs {T = Unit {0}} (Err fault) old new (bounded first script))
+  stops_short number line first state next old now new text finding (Faults.Input fault) all left t g a e w = absurd w
+  stops_short number line first state next old now new text finding Faults.Read all left t g a e w = absurd w
+  stops_short number line first state next old now new text finding Faults.Write all left t g a e w =
+      goes_no_further schedules_limited bounded number line first state old now {T = Unit {0}} next new text all left t g a e w refl
+  stops_short number line first state next old now new text finding Faults.Memory None left t g a e w = tt
+  stops_short number line first state next old now new text finding Faults.Memory (Some all) None t g a e w = absurd g
+  stops_short number line first state next old now new text finding Faults.Memory (Some all) (Some script) t g (rest, left, is) e w =
+      let same = ap (bounded state) is ∙ e rest in
+      front_on new text _ g.0 (ap (λ x. x.text) same) w
+
+  -- the lines end
+  pub ends_by : (number : ℕ) (line : List ℕ) (first state : Option Finding) (old now : Option (List ℕ)) (r : Result (Unit {0}) (Fault BoundsInput)) (all left t : Option Script)
+      → Goes schedules_limited bounded first all old now state left → Advances left (Ok false) number line t → IsEnd r (end_fault s.strict state)
+      → IfSome all (λ script. Runs r old now (bounded first script))
+  ends_by number line first state old now r None left t g a h = tt
+  ends_by number line first state old now r (Some all) None t g a h = absurd g
+  ends_by number line first state old now r (Some all) (Some script) t g a h = by r (end_fault s.strict state) refl h
+    where
+      same : bounded state script ≡ bounded state End
+      same = ap (bounded state) a
+
+      by : (r : Result (Unit {0}) (Fault BoundsInput)) (o : Option BoundsInput) → end_fault s.strict state ≡ o → IsEnd r o → Runs r old now (bounded first all)
+      by (Ok x) o is h = (g.1 ∙ ap (λ x. x.fault) same ∙ is ∙ h, sent_all g.0 (ap (λ x. x.text) same))
+      by (Err why) None is h = absurd h
+      by (Err why) (Some fault) is h =
+          let P : Fault BoundsInput → Type 0 = λ w. Runs {T = Unit {0}} (Err w) old now (bounded first all) in
+          subst P (sym h) (g.1 ∙ ap (λ x. x.fault) same ∙ is, sent_all g.0 (ap (λ x. x.text) same))
+
+-- ---- both inputs
+
+module _ (read : List (List ℕ) → Result Command TcFault) (s : BoundsSettings) where
+  -- the table is read
+  bounding_is : (table : Table) (streams : List Stream) (script : Script) → (table.fault ≡ None) × (streams ≡ [] ++ table.streams) → outcome_in read s table script ≡ bounds_in read s streams None script
+  bounding_is table streams script h = ap (λ fault. outcome_unless fault table.streams read s script) h.0 ∙ ap (λ xs. bounds_in read s xs None script) (sym h.1)
+
+  pub bounded_with : (r : Result (Unit {0}) (Fault BoundsInput)) (table script : Option Script) (streams : List Stream) (old new : Option (List ℕ))
+      → IfSome table (λ lines. ReadsTable {T = Unit {0}} (Ok tt) (table_by periodic lines) [] streams) → IfSome script (λ lines. Runs r old new (bounds_in read s streams None lines))
+      → IfSome table (λ lines. IfSome script (λ others. Runs r old new (outcome_in read s (table_by periodic lines) others)))
+  bounded_with r None script streams old new h w = tt
+  bounded_with r (Some lines) None streams old new h w = tt
+  bounded_with r (Some lines) (Some others) streams old new h w =
+      let P : Outcome BoundsInput → Type 0 = λ whole. Runs r old new whole in
+      subst P (sym (bounding_is (table_by periodic lines) streams others h)) w
+
+  -- the table has a fault, or can't be read: nothing is written
+  unwritten : (fault : Fault BoundsInput) (table : Table) (before streams : List Stream) (script : Script) (old : Option (List ℕ)) → ReadsTable {T = Unit {0}} (Err fault) table before streams
+      → Runs {T = Unit {0}} (Err fault) old old (outcome_in read s table script)
+  unwritten (Faults.Input (Inputs.Table number fault)) table before streams script old h =
+      let P : Outcome BoundsInput → Type 0 = λ whole. Runs {T = Unit {0}} (Err (Faults.Input (Inputs.Table number fault))) old old whole in
+      subst P (sym (ap (λ f. outcome_unless f table.streams read s script) h)) (refl, Appends-nil old)
+  unwritten (Faults.Input (Inputs.Schedules number fault)) table before streams script old h = absurd h
+  unwritten (Faults.Input (Inputs.Found finding)) table before streams script old h = absurd h
+  unwritten Faults.Read table before streams script old h = ((outcome_in read s table script).text, sent_none old (outcome_in read s table script).text)
+  unwritten Faults.Write table before streams script old h = absurd h
+  unwritten Faults.Memory table before streams script old h = ((outcome_in read s table script).text, sent_none old (outcome_in read s table script).text)
+
+  pub unread : (fault : Fault BoundsInput) (table script : Option Script) (before streams : List Stream) (old : Option (List ℕ))
+      → IfSome table (λ lines. ReadsTable {T = Unit {0}} (Err fault) (table_by periodic lines) before streams)
+      → IfSome table (λ lines. IfSome script (λ others. Runs {T = Unit {0}} (Err fault) old old (outcome_in read s (table_by periodic lines) others)))
+  unread fault None script before streams old h = tt
+  unread fault (Some lines) None before streams old h = tt
+  unread fault (Some lines) (Some others) before streams old h = unwritten fault (table_by periodic lines) before streams others old h
+
+  -- out of memory before anything is read
+  pub refused : {r : Result (Unit {0}) (Fault BoundsInput)} (table script old : Option (List ℕ)) → r ≡ Err Faults.Memory → IfSome table (λ octets. IfSome script (λ others. Runs r old old (outcome_of read s octets others)))
+  refused None script old e = tt
+  refused (Some octets) None old e = tt
+  refused {r} (Some octets) (Some others) old e =
+      let P : Result (Unit {0}) (Fault BoundsInput) → Type 0 = λ x. Runs x old old (outcome_of read s octets others) in
+      subst P (sym e) ((outcome_of read s octets others).text, sent_none old (outcome_of read s octets others).text)
+
+  -- by the lines of both inputs
+  of_script : (r : Result (Unit {0}) (Fault BoundsInput)) (old new : Option (List ℕ)) (table : Table) (script : Option (List ℕ)) (others : Option Script) → others ≡ option_map script_of script
+      → IfSome others (λ lines. Runs r old new (outcome_in read s table lines)) → IfSome script (λ octets. Runs r old new (outcome_in read s table (script_of octets)))
+  of_script r old new table None others e h = tt
+  of_script r old new table (Some octets) others e h =
+      let Q : Option Script → Type 0 = λ o. IfSome o (λ lines. Runs r old new (outcome_in read s table lines)) in
+      subst Q e h
+
+  pub of_inputs : (r : Result (Unit {0}) (Fault BoundsInput)) (old new table script : Option (List ℕ)) (lines others : Option Script) → lines ≡ option_map script_of table → others ≡ option_map script_of script
+      → IfSome lines (λ streams. IfSome others (λ all. Runs r old new (outcome_in read s (table_by periodic streams) all))) → IfSome table (λ octets. IfSome script (λ more. Runs r old new (outcome_of read s octets more)))
+  of_inputs r old new None script lines others e d h = tt
+  of_inputs r old new (Some octets) script lines others e d h =
+      let Q : Option Script → Type 0 = λ o. IfSome o (λ streams. IfSome others (λ all. Runs r old new (outcome_in read s (table_by periodic streams) all))) in
+      of_script r old new (table_by periodic (script_of octets)) script others d (subst Q e h)

@@ -1,0 +1,4 @@
+mod CommandLaws
+mod LineLaws
+mod PickLaws
+mod TableLaws

@@ -1,0 +1,15 @@
+use Rattle.std.proofs.Common.{◌≡◌, List, ℕ, Option, Some, codes, rules, subst, sym, ap}
+use Rattle.octet_writer.specs.Writes.{Writes}
+use Rattle.stream_bounds.specs.Faults.{finding_text, found_text}
+use Rattle.stream_bounds.specs.declared.faults.Finding.{Finding}
+use Rattle.stream_bounds.proofs.faults.put_finding.Goals as goal
+
+pub returns-in-TcFault : goal.returns-in-TcFault
+returns-in-TcFault g c =
+    let told = rw c.from.ensures at c.put_found.ensures in
+    subst (λ (f : Finding). Writes c.put_found.result (g.W.Write.contents c.args.writer.now) (g.W.Write.contents c.put_found.new.writer) (found_text f)) (sym c.in-TcFault.is) told
+
+pub returns-in-Refused : goal.returns-in-Refused
+returns-in-Refused g c =
+    let told = rw c.from-in-Refused.ensures at c.put_found-in-Refused.ensures in
+    subst (λ (f : Finding). Writes c.put_found-in-Refused.result (g.W.Write.contents c.args.writer.now) (g.W.Write.contents c.put_found-in-Refused.new.writer) (found_text f)) (sym c.in-Refused.is) told

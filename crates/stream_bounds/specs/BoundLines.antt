@@ -1,0 +1,158 @@
+-- The lines of a schedule's bounds. Times are in picoseconds.
+use Rattle.std.specs.Prelude.{ℕ, ◌+◌, zero, suc, List, [], ◌∷◌, ◌++◌, Option, Some, None, Result, Ok, Err, decimal, codes}
+use Rattle.std.specs.List.{concat}
+use Rattle.answer_text.specs.Names.{dropped_name}
+use Rattle.gate_list.specs.declared.PlanFault.{PlanFault}
+use Rattle.gate_list.specs.Gate.{plan_fault}
+use Rattle.wire_time.specs.Wire.{occupancy_of}
+use Rattle.abstract_port.specs.AbstractPort.{plan_asked}
+use Rattle.abstract_port.specs.declared.Change.{Change}
+use Rattle.abstract_port.specs.declared.Command.{Command}
+use Rattle.abstract_port.specs.declared.Command.TheVariants.{Replace, Delete}
+use Rattle.abstract_port.specs.declared.Refused.TheVariants.{Schedule}
+use Rattle.answer_text.specs.Lines.{refused_line, tc_fault_line}
+use Rattle.delay_bounds.specs.declared.Bound.{Bound}
+use Rattle.schedule_check.specs.Apart.{apart_line, class_count, classes_apart}
+use Rattle.stream_bounds.specs.Classes.{class_of}
+use Rattle.stream_bounds.specs.Verdicts.{ClassAnswer, answer_at, class_answers, delay_of, left_after, met_by, plus}
+use Rattle.stream_bounds.specs.declared.faults.Finding.{Finding}
+use Rattle.stream_bounds.specs.declared.faults.Finding.TheVariants as Findings
+use Rattle.stream_bounds.specs.declared.settings.BoundsSettings.{BoundsSettings}
+use Rattle.stream_bounds.specs.declared.verdicts.Delay.{Delay}
+use Rattle.stream_bounds.specs.declared.verdicts.Delay.TheVariants as Delays
+use Rattle.stream_bounds.specs.declared.verdicts.Met.{Met}
+use Rattle.stream_bounds.specs.declared.verdicts.Met.TheVariants as Mets
+use Rattle.stream_bounds.specs.declared.verdicts.Place.{Place}
+use Rattle.stream_bounds.specs.declared.verdicts.Verdict.{Verdict}
+use Rattle.stream_bounds.specs.declared.verdicts.Verdict.TheVariants as Verdicts
+use Rattle.tc_reader.specs.declared.fault.TcFault.{TcFault}
+use Rattle.traffic.specs.declared.table.Stream.{Stream}
+
+-- 1. Classes
+
+-- the line of a class whose queue is full, or stuck
+abbrev pub place_line : ℕ → List ℕ → Place → List ℕ
+place_line class word f = concat (
+    codes "class " ∷ decimal class ∷ word
+    ∷ codes " at " ∷ decimal f.moment
+    ∷ codes " stream " ∷ decimal f.id
+    ∷ codes " frame " ∷ decimal f.number
+    ∷ codes "\n" ∷ [])
+
+-- the line of a class about which one word is said
+abbrev pub word_line : ℕ → List ℕ → List ℕ
+word_line class word = concat (codes "class " ∷ decimal class ∷ word ∷ codes "\n" ∷ [])
+
+-- the line of a class with bounds, and with room for so many frames
+abbrev pub bounded_line : ℕ → ℕ → ℕ → ℕ → ℕ → List ℕ
+bounded_line class room most frames every = concat (
+    codes "class " ∷ decimal class
+    ∷ codes " most " ∷ decimal most
+    ∷ codes " of " ∷ decimal room
+    ∷ codes " frames " ∷ decimal frames
+    ∷ codes " every " ∷ decimal every
+    ∷ codes "\n" ∷ [])
+
+-- the line of a class; one without streams has none
+abbrev pub class_line : ℕ → ℕ → Verdict → List ℕ
+class_line class room Verdicts.Idle = []
+class_line class room Verdicts.Shared = word_line class (codes " shared")
+class_line class room (Verdicts.Bounded most frames every) = bounded_line class room most frames every
+class_line class room (Verdicts.Full f) = place_line class (codes " full") f
+class_line class room (Verdicts.Stuck f) = place_line class (codes " stuck") f
+class_line class room Verdicts.Long = word_line class (codes " long")
+class_line class room Verdicts.Late = word_line class (codes " late")
+
+-- the lines of so many classes from one on, in rising order
+unfoldable pub class_lines : ℕ → List ClassAnswer → ℕ → ℕ → List ℕ
+class_lines room answers zero class = []
+class_lines room answers (suc n) class = class_line class room (answer_at answers class).verdict ++ class_lines room answers n (class + 1)
+
+-- 2. Streams
+
+-- the word for whether a deadline is met
+abbrev pub met_word : Met → List ℕ
+met_word Mets.Met = codes " met\n"
+met_word Mets.Missed = codes " missed\n"
+met_word Mets.Unknown = codes " unknown\n"
+
+-- the end of a stream's line: its deadline, and whether that is met
+abbrev pub deadline_end : ℕ → Delay → Option ℕ → List ℕ
+deadline_end need delay None = codes "\n"
+deadline_end need delay (Some deadline) = concat (codes " deadline " ∷ decimal deadline ∷ met_word (met_by need delay deadline) ∷ [])
+
+-- what is told of a stream whose frames occupy the wire for so long, before its deadline
+abbrev pub delay_text : ℕ → Delay → List ℕ
+delay_text need (Delays.Within class b) = concat (
+    codes " class " ∷ decimal class
+    ∷ codes " wait " ∷ decimal b.least ∷ codes " to " ∷ decimal b.greatest
+    ∷ codes " end " ∷ decimal (plus b.least need) ∷ codes " to " ∷ decimal (plus b.greatest need)
+    ∷ [])
+delay_text need (Delays.Unbounded class) = concat (codes " class " ∷ decimal class ∷ codes " none" ∷ [])
+delay_text need (Delays.Unknown class) = concat (codes " class " ∷ decimal class ∷ codes " unknown" ∷ [])
+delay_text need (Delays.Lost why) = concat (codes " dropped " ∷ dropped_name why ∷ [])
+
+-- the beginning of a stream's line
+abbrev pub bound_head : ℕ → List ℕ
+bound_head id = concat (codes "bound " ∷ decimal id ∷ [])
+
+-- the line of a stream
+abbrev pub bound_line : ℕ → Stream → Delay → List ℕ
+bound_line need x delay = bound_head x.first_id ++ (delay_text need delay ++ deadline_end need delay x.deadline)
+
+-- the lines of streams, by the answers that are still to be told
+unfoldable pub bound_lines : BoundsSettings → Change → List ClassAnswer → List Stream → List ℕ
+bound_lines s c answers [] = []
+bound_lines s c answers (x ∷ xs) =
+    bound_line (occupancy_of s.port.rate x.len) x (delay_of answers (class_of s.port c x))
+    ++ bound_lines s c (left_after answers (class_of s.port c x)) xs
+
+-- 3. Commands
+
+-- the lines of a change: the refusal of its schedule; or the classes that it keeps apart, the verdict about each class, and the delay of each stream
+abbrev pub change_lines : Option PlanFault → BoundsSettings → Change → List Stream → List ℕ
+change_lines (Some fault) s c streams = refused_line (Schedule fault)
+change_lines None s c streams =
+    apart_line (classes_apart (class_count c.map) 0 (plan_asked c).entries)
+    ++ (class_lines s.port.room (class_answers s c streams) 8 0
+    ++ bound_lines s c (class_answers s c streams) streams)
+
+-- the lines of a line that begins with tc: it is no command, or what is answered about the command; a deletion keeps nothing apart
+abbrev pub command_lines : BoundsSettings → List Stream → Result Command TcFault → List ℕ
+command_lines s streams (Err fault) = tc_fault_line fault
+command_lines s streams (Ok Delete) = apart_line []
+command_lines s streams (Ok (Replace c)) = change_lines (plan_fault s.port.rate (plan_asked c)) s c streams
+
+-- 4. What a strict run stops a build for
+
+-- the first finding of two
+abbrev pub first_of : Option Finding → Option Finding → Option Finding
+first_of (Some finding) later = Some finding
+first_of None later = later
+
+-- a stream whose deadline is not known to be met
+abbrev pub unmet : ℕ → Met → Option Finding
+unmet id Mets.Met = None
+unmet id Mets.Missed = Some (Findings.Missed id)
+unmet id Mets.Unknown = Some (Findings.Unknown id)
+
+abbrev pub deadline_finding : ℕ → Stream → Delay → Option ℕ → Option Finding
+deadline_finding need x delay None = None
+deadline_finding need x delay (Some deadline) = unmet x.first_id (met_by need delay deadline)
+
+-- the first finding among streams
+unfoldable pub finding_in : BoundsSettings → Change → List ClassAnswer → List Stream → Option Finding
+finding_in s c answers [] = None
+finding_in s c answers (x ∷ xs) =
+    first_of (deadline_finding (occupancy_of s.port.rate x.len) x (delay_of answers (class_of s.port c x)) x.deadline)
+    (finding_in s c (left_after answers (class_of s.port c x)) xs)
+
+abbrev pub change_finding : ℕ → Option PlanFault → BoundsSettings → Change → List Stream → Option Finding
+change_finding line (Some fault) s c streams = Some (Findings.Refused line)
+change_finding line None s c streams = finding_in s c (class_answers s c streams) streams
+
+-- the first finding of the line of this number
+abbrev pub command_finding : ℕ → BoundsSettings → List Stream → Result Command TcFault → Option Finding
+command_finding line s streams (Err fault) = Some (Findings.TcFault line)
+command_finding line s streams (Ok Delete) = None
+command_finding line s streams (Ok (Replace c)) = change_finding line (plan_fault s.port.rate (plan_asked c)) s c streams

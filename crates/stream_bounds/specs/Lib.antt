@@ -1,0 +1,7 @@
+pub mod Classes
+pub mod Verdicts
+pub mod BoundLines
+pub mod Faults
+pub mod Outcome
+pub mod Reading
+pub mod Ending

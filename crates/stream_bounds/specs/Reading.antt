@@ -1,0 +1,44 @@
+-- What reading a table, and answering about a command, leave.
+use Rattle.std.specs.Prelude.{◌≡◌, ◌⊎◌, ⊤, ℕ, List, ◌++◌, Option, Some, None, Result, Ok, Err}
+use Rattle.std.specs.Io.KnownBytes.{Appends}
+use Rattle.octet_writer.specs.Writes.{AppendsFront, FallsShort}
+use Rattle.stream_bounds.specs.declared.faults.Finding.{Finding}
+use Rattle.delay_bounds.specs.Walked.{Answer}
+use Rattle.delay_bounds.specs.declared.Bounded.{Bounded}
+use Rattle.delay_bounds.specs.declared.Unbound.{Unbound}
+use Rattle.delay_bounds.specs.declared.Unbound.TheVariants as Unbounds
+use Rattle.job.specs.declared.fault.Fault.{Fault}
+use Rattle.job.specs.declared.fault.Fault.TheVariants as Faults
+use Rattle.stream_bounds.specs.declared.faults.BoundsInput.{BoundsInput}
+use Rattle.stream_bounds.specs.declared.faults.BoundsInput.TheVariants as Inputs
+use Rattle.traffic.specs.Table.{Table}
+use Rattle.traffic.specs.declared.table.Stream.{Stream}
+
+-- at Ok the table's streams come after those that were there; a fault of a line is the table's
+abbrev pub ReadsTable : {T : Type 0} → Result T (Fault BoundsInput) → Table → List Stream → List Stream → Type 0
+ReadsTable (Ok x) table old new = (table.fault ≡ None) × (new ≡ old ++ table.streams)
+ReadsTable (Err (Faults.Input (Inputs.Table number fault))) table old new = table.fault ≡ Some (number, fault)
+ReadsTable (Err (Faults.Input (Inputs.Schedules number fault))) table old new = ⊥
+ReadsTable (Err (Faults.Input (Inputs.Found finding))) table old new = ⊥
+ReadsTable (Err Faults.Read) table old new = ⊤
+ReadsTable (Err Faults.Write) table old new = ⊥
+ReadsTable (Err Faults.Memory) table old new = ⊤
+
+-- At Ok the whole text is written, and the finding is that one; after a failed write, or out of memory, a prefix of the text is.
+abbrev pub Tells : Result (Option Finding) (Fault BoundsInput) → Option (List ℕ) → Option (List ℕ) → List ℕ → Option Finding → Type 0
+Tells (Ok found) old new text finding = Appends old new text × (found ≡ finding)
+Tells (Err (Faults.Input fault)) old new text finding = ⊥
+Tells (Err Faults.Read) old new text finding = ⊥
+Tells (Err Faults.Write) old new text finding = FallsShort old new text
+Tells (Err Faults.Memory) old new text finding = AppendsFront old new text
+
+-- what `bound_flows` answers is this, unless it runs out of memory
+abbrev pub IsAnswered : {A : Type 0} → Result (Bounded A) Unbound → Result Answer Unbound → Type 0
+IsAnswered (Ok b) told = told ≡ Ok (record { bounds = b.bounds.items; most = b.most; frames = b.frames; every = b.every })
+IsAnswered (Err why) told = (why ≡ Unbounds.Memory) ⊎ (told ≡ Err why)
+
+-- an end with this fault, or without one
+abbrev pub IsEnd : Result (Unit {0}) (Fault BoundsInput) → Option BoundsInput → Type 0
+IsEnd (Ok x) fault = fault ≡ None
+IsEnd (Err why) None = ⊥
+IsEnd (Err why) (Some fault) = why ≡ Faults.Input fault

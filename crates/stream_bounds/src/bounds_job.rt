@@ -1,0 +1,88 @@
+//! The program's job: the delays of streams, for ever.
+
+ghost use Rattle.std.specs.Prelude.{◌≡◌, IfErr, None, Some};
+ghost use Rattle.std.specs.Io.Buffered.{writer_contents};
+ghost use Rattle.script.specs.Given.{octets_of, words_of_values};
+ghost use Rattle.stream_bounds.specs.Ending.{IsBoundsEnding, bounds_given, frames_where};
+ghost use Rattle.stream_bounds.specs.declared.settings.TheConstants.{MAX_FRAMES};
+ghost use Rattle.words.specs.Numbers.{number_in};
+
+use crate::bounding::bounds;
+use crate::settings::{BoundsSettings, BoundsValue, MAX_FRAMES, say_bounds_value};
+use job::{Ended, end_run, end_told};
+use script::{Values, settings_given};
+use std::alloc::{Allocator, Global};
+use std::io::{BufWriter, Read, Write};
+use wire_time::MAX_MOMENT;
+use words::number;
+
+/// How many frames of a class are looked at, where no number is given.
+const FRAMES: &str = "1000000";
+
+/// The values of the options, where they are given, as words.
+#[derive(Clone, Copy, Debug)]
+pub struct BoundsWords<'a> {
+    /// Those of the port.
+    pub port: Values<'a>,
+    /// How many frames of a class are looked at, at most.
+    pub frames: Option<&'a str>,
+    /// Whether the run is strict.
+    pub strict: bool,
+}
+
+/// A number of frames that may be looked at.
+fn read_frames(frames: &str) -> Option<u64>
+    ensures { result ≡ frames_where (number_in 10 MAX_FRAMES frames.now) }
+{
+    let frames = number(frames.as_bytes(), u128::from(MAX_FRAMES))?;
+    if frames >= 1 {
+        Some(frames as u64)
+    } else {
+        None
+    }
+}
+
+/// The settings of the values that are given, and of those that stand for the others. The first bad value is the fault.
+pub fn bounds_given(words: BoundsWords<'_>) -> Result<BoundsSettings, BoundsValue>
+    ensures { result ≡ bounds_given (words_of_values words.entry.port) (octets_of words.entry.frames) words.entry.strict }
+{
+    let port = match settings_given(words.port, MAX_MOMENT) {
+        Ok(port) => port,
+        Err(value) => return Err(BoundsValue::Port(value)),
+    };
+    match read_frames(words.frames.unwrap_or(FRAMES)) {
+        Some(frames) => Ok(BoundsSettings {
+            port,
+            frames,
+            strict: words.strict,
+        }),
+        None => Err(BoundsValue::Frames),
+    }
+}
+
+/// Answers about the schedules that `reader` gives and the streams of `table`, by these values, through `answers`, with the text of a fault or of a
+/// strict run's finding on `errors`; and gives the writer of the answers back. What was answered is let out before a fault is reported; after a failed
+/// write no other is tried. Where a value is bad nothing is read.
+pub fn answer_bounds<B: Allocator, R: Read, S: Read + Drop, W: Write + Drop, E: Write>(
+    alloc: Global,
+    words: BoundsWords<'_>,
+    table: S,
+    reader: &mut R,
+    mut answers: BufWriter<W, B>,
+    errors: &mut E,
+) -> (Ended, W)
+    ensures ending { IsBoundsEnding (bounds_given (words_of_values words.entry.port) (octets_of words.entry.frames) words.entry.strict) (S.remaining table)
+        (R.remaining reader.old) result.0 (writer_contents W.contents answers) (W.contents result.1) (E.contents errors.old) (E.contents errors.new) }
+    ensures unread { IfErr (bounds_given (words_of_values words.entry.port) (octets_of words.entry.frames) words.entry.strict) (λ _. reader.new ≡ reader.old) }
+{
+    match bounds_given(words) {
+        Ok(settings) => {
+            let run = bounds(alloc, table, reader, &mut answers, settings);
+            end_run(run, answers, errors)
+        }
+        Err(value) => {
+            let ended = say_bounds_value(&value, errors);
+            end_told(ended, answers)
+        }
+    }
+}

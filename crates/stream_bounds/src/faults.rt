@@ -1,0 +1,117 @@
+//! Why a run ends early, what a strict run stops for, and the texts that say so.
+
+ghost use Rattle.std.specs.Prelude.{◌≡◌};
+ghost use Rattle.octet_writer.specs.Writes.{Writes};
+ghost use Rattle.stream_bounds.specs.Faults.{bounds_telling, finding_text, found_text, schedules_limited, table_fault};
+
+use answer_text::{Part, WriteFault, put_parts};
+use job::{Fault, InputFault, LineInput};
+use line_reader::{Limit, LineFault};
+use script::{ScriptFault, limit_fault, put_line_fault};
+use std::io::Write;
+use thiserror::Error;
+
+/// What a strict run stops a build for.
+#[derive(Clone, Copy, Debug, PartialEq, Eq)]
+pub enum Finding {
+    /// The line of the schedules of this number is no command.
+    TcFault(u32),
+    /// The command of the line of this number is refused.
+    Refused(u32),
+    /// The deadline of the stream with this first id is missed.
+    Missed(u64),
+    /// Whether the deadline of the stream with this first id is met is not known.
+    Unknown(u64),
+}
+
+/// What is wrong with a table of streams and schedules.
+#[derive(Clone, Copy, Debug, PartialEq, Eq, Error)]
+pub enum BoundsInput {
+    /// The line of the table of this number, counted in physical lines from 1, has this fault. Nothing is written.
+    #[error("line {0} of the table: {1:?}")]
+    Table(u32, ScriptFault),
+    /// The line of the schedules of this number, counted in physical lines from 1, has this fault. What comes before it is written.
+    #[error("line {0} of the schedules: {1:?}")]
+    Schedules(u32, ScriptFault),
+    /// A strict run has found this first. All is written.
+    #[error("{0:?}")]
+    Found(Finding),
+}
+
+/// Why a run on a table of streams and schedules ended early.
+pub type BoundsFault = Fault<BoundsInput>;
+
+/// The fault of a table whose line can't be read.
+pub fn table_fault(fault: LineFault) -> BoundsFault
+    ensures { result ≡ table_fault fault }
+{
+    match fault {
+        LineFault::Limit(line, limit) => {
+            Fault::Input(BoundsInput::Table(line, limit_fault(limit)))
+        }
+        LineFault::Read => Fault::Read,
+    }
+}
+
+/// Writes what is found about a line or a stream.
+fn put_found<'a, W: Write>(
+    writer: &mut W,
+    what: &'a [u8],
+    number: u64,
+    found: &'a [u8],
+) -> Result<(), WriteFault>
+    ensures { Writes result (W.contents writer.old) (W.contents writer.new) (finding_text what.now number found.now) }
+{
+    put_parts(
+        writer,
+        &[
+            Part::Text(b"taprio_port: bounds: "),
+            Part::Text(what),
+            Part::Number(u128::from(number)),
+            Part::Text(found),
+        ],
+    )
+}
+
+/// Writes the text of a finding.
+fn put_finding<W: Write>(writer: &mut W, finding: Finding) -> Result<(), WriteFault>
+    ensures { Writes result (W.contents writer.old) (W.contents writer.new) (found_text finding) }
+{
+    match finding {
+        Finding::TcFault(line) => put_found(writer, b"line ", u64::from(line), b": tc-fault\n"),
+        Finding::Refused(line) => put_found(writer, b"line ", u64::from(line), b": refused\n"),
+        Finding::Missed(id) => put_found(writer, b"stream ", id, b": deadline missed\n"),
+        Finding::Unknown(id) => put_found(writer, b"stream ", id, b": deadline unknown\n"),
+    }
+}
+
+impl InputFault for BoundsInput {
+    ghost telling = { bounds_telling };
+
+    fn status(&self) -> u8 {
+        match self {
+            BoundsInput::Table(..) | BoundsInput::Schedules(..) => 3,
+            BoundsInput::Found(_) => 1,
+        }
+    }
+
+    fn put<W: Write>(&self, writer: &mut W) -> Result<(), WriteFault> {
+        match *self {
+            BoundsInput::Table(line, fault) => {
+                put_line_fault(writer, b"taprio_port: table line ", line, fault)
+            }
+            BoundsInput::Schedules(line, fault) => {
+                put_line_fault(writer, b"taprio_port: script line ", line, fault)
+            }
+            BoundsInput::Found(finding) => put_finding(writer, finding),
+        }
+    }
+}
+
+impl LineInput for BoundsInput {
+    ghost limited = { schedules_limited };
+
+    fn of_limit(line: u32, limit: Limit) -> BoundsInput {
+        BoundsInput::Schedules(line, limit_fault(limit))
+    }
+}

@@ -1,0 +1,23 @@
+//! How long the frames of streams wait, for ever: for each schedule command, the verdict about each class of a table of streams, and the least
+//! and the greatest delay of each stream.
+//!
+//! The claim is specs/Verdicts.antt. What is written is specs/Outcome.antt, over specs/BoundLines.antt; the contracts of `bounds` and
+//! `answer_bounds` cite it.
+#![tactic(auto)]
+
+mod answers;
+mod bounding;
+mod bounds_job;
+mod class_lines;
+mod classes;
+mod faults;
+mod settings;
+mod stream_lines;
+mod table;
+mod telling;
+mod verdicts;
+
+pub use bounding::bounds;
+pub use bounds_job::{BoundsWords, answer_bounds, bounds_given};
+pub use faults::{BoundsFault, BoundsInput, Finding};
+pub use settings::{BoundsSettings, BoundsValue, MAX_FRAMES};

@@ -1,0 +1,182 @@
+//! The lines of streams.
+
+ghost use Rattle.std.specs.Prelude.{◌≡◌, ◌++◌, IfOk, List};
+ghost use Rattle.answer_text.specs.Names.{dropped_name};
+ghost use Rattle.octet_writer.specs.Writes.{Writes};
+ghost use Rattle.stream_bounds.specs.BoundLines.{bound_head, bound_line, bound_lines, deadline_end, deadline_finding, delay_text, finding_in, first_of, met_word, unmet};
+
+use crate::answers::Answers;
+use crate::classes::class_of;
+use crate::faults::Finding;
+use crate::settings::BoundsSettings;
+use crate::verdicts::{Delay, Met, met_by, plus};
+use abstract_port::{Change, Dropped};
+use answer_text::{Part, WriteFault, put_parts};
+use std::io::Write;
+use traffic::Stream;
+use wire_time::occupancy;
+
+/// The name of the reason why frames are dropped.
+fn dropped_name(why: Dropped) -> &'static [u8]
+    ensures { result.now ≡ dropped_name why }
+{
+    match why {
+        Dropped::NoClass => b"NoClass",
+        Dropped::Runt => b"Runt",
+        Dropped::TooLong => b"TooLong",
+        Dropped::OverSdu => b"OverSdu",
+        Dropped::Full => b"Full",
+    }
+}
+
+/// Writes what is told of a stream whose frames occupy the wire for so long, before its deadline.
+fn put_delay<W: Write>(writer: &mut W, need: u128, delay: Delay) -> Result<(), WriteFault>
+    ensures { Writes result (W.contents writer.old) (W.contents writer.new) (delay_text need delay) }
+{
+    match delay {
+        Delay::Within(class, bound) => put_parts(
+            writer,
+            &[
+                Part::Text(b" class "),
+                Part::Number(u128::from(class)),
+                Part::Text(b" wait "),
+                Part::Number(bound.least),
+                Part::Text(b" to "),
+                Part::Number(bound.greatest),
+                Part::Text(b" end "),
+                Part::Number(plus(bound.least, need)),
+                Part::Text(b" to "),
+                Part::Number(plus(bound.greatest, need)),
+            ],
+        ),
+        Delay::Unbounded(class) => put_parts(
+            writer,
+            &[
+                Part::Text(b" class "),
+                Part::Number(u128::from(class)),
+                Part::Text(b" none"),
+            ],
+        ),
+        Delay::Unknown(class) => put_parts(
+            writer,
+            &[
+                Part::Text(b" class "),
+                Part::Number(u128::from(class)),
+                Part::Text(b" unknown"),
+            ],
+        ),
+        Delay::Lost(why) => put_parts(
+            writer,
+            &[Part::Text(b" dropped "), Part::Text(dropped_name(why))],
+        ),
+    }
+}
+
+/// The word for whether a deadline is met.
+fn met_word(met: Met) -> &'static [u8]
+    ensures { result.now ≡ met_word met }
+{
+    match met {
+        Met::Met => b" met\n",
+        Met::Missed => b" missed\n",
+        Met::Unknown => b" unknown\n",
+    }
+}
+
+/// Writes the end of a stream's line.
+fn put_end<W: Write>(
+    writer: &mut W,
+    need: u128,
+    delay: Delay,
+    deadline: Option<u128>,
+) -> Result<(), WriteFault>
+    ensures { Writes result (W.contents writer.old) (W.contents writer.new) (deadline_end need delay deadline) }
+{
+    match deadline {
+        None => put_parts(writer, &[Part::Text(b"\n")]),
+        Some(deadline) => put_parts(
+            writer,
+            &[
+                Part::Text(b" deadline "),
+                Part::Number(deadline),
+                Part::Text(met_word(met_by(need, delay, deadline))),
+            ],
+        ),
+    }
+}
+
+/// Writes the beginning of a stream's line.
+fn put_head<W: Write>(writer: &mut W, id: u64) -> Result<(), WriteFault>
+    ensures { Writes result (W.contents writer.old) (W.contents writer.new) (bound_head id) }
+{
+    put_parts(
+        writer,
+        &[Part::Text(b"bound "), Part::Number(u128::from(id))],
+    )
+}
+
+/// Writes the line of a stream.
+fn put_stream<W: Write>(
+    writer: &mut W,
+    need: u128,
+    stream: &Stream,
+    delay: Delay,
+) -> Result<(), WriteFault>
+    ensures { Writes result (W.contents writer.old) (W.contents writer.new) (bound_line need stream.now delay) }
+{
+    put_head(writer, stream.first_id)?;
+    put_delay(writer, need, delay)?;
+    put_end(writer, need, delay, stream.deadline)
+}
+
+/// The finding about a deadline.
+fn unmet(id: u64, met: Met) -> Option<Finding>
+    ensures { result ≡ unmet id met }
+{
+    match met {
+        Met::Met => None,
+        Met::Missed => Some(Finding::Missed(id)),
+        Met::Unknown => Some(Finding::Unknown(id)),
+    }
+}
+
+/// The finding about a stream, where it has a deadline that is not known to be met.
+fn deadline_finding(need: u128, stream: &Stream, delay: Delay) -> Option<Finding>
+    ensures { result ≡ deadline_finding need stream.now delay stream.now.deadline }
+{
+    match stream.deadline {
+        None => None,
+        Some(deadline) => unmet(stream.first_id, met_by(need, delay, deadline)),
+    }
+}
+
+/// The first finding of two.
+pub fn first_of(first: Option<Finding>, later: Option<Finding>) -> Option<Finding>
+    ensures { result ≡ first_of first later }
+{
+    match first {
+        Some(finding) => Some(finding),
+        None => later,
+    }
+}
+
+/// Writes the lines of streams, and answers the first finding among them.
+pub fn put_streams<W: Write>(
+    writer: &mut W,
+    settings: &BoundsSettings,
+    change: &Change,
+    answers: &mut Answers,
+    streams: &[Stream],
+) -> Result<Option<Finding>, WriteFault>
+    ensures lines { Writes result (W.contents writer.old) (W.contents writer.new) (bound_lines settings.now change.now answers.old streams.now) }
+    ensures finding { IfOk result (λ finding. finding ≡ finding_in settings.now change.now answers.old streams.now) }
+{
+    let mut first = None;
+    for stream in streams {
+        let need = occupancy(settings.port.rate(), stream.len);
+        let delay = answers.next_delay(class_of(&settings.port, change, stream));
+        put_stream(writer, need, stream, delay)?;
+        first = first_of(first, deadline_finding(need, stream, delay));
+    }
+    Ok(first)
+}

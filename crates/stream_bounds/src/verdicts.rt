@@ -1,0 +1,136 @@
+//! The verdict about a class, and the delay of a stream.
+
+ghost use Rattle.std.specs.Prelude.{◌≡◌, Err, Ok, map};
+ghost use Rattle.delay_bounds.specs.Walked.{Answer};
+ghost use Rattle.stream_bounds.specs.Verdicts.{delay_by, met_by, place_of, plus, stuck_at, verdict_of};
+
+use abstract_port::Dropped;
+use delay_bounds::{Bound, Refused, Unbound};
+
+/// A frame that finds no room.
+#[derive(Clone, Copy, Debug, PartialEq, Eq)]
+pub struct Place {
+    /// When it comes, in picoseconds since the change moment of the schedule.
+    pub moment: u128,
+    /// The first id of its stream.
+    pub id: u64,
+    /// Which frame of its stream it is, from 1.
+    pub number: u128,
+}
+
+/// The verdict about a class.
+#[derive(Clone, Copy, Debug, PartialEq, Eq)]
+pub enum Verdict {
+    /// It has no streams.
+    Idle,
+    /// It isn't kept apart.
+    Shared,
+    /// Its delays have bounds: the most frames that ever wait at once, and how many frames come in how many picoseconds.
+    Bounded {
+        most: usize,
+        frames: u64,
+        every: u128,
+    },
+    /// The first frame that finds no room.
+    Full(Place),
+    /// A frame never starts, nor does any behind it; and this is the first that then finds no room.
+    Stuck(Place),
+    /// So many frames as may be were looked at.
+    Long,
+    /// A moment is after the greatest.
+    Late,
+}
+
+/// The delay of a stream.
+#[derive(Clone, Copy, Debug, PartialEq, Eq)]
+pub enum Delay {
+    /// Its frames are of this class, and wait for so long.
+    Within(u8, Bound),
+    /// They are of this class, which loses frames.
+    Unbounded(u8),
+    /// They are of this class, about which nothing is known.
+    Unknown(u8),
+    /// Each frame is dropped when it comes.
+    Lost(Dropped),
+}
+
+/// Whether a deadline is met.
+#[derive(Clone, Copy, Debug, PartialEq, Eq)]
+pub enum Met {
+    /// Each frame has left by then.
+    Met,
+    /// Some frame has not.
+    Missed,
+    /// It is not known.
+    Unknown,
+}
+
+/// A sum, or what 128 bits hold at most.
+pub fn plus(a: u128, b: u128) -> u128
+    ensures { result ≡ plus a b }
+{
+    a.saturating_add(b)
+}
+
+/// A frame of the stream at a place of its class, which finds no room.
+pub fn place_of(ids: &[u64], place: usize, before: u128, moment: u128) -> Place
+    ensures { result ≡ place_of ids.now place before moment }
+{
+    Place {
+        moment,
+        id: ids.get(place).copied().unwrap_or(0),
+        number: plus(before, 1),
+    }
+}
+
+/// The verdict where no frame starts any more.
+fn stuck_at(ids: &[u64], refused: Option<Refused>) -> Verdict
+    ensures { result ≡ stuck_at ids.now refused }
+{
+    match refused {
+        Some(frame) => Verdict::Stuck(place_of(ids, frame.place, frame.before, frame.moment)),
+        None => Verdict::Late,
+    }
+}
+
+/// The verdict about a class whose flows have no bounds.
+pub fn verdict_of(ids: &[u64], why: Unbound) -> Verdict
+    ensures { result ≡ verdict_of ids.now (Err why) }
+{
+    match why {
+        Unbound::Full(frame) => {
+            Verdict::Full(place_of(ids, frame.place, frame.before, frame.moment))
+        }
+        Unbound::Never(_, refused) => stuck_at(ids, refused),
+        Unbound::Long => Verdict::Long,
+        Unbound::Late | Unbound::Memory => Verdict::Late,
+    }
+}
+
+/// The delay of a stream of a class, by the verdict and the stream's bounds.
+pub fn delay_by(class: u8, verdict: Verdict, bound: Bound) -> Delay
+    ensures { result ≡ delay_by class verdict bound }
+{
+    match verdict {
+        Verdict::Bounded { .. } => Delay::Within(class, bound),
+        Verdict::Full(_) | Verdict::Stuck(_) => Delay::Unbounded(class),
+        Verdict::Idle | Verdict::Shared | Verdict::Long | Verdict::Late => Delay::Unknown(class),
+    }
+}
+
+/// Whether a deadline is met, in picoseconds from a frame's arrival to the end of its time on the wire, where it occupies the wire for `need`.
+pub fn met_by(need: u128, delay: Delay, deadline: u128) -> Met
+    ensures { result ≡ met_by need delay deadline }
+{
+    match delay {
+        Delay::Within(_, bound) => {
+            if plus(bound.greatest, need) <= deadline {
+                Met::Met
+            } else {
+                Met::Missed
+            }
+        }
+        Delay::Unbounded(_) | Delay::Lost(_) => Met::Missed,
+        Delay::Unknown(_) => Met::Unknown,
+    }
+}
