@@ -15,6 +15,9 @@ use Rattle.script.specs.Setup.{Setup}
 use Rattle.job.specs.declared.telling.Ended.{Ended}
 use Rattle.script.specs.declared.settings.BadValue.{BadValue}
 use Rattle.traffic.specs.Ending.{IsStreamsEnding, from_given}
+use Rattle.stream_bounds.specs.Ending.{IsBoundsEnding, bounds_given}
+use Rattle.stream_bounds.specs.declared.settings.BoundsSettings.{BoundsSettings}
+use Rattle.stream_bounds.specs.declared.settings.BoundsValue.{BoundsValue}
 
 -- whether a flag is given: it is then true
 abbrev pub flag_in : List ℕ → Found → Bool
@@ -55,3 +58,14 @@ abbrev pub IsGivenStreams : Result ℕ BadValue → Option (List ℕ) → Option
 IsGivenStreams from None table ended old got errors_old errors_new = IsStreamsEnding from table (Some []) ended old got errors_old errors_new
 IsGivenStreams from (Some path) table ended old got errors_old errors_new =
     ((script : Option (List ℕ)) × IsStreamsEnding from table script ended old got errors_old errors_new) ⊎ IsUnanswered 4 (open_text path) ended old got errors_old errors_new
+
+-- the settings of the values that are given to the options of bounds
+abbrev pub bounds_in : Found → Result BoundsSettings BoundsValue
+bounds_in found = bounds_given (words_in found) (first_value found (codes "frames")) (flag_in (codes "strict") found)
+
+-- The end of a run on schedules and the table that the words name: that of the schedules and of some octets, since what a file gives is not known, or
+-- of the path that can't be opened. There is no end where the words name no table: they are refused then.
+abbrev pub IsGivenBounds : Result BoundsSettings BoundsValue → Option (List ℕ) → Option (List ℕ) → Ended → (old got errors_old errors_new : Option (List ℕ)) → Type 0
+IsGivenBounds settings None schedules ended old got errors_old errors_new = Unit {0}
+IsGivenBounds settings (Some path) schedules ended old got errors_old errors_new =
+    ((table : Option (List ℕ)) × IsBoundsEnding settings table schedules ended old got errors_old errors_new) ⊎ IsUnanswered 4 (open_text path) ended old got errors_old errors_new

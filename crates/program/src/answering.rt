@@ -10,6 +10,7 @@ ghost use Rattle.program.specs.Given.{draws_in, rate_in, settings_in, windows_in
 ghost use Rattle.script.specs.Ending.{IsEnding, whole_script};
 ghost use Rattle.wire_time.specs.Moment.{greatest_moment};
 
+use crate::bounding::bounds_given;
 use crate::end_without_memory;
 use crate::options::{command, draws_of, rate_of, values_of, windows_of};
 use crate::progress::Progress;
@@ -150,6 +151,9 @@ fn answer_job<
     if let Some(streams) = matches.subcommand_matches("streams") {
         return streams_given(files, alloc, streams, reader, answers, errors);
     }
+    if let Some(bounds) = matches.subcommand_matches("bounds") {
+        return bounds_given(files, alloc, bounds, reader, answers, errors);
+    }
     let ended = Ended {
         status: 2,
         told: true,
@@ -158,7 +162,7 @@ fn answer_job<
 }
 
 /// Answers the words of the program, the first of which is its name: a script, a replay of files, the check of schedules, the script of a
-/// table of streams, a picture, help, or why they are refused. What is answered goes through `answers`, whose writer is given back, and the text of a fault to `errors`; how far
+/// table of streams, the bounds of its delays, a picture, help, or why they are refused. What is answered goes through `answers`, whose writer is given back, and the text of a fault to `errors`; how far
 /// a replay has come is said through `progress`, where the words ask for it.
 pub fn answer_words<
     F: Files,

@@ -1,6 +1,6 @@
 //! The program: what it does with its words, its input and its two outputs.
 //!
-//! The exit status is 0 where all is done, 2 where the words are refused, 3 where the input is, and 4 where a read, a write
+//! The exit status is 0 where all is done, 1 where a strict run has found something, 2 where the words are refused, 3 where the input is, and 4 where a read, a write
 //! or memory failed, or a file can't be opened. `run` lends the process's own streams; all else is over any reader, writers and files.
 //!
 //! The contracts of the calls over readers, writers and files cite the definitions of each job; what words say is
@@ -8,12 +8,14 @@
 #![tactic(auto)]
 
 mod answering;
+mod bounding;
 mod options;
 mod progress;
 mod replaying;
 mod streaming;
 
 pub use answering::{answer_given, answer_words, check_given, draw_given};
+pub use bounding::bounds_given;
 use job::{Ended, say_fault};
 pub use options::values_of;
 pub use progress::Progress;

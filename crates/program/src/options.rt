@@ -9,6 +9,7 @@ ghost use Rattle.program.specs.Given.{draw_words_in, flag_in, windows_in, words_
 use clap::{Arg, ArgAction, ArgMatches, Command};
 use drawing::DrawValues;
 use script::Values;
+use stream_bounds::BoundsWords;
 use std::alloc::{AllocError, Global};
 
 /// Whether a subcommand is given a flag.
@@ -42,6 +43,19 @@ pub fn draws_of<'a>(matches: &ArgMatches<'a>) -> DrawValues<'a>
         from: matches.get_str("from"),
         to: matches.get_str("to"),
         width: matches.get_str("width"),
+    }
+}
+
+/// The values that bounds are given.
+pub fn bounds_of<'a>(matches: &ArgMatches<'a>) -> BoundsWords<'a>
+    ensures port { words_of_values result.port ≡ words_in (found_of matches.now) }
+    ensures frames { octets_of result.frames ≡ first_value (found_of matches.now) (codes "frames") }
+    ensures strict { result.strict ≡ flag_in (codes "strict") (found_of matches.now) }
+{
+    BoundsWords {
+        port: values_of(matches),
+        frames: matches.get_str("frames"),
+        strict: is_given(matches, "strict"),
     }
 }
 
@@ -185,6 +199,27 @@ const OFFSETS_FROM: Word = Word {
     help: "A moment that is added to each offset, in picoseconds [default: 0]",
 };
 
+const FRAMES: Word = Word {
+    given: Given::Value,
+    name: "frames",
+    value: "FRAMES",
+    help: "Look at so many frames of a class at most, 1 to 1000000000 [default: 1000000]",
+};
+
+const STRICT: Word = Word {
+    given: Given::Flag,
+    name: "strict",
+    value: "",
+    help: "End with status 1 where a deadline is missed or unknown, or a command is refused",
+};
+
+const TABLE: Word = Word {
+    given: Given::File,
+    name: "table",
+    value: "TABLE",
+    help: "The file with the table of streams",
+};
+
 const TO: Word = Word {
     given: Given::Value,
     name: "to",
@@ -199,7 +234,7 @@ const WIDTH: Word = Word {
     help: "Its width, 400 to 2400 pixels [default: 1200]",
 };
 
-const JOBS: [Job; 5] = [
+const JOBS: [Job; 6] = [
     Job {
         name: "script",
         about: "Answers the lines of a script on standard input",
@@ -229,6 +264,11 @@ const JOBS: [Job; 5] = [
         name: "streams",
         about: "Writes a script with the frames of the streams in a table on standard input",
         words: &[LINES, OFFSETS_FROM],
+    },
+    Job {
+        name: "bounds",
+        about: "Reports how long the frames of the streams in a table can ever wait, by the schedule commands on standard input",
+        words: &[RATE, MTU, ROOM, FRAMES, STRICT, TABLE],
     },
     Job {
         name: "draw",
