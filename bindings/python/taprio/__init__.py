@@ -1,6 +1,6 @@
 """A transmit port with eight traffic classes whose gates are opened and closed by schedules (IEEE Std 802.1Q, 8.6.8.4).
 
-The five calls `run`, `check`, `streams`, `draw` and `replay` are the jobs of the program `taprio_port`, over memory. Inputs are
+The five calls `run`, `check`, `streams`, `draw` and `replay` are jobs of the program `taprio_port`, over memory. Inputs are
 `bytes` or `str`; outputs are `bytes`. Moments are in picoseconds, rates in Mb/s, sizes in octets. A value out of its limits raises
 `BadValue`, an input with a fault `BadInput`, which has the line or the record and what was reported before it; out of memory,
 `MemoryError` is raised.
@@ -13,8 +13,8 @@ They stand on the shared object that `bindings/c/build` makes, which is loaded a
 calls over the program. Calls may be made from several threads: they share nothing, and the interpreter goes on meanwhile.
 
 Nothing else here needs the shared object: `taprio.schedules` reads and writes schedules (times in nanoseconds), `Stream` is a stream of
-frames (times in nanoseconds), `run_streams` runs both, `read_run` and `read_check` give what the jobs answer as objects, and `read_capture`
-reads a capture.
+frames (times in nanoseconds), `run_streams` runs both, `bounds` tells how long the frames wait for ever, `read_run`, `read_check` and
+`read_bounds` give what the jobs answer as objects, and `read_capture` reads a capture.
 """
 
 from .captures import read_capture
@@ -22,9 +22,9 @@ from .faults import BadAnswer, BadCapture, BadInput, BadSchedule, BadValue, Left
 from .library import Library, check, draw, replay, run, streams
 from .plotting import plot
 from .program import Backend, Program, backend
-from .results import read_check, read_run
+from .results import read_bounds, read_check, read_run
 from .schedules import Schedule
-from .traffic import Stream, run_streams, table
+from .traffic import Stream, bounds, run_streams, table
 
 __version__ = "0.1.0"
 
@@ -45,9 +45,11 @@ __all__ = [
     "TaprioError",
     "__version__",
     "backend",
+    "bounds",
     "check",
     "draw",
     "plot",
+    "read_bounds",
     "read_capture",
     "read_check",
     "read_run",

@@ -23,6 +23,7 @@ __all__ = [
     "LibraryMissing",
     "Replay",
     "TaprioError",
+    "bounds",
     "check",
     "draw",
     "replay",
@@ -75,6 +76,10 @@ _OCTETS = [ctypes.c_char_p, ctypes.c_size_t]
 _LENT = [ctypes.POINTER(ctypes.c_char), ctypes.c_size_t]
 
 
+# What a shared object lacks that was built before there were bounds.
+_LATER = ("taprio_streams_from", "taprio_bounds")
+
+
 def _path() -> str:
     """Where the shared object is, or should be."""
     here = pathlib.Path(__file__).resolve().parent
@@ -103,17 +108,30 @@ def _typed(library: ctypes.CDLL) -> ctypes.CDLL:
         ("taprio_run", [port, *_OCTETS, *_LENT, *_LENT, ran]),
         ("taprio_check", [ctypes.c_uint32, ctypes.c_uint32, *_OCTETS, *_LENT, *_LENT, ran]),
         ("taprio_streams", [*_OCTETS, *_OCTETS, *_LENT, *_LENT, ran]),
+        ("taprio_streams_from", [ctypes.c_uint64, ctypes.c_uint64, *_OCTETS, *_OCTETS, *_LENT, *_LENT, ran]),
+        ("taprio_bounds", [port, ctypes.c_uint64, *_OCTETS, *_OCTETS, *_LENT, *_LENT, ran]),
         ("taprio_draw", [port, picture, *_OCTETS, *_LENT, *_LENT, ran]),
         ("taprio_replay", [port, *_OCTETS, *_OCTETS, *_LENT, *_LENT, *_LENT, replay_ran]),
     ):
+        if name in _LATER and not hasattr(library, name):
+            continue
         function = getattr(library, name)
         function.argtypes = given
         function.restype = None
     return library
 
 
+def has(name: str) -> bool:
+    """Whether the shared object, which has to be there, has this function."""
+    return hasattr(_loaded(_path()), name)
+
+
 def _function(name: str) -> Callable[..., None]:
     """A function of the shared object, which is loaded where it isn't yet."""
+    if not has(name):
+        raise LibraryMissing(
+            f"the library {_path()} has no {name}: build it again with bindings/c/build, or call the program instead with taprio.Program"
+        )
     function: Callable[..., None] = getattr(_loaded(_path()), name)
     return function
 
@@ -200,11 +218,34 @@ def check(schedules: Octets, rate: int = 1000, windows: bool = False) -> bytes:
     return _one("taprio_check", given, 4 * len(schedules) + 4096)
 
 
-def streams(table: Octets, script: Octets = b"") -> bytes:
-    """Makes a script with the frames of a table of streams, and with the lines of another script among them."""
+def streams(table: Octets, script: Octets = b"", from_: int = 0) -> bytes:
+    """Makes a script with the frames of a table of streams, and with the lines of another script among them.
+
+    `from_` is added to each offset: a moment in picoseconds, at most 9223372036854775807000, such as the one at which the schedule of
+    the script comes into force.
+    """
     table, script = octets(table), octets(script)
     given = [table, len(table), script, len(script)]
-    return _one("taprio_streams", given, 4 * (len(table) + len(script)) + 65536)
+    guess = 4 * (len(table) + len(script)) + 65536
+    if from_ == 0:
+        return _one("taprio_streams", given, guess)
+    _, low, high = _halves(from_, "from_")
+    return _one("taprio_streams_from", [low, high, *given], guess)
+
+
+def bounds(
+    table: Octets, schedules: Octets, rate: int = 1000, mtu: int = 1500, room: int = 128, frames: int = 1_000_000
+) -> bytes:
+    """Tells for each schedule command how long the frames of a table of streams wait, for ever: the classes that it keeps apart, the
+    verdict about each class that has streams, and the least and the greatest wait of each stream, with whether its deadline is met.
+
+    `rate`, `mtu` and `room` are those of `run`; `frames`, 1 to 1,000,000,000, is how many frames of a class are looked at, at most. A
+    deadline that is missed is no fault. `taprio.read_bounds` reads what is told, and `taprio.bounds` does both.
+    """
+    table, schedules = octets(table), octets(schedules)
+    port = ctypes.byref(_port(rate, mtu, room, None, False))
+    given = [port, number(frames, 64, "frames"), table, len(table), schedules, len(schedules)]
+    return _one("taprio_bounds", given, 4 * (len(table) + len(schedules)) + 4096)
 
 
 def draw(
@@ -259,6 +300,7 @@ class Library:
     run = staticmethod(run)
     check = staticmethod(check)
     streams = staticmethod(streams)
+    bounds = staticmethod(bounds)
     draw = staticmethod(draw)
     replay = staticmethod(replay)
 

@@ -27,8 +27,13 @@ class Backend(Protocol):
     def check(self, schedules: Octets, rate: int = 1000, windows: bool = False) -> bytes:
         """What schedules keep apart, and their windows."""
 
-    def streams(self, table: Octets, script: Octets = b"") -> bytes:
-        """A script with the frames of a table."""
+    def streams(self, table: Octets, script: Octets = b"", from_: int = 0) -> bytes:
+        """A script with the frames of a table, whose offsets count from `from_`."""
+
+    def bounds(
+        self, table: Octets, schedules: Octets, rate: int = 1000, mtu: int = 1500, room: int = 128, frames: int = 1_000_000
+    ) -> bytes:
+        """How long the frames of a table wait under each schedule, for ever."""
 
     def draw(
         self,
@@ -110,15 +115,28 @@ class Program:
         words = ["check", "--rate", str(number(rate, 32, "rate")), *(["--windows"] if windows else [])]
         return self._one(words, schedules)
 
-    def streams(self, table: Octets, script: Octets = b"") -> bytes:
-        """Makes a script of a table of streams, as `taprio.streams` does."""
-        table, script = octets(table), octets(script)
+    def _with_file(self, words: list[str], name: str, content: bytes, input: bytes) -> bytes:
+        """The output where the words name a file of this content."""
         with tempfile.TemporaryDirectory(prefix="taprio-") as folder:
-            pathlib.Path(folder, "script").write_bytes(script)
-            status, text, output = self._ran(["streams", "--with", "script"], table, folder)
+            pathlib.Path(folder, name).write_bytes(content)
+            status, text, output = self._ran(words, input, folder)
         if status:
             raise of_text(status, text, output)
         return output
+
+    def streams(self, table: Octets, script: Octets = b"", from_: int = 0) -> bytes:
+        """Makes a script of a table of streams, as `taprio.streams` does."""
+        table, script = octets(table), octets(script)
+        words = ["streams", "--with", "script", *([] if from_ == 0 else ["--from", str(number(from_, 128, "from_"))])]
+        return self._with_file(words, "script", script, table)
+
+    def bounds(
+        self, table: Octets, schedules: Octets, rate: int = 1000, mtu: int = 1500, room: int = 128, frames: int = 1_000_000
+    ) -> bytes:
+        """Tells how long the frames of a table wait under each schedule, as `taprio.library.bounds` does."""
+        table, schedules = octets(table), octets(schedules)
+        words = ["bounds", *self._port(rate, mtu, room, None, False), "--frames", str(number(frames, 64, "frames")), "table"]
+        return self._with_file(words, "table", table, schedules)
 
     def draw(
         self,

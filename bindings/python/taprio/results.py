@@ -1,4 +1,5 @@
-"""What the jobs answer, as objects: `read_run` reads the answers of a script or the report of a replay, `read_check` those of a check.
+"""What the jobs answer, as objects: `read_run` reads the answers of a script or the report of a replay, `read_check` those of a check, and
+`read_bounds` those of bounds.
 
 Moments and times are whole picoseconds, sizes are octets. `rows()` gives dicts, for `pandas.DataFrame` or whatever else takes them."""
 
@@ -17,10 +18,13 @@ from .schedules.model import logical_lines
 __all__ = [
     "Answer",
     "Backward",
+    "Bounded",
+    "Bounds",
     "Change",
     "Check",
     "Checked",
     "ClassSummary",
+    "ClassVerdict",
     "Counted",
     "Dropped",
     "Frame",
@@ -31,9 +35,11 @@ __all__ = [
     "Report",
     "Run",
     "Started",
+    "StreamBound",
     "TcFault",
     "Window",
     "WireSummary",
+    "read_bounds",
     "read_check",
     "read_run",
     "rows",
@@ -283,6 +289,87 @@ class Check:
         ]
 
 
+@dataclasses.dataclass(frozen=True)
+class ClassVerdict:
+    """What holds for ever of a class that has streams. Moments are picoseconds from the schedule's coming into force."""
+
+    traffic_class: int
+    verdict: str
+    """"bounded" where each frame finds room and its wait has a bound; "full" where a frame finds its queue full; "stuck" where a frame
+    fits into no window, so that those behind it wait for ever; "shared" where the schedule doesn't keep the class apart; "long" where
+    more frames had to be looked at than was allowed; "late" where a moment is after the greatest."""
+    most: int | None = None
+    """The greatest number of frames that ever wait at once; for "bounded", as the following three."""
+    room: int | None = None
+    """How many frames the queue holds."""
+    frames: int | None = None
+    """After so many frames all goes on as before,"""
+    every: int | None = None
+    """which takes so long, in picoseconds."""
+    at: int | None = None
+    """When the first frame comes that finds no room; for "full" and "stuck", as the following two."""
+    stream: int | None = None
+    """The first id of its stream."""
+    frame: int | None = None
+    """Which frame of its stream it is, from 1."""
+
+
+@dataclasses.dataclass(frozen=True)
+class StreamBound:
+    """What holds for ever of the frames of a stream; times in picoseconds."""
+
+    first_id: int
+    """The first id of the stream."""
+    traffic_class: int | None
+    """Its class; None where each frame is dropped."""
+    verdict: str
+    """"bounded" where the four times are there; "none" where the class loses frames or one never leaves; "unknown" where the class is
+    shared or no answer was found; "dropped" where each frame is dropped when it comes."""
+    least_wait: int | None = None
+    """The least time from a frame's arrival to its start, over all its frames."""
+    greatest_wait: int | None = None
+    least_end: int | None = None
+    """The least time from a frame's arrival to the moment when the wire is free again, which the deadline is for."""
+    greatest_end: int | None = None
+    dropped: str | None = None
+    """Why each frame is dropped, such as "TooLong"; None where none is."""
+    deadline: int | None = None
+    """Its deadline, in picoseconds; None where it has none."""
+    met: bool | None = None
+    """Whether each frame has left by its deadline; None where that isn't known, or there is no deadline."""
+
+
+@dataclasses.dataclass(frozen=True)
+class Bounded:
+    """What was told of one schedule: the classes that it keeps apart, the verdict about each class, and the bounds of each stream; or why it
+    is none. A deletion keeps nothing apart, and has neither classes nor streams."""
+
+    apart: tuple[int, ...] | None
+    classes: tuple[ClassVerdict, ...] = ()
+    streams: tuple[StreamBound, ...] = ()
+    fault: Refused | TcFault | None = None
+
+
+@dataclasses.dataclass(frozen=True)
+class Bounds:
+    """What was told of each schedule, in their order."""
+
+    schedules: tuple[Bounded, ...]
+
+    @property
+    def met(self) -> bool:
+        """Whether each deadline is known to be met, and no schedule is refused: where the program ends with status 0 under `--strict`."""
+        return all(it.fault is None and all(one.deadline is None or one.met for one in it.streams) for it in self.schedules)
+
+    def rows(self) -> list[dict[str, Any]]:
+        """A dict of each stream, with the number of its schedule, from 0: `pandas.DataFrame(bounds.rows())`."""
+        return [{"schedule": number} | row for number, it in enumerate(self.schedules) for row in rows(it.streams)]
+
+    def class_rows(self) -> list[dict[str, Any]]:
+        """A dict of each class that has streams, with the number of its schedule, from 0."""
+        return [{"schedule": number} | row for number, it in enumerate(self.schedules) for row in rows(it.classes)]
+
+
 def _wait(text: str) -> int | None:
     return None if text == "-" else int(text)
 
@@ -449,3 +536,61 @@ def read_check(answers: Octets) -> Check:
                 raise BadAnswer(f"line {number}: expected an answer of a check, found {line[:60]!r}", number)
             found.append(Checked(None, (), answer))
     return Check(tuple(found))
+
+
+_CLASS = re.compile(
+    r"class (\d+) (?:(shared|long|late)|most (\d+) of (\d+) frames (\d+) every (\d+)|(full|stuck) at (\d+) stream (\d+) frame (\d+))"
+)
+_BOUND = re.compile(
+    r"bound (\d+) (?:class (\d+) (?:(none|unknown)|wait (\d+) to (\d+) end (\d+) to (\d+))|dropped (\w+))"
+    r"(?: deadline (\d+) (met|missed|unknown))?"
+)
+
+
+def _number(text: str | None) -> int | None:
+    return None if text is None else int(text)
+
+
+def _verdict(found: re.Match[str]) -> ClassVerdict:
+    """The verdict of a line about a class."""
+    class_, word, most, room, frames, every, place, at, stream, frame = found.groups()
+    numbers = (most, room, frames, every, at, stream, frame)
+    return ClassVerdict(int(class_), word or place or "bounded", *map(_number, numbers))
+
+
+def _bound(found: re.Match[str]) -> StreamBound:
+    """The bounds of a line about a stream."""
+    first_id, class_, word, *times, dropped, deadline, met = found.groups()
+    least_wait, greatest_wait, least_end, greatest_end = map(_number, times)
+    return StreamBound(
+        int(first_id),
+        _number(class_),
+        word or ("dropped" if dropped else "bounded"),
+        least_wait,
+        greatest_wait,
+        least_end,
+        greatest_end,
+        dropped,
+        _number(deadline),
+        {"met": True, "missed": False}.get(met),
+    )
+
+
+def read_bounds(answers: Octets) -> Bounds:
+    """What bounds tell of each schedule. A text that no bounds write raises `BadAnswer`."""
+    found: list[Bounded] = []
+    for number, line in enumerate(octets(answers).decode("utf-8", "replace").splitlines(), 1):
+        apart, verdict, bound = _APART.fullmatch(line), _CLASS.fullmatch(line), _BOUND.fullmatch(line)
+        last = found[-1] if found and found[-1].apart is not None else None
+        if apart:
+            found.append(Bounded(() if apart[1] == "none" else tuple(map(int, apart[1].split()))))
+        elif verdict and last and not last.streams:
+            found[-1] = dataclasses.replace(last, classes=(*last.classes, _verdict(verdict)))
+        elif bound and last:
+            found[-1] = dataclasses.replace(last, streams=(*last.streams, _bound(bound)))
+        else:
+            answer = _answer(line, number)
+            if not isinstance(answer, (Refused, TcFault)):
+                raise BadAnswer(f"line {number}: expected an answer of bounds, found {line[:60]!r}", number)
+            found.append(Bounded(None, fault=answer))
+    return Bounds(tuple(found))

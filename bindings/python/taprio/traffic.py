@@ -1,4 +1,4 @@
-"""Streams of frames, and a run of a schedule with them."""
+"""Streams of frames, a run of a schedule with them, and the bounds of their waits under it."""
 
 from __future__ import annotations
 
@@ -9,10 +9,10 @@ from typing import Union
 from .faults import BadValue
 from .library import Octets, octets
 from .program import Chosen, backend
-from .results import Run, read_run
+from .results import Bounds, Run, read_bounds, read_run
 from .schedules import Schedule
 
-__all__ = ["Stream", "run_streams", "table"]
+__all__ = ["Stream", "bounds", "run_streams", "table"]
 
 GREATEST = 9_223_372_036_854_775_807
 """The greatest moment, in nanoseconds."""
@@ -32,11 +32,13 @@ class Stream:
     period: int
     """From one frame to the next, in nanoseconds."""
     offset: int = 0
-    """When the first frame arrives, in nanoseconds."""
+    """When the first frame arrives, in nanoseconds; under `bounds` from the moment on at which the schedule comes into force."""
     count: int = 1
-    """How many frames arrive."""
+    """How many frames arrive; under `bounds` they go on for ever."""
     tagged: bool = False
     """Whether the frames have a customer VLAN tag."""
+    deadline: int | None = None
+    """How long after its arrival each frame has to have left the wire, in nanoseconds, for `bounds`; a run takes no notice of it."""
 
     def __post_init__(self) -> None:
         for name, most in (
@@ -46,8 +48,11 @@ class Stream:
             ("period", GREATEST),
             ("offset", GREATEST),
             ("count", 2**32 - 1),
+            ("deadline", GREATEST),
         ):
             value = getattr(self, name)
+            if name == "deadline" and value is None:
+                continue
             if isinstance(value, bool) or not isinstance(value, int) or not 0 <= value <= most:
                 raise BadValue(f"bad value of {name}: a whole number from 0 to {most} is expected, and {value!r} is given", name)
         if self.count and self.first_id + self.count - 1 > 2**64 - 1:
@@ -63,12 +68,23 @@ class Stream:
     def line(self) -> str:
         """Its line of a table of streams, without a newline."""
         words = f"stream {self.first_id} {self.priority} {self.length} {self.period}ns {self.offset}ns {self.count}"
-        return words + (" tagged" if self.tagged else "")
+        deadline = "" if self.deadline is None else f" deadline {self.deadline}ns"
+        return words + (" tagged" if self.tagged else "") + deadline
 
 
 def table(streams: Iterable[Stream]) -> str:
-    """A table of streams, as `taprio.streams` and the job `streams` read it."""
+    """A table of streams, as `taprio.streams` and the jobs `streams` and `bounds` read it."""
     return "".join(f"{stream.line()}\n" for stream in streams)
+
+
+def _lines(schedule: Union[Schedule, Octets]) -> bytes:
+    """A schedule as the line that sets it; lines as they are."""
+    return f"{schedule.tc()}\n".encode() if isinstance(schedule, Schedule) else octets(schedule)
+
+
+def _table(streams: Union[Iterable[Stream], Octets]) -> bytes:
+    """Streams as a table; a table as it is."""
+    return octets(streams) if isinstance(streams, (str, bytes, bytearray, memoryview)) else table(streams).encode()
 
 
 def run_streams(
@@ -76,6 +92,7 @@ def run_streams(
     streams: Union[Iterable[Stream], Octets],
     *,
     until_ns: int,
+    from_ns: int = 0,
     rate: int = 1000,
     mtu: int = 1500,
     room: int = 128,
@@ -87,12 +104,32 @@ def run_streams(
     in octets, `room` in frames of a class. What runs it is `port`, as `taprio.backend` says.
 
     A schedule with base time 0 comes into force at the start of its second cycle, and before that all gates are open: let the streams
-    begin behind it."""
+    begin behind it. `from_ns`, in nanoseconds, is added to the offset of each stream."""
     chosen = backend(port)
-    lines = b"" if schedule is None else f"{schedule.tc()}\n".encode() if isinstance(schedule, Schedule) else octets(schedule)
-    given = octets(streams) if isinstance(streams, (str, bytes, bytearray, memoryview)) else table(streams).encode()
-    if isinstance(until_ns, bool) or not isinstance(until_ns, int):
-        raise TypeError("until_ns is a whole number")
-    script = chosen.streams(given, lines)
+    for name, value in (("until_ns", until_ns), ("from_ns", from_ns)):
+        if isinstance(value, bool) or not isinstance(value, int):
+            raise TypeError(f"{name} is a whole number")
+    script = chosen.streams(_table(streams), b"" if schedule is None else _lines(schedule), from_=1000 * from_ns)
     answers = chosen.run(script, rate=rate, mtu=mtu, room=room, until=1000 * until_ns, summary=True)
     return read_run(answers, script)
+
+
+def bounds(
+    schedule: Union[Schedule, Octets],
+    streams: Union[Iterable[Stream], Octets],
+    *,
+    rate: int = 1000,
+    mtu: int = 1500,
+    room: int = 128,
+    frames: int = 1_000_000,
+    port: Chosen = None,
+) -> Bounds:
+    """How long the frames of periodic streams wait under a schedule, for ever: the least and the greatest wait of each stream of a class
+    that the schedule keeps apart, whatever the other classes send, and whether its deadline is met.
+
+    `schedule` may also be `tc` lines, each of which is judged by itself, and `streams` a table. The offsets of the streams count from the
+    moment at which the schedule comes into force, and each stream goes on for ever: its `count` is no matter, and a period of 0 raises
+    `BadInput`. `rate` is in Mb/s, `mtu` in octets, `room` in frames of a class, and `frames`, 1 to 1,000,000,000, is how many frames of a
+    class are looked at, at most. What runs it is `port`, as `taprio.backend` says. Times of the answer are picoseconds."""
+    told = backend(port).bounds(_table(streams), _lines(schedule), rate=rate, mtu=mtu, room=room, frames=frames)
+    return read_bounds(told)

@@ -24,9 +24,12 @@ PROGRAM = os.environ.get("TAPRIO_PORT") or taprio.program.of_checkout(str(ROOT /
 if PROGRAM:
     os.environ["TAPRIO_PORT"] = PROGRAM
 HAS_LIBRARY = taprio.library.is_there()
+HAS_BOUNDS = HAS_LIBRARY and taprio.library.has("taprio_bounds")
 
 wants_library = unittest.skipUnless(HAS_LIBRARY, "bindings/c/out/libtaprio.so isn't there: bindings/c/build makes it")
 wants_program = unittest.skipUnless(PROGRAM, "there is no program: name one in TAPRIO_PORT")
+BOUNDS = PROGRAM or ("library" if HAS_BOUNDS else None)
+wants_bounds = unittest.skipUnless(BOUNDS, "there is neither a program nor a library with bounds")
 wants_port = unittest.skipUnless(HAS_LIBRARY or PROGRAM, "there is neither bindings/c/out/libtaprio.so nor a program")
 
 

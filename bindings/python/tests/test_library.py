@@ -1,4 +1,4 @@
-"""The five calls, over the shared object and over the program: the same inputs, outputs and exceptions."""
+"""The jobs as calls, over the shared object and over the program: the same inputs, outputs and exceptions."""
 
 import ctypes.util
 import os
@@ -14,6 +14,70 @@ import taprio
 
 def octets(name):
     return (support.EXAMPLES / name).read_bytes()
+
+
+SCHEDULE = "tc qdisc replace dev eth0 root taprio num_tc 2 map 0 1 base-time 0 sched-entry S 2 50000 sched-entry S 1 200000\n"
+STREAM = "stream 1 1 60 250us 60us 1 deadline 200us\n"
+BOUNDED = b"""\
+apart 0 1
+class 1 most 1 of 128 frames 1 every 250000000
+bound 1 class 1 wait 190000000 to 190000000 end 190672000 to 190672000 deadline 200000000 met
+"""
+
+
+class Bounds:
+    """What is asked of the library where it has the call, and of the program."""
+
+    def test_bounds(self):
+        self.assertEqual(self.port.bounds(STREAM, SCHEDULE), BOUNDED)
+        by_name = self.port.bounds(STREAM, SCHEDULE, rate=100, mtu=1000, room=5, frames=2)
+        self.assertEqual(self.port.bounds(STREAM, bytearray(SCHEDULE, "ascii"), 100, 1000, 5, 2), by_name)
+        self.assertIn(b"class 1 most 1 of 5 ", self.port.bounds(STREAM, SCHEDULE, room=5))
+        self.assertIn(b"end 196720000 to 196720000 ", self.port.bounds(STREAM, SCHEDULE, rate=100))
+        self.assertIn(b"class 1 long\n", self.port.bounds("stream 1 1 60 7us 0us 1\n", SCHEDULE, frames=3))
+        self.assertEqual(self.port.bounds("", ""), b"")
+        self.assertEqual(self.port.bounds("", SCHEDULE * 3000).count(b"apart 0 1\n"), 3000)
+
+    def test_faults_of_bounds(self):
+        for table, schedules, found in (
+            ("stream 1 1 60 0us 0us 1", SCHEDULE, ("table", 1, "BadNumber", b"")),
+            (f"{STREAM}stream 1", SCHEDULE, ("table", 2, "WordCount", b"")),
+            (STREAM, f"{SCHEDULE}clock 5\n", ("script", 2, "UnknownLine", BOUNDED)),
+        ):
+            with self.subTest(found), self.assertRaises(taprio.BadInput) as raised:
+                self.port.bounds(table, schedules)
+            fault = raised.exception
+            self.assertEqual((fault.input, fault.line, fault.name, fault.output), found)
+
+    def test_values_of_bounds(self):
+        for option, values in (
+            ("--rate", {"rate": 1001}),
+            ("--mtu", {"mtu": 9217, "frames": 0}),
+            ("--room", {"room": 0}),
+            ("--frames", {"frames": 0}),
+            ("--frames", {"frames": -1}),
+            ("--frames", {"frames": 1_000_000_001}),
+            ("--frames", {"frames": 2**64 + 1}),
+        ):
+            with self.subTest(values), self.assertRaises(taprio.BadValue) as raised:
+                self.port.bounds("", "", **values)
+            self.assertEqual(raised.exception.option, option)
+        with self.assertRaises(TypeError):
+            self.port.bounds("", "", frames=1.0)
+
+    def test_streams_from_a_moment(self):
+        table = "stream 1 5 60 250us 1ps 1"
+        self.assertEqual(self.port.streams(table, from_=5), b"clock 6\nframe 1 5 60\n")
+        self.assertEqual(self.port.streams(table, "query\n", from_=2**64), b"query\nclock 18446744073709551617\nframe 1 5 60\n")
+        with self.assertRaises(taprio.BadInput) as raised:
+            self.port.streams(table, from_=9_223_372_036_854_775_807_000)
+        self.assertEqual((raised.exception.input, raised.exception.name), ("table", "ClockTooLate"))
+        for value in (9_223_372_036_854_775_807_001, -1, 2**128):
+            with self.subTest(value), self.assertRaises(taprio.BadValue) as raised:
+                self.port.streams(table, from_=value)
+            self.assertEqual(raised.exception.option, "--from")
+        with self.assertRaises(TypeError):
+            self.port.streams(table, from_=0.5)
 
 
 class Examples:
@@ -151,6 +215,14 @@ class Room:
 class OverTheLibrary(Examples, Faults, Room, unittest.TestCase):
     port = taprio
 
+    def test_calls_that_are_not_there(self):
+        """An object that was built before there were bounds is said to be old, and has the other calls."""
+        with mock.patch.object(taprio.library, "_loaded", lambda path: mock.Mock(spec=["taprio_run"])):
+            with self.assertRaisesRegex(taprio.LibraryMissing, "no taprio_bounds: build it again"):
+                taprio.library.bounds("", "")
+            with self.assertRaisesRegex(taprio.LibraryMissing, "no taprio_streams_from"):
+                taprio.streams("", from_=1)
+
     def test_a_replay_without_until(self):
         self.assertEqual(taprio.replay("", octets("machine.pcap")[:24]), (b"", octets("machine.departures.pcap")[:24]))
 
@@ -159,8 +231,14 @@ class OverTheLibrary(Examples, Faults, Room, unittest.TestCase):
         self.assertEqual(taprio.draw(script, until=5_000_000, end=5_000_000), taprio.draw(script, end=5_000_000))
 
 
+@support.wants_library
+@unittest.skipUnless(support.HAS_BOUNDS, "the library has no bounds: bindings/c/build makes it anew")
+class BoundsOverTheLibrary(Bounds, unittest.TestCase):
+    port = taprio.Library()
+
+
 @support.wants_program
-class OverTheProgram(Examples, Faults, Room, unittest.TestCase):
+class OverTheProgram(Examples, Faults, Room, Bounds, unittest.TestCase):
     port = taprio.Program(support.PROGRAM or "taprio_port")
 
     def test_what_it_can_not_do(self):

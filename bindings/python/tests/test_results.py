@@ -1,8 +1,12 @@
 """Answers as objects: of the examples, of random runs, and of texts that no job writes."""
 
+import dataclasses
 import importlib.util
+import pathlib
 import random
+import subprocess
 import sys
+import tempfile
 import unittest
 import warnings
 from unittest import mock
@@ -13,6 +17,7 @@ from taprio import results
 
 LOOP = taprio.Schedule([(0x02, 50_000), (0x01, 200_000)], map=[0, 0, 0, 0, 0, 0, 1, 0])
 CONTROL = taprio.Stream(1, priority=6, length=64, period=250_000, offset=1_000_000, count=4)
+MET = "stream 1 6 60 250us 60us 1 deadline 250us"
 LOAD = taprio.Stream(1000, priority=0, length=1514, period=20_000, offset=992_000, count=51)
 
 
@@ -214,6 +219,176 @@ class Checks(unittest.TestCase):
                 taprio.read_check(text)
 
 
+class Bounds(unittest.TestCase):
+    ANSWERS = b"""\
+apart 1 2 3
+class 0 shared
+class 1 most 3 of 128 frames 5 every 500000000
+class 2 full at 63510000000 stream 300 frame 509
+class 3 stuck at 128000000000 stream 500 frame 129
+bound 100 class 0 unknown deadline 5 unknown
+bound 200 class 1 wait 13 to 25 end 26 to 38 deadline 1000 met
+bound 201 class 1 wait 13 to 25 end 26 to 38
+bound 300 class 2 none deadline 1000 missed
+bound 500 class 3 none
+bound 600 dropped TooLong deadline 7 missed
+refused IntervalTooShort 0
+tc-fault MissingWord map
+apart none
+class 4 long
+class 5 late
+"""
+
+    def test_kinds(self):
+        found = taprio.read_bounds(self.ANSWERS)
+        self.assertEqual(
+            found.schedules[0],
+            results.Bounded(
+                (1, 2, 3),
+                (
+                    results.ClassVerdict(0, "shared"),
+                    results.ClassVerdict(1, "bounded", 3, 128, 5, 500000000),
+                    results.ClassVerdict(2, "full", at=63510000000, stream=300, frame=509),
+                    results.ClassVerdict(3, "stuck", at=128000000000, stream=500, frame=129),
+                ),
+                (
+                    results.StreamBound(100, 0, "unknown", deadline=5),
+                    results.StreamBound(200, 1, "bounded", 13, 25, 26, 38, None, 1000, True),
+                    results.StreamBound(201, 1, "bounded", 13, 25, 26, 38),
+                    results.StreamBound(300, 2, "none", deadline=1000, met=False),
+                    results.StreamBound(500, 3, "none"),
+                    results.StreamBound(600, None, "dropped", dropped="TooLong", deadline=7, met=False),
+                ),
+            ),
+        )
+        self.assertEqual(
+            found.schedules[1:],
+            (
+                results.Bounded(None, fault=results.Refused("IntervalTooShort", 0)),
+                results.Bounded(None, fault=results.TcFault("MissingWord", "map")),
+                results.Bounded((), (results.ClassVerdict(4, "long"), results.ClassVerdict(5, "late"))),
+            ),
+        )
+        self.assertEqual([row["schedule"] for row in found.class_rows()], [0, 0, 0, 0, 3, 3])
+        self.assertEqual(
+            found.rows()[1],
+            {
+                "schedule": 0,
+                "first_id": 200,
+                "traffic_class": 1,
+                "verdict": "bounded",
+                "least_wait": 13,
+                "greatest_wait": 25,
+                "least_end": 26,
+                "greatest_end": 38,
+                "dropped": None,
+                "deadline": 1000,
+                "met": True,
+            },
+        )
+
+    def test_met(self):
+        """One deadline that is missed or unknown, or one schedule that is refused, and not all is met."""
+        for text, met in (
+            ("", True),
+            ("apart 1\nbound 1 class 1 none\n", True),
+            ("apart 1\nbound 1 class 1 wait 0 to 0 end 5 to 5 deadline 5 met\n", True),
+            ("apart 1\nbound 1 class 1 none deadline 5 missed\n", False),
+            ("apart 1\nbound 1 class 1 unknown deadline 5 unknown\n", False),
+            ("refused MapMissing\n", False),
+            ("tc-fault NoEntries\napart 1\n", False),
+        ):
+            with self.subTest(text):
+                self.assertIs(taprio.read_bounds(text).met, met)
+
+    def test_no_answers(self):
+        for text, line in (
+            (b"class 1 shared\n", 1),
+            (b"bound 1 class 1 none\n", 1),
+            (b"apart\n", 1),
+            (b"apart 1\nqueued 1 class 0\n", 2),
+            (b"refused MapMissing\nbound 1 class 1 none\n", 2),
+            (b"apart 1\nbound 1 class 1 none\nclass 1 shared\n", 3),
+            (b"apart 1\nclass 1 most 1 of 2\n", 2),
+            (b"apart 1\nbound 1 class 1 wait 1 to 2\n", 2),
+            (b"apart 1\nbound 1 class 1 none deadline 5\n", 2),
+            (b"apart 1\nbound 1 dropped\n", 2),
+        ):
+            with self.subTest(text), self.assertRaises(taprio.BadAnswer) as raised:
+                taprio.read_bounds(text)
+            self.assertEqual(raised.exception.line, line)
+
+    @support.wants_bounds
+    def test_a_schedule(self):
+        """A schedule and its line, streams and their table, and the values of the port."""
+        control = dataclasses.replace(CONTROL, offset=60_000, deadline=250_000)
+        found = taprio.bounds(LOOP, [control], port=support.BOUNDS)
+        self.assertEqual(
+            found.schedules,
+            (
+                results.Bounded(
+                    (0, 1),
+                    (results.ClassVerdict(1, "bounded", 1, 128, 1, 250_000_000),),
+                    (results.StreamBound(1, 1, "bounded", 190_000_000, 190_000_000, 190_704_000, 190_704_000, None, 250_000_000, True),),
+                ),
+            ),
+        )
+        self.assertEqual(taprio.bounds(f"{LOOP.tc()}\n", taprio.table([control]), port=support.BOUNDS), found)
+        self.assertFalse(taprio.bounds(LOOP, [dataclasses.replace(control, deadline=190_703)], port=support.BOUNDS).met)
+        other = taprio.bounds(LOOP, [control], rate=100, room=7, port=support.BOUNDS).schedules[0]
+        self.assertEqual((other.classes[0].room, other.streams[0].least_end), (7, 197_040_000))
+        self.assertEqual(taprio.bounds(LOOP, [LOAD], frames=3, port=support.BOUNDS).schedules[0].classes[0].verdict, "long")
+        with self.assertRaises(taprio.BadInput):
+            taprio.bounds(LOOP, [dataclasses.replace(control, period=0)], port=support.BOUNDS)
+        with self.assertRaises(TypeError):
+            taprio.bounds(None, [control], port=support.BOUNDS)
+
+    @support.wants_bounds
+    def test_random_bounds(self):
+        """Random streams of one class: a run as long as their bounds go has just the least and the greatest wait of each stream and the
+        most frames at once; and a queue that gets full drops just the frame that is named."""
+        verdicts = set()
+        for seed in range(40):
+            dice = random.Random(seed)
+            given = []
+            for number in range(dice.randint(1, 3)):
+                period, offset = dice.choice([75_000, 100_000, 125_000, 250_000, 500_000]), dice.randint(0, 250_000)
+                given.append(taprio.Stream(1000 * number, 6, dice.randint(60, 1500), period, offset, 9_000_000 // period))
+            room = dice.choice([1, 2, 128])
+            told = taprio.bounds(LOOP, given, room=room, port=support.BOUNDS).schedules[0]
+            run = taprio.run_streams(LOOP, given, from_ns=250_000, until_ns=12_000_000, room=room, port=support.BOUNDS)
+            verdict = told.classes[0]
+            verdicts.add(verdict.verdict)
+            if verdict.verdict == "bounded":
+                for stream, bound in zip(given, told.streams):
+                    # (after 8 ms some stream may have ended)
+                    waits = [it.wait for it in run.of(stream.ids) if it.arrived < 8_000_000_000]
+                    self.assertEqual((min(waits), max(waits)), (bound.least_wait, bound.greatest_wait))
+                self.assertEqual(run.summary[1].most, verdict.most)
+            elif verdict.verdict == "full" and verdict.at < 8_000_000_000:
+                first = next(it for it in run.frames if it.dropped)
+                self.assertEqual((first.id, first.arrived), (verdict.stream + verdict.frame - 1, verdict.at + 250_000_000))
+        self.assertEqual(verdicts, {"bounded", "full"})
+
+    @support.wants_program
+    def test_met_and_strict(self):
+        """All is met just where the program ends with status 0 under --strict."""
+        for table, schedules, status in (
+            (MET, LOOP.tc(), 0),
+            (MET.replace("deadline 250us", "deadline 1us"), LOOP.tc(), 1),
+            (MET, "tc qdisc del dev eth0 root", 0),
+            (MET, f"{LOOP.tc()}\ntc qdisc replace", 1),
+            ("", "", 0),
+        ):
+            with self.subTest(table=table, schedules=schedules), tempfile.TemporaryDirectory(prefix="taprio-strict-") as folder:
+                path = pathlib.Path(folder, "table")
+                path.write_text(table)
+                words = [support.PROGRAM, "bounds", "--strict", path]
+                ran = subprocess.run(words, input=schedules.encode(), capture_output=True, check=False)
+                self.assertEqual(ran.returncode, status)
+                self.assertIs(taprio.read_bounds(ran.stdout).met, status == 0)
+
+
 class Streams(unittest.TestCase):
     def test_tables(self):
         self.assertEqual(CONTROL.line(), "stream 1 6 64 250000ns 1000000ns 4")
@@ -222,6 +397,8 @@ class Streams(unittest.TestCase):
             "stream 0 7 60 5ns 0ns 1 tagged\nstream 1000 0 1514 20000ns 992000ns 51\n",
         )
         self.assertEqual(CONTROL.ids, range(1, 5))
+        self.assertEqual(taprio.Stream(1, 6, 64, 5, deadline=7).line(), "stream 1 6 64 5ns 0ns 1 deadline 7ns")
+        self.assertEqual(taprio.Stream(1, 6, 64, 5, tagged=True, deadline=0).line(), "stream 1 6 64 5ns 0ns 1 tagged deadline 0ns")
 
     def test_faults(self):
         for values, option in (
@@ -231,6 +408,8 @@ class Streams(unittest.TestCase):
             ({"period": 0.5}, "period"),
             ({"offset": 2**63}, "offset"),
             ({"count": True}, "count"),
+            ({"deadline": 0.5}, "deadline"),
+            ({"deadline": -1}, "deadline"),
             ({"first_id": 2**64 - 1, "count": 2}, "count"),
             ({"period": 2**62, "count": 3}, "count"),
         ):
@@ -245,6 +424,7 @@ class Streams(unittest.TestCase):
             taprio.Stream(2**64 - 1, 255, 2**32 - 1, 2**63 - 1, 2**63 - 1),
             taprio.Stream(0, 0, 0, 0, 0, 0),
             taprio.Stream(0, 0, 0, 2**62, 0, 2, True),
+            taprio.Stream(0, 0, 0, 0, 0, 0, True, 2**63 - 1),
         ):
             taprio.backend().streams(taprio.table([stream]))
 
