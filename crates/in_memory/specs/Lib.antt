@@ -1,4 +1,5 @@
 pub mod Values
 pub mod Slices
+pub mod Bounds
 pub mod Captures
 pub mod Pictures

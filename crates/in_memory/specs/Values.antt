@@ -1,11 +1,16 @@
 -- What numbers say of a port: the same as words say of it (`script`), judged in the same order.
-use Rattle.std.specs.Prelude.{ℕ, Result, Ok, Err}
+use Rattle.std.specs.Prelude.{ℕ, nat_le, Result, Ok, Err, if◌then◌else◌}
+use Rattle.wire_time.specs.Moment.{greatest_moment}
 use Rattle.wire_time.specs.Wire.{rate_of}
 use Rattle.wire_time.specs.declared.RateFault.{RateFault}
+use Rattle.job.specs.Outcome.{Outcome}
 use Rattle.script.specs.Setup.{Setup}
 use Rattle.script.specs.Settings.{settings_with, summarized}
 use Rattle.script.specs.declared.settings.BadValue.{BadValue}
-use Rattle.script.specs.declared.settings.BadValue.TheVariants.{Rate}
+use Rattle.script.specs.declared.settings.BadValue.TheVariants.{From, Rate}
+use Rattle.traffic.specs.Faults.{streams_telling}
+use Rattle.traffic.specs.declared.faults.StreamsInput.{StreamsInput}
+use Rattle.in_memory.specs.Slices.{Told, refused, told_of}
 use Rattle.in_memory.specs.declared.values.PortValues.{PortValues}
 
 -- the rate, or that it is bad
@@ -25,3 +30,12 @@ settings_where (Err value) v = Err value
 -- the settings of values, or the first that is bad
 abbrev pub settings_at : PortValues → Result Setup BadValue
 settings_at v = settings_where (rate_at v.rate) v
+
+-- a moment that offsets count from, or that it is bad
+abbrev pub from_at : ℕ → Result ℕ BadValue
+from_at from = if nat_le from greatest_moment then Ok from else Err From
+
+-- by such a moment: the script that is to be written, or that the moment is bad
+abbrev pub streams_told_by : (ℕ → Outcome StreamsInput) → Result ℕ BadValue → Told
+streams_told_by whole (Ok from) = told_of streams_telling (whole from)
+streams_told_by whole (Err value) = refused value

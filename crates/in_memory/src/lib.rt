@@ -5,10 +5,11 @@
 //! little room, and at 4 out of memory: nothing is written then.
 //!
 //! The contract of each call cites the job's own definition of its output, by specs/Slices.antt,
-//! specs/Captures.antt and specs/Pictures.antt.
+//! specs/Captures.antt, specs/Pictures.antt and specs/Bounds.antt.
 #![tactic(auto)]
 
 mod answering;
+mod bounds;
 mod captures;
 mod checks;
 mod pictures;
@@ -17,6 +18,7 @@ mod tables;
 mod values;
 
 pub use answering::Ran;
+pub use bounds::bounds_octets;
 pub use captures::{ReplayRan, replay_octets};
 pub use checks::check_octets;
 pub use pictures::{PictureValues, draw_octets};

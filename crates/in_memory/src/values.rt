@@ -1,10 +1,11 @@
 //! What a run is given, as numbers.
 
-ghost use Rattle.std.specs.Prelude.{◌≡◌};
-ghost use Rattle.in_memory.specs.Values.{rate_at, settings_at};
+ghost use Rattle.std.specs.Prelude.{◌≡◌, ◌≤◌, IfOk};
+ghost use Rattle.in_memory.specs.Values.{from_at, rate_at, settings_at};
+ghost use Rattle.wire_time.specs.Moment.{greatest_moment};
 
 use script::{BadValue, Settings};
-use wire_time::Rate;
+use wire_time::{MAX_MOMENT, Rate};
 
 /// What a port runs with, as numbers that are still to be judged.
 #[derive(Clone, Copy, Debug, PartialEq, Eq)]
@@ -28,6 +29,18 @@ pub fn rate_at(mbps: u32) -> Result<Rate, BadValue>
     match Rate::from_mbps(mbps) {
         Ok(rate) => Ok(rate),
         Err(_) => Err(BadValue::Rate),
+    }
+}
+
+/// A moment that offsets count from, in picoseconds.
+pub fn from_at(from: u128) -> Result<u128, BadValue>
+    ensures given { result ≡ from_at from }
+    ensures within { IfOk result (λ moment. moment ≤ greatest_moment) }
+{
+    if from <= MAX_MOMENT {
+        Ok(from)
+    } else {
+        Err(BadValue::From)
     }
 }
 

@@ -17,7 +17,7 @@ const BOTH: &[u8] =
 /// Whether that is written.
 fn is_made(alloc: Global) -> bool {
     let (mut output, mut fault) = (DOTS, DOTS);
-    let ran = streams_octets(&alloc, TABLE, SCRIPT, &mut output, &mut fault);
+    let ran = streams_octets(&alloc, 0, TABLE, SCRIPT, &mut output, &mut fault);
     ran == done(BOTH.len()) && has(&output, BOTH) && has(&fault, b"")
 }
 

@@ -1,0 +1,89 @@
+//! The delays of streams, from a table and schedule commands in memory.
+
+ghost use Rattle.std.specs.Prelude.{◌≡◌, List, ℕ, Result};
+ghost use Rattle.abstract_port.specs.declared.Command.{Command};
+ghost use Rattle.in_memory.specs.Bounds.{bounds_told_by, frames_at, bounds_settings_at};
+ghost use Rattle.in_memory.specs.Slices.{Answers, slices, told_of};
+ghost use Rattle.stream_bounds.specs.Faults.{bounds_telling};
+ghost use Rattle.stream_bounds.specs.Outcome.{outcome_of};
+ghost use Rattle.tc_reader.specs.Reader.{IsReader};
+ghost use Rattle.tc_reader.specs.declared.fault.TcFault.{TcFault};
+
+use crate::answering::{Ran, end_in_memory, put_told, refuse_value};
+use crate::values::{PortValues, settings_at};
+use std::alloc::Global;
+use stream_bounds::{BoundsSettings, BoundsValue, MAX_FRAMES, bounds};
+
+/// The text of a number of frames that is out of its limits.
+const BAD_FRAMES: &[u8] = b"taprio_port: bad value of --frames\n";
+
+/// A number of frames that may be looked at.
+fn frames_at(frames: u64) -> Option<u64>
+    ensures { result ≡ frames_at frames }
+{
+    if 1 <= frames && frames <= MAX_FRAMES {
+        Some(frames)
+    } else {
+        None
+    }
+}
+
+/// The settings of these values and of so many frames, which are not strict. The first that is out of its limits is the fault.
+fn bounds_settings_at(values: PortValues, frames: u64) -> Result<BoundsSettings, BoundsValue>
+    ensures { result ≡ bounds_settings_at values frames }
+{
+    let port = match settings_at(values) {
+        Ok(port) => port,
+        Err(value) => return Err(BoundsValue::Port(value)),
+    };
+    match frames_at(frames) {
+        Some(frames) => Ok(BoundsSettings {
+            port,
+            frames,
+            strict: false,
+        }),
+        None => Err(BoundsValue::Frames),
+    }
+}
+
+/// Answers about schedules and the streams of a table, with settings.
+fn bounds_with(
+    alloc: Global,
+    settings: BoundsSettings,
+    table: &[u8],
+    schedules: &[u8],
+    output: &mut [u8],
+    fault: &mut [u8],
+) -> Ran
+    ensures { (read : List (List ℕ) → Result Command TcFault) → IsReader read → Answers (told_of bounds_telling (outcome_of read settings table.now schedules.now)) result (slices output.old fault.old) (slices output.new fault.new) }
+{
+    let mut written = Vec::new(alloc);
+    let run = bounds(alloc, table, schedules, &mut written, settings);
+    end_in_memory(&alloc, run, written.as_slice(), output, fault)
+}
+
+/// Answers how long the frames of a table's streams wait under each schedule, for ever, with these values: what `stream_bounds::bounds` writes comes
+/// into `output`, and the text of a fault into `fault`, as the program writes it on its standard error. `frames`, 1 to 1,000,000,000, is how many
+/// frames of a class are looked at, at most. A deadline that is missed is no fault: the lines say it. The moment to run to and the summary of the
+/// values change nothing, but a moment out of its limits is refused.
+///
+/// Status 2 where a value is out of its limits, 3 where a line of the table has a fault, and nothing is written then, or where one of the schedules
+/// has, after what is reported of the lines before it.
+pub fn bounds_octets(
+    alloc: Global,
+    values: PortValues,
+    frames: u64,
+    table: &[u8],
+    schedules: &[u8],
+    output: &mut [u8],
+    fault: &mut [u8],
+) -> Ran
+    ensures { (read : List (List ℕ) → Result Command TcFault) → IsReader read →
+        Answers (bounds_told_by (λ settings. outcome_of read settings table.now schedules.now) (bounds_settings_at values frames)) result (slices output.old fault.old) (slices output.new fault.new) }
+{
+    match bounds_settings_at(values, frames) {
+        Ok(settings) => bounds_with(alloc, settings, table, schedules, output, fault),
+        Err(BoundsValue::Port(value)) => refuse_value(&alloc, value, output, fault),
+        Err(BoundsValue::Frames) => put_told(2, b"", BAD_FRAMES, output, fault),
+    }
+}
