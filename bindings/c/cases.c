@@ -79,13 +79,14 @@ static int begins(struct octets slice, struct octets with) {
     return slice.length >= with.length && memcmp(slice.at, with.at, with.length) == 0 && is_untouched(slice, with.length);
 }
 
-enum job { RUN, CHECK, STREAMS, DRAW };
+enum job { RUN, CHECK, STREAMS, STREAMS_FROM, BOUNDS, DRAW };
 
 struct call {
     enum job job;
     struct taprio_port_values values;
-    struct taprio_picture_values shown;
+    struct taprio_picture_values shown; /* of STREAMS_FROM its beginning */
     uint32_t windows;
+    uint64_t frames;
     struct octets input, second;
 };
 
@@ -102,6 +103,14 @@ static struct taprio_ran call(const struct call *c, struct octets output, struct
     case STREAMS:
         taprio_streams(c->input.at, c->input.length, c->second.at, c->second.length, output.at, output.length, fault.at,
                        fault.length, &ran);
+        break;
+    case STREAMS_FROM:
+        taprio_streams_from(c->shown.from_low, c->shown.from_high, c->input.at, c->input.length, c->second.at, c->second.length,
+                            output.at, output.length, fault.at, fault.length, &ran);
+        break;
+    case BOUNDS:
+        taprio_bounds(&c->values, c->frames, c->input.at, c->input.length, c->second.at, c->second.length, output.at,
+                      output.length, fault.at, fault.length, &ran);
         break;
     default:
         taprio_draw(&c->values, &c->shown, c->input.at, c->input.length, output.at, output.length, fault.at, fault.length, &ran);
@@ -162,7 +171,7 @@ static void worked(void) {
     char *from = need(malloc(all.length + 1));
     memcpy(from, all.at, all.length);
     from[all.length] = 0;
-    struct call c = {RUN, usual, whole, 0, {0}, {0}};
+    struct call c = {RUN, usual, whole, 0, 0, {0}, {0}};
     int scripts = 0;
     for (char *at = from; at;) {
         char *end = strstr(at, "====\n"), *part = strstr(at, "----\n");
@@ -228,9 +237,76 @@ static void machine(void) {
         free(all[at].at);
 }
 
+/* a machine: a drive and a brake in class 7, a camera in class 5, and the rest */
+static const char machine_streams[] =
+    "# A machine: a drive and a brake in class 7, a camera in class 5, and the rest.\n"
+    "stream 1 7 60 250us 20us 1000 deadline 250us\n"
+    "stream 100 7 200 1ms 20us 1000 deadline 250us\n"
+    "stream 200 5 1514 500us 0us 1000 deadline 1ms\n"
+    "stream 300 5 1514 125us 10us 1000\n"
+    "stream 400 0 1514 1ms 0us 1000 deadline 5ms\n"
+    "stream 500 6 100 1ms 0us 1000 deadline 1ms\n"
+    "stream 600 5 1515 1ms 0us 1000 deadline 1ms\n";
+
+/* class 7 has the first 13 us of each 250 us, class 5 the next 60 or 24, class 6 a window that is too short or just long enough */
+static const char machine_schedules[] =
+    "# class 7 has the first 13 us of each 250 us, class 5 the next 60, class 6 a window that is too short, the rest share\n"
+    "tc qdisc replace dev eth0 root taprio num_tc 8 map 0 1 2 3 4 5 6 7 base-time 0 sched-entry S 80 13000 sched-entry S 20 60000 sched-entry S 40 800 sched-entry S 1f 176200\n"
+    "# class 5 has 24 us: too little for stream 300\n"
+    "tc qdisc replace dev eth0 root taprio num_tc 8 map 0 1 2 3 4 5 6 7 base-time 0 sched-entry S 80 13000 sched-entry S 20 26000 sched-entry S 40 12000 sched-entry S 1f 199000\n";
+
+static const char machine_bounds[] =
+    "apart 5 6 7\n"
+    "class 0 shared\n"
+    "class 5 most 3 of 128 frames 5 every 500000000\n"
+    "class 6 stuck at 128000000000 stream 500 frame 129\n"
+    "class 7 most 2 of 128 frames 5 every 1000000000\n"
+    "bound 1 class 7 wait 230000000 to 230000000 end 230672000 to 230672000 deadline 250000000 met\n"
+    "bound 100 class 7 wait 230672000 to 230672000 end 232464000 to 232464000 deadline 250000000 met\n"
+    "bound 200 class 5 wait 13000000 to 25304000 end 25304000 to 37608000 deadline 1000000000 met\n"
+    "bound 300 class 5 wait 15304000 to 128000000 end 27608000 to 140304000\n"
+    "bound 400 class 0 unknown deadline 5000000000 unknown\n"
+    "bound 500 class 6 none deadline 1000000000 missed\n"
+    "bound 600 dropped TooLong deadline 1000000000 missed\n"
+    "apart 5 6 7\n"
+    "class 0 shared\n"
+    "class 5 full at 63510000000 stream 300 frame 509\n"
+    "class 6 most 1 of 128 frames 1 every 1000000000\n"
+    "class 7 most 2 of 128 frames 5 every 1000000000\n"
+    "bound 1 class 7 wait 230000000 to 230000000 end 230672000 to 230672000 deadline 250000000 met\n"
+    "bound 100 class 7 wait 230672000 to 230672000 end 232464000 to 232464000 deadline 250000000 met\n"
+    "bound 200 class 5 none deadline 1000000000 missed\n"
+    "bound 300 class 5 none\n"
+    "bound 400 class 0 unknown deadline 5000000000 unknown\n"
+    "bound 500 class 6 wait 39000000 to 39000000 end 39992000 to 39992000 deadline 1000000000 met\n"
+    "bound 600 dropped TooLong deadline 1000000000 missed\n";
+
+static void bounds(void) {
+    struct call c = {BOUNDS, usual, whole, 0, TAPRIO_FRAMES, {0}, {0}};
+    struct octets none = text(""), schedules = text(machine_schedules), unknown = text("tc qdisc del dev eth0 root\nclock 5\n");
+    c.second = schedules;
+    small("bounds of a machine", c, machine_streams, TAPRIO_DONE, machine_bounds, "");
+    small("no streams", c, "", TAPRIO_DONE, "apart 5 6 7\napart 5 6 7\n", "");
+    small("a stream without a period", c, "stream 1 7 60 0us 0us 1", TAPRIO_BAD_INPUT, "", "taprio_port: table line 1: BadNumber\n");
+    struct call bad = c;
+    bad.second = unknown;
+    small("a fault of schedules", bad, "", TAPRIO_BAD_INPUT, "apart none\n", "taprio_port: script line 2: UnknownLine\n");
+    bad.second = none;
+    small("no schedules", bad, machine_streams, TAPRIO_DONE, "", "");
+    bad.frames = 0;
+    small("no frames", bad, "stream", TAPRIO_BAD_VALUE, "", "taprio_port: bad value of --frames\n");
+    bad.frames = 1000000001;
+    small("many frames", bad, "stream", TAPRIO_BAD_VALUE, "", "taprio_port: bad value of --frames\n");
+    bad.values.room = 0;
+    small("a room and frames", bad, "stream", TAPRIO_BAD_VALUE, "", "taprio_port: bad value of --room\n");
+    free(none.at);
+    free(schedules.at);
+    free(unknown.at);
+}
+
 int main(int count, char **words) {
     folder = count > 1 ? words[1] : "examples";
-    struct call c = {RUN, usual, whole, 0, {0}, {0}};
+    struct call c = {RUN, usual, whole, 0, 0, {0}, {0}};
     static const char *const scripts[] = {"first", "priorities", "schedule", "manual", "guard_band", "extension"};
     for (size_t at = 0; at < sizeof scripts / sizeof *scripts; at++) {
         char script[64], answers[64];
@@ -242,13 +318,21 @@ int main(int count, char **words) {
     c.values.summary = 7;
     of_files(c, "summary.script", NULL, "summary.answers");
     worked();
-    struct call check = {CHECK, usual, whole, 0, {0}, {0}};
+    struct call check = {CHECK, usual, whole, 0, 0, {0}, {0}};
     of_files(check, "apart.schedules", NULL, "apart.answers");
     check.windows = 1;
     of_files(check, "windows.schedules", NULL, "windows.answers");
-    struct call table = {STREAMS, usual, whole, 0, {0}, {0}};
+    struct call table = {STREAMS, usual, whole, 0, 0, {0}, {0}};
     of_files(table, "planned.streams", "planned.schedule", "planned.script");
-    struct call draw = {DRAW, usual, whole, 0, {0}, {0}};
+    struct call later = {STREAMS_FROM, usual, whole, 0, 0, {0}, {0}};
+    of_files(later, "planned.streams", "planned.schedule", "planned.script");
+    later.shown.from_low = 5;
+    later.shown.from_high = 3; /* 3 * 2^64 + 5 */
+    small("a moment", later, "stream 1 5 60 250us 1ps 1", TAPRIO_DONE, "clock 55340232221128654854\nframe 1 5 60\n", "");
+    later.shown.from_high = 500;
+    small("a late moment", later, "stream", TAPRIO_BAD_VALUE, "", "taprio_port: bad value of --from\n");
+    bounds();
+    struct call draw = {DRAW, usual, whole, 0, 0, {0}, {0}};
     of_files(draw, "first.script", NULL, "first.svg");
     of_files(draw, "priorities.script", NULL, "priorities.svg");
     of_files(draw, "summary.script", NULL, "summary.svg");
@@ -269,7 +353,7 @@ int main(int count, char **words) {
     of_files(part, "manual.script", NULL, "manual.svg");
     machine();
 
-    struct call run = {RUN, usual, whole, 0, {0}, {0}};
+    struct call run = {RUN, usual, whole, 0, 0, {0}, {0}};
     small("no script", run, "", TAPRIO_DONE, "", "");
     small("a fault", run, "frame 1 0 60\nclock 1000000\nclok 5\n", TAPRIO_BAD_INPUT,
           "queued 1 class 0\nstart 1 class 0 at 0 end 672000\n", "taprio_port: script line 3: UnknownLine\n");

@@ -17,7 +17,7 @@
  *
  * What lies behind the text in a slice stays as it was. The texts of faults are those that the program writes on its standard
  * error: they begin with "taprio_port: " and end with a newline, without a NUL. Formats: docs/reference/script.md, docs/reference/tc.md,
- * docs/reference/check.md, docs/reference/streams.md, docs/reference/draw.md, docs/reference/replay.md.
+ * docs/reference/check.md, docs/reference/streams.md, docs/reference/bounds.md, docs/reference/draw.md, docs/reference/replay.md.
  *
  * What a caller has to keep
  * -------------------------
@@ -67,6 +67,7 @@ struct taprio_port_values {
 };
 
 #define TAPRIO_PORT_VALUES {1000, 1500, 128, 0, 0, 0, 0}
+#define TAPRIO_FRAMES 1000000
 
 /* What a picture shows; 48 octets. The program's values where no words are given: TAPRIO_PICTURE_VALUES. */
 struct taprio_picture_values {
@@ -111,6 +112,23 @@ void taprio_check(uint32_t rate, uint32_t windows, const uint8_t *schedules, siz
  * script has it, the output is what comes before it. */
 void taprio_streams(const uint8_t *table, size_t table_length, const uint8_t *script, size_t script_length, uint8_t *output,
                     size_t output_length, uint8_t *fault, size_t fault_length, struct taprio_ran *ran);
+
+/* The same, with a moment in picoseconds that is added to each offset, as `--from` does: from_high * 2^64 + from_low, at most
+ * 9223372036854775807000. taprio_streams is this call with 0. */
+void taprio_streams_from(uint64_t from_low, uint64_t from_high, const uint8_t *table, size_t table_length,
+                         const uint8_t *script, size_t script_length, uint8_t *output, size_t output_length, uint8_t *fault,
+                         size_t fault_length, struct taprio_ran *ran);
+
+/* Reports for each schedule command how long the frames of a table of streams wait, for ever, as `taprio_port bounds` does:
+ * which classes the schedule keeps apart, the verdict about each class, and the least and the greatest wait of each stream. The
+ * offsets of the table count from the moment at which the schedule comes into force. `frames`, 1 to 1000000000, is how many frames
+ * of a class are looked at, at most; TAPRIO_FRAMES is the program's value. `until` and `summary` of the values change nothing,
+ * but a moment out of its limits is a bad value. A deadline that is missed is no fault: the lines say so, and the status is
+ * TAPRIO_DONE. At TAPRIO_BAD_INPUT there is no output where the table has the fault; where a schedule line has it, the output is
+ * what is reported of the lines before. */
+void taprio_bounds(const struct taprio_port_values *values, uint64_t frames, const uint8_t *table, size_t table_length,
+                   const uint8_t *schedules, size_t schedules_length, uint8_t *output, size_t output_length, uint8_t *fault,
+                   size_t fault_length, struct taprio_ran *ran);
 
 /* Draws the run of a script as an SVG picture, as `taprio_port draw` does. There is no output at TAPRIO_BAD_INPUT. */
 void taprio_draw(const struct taprio_port_values *values, const struct taprio_picture_values *shown, const uint8_t *script,

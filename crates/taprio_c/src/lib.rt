@@ -10,23 +10,26 @@ ghost use Rattle.abstract_port.specs.declared.Command.{Command};
 ghost use Rattle.capture.specs.Records.{Entry};
 ghost use Rattle.capture.specs.declared.fault.CapFault.{CapFault};
 ghost use Rattle.capture.specs.declared.reader.End.{End};
+ghost use Rattle.in_memory.specs.Bounds.{bounds_settings_at, bounds_told_by};
 ghost use Rattle.in_memory.specs.Captures.{Replays, outputs, told_by_replay};
 ghost use Rattle.in_memory.specs.Pictures.{DrawsWith, options_at};
 ghost use Rattle.in_memory.specs.Slices.{Answers, slices, told_by, told_of};
-ghost use Rattle.in_memory.specs.Values.{rate_at, settings_at};
+ghost use Rattle.in_memory.specs.Values.{from_at, rate_at, settings_at, streams_told_by};
 ghost use Rattle.replay.specs.Outcome.{ReadsAs, outcome_of as replay_outcome_of};
 ghost use Rattle.schedule_check.specs.Checked.{whole_check};
 ghost use Rattle.schedule_check.specs.Windows.{IsTeller, Teller};
 ghost use Rattle.script.specs.Outcome.{outcome_of};
-ghost use Rattle.taprio_c.specs.FromC.{is_wanted, picture_values, port_values};
+ghost use Rattle.stream_bounds.specs.Outcome.{outcome_of as bounds_outcome_of};
+ghost use Rattle.taprio_c.specs.FromC.{is_wanted, moment_of, picture_values, port_values};
 ghost use Rattle.tc_reader.specs.Reader.{IsReader};
 ghost use Rattle.tc_reader.specs.declared.fault.TcFault.{TcFault};
 ghost use Rattle.traffic.specs.Faults.{streams_telling};
 ghost use Rattle.traffic.specs.Outcome.{outcome_of as streams_outcome_of};
 
-use crate::values::{is_wanted, picture_values, port_values};
+use crate::values::{is_wanted, moment_of, picture_values, port_values};
 use in_memory::{
-    Ran, ReplayRan, check_octets, draw_octets, replay_octets, run_octets, streams_octets,
+    Ran, ReplayRan, bounds_octets, check_octets, draw_octets, replay_octets, run_octets,
+    streams_octets,
 };
 use std::alloc::Global;
 pub use values::{CPictureValues, CPortValues};
@@ -75,9 +78,46 @@ pub extern "C" fn taprio_streams(
     fault: &mut [u8],
     ran: &mut Ran,
 )
-    ensures { Answers (told_of streams_telling (streams_outcome_of table.now script.now)) ran.new (slices output.old fault.old) (slices output.new fault.new) }
+    ensures { Answers (told_of streams_telling (streams_outcome_of 0 table.now script.now)) ran.new (slices output.old fault.old) (slices output.new fault.new) }
 {
-    *ran = streams_octets(&alloc, table, script, output, fault);
+    *ran = streams_octets(&alloc, 0, table, script, output, fault);
+}
+
+/// The same, with a moment that is added to each offset: `from_high * 2^64 + from_low` picoseconds.
+#[unsafe(no_mangle)]
+pub extern "C" fn taprio_streams_from(
+    alloc: Global,
+    from_low: u64,
+    from_high: u64,
+    table: &[u8],
+    script: &[u8],
+    output: &mut [u8],
+    fault: &mut [u8],
+    ran: &mut Ran,
+)
+    ensures { Answers (streams_told_by (λ from. streams_outcome_of from table.now script.now) (from_at (moment_of from_low from_high))) ran.new (slices output.old fault.old) (slices output.new fault.new) }
+{
+    let from = moment_of(from_low, from_high);
+    *ran = streams_octets(&alloc, from, table, script, output, fault);
+}
+
+/// Answers how long the frames of a table's streams wait under each schedule, for ever; at most `frames` frames of a class are looked at.
+#[unsafe(no_mangle)]
+pub extern "C" fn taprio_bounds(
+    alloc: Global,
+    values: &CPortValues,
+    frames: u64,
+    table: &[u8],
+    schedules: &[u8],
+    output: &mut [u8],
+    fault: &mut [u8],
+    ran: &mut Ran,
+)
+    ensures { (read : List (List ℕ) → Result Command TcFault) → IsReader read →
+        Answers (bounds_told_by (λ settings. bounds_outcome_of read settings table.now schedules.now) (bounds_settings_at (port_values values.now) frames)) ran.new (slices output.old fault.old) (slices output.new fault.new) }
+{
+    let values = port_values(values);
+    *ran = bounds_octets(alloc, values, frames, table, schedules, output, fault);
 }
 
 /// Draws the run of a script as an SVG picture.

@@ -56,7 +56,7 @@ pub fn is_wanted(value: u32) -> bool
 }
 
 /// The moment of two halves.
-fn moment_of(low: u64, high: u64) -> u128
+pub fn moment_of(low: u64, high: u64) -> u128
     ensures { result ≡ moment_of low high }
 {
     u128::from(high) * TWO_TO_64 + u128::from(low)
