@@ -1,5 +1,6 @@
 //! The jobs over memory: what is written into slices, and what is not.
 
+mod bounds;
 mod checks;
 mod lent;
 mod pictures;

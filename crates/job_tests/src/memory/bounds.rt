@@ -1,0 +1,112 @@
+//! The delays of streams, from memory.
+
+use crate::memory::lent::{DOTS, USUAL, done, has, room_for};
+use in_memory::{PortValues, Ran, bounds_octets};
+use std::alloc::Global;
+
+/// A stream that just misses its window, and meets its deadline.
+const TABLE: &[u8] = b"stream 1 1 60 250us 60us 1 deadline 200us\n";
+
+/// A window for each of two classes.
+const SCHEDULE: &[u8] = b"tc qdisc replace dev eth0 root taprio num_tc 2 map 0 1 base-time 0 \
+sched-entry S 2 50000 sched-entry S 1 200000\n";
+
+/// The same, and then a line that is no command.
+const BROKEN: &[u8] = b"tc qdisc replace dev eth0 root taprio num_tc 2 map 0 1 base-time 0 \
+sched-entry S 2 50000 sched-entry S 1 200000\nclock 5\n";
+
+/// What is answered about the schedule.
+const ANSWERS: &[u8] = b"apart 0 1\n\
+class 1 most 1 of 128 frames 1 every 250000000\n\
+bound 1 class 1 wait 190000000 to 190000000 end 190672000 to 190672000 deadline 200000000 met\n";
+
+/// What is said of that line.
+const UNKNOWN: &[u8] = b"taprio_port: script line 2: UnknownLine\n";
+
+/// Whether the schedule is answered and the fault told; or, where the slice of this number lacks an octet, nothing is written.
+fn is_told(alloc: Global, lacking: u8) -> bool {
+    let (mut output, mut fault) = (DOTS, DOTS);
+    let ran = bounds_octets(
+        alloc,
+        USUAL,
+        9,
+        TABLE,
+        BROKEN,
+        &mut output[..room_for(ANSWERS, lacking == 0)],
+        &mut fault[..room_for(UNKNOWN, lacking == 1)],
+    );
+    let lacks = lacking < 2;
+    let wanted = Ran {
+        output: ANSWERS.len(),
+        fault: UNKNOWN.len(),
+        status: if lacks { 5 } else { 3 },
+    };
+    let (answers, text): (&[u8], &[u8]) = if lacks {
+        (b"", b"")
+    } else {
+        (ANSWERS, UNKNOWN)
+    };
+    ran == wanted && has(&output, answers) && has(&fault, text)
+}
+
+/// With too little room for the answers by one octet, and for the text of the fault, and then with just enough.
+#[test]
+fn the_room_that_is_told_is_enough(rt: HostRuntime) {
+    for lacking in 0..3u8 {
+        assert!(rt; is_told(rt.alloc(), lacking), "slice {lacking}");
+    }
+}
+
+/// A stream whose frames are dropped when they come.
+const LOST: &[u8] = b"stream 7 0 9 1ms 0ns 1 deadline 1ps\n";
+
+/// What is answered about it.
+const MISSED: &[u8] = b"apart 0 1\nbound 7 dropped Runt deadline 1 missed\n";
+
+/// Whether a deadline that is missed is no fault.
+fn is_missed(alloc: Global) -> bool {
+    let (mut output, mut fault) = (DOTS, DOTS);
+    let ran = bounds_octets(alloc, USUAL, 1, LOST, SCHEDULE, &mut output, &mut fault);
+    ran == done(MISSED.len()) && has(&output, MISSED) && has(&fault, b"")
+}
+
+#[test]
+fn a_missed_deadline_is_no_fault(rt: HostRuntime) {
+    assert!(rt; is_missed(rt.alloc()));
+}
+
+/// An mtu that is too small.
+const NARROW: PortValues = PortValues { mtu: 67, ..USUAL };
+
+/// Whether values, or a table whose stream has no period, are refused with this text, and nothing is written.
+fn is_refused(alloc: Global, values: PortValues, frames: u64, text: &[u8], status: u8) -> bool {
+    let (mut output, mut fault) = (DOTS, DOTS);
+    let table = b"stream 1 1 60 0us 60us 1\n";
+    let ran = bounds_octets(
+        alloc,
+        values,
+        frames,
+        table,
+        SCHEDULE,
+        &mut output,
+        &mut fault,
+    );
+    let wanted = Ran {
+        output: 0,
+        fault: text.len(),
+        status,
+    };
+    ran == wanted && has(&output, b"") && has(&fault, text)
+}
+
+/// The first of the values that is out of its limits is told, and then the table.
+#[test]
+fn values_and_a_table_are_refused(rt: HostRuntime) {
+    let bad_mtu = b"taprio_port: bad value of --mtu\n";
+    let bad_frames = b"taprio_port: bad value of --frames\n";
+    let bad_number = b"taprio_port: table line 1: BadNumber\n";
+    assert!(rt; is_refused(rt.alloc(), NARROW, 0, bad_mtu, 2));
+    assert!(rt; is_refused(rt.alloc(), USUAL, 0, bad_frames, 2));
+    assert!(rt; is_refused(rt.alloc(), USUAL, 1_000_000_001, bad_frames, 2));
+    assert!(rt; is_refused(rt.alloc(), USUAL, 1_000_000_000, bad_number, 3));
+}
