@@ -50,7 +50,7 @@ export function boundsVerdict({ classes, streams }, write) {
 }
 
 const BEGIN = 92; // where time begins, in pixels
-const HEIGHT = 30; // from one stream to the next
+const ROW_STEP = 30; // from one stream to the next
 const DRAWN = 200; // streams that are drawn
 
 /**
@@ -62,13 +62,13 @@ const DRAWN = 200; // streams that are drawn
  */
 export function drawBounds(streams, width, write) {
   const drawn = streams.slice(0, DRAWN);
-  const height = 24 + drawn.length * HEIGHT + 12;
+  const height = 24 + drawn.length * ROW_STEP + 12;
   const svg = element("svg", { width, height, viewBox: `0 0 ${width} ${height}`, role: "img", class: "bounds" });
   const most = drawn.reduce((most, it) => [it.last, it.deadline].reduce((a, b) => (b !== null && b > a ? b : a), most), 1n);
   const x = (time) => BEGIN + (Number(time) / Number(most)) * (width - BEGIN - 24);
   svg.append(element("text", { class: "m", x: BEGIN, y: 14 }, "0"), element("text", { class: "e", x: width - 24, y: 14 }, write(most)));
   drawn.forEach((it, place) => {
-    const top = 24 + place * HEIGHT;
+    const top = 24 + place * ROW_STEP;
     const row = element("g", { class: `row ${it.verdict}` });
     row.append(element("text", { x: 4, y: top + 15 }, `stream ${it.id}`), element("path", { class: "g", d: `M${BEGIN} ${top + 22}H${width - 24}` }));
     if (it.last !== null) {

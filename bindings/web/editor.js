@@ -1,14 +1,24 @@
 // A text with the numbers of its lines, one of which can be marked.
 
-/** An editor over a textarea that stands in a `.editor` with a `.numbers` and a `.mark`. */
+const MOST = 300_000; // characters of a text that a browser lays out at once
+const AT_ONCE = 400; // lines that are shown of a longer one
+
+/**
+ * An editor over a textarea that stands in a `.editor` with a `.numbers` and a `.mark`, with a `.held` behind it. Of a text that is too long to be
+ * laid out some lines are shown, which can't be edited.
+ */
 export class Editor {
-  #count = 0;
+  #held = null; // the lines of a text that is too long
+  #text = ""; // that text
+  #base = 0; // how many lines stand before those that are shown
+  #count = 0; // how many are shown
 
   /** @param {HTMLElement} box */
   constructor(box) {
     this.area = box.querySelector("textarea");
     this.numbers = box.querySelector(".numbers");
     this.mark = box.querySelector(".mark");
+    this.note = box.parentElement.querySelector(".held");
     this.line = null;
     this.area.addEventListener("input", () => this.#changed());
     this.area.addEventListener("scroll", () => this.#place());
@@ -17,11 +27,17 @@ export class Editor {
   }
 
   get text() {
-    return this.area.value;
+    return this.#held ? this.#text : this.area.value;
   }
 
   set text(text) {
-    this.area.value = text;
+    const long = text.length > MOST;
+    this.#held = long ? text.split("\n") : null;
+    this.#text = long ? text : "";
+    this.area.readOnly = long;
+    this.note.hidden = !long;
+    if (long) this.note.textContent = `${this.#held.length.toLocaleString("en")} lines: ${AT_ONCE} of them are shown, and can't be changed here.`;
+    this.#show(0, text);
     this.area.scrollTo(0, 0);
     this.#changed();
   }
@@ -35,23 +51,35 @@ export class Editor {
 
   /** Goes to a line, and selects it. */
   goTo(line) {
-    const lines = this.text.split("\n");
-    const begin = lines.slice(0, line - 1).reduce((sum, it) => sum + it.length + 1, 0);
+    if (this.#held) {
+      this.#show(Math.max(0, line - AT_ONCE / 2));
+      this.#changed(this.line);
+    }
+    const lines = this.area.value.split("\n");
+    const place = line - 1 - this.#base;
+    const begin = lines.slice(0, place).reduce((sum, it) => sum + it.length + 1, 0);
     this.area.focus();
-    this.area.setSelectionRange(begin, begin + (lines[line - 1] ?? "").length);
-    this.area.scrollTop = Math.max(0, (line - 4) * this.#height());
+    this.area.setSelectionRange(begin, begin + (lines[place] ?? "").length);
+    this.area.scrollTop = Math.max(0, (place - 3) * this.#height());
     this.#place();
+  }
+
+  // Shows lines from one on, or the whole text.
+  #show(base, text) {
+    this.#base = this.#held ? base : 0;
+    this.area.value = this.#held ? this.#held.slice(base, base + AT_ONCE).join("\n") : text;
   }
 
   #height() {
     return parseFloat(getComputedStyle(this.area).lineHeight);
   }
 
-  #changed() {
+  #changed(line = null) {
+    const text = this.area.value;
     let lines = 1;
-    for (let at = this.text.indexOf("\n"); at >= 0; at = this.text.indexOf("\n", at + 1)) lines += 1;
+    for (let at = text.indexOf("\n"); at >= 0; at = text.indexOf("\n", at + 1)) lines += 1;
     this.#count = lines;
-    this.markLine(null);
+    this.markLine(line);
   }
 
   // Puts the numbers of the lines in sight, and the mark, beside the lines.
@@ -59,9 +87,10 @@ export class Editor {
     const [top, height] = [this.area.scrollTop, this.#height()];
     const first = Math.max(0, Math.floor(top / height) - 1);
     const last = Math.min(this.#count, first + Math.ceil(this.area.clientHeight / height) + 3);
-    this.numbers.textContent = Array.from({ length: Math.max(0, last - first) }, (_, place) => first + place + 1).join("\n");
+    this.numbers.textContent = Array.from({ length: Math.max(0, last - first) }, (_, place) => this.#base + first + place + 1).join("\n");
     this.numbers.style.transform = `translateY(${first * height - top}px)`;
-    this.mark.hidden = this.line === null;
-    if (this.line !== null) this.mark.style.transform = `translateY(${(this.line - 1) * height - top}px)`;
+    const place = this.line === null ? -1 : this.line - 1 - this.#base;
+    this.mark.hidden = place < 0 || place >= this.#count;
+    if (!this.mark.hidden) this.mark.style.transform = `translateY(${place * height - top}px)`;
   }
 }

@@ -4,9 +4,9 @@ import { count } from "./words.js";
 /**
  * The frames of a run, in the order in which they came. Within a class the first that came starts first.
  *
- * @param {{id: string, length: string, moment: bigint, line: number}[]} arrivals
+ * @param {{id: string, length: string, moment: bigint}[]} arrivals
  * @param {string} answers
- * @returns {{id: string, class: number | null, length: string, arrival: bigint, line: number, start: bigint | null, end: bigint | null,
+ * @returns {{id: string, class: number | null, length: string, arrival: bigint, start: bigint | null, end: bigint | null,
  *   wait: bigint | null, fate: string, taken: number, told: number}[]} `fate` is `sent`, `left` or the name of a drop; `taken` and `told` are
  *   the numbers of the answers' lines that tell of its arrival, and last of it
  */
@@ -16,7 +16,7 @@ export function framesOf(arrivals, answers) {
   const arrive = (told, kind, fate) => {
     const it = arrivals[found.length];
     if (!it) return;
-    const frame = { id: it.id, class: kind, length: it.length, arrival: it.moment, line: it.line, start: null, end: null, wait: null, fate, taken: told, told };
+    const frame = { id: it.id, class: kind, length: it.length, arrival: it.moment, start: null, end: null, wait: null, fate, taken: told, told };
     found.push(frame);
     if (kind !== null) waiting[kind].frames.push(frame);
   };

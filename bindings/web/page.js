@@ -14,7 +14,7 @@ import { byClass, runVerdict } from "./frames.js";
 import { boundsIn, boundsVerdict, drawBounds } from "./bounds.js";
 import { count } from "./words.js";
 import { jobOf, kindOf, recordsOf, scriptOfReplay } from "./captures.js";
-import { STEPS } from "./gallery.js";
+import { BOUNDED, STEPS } from "./gallery.js";
 import { lacking } from "./support.js";
 
 const SHOWN = 200_000; // characters of answers that are shown
@@ -25,7 +25,7 @@ const MOST_KEPT = 1_000_000; // characters that are kept so
 const MOST_LINK = 8_000; // characters of a link that most places take
 
 const at = (id) => document.getElementById(id);
-const examples = JSON.parse(at("page-examples").textContent);
+const examples = [...JSON.parse(at("page-examples").textContent), ...BOUNDED];
 const octetsIn = (base64) => Uint8Array.from(atob(base64), (it) => it.charCodeAt(0));
 const encoded = (text) => new TextEncoder().encode(text);
 const runner = new Runner(at("page-worker").textContent, octetsIn(at("page-wasm").textContent));
@@ -38,7 +38,9 @@ let capture = new Uint8Array(); // the capture of a replay
 let captureName = "";
 let slow = 0; // the timer after which it is said that a run goes on
 let turn = 0; // the number of the run whose results are wanted
-let wanted = null; // the time that the picture is to show next, while one is being drawn
+let working = 0; // the number of the run of all that goes on
+let drawing = false; // whether a picture is drawn for itself
+let again = false; // whether it is to be drawn once more
 
 const NAMES = { script: "Script", bounds: "Schedules", check: "Schedules", streams: "Table of streams", replay: "Script of the replay" };
 const BESIDE = { streams: "Script whose lines go among the frames, each at its moment", bounds: "Table of streams" };
@@ -468,6 +470,7 @@ async function work(mine) {
   if (told.status === 0) await takeAnswers(mine, answers);
   if (mine !== turn) return;
   fillOrigins(ran);
+  setStale(false);
   showAnswers(ran.job, told.output, answers);
   showRefused(ran.job, ran.text, answers);
   showTables();
@@ -498,7 +501,6 @@ async function begin(what) {
   const mine = ++turn;
   clearTimeout(slow);
   if (!at("stop").disabled) runner.stop();
-  clearFault();
   running(true);
   const before = [at("status").textContent, at("status").classList.contains("done")];
   slow = setTimeout(() => (say(RUNNING)), 300);
@@ -515,34 +517,36 @@ async function begin(what) {
   }
 }
 
-// Begins a run of what stands in the page.
-function runAll() {
+// Begins a run of what stands in the page. What is shown is of another one until its answers come.
+async function runAll() {
   keep();
-  setStale(false);
+  clearFault();
   hidePicture("");
-  return begin(work);
+  setStale(true, "");
+  const mine = turn + 1;
+  working = mine;
+  await begin(work);
+  if (working === mine) working = 0;
 }
 
-// Draws anew; of wishes that come while it draws the last is drawn next.
+// Draws anew what was run; of wishes that come while it draws the last is drawn next, and none while all is run.
 async function runPicture() {
-  if (!ran) return;
-  if (wanted !== null) {
-    wanted = true;
-    return;
-  }
-  wanted = false;
+  if (!ran || ran.source === null && ran.job !== "bounds" || working) return;
+  again = drawing;
+  if (drawing) return;
+  drawing = true;
+  clearFault();
   await begin(draw);
-  const again = wanted;
-  wanted = null;
+  drawing = false;
   if (again) await runPicture();
 }
 
 // 5. What stands in the page
 
 // What is shown is of another text or of other options than stand there now.
-function setStale(is) {
+function setStale(is, words = "Changed since this was run. Run it (Ctrl+Enter in the text).") {
   for (const part of [at("view"), at("results")]) part.classList.toggle("stale", is);
-  if (is && ran) say("Changed since this was run. Run it (Ctrl+Enter in the text).");
+  if (is && ran && words) say(words);
 }
 
 function setJob(name) {

@@ -8,6 +8,9 @@ const TOP = 58; // the top of the row of class 7
 const STEP = 36; // from one row to the next
 const ROW = 28; // the height of a row
 const BOTTOM = TOP + 9 * STEP; // below the row of the wire
+const ABOVE = 30; // what is cut off at the top, where the port writes a heading
+const HEIGHT = BOTTOM + 62 - ABOVE;
+const NARROW = 480; // a picture of less has its legend further to the left
 const LEAST = 1000n; // the shortest time that is zoomed to, in picoseconds
 const TAKEN = new Set(["svg", "title", "text", "path", "rect"]);
 const NAMED = new Set(["class", "x", "y", "width", "height", "d", "viewBox", "role"]);
@@ -118,6 +121,14 @@ function putLeft(svg, shown, frames) {
   }
 }
 
+// Moves the legend to the left, where it has room in a narrow picture.
+function moveLegend(svg) {
+  for (const it of svg.children) {
+    const y = Number(it.getAttribute("y") ?? /^M[\d.]+ (\d+)/.exec(it.getAttribute("d") ?? "")?.[1] ?? 0);
+    if (y > BOTTOM + 20) it.setAttribute("transform", "translate(-50 0)");
+  }
+}
+
 /** A picture in the page. */
 export class Picture {
   /**
@@ -138,9 +149,10 @@ export class Picture {
     putCycles(this.svg, shown, changes);
     putLeft(this.svg, shown, frames);
     this.svg.querySelector("text.t")?.remove();
-    this.svg.setAttribute("viewBox", `0 34 ${shown.width} ${BOTTOM + 62 - 34}`);
+    if (shown.width < NARROW) moveLegend(this.svg);
+    this.svg.setAttribute("viewBox", `0 ${ABOVE} ${shown.width} ${HEIGHT}`);
     this.svg.setAttribute("width", shown.width);
-    this.svg.setAttribute("height", BOTTOM + 62 - 34);
+    this.svg.setAttribute("height", HEIGHT);
     this.ring = element("rect", { class: "ring", y: 0, height: ROW + 4 });
   }
 
@@ -151,7 +163,7 @@ export class Picture {
 
   /** The class of a row at a height in pixels, "wire", or null. */
   row(y) {
-    const place = Math.floor((y + 34 - TOP + 4) / STEP);
+    const place = Math.floor((y + ABOVE - TOP + 4) / STEP);
     return place < 0 || place > 8 ? null : place === 8 ? "wire" : 7 - place;
   }
 
@@ -205,7 +217,7 @@ export class Picture {
   /** Where a frame lies, in pixels: the middle of its bar, or where it begins to wait. */
   placeOf(frame) {
     const x = xOf(this.shown, frame.start ?? frame.arrival) + (frame.start === null ? 0 : (xOf(this.shown, frame.end) - xOf(this.shown, frame.start)) / 2);
-    return { x, y: rowOf(frame.class ?? 0) + ROW / 2 - 34 };
+    return { x, y: rowOf(frame.class ?? 0) + ROW / 2 - ABOVE };
   }
 }
 

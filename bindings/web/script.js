@@ -12,7 +12,7 @@ export function* linesOf(text) {
   for (let place = 0; place < lines.length; place += 1) {
     const number = place + 1;
     let line = lines[place];
-    while (place + 1 < lines.length && /\\\r?$/.test(line)) {
+    while (place + 1 < lines.length && (line.endsWith("\\") || line.endsWith("\\\r"))) {
       place += 1;
       line = `${line.replace(/\\\r?$/, " ")}${lines[place]}`;
     }
@@ -21,18 +21,19 @@ export function* linesOf(text) {
 }
 
 const BLANKS = /[ \t\r]+/;
+const PLAIN = /^(?:frame|clock) \d+(?: \d+)*$/; // a line whose words stand one blank apart
 
 /**
  * The frames of a script in their order, with the moment of each, and the first moment at which something happens.
  *
  * @param {string} text
- * @returns {{arrivals: {id: string, length: string, moment: bigint, line: number}[], commands: {line: number, words: string[]}[], first: bigint, last: bigint}}
+ * @returns {{arrivals: {id: string, length: string, moment: bigint}[], commands: {line: number, words: string[]}[], first: bigint, last: bigint}}
  */
 export function readScript(text) {
   const found = { arrivals: [], commands: [], first: null, last: 0n };
   let now = 0n;
   for (const { number, line } of linesOf(text)) {
-    const words = line.split(BLANKS).filter(Boolean);
+    const words = PLAIN.test(line) ? line.split(" ") : line.split(BLANKS).filter(Boolean);
     if (!words.length || words[0].startsWith("#")) continue;
     if (words[0] === "clock" && /^\d+$/.test(words[1] ?? "")) {
       const moment = BigInt(words[1]);
@@ -40,7 +41,7 @@ export function readScript(text) {
       continue;
     }
     found.first ??= now;
-    if (words[0] === "frame") found.arrivals.push({ id: words[1], length: words[3], moment: now, line: number });
+    if (words[0] === "frame") found.arrivals.push({ id: words[1], length: words[3], moment: now });
     else if (words[0] === "tc") found.commands.push({ line: number, words });
   }
   found.last = now;

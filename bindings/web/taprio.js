@@ -1,7 +1,7 @@
 // Calls the port's WebAssembly module, as bindings/c/taprio.h declares it. Only this file knows where its values lie, and where its heap is.
 
 /** The jobs that the module does, by the names of the program's. */
-export const JOBS = ["script", "draw", "check", "streams", "replay"];
+export const JOBS = ["script", "draw", "check", "streams", "replay", "bounds"];
 
 const BLOCK = 16; // octets of the least block of the heap, and of what stands before each block
 const PAGE = 65536; // octets of a page of the module's memory
@@ -119,6 +119,7 @@ const CALLS = {
   script: ["taprio_run", (at, { input }) => [at.port, at.input, input.length]],
   draw: ["taprio_draw", (at, { input }) => [at.port, at.picture, at.input, input.length]],
   streams: ["taprio_streams", (at, { input, beside }) => [at.input, input.length, at.beside, beside.length]],
+  bounds: ["taprio_bounds", (at, { input, beside, values }) => [at.port, values.frames, at.beside, beside.length, at.input, input.length]],
   replay: ["taprio_replay", (at, { input, beside }) => [at.port, at.input, input.length, at.beside, beside.length]],
 };
 

@@ -355,6 +355,25 @@ def try_pictures(page):
     page.same("frames that are told", page.text("frames-name"), "Frames (12)")
 
 
+def try_bounds(page):
+    """The two examples of bounds against the program, their table and their bars."""
+    for name, verdict, missed in (("machine_met.bounds", "Every deadline is met, for ever.", 0), ("machine_missed.bounds", "2 of 4 deadlines are met for ever; missed: streams 200, 300.", 2)):
+        page.choose(name)
+        with tempfile.NamedTemporaryFile() as table:
+            table.write(page.do("return at('beside').value").encode())
+            table.flush()
+            wanted = program("bounds", table.name, text=page.do("return at('text').value").encode())[1]
+        page.answers(name, wanted)
+        page.same(f"verdict of {name}", page.text("verdict")[: len(verdict)], verdict)
+        page.same(f"rows of {name}", page.do("return document.querySelectorAll('#classes tbody tr').length"), 4)
+        page.same(f"bars of {name}", page.do("return document.querySelectorAll('#canvas rect.f').length"), 4 - missed)
+        page.same(f"missed in {name}", page.do("return document.querySelectorAll('#canvas .missed').length"), missed)
+        page.browser.shoot(SHOTS / f"{page.browser.name}-{name}.png")
+    page.set("beside", "stream 1 7 60 250us 20us\n")
+    page.run()
+    page.same("a fault of the table", page.do("return !document.querySelector('#beside-editor .mark').hidden"), True)
+
+
 def try_story(page):
     """Each step of the story ends without a fault, and has its sentence."""
     for value in page.do("return [...document.querySelectorAll('#example optgroup')[0].children].map((it) => it.value)"):
@@ -432,8 +451,10 @@ def try_link(page):
 
 def try_stop(page):
     page.choose("first.script")
-    page.do("at('text').value = Array.from({ length: 400000 }, (_, i) => `frame ${i} 0 60\\nclock ${i * 700000}`).join('\\n')")
-    page.click("#run")
+    page.do("""const text = Array.from({ length: 400000 }, (_, i) => `frame ${i} 0 60\\nclock ${i * 700000}`).join('\\n');
+        const data = new DataTransfer(); data.items.add(new File([text], 'long.script'));
+        document.body.dispatchEvent(new DragEvent('drop', { dataTransfer: data, bubbles: true, cancelable: true }))""")
+    wait_for(page.browser, "return !document.getElementById('stop').disabled")
     page.same("can be stopped", str(page.do("return at('stop').disabled")), "False")
     begun = time.monotonic()
     page.do("return at('status').textContent")
@@ -510,7 +531,7 @@ def try_looks(page):
     shoot(page, "replay")
 
 
-TRIES = [try_examples, try_replay, try_typing, try_options, try_worked, try_faults, try_refused, try_zoom, try_frames, try_pictures, try_story, try_files, try_stale,
+TRIES = [try_examples, try_replay, try_typing, try_options, try_worked, try_faults, try_refused, try_zoom, try_frames, try_pictures, try_bounds, try_story, try_files, try_stale,
          try_link, try_stop, try_access, try_screens, try_looks]
 
 
