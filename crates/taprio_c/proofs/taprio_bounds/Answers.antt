@@ -8,4 +8,4 @@ use Rattle.taprio_c.proofs.taprio_bounds.Goals as goal
 pub returns : goal.returns
 returns c = λ read reads.
     let P : PortValues → Type 0 = λ values. Answers (bounds_told_by (λ settings. outcome_of read settings c.args.table.now c.args.schedules.now) (bounds_settings_at values c.args.frames)) c.bounds_octets.result (slices c.args.output.now c.args.fault.now) (slices c.bounds_octets.new.output c.bounds_octets.new.fault) in
-    subst P c.values.ensures (c.bounds_octets.ensures read reads)
+    subst P c.port_values.ensures (c.bounds_octets.ensures read reads)
