@@ -22,6 +22,9 @@ def rows():
 
     yield Row("examples/planned.streams", ["streams", "--with", "planned.schedule"], input=octets("planned.streams"),
               files={"planned.schedule": octets("planned.schedule")}, output=octets("planned.script"))
+    for schedule in ("drive", "drive_short"):
+        yield Row(f"examples/{schedule}.schedule", ["bounds", "drive.streams"], input=octets(f"{schedule}.schedule"),
+                  files={"drive.streams": octets("drive.streams")}, output=octets(f"{schedule}.bounds"))
     for words, more in [([], b""), (["--summary"], octets("machine.summary"))]:
         yield Row(f"examples/machine.pcap {' '.join(words)}", ["replay", *words, "--until", "2000000000", "script", "capture", "out"],
                   files={"script": octets("machine.script"), "capture": octets("machine.pcap")},

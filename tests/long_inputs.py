@@ -3,6 +3,8 @@ import pathlib
 
 from rows import Row, read, run
 
+HALF = b"tc qdisc replace dev eth0 root taprio num_tc 2 map 0 1 sched-entry S 02 50000 sched-entry S 01 50000\n"
+
 # One octet more than a line may have.
 LONG_LINE = b"#" * 65537
 
@@ -47,6 +49,25 @@ def rows():
         output=b"query\n",
         errors=b"taprio_port: script line 2: LongLine\n",
         status=3,
+    )
+    stream, bound = b"stream 1 1 60 1ms 0s 1\n", b"bound 1 class 1 wait 0 to 0 end 672000 to 672000\n"
+    answer = b"apart 0 1\nclass 1 most 1 of 128 frames 1 every 1000000000\n" + bound
+    for name, table, schedules, output, errors in [
+        ("a line of the table is too long: nothing is answered", stream + LONG_LINE, HALF, b"", b"table line 2: LongLine"),
+        ("the table has too many lines", stream + b"\n" * 4_000_000, HALF, b"", b"table line 4000001: TooManyLines"),
+        ("a line of the schedules is too long", stream, HALF + LONG_LINE, answer, b"script line 2: LongLine"),
+        ("the schedules have too many lines", stream, HALF + b"\n" * 4_000_000, answer, b"script line 4000001: TooManyLines"),
+    ]:
+        yield Row(f"bounds: {name}", ["bounds", "table"], schedules, {"table": table}, output, errors=b"taprio_port: " + errors + b"\n", status=3)
+    # Each frame of class 1 comes at the first moment of its window, and of class 0 too.
+    yield Row(
+        "bounds: ten thousand streams of two classes",
+        ["bounds", "--strict", "table"],
+        HALF,
+        {"table": b"".join(b"stream %d %d 60 1s %dus 1 deadline 672ns\n" % (it, it % 2, 100 * (it // 2) + 50 * (1 - it % 2)) for it in range(10_000))},
+        b"apart 0 1\n"
+        + b"".join(b"class %d most 1 of 128 frames 5000 every 1000000000000\n" % it for it in range(2))
+        + b"".join(b"bound %d class %d wait 0 to 0 end 672000 to 672000 deadline 672000 met\n" % (it, it % 2) for it in range(10_000)),
     )
     for words in [["script"], ["script", "--rate", "1000", "--mtu", "1500", "--room", "0128"]]:
         yield Row(

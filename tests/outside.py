@@ -24,6 +24,7 @@ LONG_ANSWERS = [
     (["check"], b"tc qdisc del dev eth0 root\n"),
     (["draw"], b"frame 1 0 60\n"),
     (["streams"], b"stream 1 5 60 250us 0ns 2\n"),
+    (["bounds", "script"], b"tc qdisc del dev eth0 root\n"),
     (REPLAY, TWO_RECORDS),
 ]
 # A process with a limit (RLIMIT_FSIZE and RLIMIT_AS by name), which is then another program. A write behind the
@@ -117,7 +118,7 @@ def case_a_file_as_the_standard_output(program):
 
 
 # Each job that reads the standard input.
-READING = [["script"], ["check"], ["draw"], ["streams"], ["replay", "--until", "1", "script", "-", "out"]]
+READING = [["script"], ["check"], ["draw"], ["streams"], ["bounds", "script"], ["replay", "--until", "1", "script", "-", "out"]]
 
 
 def case_a_standard_input_that_fails_once(program):
@@ -143,7 +144,7 @@ def case_a_folder_as_the_standard_input(program):
 
 def case_a_closed_standard_input(program):
     """It can't be read, by the jobs that open no file."""
-    for words in READING[:-1]:
+    for words in READING[:-2]:
         wants(run_without(program, "<&-", words), 4, b"", READ_FAILED)
 
 
@@ -171,6 +172,7 @@ def case_a_file_without_the_right_to_read(program):
         for names in (["shut", "open", "shut"], ["open", "shut", "shut"], ["open", "open", "shut"]):
             fails_to_open_shut(["replay", "--until", "1", *names])
         fails_to_open_shut(["streams", "--with", "shut"])
+        fails_to_open_shut(["bounds", "shut"])
 
 
 def case_a_file_as_the_standard_input_of_a_replay(program):
