@@ -63,6 +63,12 @@ def captures(folder):
             for path in sorted(folder.glob("*.pcap")) if path.with_suffix(".script").exists()]
 
 
+def bounded(folder):
+    """The examples of delay bounds: the schedule of their name, and the table of streams whose name theirs begins with."""
+    return [{"name": path.name, "job": "bounds", "text": path.with_suffix(".schedule").read_text(encoding="utf-8"),
+             "beside": (folder / f"{path.stem.split('_')[0]}.streams").read_text(encoding="utf-8")} for path in sorted(folder.glob("*.bounds"))]
+
+
 def examples(folder):
     """The examples by name: what kind each is, its text, its options, and for a table the script that goes among its frames."""
     given = options(folder)
@@ -75,7 +81,7 @@ def examples(folder):
         if path.suffix == ".streams" and beside.exists():
             entry["beside"] = beside.read_text(encoding="utf-8")
         found.append(entry | given.get(path.name, {}))
-    return found + captures(folder)
+    return found + bounded(folder) + captures(folder)
 
 
 def data(value):

@@ -14,7 +14,7 @@ import { byClass, runVerdict } from "./frames.js";
 import { boundsIn, boundsVerdict, drawBounds } from "./bounds.js";
 import { count } from "./words.js";
 import { jobOf, kindOf, recordsOf, scriptOfReplay } from "./captures.js";
-import { BOUNDED, STEPS } from "./gallery.js";
+import { STEPS } from "./gallery.js";
 import { lacking } from "./support.js";
 
 const SHOWN = 200_000; // characters of answers that are shown
@@ -25,7 +25,7 @@ const MOST_KEPT = 1_000_000; // characters that are kept so
 const MOST_LINK = 8_000; // characters of a link that most places take
 
 const at = (id) => document.getElementById(id);
-const examples = [...JSON.parse(at("page-examples").textContent), ...BOUNDED];
+const examples = JSON.parse(at("page-examples").textContent);
 const octetsIn = (base64) => Uint8Array.from(atob(base64), (it) => it.charCodeAt(0));
 const encoded = (text) => new TextEncoder().encode(text);
 const runner = new Runner(at("page-worker").textContent, octetsIn(at("page-wasm").textContent));
@@ -87,6 +87,7 @@ const HOW = { time: writeTime, moment: writeAt };
 const tables = {
   script: new Table(at("classes"), columns(CLASS_COLUMNS), HOW),
   replay: new Table(at("classes"), columns(CLASS_COLUMNS), HOW),
+  streams: new Table(at("classes"), columns(CLASS_COLUMNS), HOW),
   check: new Table(at("classes"), columns(WINDOW_COLUMNS), HOW),
   bounds: new Table(at("classes"), columns(BOUND_COLUMNS), HOW),
 };
@@ -126,7 +127,7 @@ function chooseFrame(frame, inPicture) {
 
 function markAnswer(number) {
   const text = at("answers").firstChild;
-  if (!text) return;
+  if (!text || ran.job === "streams") return; // (there it is the script that is shown)
   const lines = text.data.split("\n");
   const begin = lines.slice(0, number - 1).reduce((sum, it) => sum + it.length + 1, 0);
   if (begin >= text.data.length) return;
@@ -142,7 +143,7 @@ function markAnswer(number) {
 // The frame of the line of the answers that was clicked is shown in the picture and in the table.
 function findAnswered(event) {
   const { offsetNode, offset } = document.caretPositionFromPoint?.(event.clientX, event.clientY) ?? {};
-  if (!ran || offsetNode !== at("answers").firstChild || String(getSelection()).includes("\n")) return;
+  if (!ran || ran.job === "streams" || offsetNode !== at("answers").firstChild || String(getSelection()).includes("\n")) return;
   const number = offsetNode.data.slice(0, offset).split("\n").length;
   const frame = ran.frames.find((it) => it.told === number || it.taken === number);
   if (frame) {
@@ -322,7 +323,7 @@ function windowsIn(answers) {
 }
 
 function showTables() {
-  const rows = { script: () => byClass(ran.frames), replay: () => byClass(ran.frames), check: () => ran.windows, bounds: () => ran.bounds[Number(at("which").value) || 0]?.streams ?? [], streams: () => [] }[ran.job]();
+  const rows = { script: () => byClass(ran.frames), replay: () => byClass(ran.frames), check: () => ran.windows, bounds: () => ran.bounds[Number(at("which").value) || 0]?.streams ?? [], streams: () => byClass(ran.frames) }[ran.job]();
   at("classes").hidden = !rows.length;
   at("save-table").hidden = !rows.length;
   if (rows.length) {
@@ -384,7 +385,7 @@ function sayVerdict(answers) {
   const said = {
     script: () => runVerdict(ran.frames, writeTime),
     replay: () => runVerdict(ran.frames, writeTime),
-    streams: () => `A script of ${count((answers.match(/^frame /gm) ?? []).length, "frame")}.`,
+    streams: () => `A script of ${count((answers.match(/^frame /gm) ?? []).length, "frame")}. Run from moment 0: ${runVerdict(ran.frames, writeTime)}`,
     bounds: () => boundsVerdict(ran.bounds[Number(at("which").value) || 0] ?? { classes: [], streams: [] }, writeTime),
     check: () => {
       const apart = answers.match(/^apart .*$/gm) ?? [];
@@ -440,10 +441,19 @@ async function takeSchedule(mine) {
   ran.window = { from: it.change, to: it.change + 2n * it.cycle };
 }
 
+// The script that a table of streams became is run, too: it is what its picture shows.
+async function takeScript(mine, script) {
+  const told = await ask(mine, { job: "script", input: encoded(script), beside: new Uint8Array(), values: ran.values });
+  if (!told) return;
+  if (told.status === 0) await takeRun(mine, script, new TextDecoder().decode(told.output));
+  else ran.why = "No picture: the script has a fault. Open it as a script to see which.";
+}
+
 async function takeAnswers(mine, answers) {
   const name = ran.job;
   if (name === "script") await takeRun(mine, ran.text, answers);
   else if (name === "replay") await takeRun(mine, scriptOfReplay(linesOf(ran.text), recordsOf(ran.beside)), answers);
+  else if (name === "streams") await takeScript(mine, answers);
   else if (name === "bounds") ran.bounds = boundsIn(answers);
   else if (name === "check") {
     const input = encoded(ran.text);
@@ -484,8 +494,7 @@ async function work(mine) {
     return;
   }
   sayVerdict(answers);
-  if (ran.job === "streams") hidePicture("");
-  else await draw(mine);
+  await draw(mine);
 }
 
 function showError(error) {

@@ -357,7 +357,7 @@ def try_pictures(page):
 
 def try_bounds(page):
     """The two examples of bounds against the program, their table and their bars."""
-    for name, verdict, missed in (("machine_met.bounds", "Every deadline is met, for ever.", 0), ("machine_missed.bounds", "2 of 4 deadlines are met for ever; missed: streams 200, 300.", 2)):
+    for name, verdict, missed in (("drive.bounds", "Every deadline is met, for ever.", 0), ("drive_short.bounds", "2 of 4 deadlines are met for ever; missed: streams 200, 300.", 2)):
         page.choose(name)
         with tempfile.NamedTemporaryFile() as table:
             table.write(page.do("return at('beside').value").encode())
@@ -481,6 +481,17 @@ return texts.map((it) => { const [one, other] = [light(parts(getComputedStyle(it
 """
 
 
+MARKS = """
+const light = (hex) => [1, 3, 5].map((at) => parseInt(hex.slice(at, at + 2), 16) / 255).map((it) => it <= 0.04045 ? it / 12.92 : ((it + 0.055) / 1.055) ** 2.4)
+  .reduce((sum, it, place) => sum + it * [0.2126, 0.7152, 0.0722][place], 0);
+const root = getComputedStyle(document.documentElement);
+const of = (name) => { const it = root.getPropertyValue(`--${name}`).trim(); return light(it.length === 4 ? `#${[...it.slice(1)].map((c) => c + c).join('')}` : it); };
+const ratio = (one, other) => { const [a, b] = [of(one), of(other)].sort((x, y) => y - x); return (a + 0.05) / (b + 0.05); };
+return [['bar', 'back'], ['bar', 'open'], ['wait', 'back'], ['wait', 'open'], ['drop', 'back'], ['drop', 'open'], ['cycle', 'back'], ['open-edge', 'back'], ['good', 'back'], ['on-bar', 'bar']]
+  .filter(([one, other]) => ratio(one, other) < 3).map(([one, other]) => `${one} on ${other}: ${ratio(one, other)}`);
+"""
+
+
 def try_access(page):
     page.choose("first.script")
     page.same("without a name", page.do(NAMELESS), [])
@@ -508,6 +519,7 @@ def shoot(page, name, dark=False, width=1280):
     page.browser.look(dark, width)
     time.sleep(0.3)
     page.same(f"contrast, {name}", page.do(CONTRAST), [])
+    page.same(f"contrast of marks, {name}", page.do(MARKS), [])
     wide = page.do("return document.documentElement.scrollWidth - innerWidth")
     page.same(f"{name} is no wider than the window", str(wide <= 0), "True")
     page.browser.shoot(SHOTS / f"{page.browser.name}-{name}.png")
@@ -517,9 +529,12 @@ def shoot(page, name, dark=False, width=1280):
 def try_looks(page):
     page.choose("priorities.script")
     shoot(page, "light")
+    shoot(page, "middle", width=820)
     shoot(page, "narrow", width=400)
     if isinstance(page.browser, Chromium):
         shoot(page, "dark", dark=True)
+        shoot(page, "middle-dark", dark=True, width=820)
+        shoot(page, "narrow-dark", dark=True, width=400)
         page.set("text", "clok\n")
         page.run()
         shoot(page, "fault-dark", dark=True)
