@@ -71,13 +71,13 @@ export function drawBounds(streams, width, write) {
     const top = 24 + place * ROW_STEP;
     const row = element("g", { class: `row ${it.verdict}` });
     row.append(element("text", { x: 4, y: top + 15 }, `stream ${it.id}`), element("path", { class: "g", d: `M${BEGIN} ${top + 22}H${width - 24}` }));
+    if (it.deadline !== null) row.append(element("path", { class: "dl", d: `M${x(it.deadline)} ${top - 1}V${top + 21}` }));
     if (it.last !== null) {
       row.append(element("rect", { class: "f", x: x(it.first), y: top + 3, width: Math.max(3, x(it.last) - x(it.first)), height: 15 }));
       const label = `${write(it.first)} to ${write(it.last)}`;
       const inside = x(it.last) > width / 2;
       row.append(element("text", { class: inside ? "e" : "", x: inside ? x(it.first) - 6 : x(it.last) + 8, y: top + 15 }, it.first === it.last ? write(it.last) : label));
     } else row.append(element("text", { x: BEGIN + 8, y: top + 15 }, it.told));
-    if (it.deadline !== null) row.append(element("path", { class: "dl", d: `M${x(it.deadline)} ${top - 1}V${top + 21}` }));
     const title = element("title", {}, `stream ${it.id}: ${it.told}${it.deadline === null ? "" : `, deadline ${write(it.deadline)} ${it.verdict}`}`);
     row.append(title);
     svg.append(row);

@@ -119,7 +119,9 @@ class Page:
     def answers(self, what, wanted):
         """That the answers are these octets, as they are saved and as they are shown."""
         self.same(what, self.saved("save-answers"), wanted)
-        self.same(f"{what}, shown", self.text("answers"), wanted.decode())
+        shown = self.text("answers")
+        # (of very many the first are shown)
+        self.same(f"{what}, shown", shown, wanted.decode()[: len(shown) if len(wanted) > 200_000 else None])
 
     def picture(self, what, text, *words):
         status, drawn, _ = program("draw", *words, "--width", self.do("return at('frame').dataset.width"), text=text)
