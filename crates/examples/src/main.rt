@@ -123,7 +123,13 @@ fn streams_agree<R: Files + AllocGlobal>(rt: &R) -> io::Result<bool> {
     let schedule = fs::read(rt, "planned.schedule")?;
     let script = fs::read(rt, "planned.script")?;
     let mut got = Vec::new(rt.alloc());
-    let written = write_streams(rt.alloc(), table.as_slice(), schedule.as_slice(), &mut got, 0);
+    let written = write_streams(
+        rt.alloc(),
+        table.as_slice(),
+        schedule.as_slice(),
+        &mut got,
+        0,
+    );
     Ok(written.is_ok() && got.as_slice() == script.as_slice())
 }
 

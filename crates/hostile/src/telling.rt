@@ -68,7 +68,14 @@ fn table_tells(alloc: Global) -> io::Result<bool> {
     let heap = no_heap(alloc);
     let mut errors = Vec::new(alloc);
     let mut reader = b"stream 1 5 60 250us 0ns 2\n".as_slice();
-    let (ended, written) = answer_streams(&heap, None, &mut reader, NO_SCRIPT, answers, &mut errors);
+    let (ended, written) = answer_streams(
+        &heap,
+        None,
+        &mut reader,
+        NO_SCRIPT,
+        answers,
+        &mut errors,
+    );
     Ok(is_told(ended, &errors, &written))
 }
 

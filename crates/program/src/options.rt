@@ -9,8 +9,8 @@ ghost use Rattle.program.specs.Given.{draw_words_in, flag_in, windows_in, words_
 use clap::{Arg, ArgAction, ArgMatches, Command};
 use drawing::DrawValues;
 use script::Values;
-use stream_bounds::BoundsWords;
 use std::alloc::{AllocError, Global};
+use stream_bounds::BoundsWords;
 
 /// Whether a subcommand is given a flag.
 fn is_given(matches: &ArgMatches<'_>, name: &str) -> bool

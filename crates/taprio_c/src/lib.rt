@@ -116,7 +116,15 @@ pub extern "C" fn taprio_bounds(
     ensures { (read : List (List ℕ) → Result Command TcFault) → IsReader read →
         Answers (bounds_told_by (λ settings. bounds_outcome_of read settings table.now schedules.now) (bounds_settings_at (port_values values.now) frames)) ran.new (slices output.old fault.old) (slices output.new fault.new) }
 {
-    *ran = bounds_octets(alloc, port_values(values), frames, table, schedules, output, fault);
+    *ran = bounds_octets(
+        alloc,
+        port_values(values),
+        frames,
+        table,
+        schedules,
+        output,
+        fault,
+    );
 }
 
 /// Draws the run of a script as an SVG picture.
