@@ -22,6 +22,7 @@ const RUNNING = "Running ..."; // what is said of a run that takes long
 const OWN = "own"; // the example that is what was typed
 const KEPT = "taprio"; // under which name the text is kept for a reload
 const MOST_KEPT = 1_000_000; // characters that are kept so
+const LONG = 500_000; // characters of answers after which the picture comes before the frames
 const MOST_LINK = 8_000; // characters of a link that most places take
 
 const at = (id) => document.getElementById(id);
@@ -477,7 +478,10 @@ async function work(mine) {
   ran = next;
   const answers = new TextDecoder().decode(told.output);
   ran.answers = answers;
-  if (told.status === 0) await takeAnswers(mine, answers);
+  // (of a long script the picture is drawn first, and its frames are found then)
+  const late = ran.job === "script" && told.status === 0 && answers.length > LONG;
+  if (late) ran.source = ran.text;
+  else if (told.status === 0) await takeAnswers(mine, answers);
   if (mine !== turn) return;
   fillOrigins(ran);
   setStale(false);
@@ -487,14 +491,25 @@ async function work(mine) {
   at("save-departures").hidden = true;
   if (ran.job === "replay") addressOf(at("save-departures"), told.departures, "application/vnd.tcpdump.pcap");
   sayStatus(told);
-  at("verdict").textContent = "";
+  at("verdict").textContent = late ? "The frames are being looked through ..." : "";
   if (told.status !== 0) {
     showFault(told.fault);
     hidePicture(["script", "replay", "check"].includes(ran.job) ? "No picture: the run has a fault." : "");
     return;
   }
-  sayVerdict(answers);
+  if (!late) sayVerdict(answers);
   await draw(mine);
+  if (late && mine === turn) await takeLate(mine, answers);
+}
+
+// The frames of a long script, when its picture stands already.
+async function takeLate(mine, answers) {
+  await takeAnswers(mine, answers);
+  if (mine !== turn) return;
+  fillOrigins(ran);
+  showTables();
+  sayVerdict(answers);
+  if (ran.drawn) layPicture();
 }
 
 function showError(error) {

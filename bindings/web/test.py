@@ -339,6 +339,7 @@ def try_frames(page):
     page.do("at('ps').dispatchEvent(new Event('change'))")
     page.same("picoseconds", page.do("return document.querySelector('#classes tbody tr').innerText").split()[-1], "13336000")
     page.do("at('ps').click()")
+    page.same("bitmap", page.saved("save-png")[:8], b"\x89PNG\r\n\x1a\n")
     page.choose("extension.script")
     page.same("waits for ever", page.do("return document.querySelector('#canvas .l')?.textContent"), "1 waits ▸")
 

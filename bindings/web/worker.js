@@ -4,9 +4,11 @@ import { changesOf, readScript } from "./script.js";
 import { framesOf } from "./frames.js";
 
 let module = null;
+let broken = "";
 
 async function answer({ octets, request }) {
-  if (octets) module = await WebAssembly.compile(octets);
+  if (octets) module = await WebAssembly.compile(octets).catch((error) => ((broken = String(error)), null));
+  if (broken) throw new Error(`the port's module does not compile here (${broken}). The program answers the same`);
   if (!request) return { ready: true };
   const begun = performance.now();
   const told = request.job === "frames" ? framesIn(request) : run(module, request);
