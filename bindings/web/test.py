@@ -316,6 +316,32 @@ def try_gestures(page, text):
     page.browser.shoot(SHOTS / f"{page.browser.name}-zoomed.png")
 
 
+def try_keys(page):
+    """Keys, two fingers and the sign of micro: each changes the time as it should."""
+    page.choose("schedule.script")
+    text = (EXAMPLES / "schedule.script").read_bytes()
+    page.click("[data-step=whole]")
+    page.settle()
+    key = "at('frame').dispatchEvent(new KeyboardEvent('keydown', {{ key: '{}', shiftKey: {}, bubbles: true }}))"
+    for name, shift, wanted in (("+", "false", (25, 75)), ("ArrowRight", "true", (50, 100)), ("ArrowLeft", "true", (25, 75)), ("-", "false", (0, 100))):
+        page.do(key.format(name, shift))
+        gesture(page, f"the key {name}", wanted, text)
+    page.do(key.format("ArrowRight", "false"))
+    page.same("the first frame", page.do("return at('tip').innerText").split(",")[0], "Frame 1")
+    page.do(key.format("ArrowRight", "false"))
+    page.same("the next frame", page.do("return at('tip').innerText").split(",")[0], "Frame 2")
+    left, top, width, height = page.do("const it = at('canvas').getBoundingClientRect(); return [it.left, it.top, it.width, it.height]")
+    x = {share: left + 64 + (width - 96) * share for share in (0.3, 0.4, 0.6, 0.7)}
+    page.do(f"""const send = (kind, id, x) => at('frame').dispatchEvent(new PointerEvent(kind, {{ pointerId: id, pointerType: 'touch', button: 0, clientX: x, clientY: {top + height / 2}, bubbles: true }}));
+        at('frame').setPointerCapture = () => {{}}; send('pointerdown', 1, {x[0.4]}); send('pointerdown', 2, {x[0.6]}); send('pointermove', 1, {x[0.3]}); send('pointermove', 2, {x[0.7]});
+        send('pointerup', 1, {x[0.3]}); send('pointerup', 2, {x[0.7]}); delete at('frame').setPointerCapture""")
+    gesture(page, "two fingers", (25, 75), text)
+    for sign in ("\u00b5s", "\u03bcs", "us"):
+        page.set("until", f"50 {sign}")
+        page.run()
+        page.answers(f"until 50 {sign}", program("script", "--until", "50000000", text=text)[1])
+
+
 def try_frames(page):
     """The table of frames against the answers, the frame that a pointer is over, and the way from one to the other."""
     page.choose("schedule.script")
@@ -549,7 +575,7 @@ def try_looks(page):
     shoot(page, "replay")
 
 
-TRIES = [try_examples, try_replay, try_typing, try_options, try_worked, try_faults, try_refused, try_zoom, try_frames, try_pictures, try_bounds, try_story, try_files, try_stale,
+TRIES = [try_examples, try_replay, try_typing, try_options, try_worked, try_faults, try_refused, try_zoom, try_keys, try_frames, try_pictures, try_bounds, try_story, try_files, try_stale,
          try_link, try_stop, try_access, try_screens, try_looks]
 
 
@@ -574,13 +600,32 @@ def try_logged(browser):
         raise Broken(f"{browser.name} logs {others}")
 
 
+def try_lacking(address):
+    """What the page says in a browser without 64-bit memory."""
+    for script, wanted in (("WebAssembly.validate = () => false", "This browser can't run the port: its WebAssembly has no 64-bit memory."),):
+        with tempfile.TemporaryDirectory() as downloads:
+            browser = Chromium(downloads)
+            try:
+                browser.call("Page.addScriptToEvaluateOnNewDocument", source=script)
+                browser.open(address)
+                said = browser.evaluate("return document.getElementById('status').textContent")
+                if not said.startswith(wanted):
+                    raise Broken(f"without memory: {said}")
+            finally:
+                browser.close()
+
+
 def try_dark_firefox(address):
     with tempfile.TemporaryDirectory() as downloads:
         browser = Firefox(downloads, dark=True)
         try:
             page = Page(browser, downloads, address)
-            page.same("contrast, dark", page.do(CONTRAST), [])
-            browser.shoot(SHOTS / "firefox-dark.png")
+            for width in (1280, 820, 400):
+                browser.look(width=width)
+                time.sleep(0.3)
+                page.same(f"contrast, dark, {width}", page.do(CONTRAST), [])
+                page.same(f"contrast of marks, dark, {width}", page.do(MARKS), [])
+                browser.shoot(SHOTS / f"firefox-dark-{width}.png")
         finally:
             browser.close()
 
@@ -595,6 +640,8 @@ def main(names):
             continue
         for address in places:
             try_page(kind, address, server)
+    if not names or "chromium" in names:
+        try_lacking(places[0])
     if not names or "firefox" in names:
         try_dark_firefox(places[0])
     print("bindings/web/test: all is as it should be")
