@@ -118,7 +118,7 @@ def case_the_readme_is_short(program):
 def spec_lines(path):
     """How many lines a file of definitions has, without blank lines, comments and imports."""
     lines = [line.strip() for line in path.read_text(encoding="utf-8").splitlines()]
-    return sum(1 for line in lines if line and not line.startswith(("--", "use ")))
+    return sum(1 for line in lines if line and not line.startswith(("--", "use ", "pub use ")))
 
 
 def case_the_readme_counts_what_there_is(program):
@@ -161,7 +161,7 @@ def definitions():
     """The list of all files of definitions: their number of lines, and what they say."""
     found = []
     for group, crates in grouped_crates().items():
-        files = [path for crate in crates for path in sorted((ROOT / "crates" / crate / "specs").glob("*.antt")) if path.name != "Lib.antt"]
+        files = [path for crate in crates for path in sorted((ROOT / "crates" / crate / "specs").glob("*.antt")) if path.name != "Lib.antt" and spec_lines(path)]
         if files:
             found += ["", f"### {group[0].upper()}{group[1:]}: {sum(spec_lines(path) for path in files)} lines", "", "| file | lines | what it says |", "|---|---|---|"]
             found += [f"| `{path.relative_to(ROOT / 'crates')}` | {spec_lines(path)} | {first_comment(path)} |" for path in files]
@@ -389,6 +389,21 @@ def case_the_man_page_is_in_step(program):
         faults += [f"docs/taprio_port.1: {name} has {word}, and the page has not" for word in sorted(there - here)]
         faults += [f"docs/taprio_port.1: {name} has no {word}, and the page says so" for word in sorted(here - there)]
     told(faults)
+
+
+def case_the_completions_are_in_step(program):
+    """The completions of the shells are those that the program's help makes."""
+    ran = subprocess.run([ROOT / "completions/make", "--check", program], capture_output=True, text=True, timeout=SECONDS)
+    told([f"completions: {line}" for line in ran.stderr.splitlines()])
+    assert ran.returncode == 0
+
+
+def case_bash_completes(program):
+    """A job, an option, and nothing behind an option that takes a value."""
+    script = 'source completions/taprio_port.bash; COMP_WORDS=("$@"); COMP_CWORD=$(($# - 1)); _taprio_port; echo "${COMPREPLY[@]}"'
+    for words, wanted in ((["s"], "script streams"), (["script", "--r"], "--rate --room"), (["script", "--rate", ""], "")):
+        ran = subprocess.run(["bash", "-c", script, "-", "taprio_port", *words], cwd=ROOT, capture_output=True, text=True, timeout=SECONDS)
+        assert ran.stdout.strip() == wanted and not ran.stderr, (words, ran)
 
 
 def fill(page, program):

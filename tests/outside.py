@@ -1,6 +1,7 @@
 """The program and what lies outside it: standard streams that are closed or full or fail, files without a right
 to read them, and too little memory."""
 import os
+import pty
 import re
 import shutil
 import socket
@@ -209,6 +210,21 @@ def case_a_replay_that_says_how_far_it_has_come(program):
     assert ran.returncode == 0 and told, (ran.returncode, errors)
     for number, records, passed in ((1, 2, 900), (2, 4, 1900)):
         assert records * 1000 // longest <= int(told[number]) <= records * 1000 // passed, (longest, errors)
+
+
+def case_a_terminal_as_the_standard_input(program):
+    """That it is waited for is told on standard error, once; not where the words ask for help."""
+    prompt = b"reading from the terminal; Ctrl-D ends the input\n"
+    for words, wanted in ((["script"], prompt), (["script", "--help"], b""), (["replay", "--help"], b"")):
+        ours, terminal = pty.openpty()
+        try:
+            os.write(ours, b"frame 1 0 60\nclock 1000000\n\x04")
+            ran = run(program, words, None, stdin=terminal)
+        finally:
+            os.close(ours)
+            os.close(terminal)
+        assert (ran.status, ran.errors) == (0, wanted), (words, ran)
+        assert ran.output.startswith(b"queued 1 class 0\n" if wanted else b""), ran
 
 
 def case_too_little_memory(program):

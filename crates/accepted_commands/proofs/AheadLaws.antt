@@ -2,13 +2,10 @@
 use Rattle.std.proofs.Common.{◌≡◌, ◌<◌, ℕ, ◌+◌, ◌-◌, max, false, Option, Some, None, refl, sym, subst, arith}
 use Rattle.std.proofs.lemmas.Bool.{lt-leb}
 use Rattle.std.specs.Option.{ForSome}
-use Rattle.gate_list.specs.Gate.{Plan, IsSchedule, boundary_from, has_come, in_ps}
+use Rattle.accepted_commands.specs.Words.{Plan, IsSchedule, boundary_from, in_ps, Accepted, Position, IsUsable, Stands, StandsUnder, hold_for}
+use Rattle.gate_list.specs.Gate.{has_come}
 use Rattle.gate_list.proofs.PhaseLaws.{boundary_above}
-use Rattle.list_config.specs.History.{Accepted}
-use Rattle.list_position.specs.declared.Position.{Position}
 use Rattle.list_position.specs.Position.{Shows}
-use Rattle.accepted_commands.specs.Commands.{IsUsable}
-use Rattle.accepted_commands.specs.Standing.{Stands, StandsUnder, hold_for}
 
 -- a list at its change moment stands so whatever change is pending, since nothing is held before its first cycle is over
 pub first_stands : (a : Accepted) (pending : Option Accepted) (position : Option Position) → IsUsable a → Stands (Some a) None a.change position → Stands (Some a) pending a.change position

@@ -3,20 +3,16 @@ use Rattle.std.proofs.Common.{◌≡◌, ◌<◌, ◌≤◌, ℕ, ◌+◌, min, 
 use Rattle.std.proofs.lemmas.Bool.{lt-leb, lt-ltb, le-ltb, cases_lt}
 use Rattle.std.proofs.lemmas.Option.{same_Some}
 use Rattle.std.specs.Option.{ForSome, option_or}
-use Rattle.gate_list.specs.Gate.{Plan, IsSchedule, mask_since, opens}
-use Rattle.gate_list.specs.Open.{open_while}
+use Rattle.accepted_commands.specs.Words.{Plan, IsSchedule, mask_since, opens, open_while, Accepted, gates, cons_some, is_in_time, plan_of, start_of, mask_in, stretches_from, IsGateEvent, Position, IsFlat, Commands, AreCommands, IsUsable, NoneBy, history_of, settled_at, Stands, StandsUnder, earlier, hold_for, shown_by, shows_under, boundary_in_force, edge_at}
 use Rattle.gate_list.proofs.OpenLaws.{same_while}
-use Rattle.list_config.specs.History.{Accepted, pending, announced, gates, kept, mask_under, open_through, cons_some, three, is_in_time, only_if, plan_of, start_of, mask_of_plan, IsWaiting, IsAhead}
-use Rattle.list_config.specs.Stretch.{mask_in, stretches_from}
+use Rattle.list_config.specs.History.{pending, announced, kept, mask_under, open_through, three, only_if, mask_of_plan, IsWaiting, IsAhead}
 use Rattle.list_config.specs.Current.{IsCurrent, with_command, with_command_by}
-use Rattle.list_config.specs.Event.{BeginsEntry, ComesAt, IsGateEvent}
+use Rattle.list_config.specs.Event.{BeginsEntry, ComesAt}
 use Rattle.list_config.proofs.EventLaws.{any_after, any_here}
 use Rattle.list_config.proofs.HistoryLaws.{cons_some_push, push_gates, three_force, three_pending, three_announced, settled_force, settled_pending, settled_announced, settled_kept, past_three}
 use Rattle.list_config.proofs.StretchLaws.{HasBegun, begun_from, begun_later, has_cycle, start_before, planned_stretch, unheld_stretch, stretches_open_through}
-use Rattle.list_position.specs.declared.Position.{Position}
-use Rattle.list_position.specs.Position.{IsFlat}
-use Rattle.accepted_commands.specs.Commands.{Commands, AreCommands, IsUsable, NoneBy, history_of, settled_at, in_force_by, pending_by, announced_by}
-use Rattle.accepted_commands.specs.Standing.{Stands, StandsUnder, earlier, hold_for, shown_by, shows_under, boundary_in_force, boundary_under, edge_at}
+use Rattle.accepted_commands.specs.Commands.{in_force_by, pending_by, announced_by}
+use Rattle.accepted_commands.specs.Standing.{boundary_under}
 use Rattle.list_position.proofs.PositionLaws.{boundary_begins, placed_mask, shut_now}
 
 -- ---- what shows now and up to the next command

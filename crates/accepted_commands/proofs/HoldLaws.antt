@@ -1,7 +1,7 @@
 -- Boundaries of cycles.
 use Rattle.std.proofs.Common.{◌≡◌, ◌<◌, ◌≤◌, ℕ, ◌+◌, ◌-◌, ◌*◌, ◌/◌, max, ap, ◌∙◌, arith, mod-lt, mul_comm}
 use Rattle.std.proofs.Math.Nat.{div-eq_of_lt-le}
-use Rattle.gate_list.specs.Gate.{boundary_from}
+use Rattle.accepted_commands.specs.Words.{boundary_from}
 
 -- the first boundary after t is the one after the last at or before it
 pub boundary_after : (start cycle t : ℕ) → 0 < cycle → start ≤ t → boundary_from start cycle (t + 1) ≡ start + cycle * ((t - start) / cycle) + cycle

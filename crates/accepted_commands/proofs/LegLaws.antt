@@ -1,18 +1,12 @@
 -- How long a class is open, through legs.
 use Rattle.std.proofs.Common.{◌≡◌, ◌≤◌, ℕ, ◌+◌, ◌-◌, ◌*◌, min, Bool, true, false, ◌&&◌, List, ◌∷◌, Option, Some, None, refl, sym, ap, ◌∙◌, subst, arith}
 use Rattle.std.specs.Option.{ForSome}
-use Rattle.wire_time.specs.Moment.{greatest_moment}
-use Rattle.gate_list.specs.Open.{open_while}
-use Rattle.list_config.specs.Stretch.{Stretch, mask_of, mask_in}
+use Rattle.accepted_commands.specs.Words.{greatest_moment, open_while, mask_of, mask_in, Position, IsPlaced, Listed, ListedLeg, Rest, AreReady, DoFollow, from_of, until_of, stretch_of}
+use Rattle.list_config.specs.Stretch.{Stretch}
 use Rattle.list_config.proofs.StretchLaws.{IsBy, first_while, stretch_parts}
 use Rattle.list_position.specs.declared.Need.{Need}
-use Rattle.list_position.specs.declared.Position.{Position}
-use Rattle.list_position.specs.Position.{IsPlaced}
 use Rattle.accepted_commands.specs.declared.leg.Leg.{Leg}
-use Rattle.accepted_commands.specs.declared.leg.Leg.TheVariants.{Listed, Open}
-use Rattle.accepted_commands.specs.declared.leg.ListedLeg.{ListedLeg}
-use Rattle.accepted_commands.specs.declared.leg.Rest.{Rest}
-use Rattle.accepted_commands.specs.Leg.{AreReady, DoFollow, from_of, until_of, stretch_of}
+use Rattle.accepted_commands.specs.declared.leg.Leg.TheVariants.{Open}
 
 -- a stretch without an end
 pub endless_while : (s : Stretch) (rest : List Stretch) (class n d : ℕ) → s.until ≡ None → open_while (mask_in (s ∷ rest)) class n d ≡ open_while (mask_of s) class n d

@@ -3,13 +3,8 @@ use Rattle.std.proofs.Common.{◌≡◌, ◌<◌, ◌≤◌, ℕ, ltb, IsTrue, O
 use Rattle.std.proofs.lemmas.Bool.{ltb-true, lt-ltb}
 use Rattle.std.proofs.lemmas.Option.{same_Some}
 use Rattle.std.specs.Option.{ForSome}
-use Rattle.gate_list.specs.Gate.{IsSchedule, last_mask, mask_since}
-use Rattle.list_config.specs.History.{Accepted}
-use Rattle.list_position.specs.declared.Position.{Position}
-use Rattle.list_position.specs.Position.{IsPlaced, IsFlat}
+use Rattle.accepted_commands.specs.Words.{IsSchedule, last_mask, mask_since, Accepted, Position, IsPlaced, IsFlat, IsUsable, EndsSo, Stands, accepted_list, hold_for, shows_under}
 use Rattle.accepted_commands.specs.declared.command.AcceptedList.{AcceptedList}
-use Rattle.accepted_commands.specs.Commands.{IsUsable}
-use Rattle.accepted_commands.specs.Standing.{EndsSo, Stands, accepted_list, hold_for, shows_under}
 
 -- the list of a command
 module _ (f : Option Accepted) (position : Option Position) (list : AcceptedList) (of : (f ≡ Some (accepted_list list)) × (position ≡ Some list.position)) where

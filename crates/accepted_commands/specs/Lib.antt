@@ -2,3 +2,4 @@ pub mod Commands
 pub mod Standing
 pub mod Leg
 pub mod Resume
+pub mod Words

@@ -1,18 +1,11 @@
 //! The legs of the commands that count.
-ghost use Rattle.std.specs.Prelude.{◌≡◌, ◌+◌, ◌*◌, ◌<◌, ◌≤◌, ◌∷◌, [], Some, None, false};
+ghost use Rattle.std.specs.Prelude.{◌≡◌, ◌+◌, ◌*◌, ◌<◌, ◌≤◌, ◌∷◌, [], Some, None};
 ghost use Rattle.std.specs.Option.{ForSome};
-ghost use Rattle.wire_time.specs.Moment.{greatest_moment};
-ghost use Rattle.list_config.specs.History.{is_in_time, plan_of, start_of};
-ghost use Rattle.list_config.specs.Stretch.{stretches_from};
-ghost use Rattle.list_config.specs.Current.{entry_count};
-ghost use Rattle.accepted_commands.specs.Commands.{AreCommands, IsUsable, accepted_in, command_of, stretches_of};
-ghost use Rattle.accepted_commands.specs.Standing.{IsFirst, Stands, position_in, position_lent};
-ghost use Rattle.accepted_commands.specs.Leg.{AreReady, IsReady, from_of, until_of, stretch_of, stretch_under, stretches_ahead};
-ghost use Rattle.accepted_commands.specs.Resume.{Resumes};
+ghost use Rattle.accepted_commands.specs.Words.{greatest_moment, plan_of, stretches_from, entry_count, AreCommands, IsUsable, accepted_in, command_of, stretches_of, IsFirst, Stands, position_lent, AreReady, IsReady, from_of, until_of, stretch_of, stretch_under, stretches_ahead, Resumes};
 
 use crate::command::AcceptedCommand;
 use crate::leg::{Leg, ListedLeg, OpenLeg, Rest};
-use crate::slots::Slots;
+use crate::slots::CommandSlots;
 use crate::under::list_in;
 use gate_list::Visits;
 use list_position::Position;
@@ -218,7 +211,7 @@ fn through_lead<'a>(
 }
 
 /// Where the list in force goes on at the lead moment of the command that is announced, where it replaces a pending one.
-pub fn resumed(slots: &Slots, visits: &mut Visits) -> Option<Position>
+pub fn resumed(slots: &CommandSlots, visits: &mut Visits) -> Option<Position>
     requires { AreCommands slots.now.commands }
     ensures resumes { Resumes slots.now.commands result }
     ensures counted { visits.old ≤ visits.new }
@@ -234,7 +227,7 @@ pub fn resumed(slots: &Slots, visits: &mut Visits) -> Option<Position>
 }
 
 /// The legs of the commands that count.
-pub fn legs_ahead<'a>(slots: &'a Slots, resumed: Option<Position>) -> Ahead<'a>
+pub fn legs_ahead<'a>(slots: &'a CommandSlots, resumed: Option<Position>) -> Ahead<'a>
     requires sound { AreCommands slots.now.commands }
     requires stands { Stands slots.now.commands.in_force slots.now.commands.pending slots.now.commands.moment slots.now.position }
     requires resumes { Resumes slots.now.commands resumed }

@@ -1,11 +1,6 @@
 //! A command as it is kept.
 ghost use Rattle.std.specs.Prelude.{◌≡◌, ◌*◌, ◌≤◌, Some, None, option_map};
-ghost use Rattle.wire_time.specs.Moment.{greatest_moment};
-ghost use Rattle.gate_list.specs.Gate.{IsSchedule};
-ghost use Rattle.list_config.specs.Current.{installed_of};
-ghost use Rattle.list_config.specs.Stretch.{hold_of};
-ghost use Rattle.accepted_commands.specs.Commands.{IsUsable, accepted_in, command_of};
-ghost use Rattle.accepted_commands.specs.declared.command.AcceptedCommand.TheVariants.{Install};
+ghost use Rattle.accepted_commands.specs.Words.{greatest_moment, IsSchedule, installed_of, hold_of, IsUsable, accepted_in, command_of, Install};
 
 use cycle_timer::CycleTimer;
 use gate_list::Schedule;

@@ -1,13 +1,9 @@
 //! The next moment at which something comes.
 ghost use Rattle.std.specs.Prelude.{◌≡◌, IfSome, option_map};
-ghost use Rattle.list_config.specs.History.{gates};
-ghost use Rattle.list_config.specs.Event.{IsGateEvent};
-ghost use Rattle.list_position.specs.Position.{IsFlat};
-ghost use Rattle.accepted_commands.specs.Commands.{AreCommands, command_of, history_of};
-ghost use Rattle.accepted_commands.specs.Standing.{Stands, earlier, edge_at};
+ghost use Rattle.accepted_commands.specs.Words.{gates, IsGateEvent, IsFlat, AreCommands, command_of, history_of, Stands, earlier, edge_at};
 
 use crate::command::AcceptedCommand;
-use crate::slots::Slots;
+use crate::slots::CommandSlots;
 use crate::under::until_under;
 
 /// The earlier of two moments, in picoseconds, if any.
@@ -44,7 +40,7 @@ pub fn lead_moment(command: Option<&AcceptedCommand>) -> Option<u128>
 }
 
 /// The next moment at which a boundary of the list in force comes, or a command does, in picoseconds; none: there is none.
-pub fn edge_of(slots: &Slots) -> Option<u128>
+pub fn edge_of(slots: &CommandSlots) -> Option<u128>
     requires sound { AreCommands slots.now.commands }
     requires stands { Stands slots.now.commands.in_force slots.now.commands.pending slots.now.commands.moment slots.now.position }
     ensures edge { result ≡ edge_at slots.now.commands slots.now.position }

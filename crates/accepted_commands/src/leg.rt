@@ -1,14 +1,7 @@
 //! What the gates show for a while: a list or none, and what comes after it.
-ghost use Rattle.std.specs.Prelude.{◌≡◌, ◌+◌, ◌-◌, ◌*◌, ◌<◌, ◌≤◌, ◌∷◌, [], Some, None, min};
+ghost use Rattle.std.specs.Prelude.{◌≡◌, ◌+◌, ◌-◌, ◌*◌, ◌<◌, ◌≤◌, ◌∷◌, Some, None, min};
 ghost use Rattle.std.specs.Option.{ForSome};
-ghost use Rattle.wire_time.specs.Moment.{greatest_moment};
-ghost use Rattle.gate_list.specs.Gate.{in_ps};
-ghost use Rattle.gate_list.specs.Visits.{one_more};
-ghost use Rattle.gate_list.specs.Open.{open_while};
-ghost use Rattle.list_config.specs.Stretch.{mask_of, mask_in};
-ghost use Rattle.accepted_commands.specs.declared.leg.Rest.{Rest};
-ghost use Rattle.accepted_commands.specs.declared.leg.Leg.TheVariants.{Listed};
-ghost use Rattle.accepted_commands.specs.Leg.{IsStanding, IsReady, AreReady, DoFollow, from_of, until_of, stretch_of, stretch_in, stretches_ahead};
+ghost use Rattle.accepted_commands.specs.Words.{greatest_moment, in_ps, one_more, open_while, mask_of, mask_in, Rest, Listed, IsStanding, IsReady, AreReady, DoFollow, from_of, until_of, stretch_of, stretch_in, stretches_ahead};
 
 use gate_list::{Schedule, Visits};
 use list_position::{Need, Position};

@@ -18,6 +18,6 @@ pub use ahead::{Ahead, legs_ahead, resumed};
 pub use command::{AcceptedCommand, AcceptedList, installed};
 pub use edge::{edge_of, lead_moment};
 pub use leg::{Leg, ListedLeg, OpenLeg, Rest, copied};
-pub use slots::Slots;
+pub use slots::CommandSlots;
 pub use staying::stays_open;
 pub use under::{list_in, mask_under, until_under};

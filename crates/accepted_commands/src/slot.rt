@@ -2,15 +2,7 @@
 ghost use Rattle.std.specs.Prelude.{◌≡◌, ℕ, ◌*◌, ◌+◌, ◌≤◌, None, Some, option_map};
 ghost use Rattle.std.specs.Option.{ForSome};
 ghost use denote.Bor.{Bor};
-ghost use Rattle.wire_time.specs.Moment.{greatest_lead, greatest_moment};
-ghost use Rattle.gate_list.specs.Gate.{IsSchedule};
-ghost use Rattle.list_config.specs.Current.{accepted_at, deletion_at, entry_count};
-ghost use Rattle.list_config.specs.History.{plan_of, start_of};
-ghost use Rattle.list_position.specs.Position.{BeginsAtMost};
-ghost use Rattle.list_execute.specs.Walk.{more};
-ghost use Rattle.accepted_commands.specs.Commands.{IsUsable, accepted_in, command_of};
-ghost use Rattle.accepted_commands.specs.declared.command.AcceptedCommand.{AcceptedCommand};
-ghost use Rattle.accepted_commands.specs.Standing.{EndsSo, IsFirst, Stands, option_position, position_lent};
+ghost use Rattle.accepted_commands.specs.Words.{greatest_lead, greatest_moment, IsSchedule, accepted_at, deletion_at, entry_count, plan_of, start_of, BeginsAtMost, more, IsUsable, accepted_in, command_of, AcceptedCommand, EndsSo, IsFirst, Stands, option_position, position_lent};
 
 use crate::command::AcceptedCommand;
 use gate_list::{Schedule, Visits};
@@ -20,13 +12,13 @@ use std::marker::Model;
 /// A slot for a command. A command takes six kilobytes: what is in a slot stays in place until another command comes, so that only
 /// what that one uses is copied.
 #[derive(Drop)]
-pub struct Slot {
+pub(crate) struct CommandSlot {
     kept: AcceptedCommand,
     is_used: bool,
 }
 
 /// A contract sees the command, if there is one.
-impl Model for Slot {
+impl Model for CommandSlot {
     ghost use Rattle.std.specs.Prelude.{Option, None, Some, if◌then◌else◌};
     ghost use Rattle.accepted_commands.specs.declared.command.AcceptedCommand.{AcceptedCommand};
 
@@ -35,12 +27,12 @@ impl Model for Slot {
     ghost view = { λ s. if s.is_used then Some s.kept else None };
 }
 
-impl Slot {
+impl CommandSlot {
     /// No command.
-    pub fn empty() -> Slot
+    pub fn empty() -> CommandSlot
         ensures { result ≡ None }
     {
-        Slot {
+        CommandSlot {
             kept: AcceptedCommand::Delete(0),
             is_used: false,
         }
@@ -57,7 +49,7 @@ impl Slot {
     }
 
     /// What is in another slot, which is empty then.
-    pub fn take_from(&mut self, other: &mut Slot)
+    pub fn take_from(&mut self, other: &mut CommandSlot)
         ensures taken { self.new ≡ other.old }
         ensures left { other.new ≡ None }
     {

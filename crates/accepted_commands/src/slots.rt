@@ -1,30 +1,24 @@
 //! The commands that count, in three slots.
-ghost use Rattle.std.specs.Prelude.{◌≡◌, ℕ, ◌*◌, ◌+◌, ◌<◌, ◌≤◌, ◌↔◌, IsTrue, None, Some};
+ghost use Rattle.std.specs.Prelude.{◌≡◌, ℕ, ◌+◌, ◌<◌, ◌≤◌, ◌↔◌, IsTrue, None, Some};
 ghost use Rattle.std.specs.Option.{ForSome};
-ghost use Rattle.wire_time.specs.Moment.{greatest_lead, greatest_moment};
-ghost use Rattle.list_config.specs.History.{plan_of, start_of};
-ghost use Rattle.list_config.specs.Current.{accepted_at, deletion_at, entry_count};
-ghost use Rattle.list_execute.specs.Walk.{more};
-ghost use Rattle.list_position.specs.Position.{BeginsAtMost};
-ghost use Rattle.accepted_commands.specs.Commands.{AreCommands, IsUsable, NoneBy, command_of, no_commands, settled_at};
-ghost use Rattle.accepted_commands.specs.Standing.{EndsSo, IsFirst, Stands, position_lent};
+ghost use Rattle.accepted_commands.specs.Words.{greatest_lead, greatest_moment, plan_of, start_of, accepted_at, deletion_at, entry_count, more, BeginsAtMost, AreCommands, IsUsable, NoneBy, command_of, no_commands, settled_at, EndsSo, IsFirst, Stands, position_lent};
 
 use crate::command::AcceptedCommand;
-use crate::slot::Slot;
+use crate::slot::CommandSlot;
 use gate_list::{Schedule, Visits};
 use std::marker::Model;
 
 /// The moment now, and the commands in force, pending and announced then.
 #[derive(Drop)]
-pub struct Slots {
+pub struct CommandSlots {
     moment: u128,
-    in_force: Slot,
-    pending: Slot,
-    announced: Slot,
+    in_force: CommandSlot,
+    pending: CommandSlot,
+    announced: CommandSlot,
 }
 
 /// A contract sees the commands with the moment, and where the list in force stands.
-impl Model for Slots {
+impl Model for CommandSlots {
     ghost use Rattle.std.specs.Prelude.{option_map};
     ghost use Rattle.std.specs.Option.{ForSome};
     ghost use Rattle.accepted_commands.specs.Commands.{AreCommands, accepted_in};
@@ -57,18 +51,18 @@ fn leads_after(command: Option<&AcceptedCommand>, moment: u128) -> bool
     }
 }
 
-impl Slots {
+impl CommandSlots {
     /// No command, at the moment 0.
-    pub fn begin() -> Slots
+    pub fn begin() -> CommandSlots
         ensures value { result.commands ≡ no_commands }
         ensures position { result.position ≡ None }
         ensures sound { AreCommands result.commands }
     {
-        Slots {
+        CommandSlots {
             moment: 0,
-            in_force: Slot::empty(),
-            pending: Slot::empty(),
-            announced: Slot::empty(),
+            in_force: CommandSlot::empty(),
+            pending: CommandSlot::empty(),
+            announced: CommandSlot::empty(),
         }
     }
 

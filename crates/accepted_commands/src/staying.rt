@@ -1,16 +1,11 @@
 //! Whether a class stays open from now on.
 ghost use Rattle.std.specs.Prelude.{◌≡◌, ◌*◌, ◌<◌, ◌≤◌, true, false};
 ghost use Rattle.std.specs.Option.{ForSome};
-ghost use Rattle.wire_time.specs.Moment.{greatest_moment};
-ghost use Rattle.gate_list.specs.Gate.{opens};
-ghost use Rattle.gate_list.specs.Open.{open_while};
-ghost use Rattle.accepted_commands.specs.Commands.{AreCommands, IsUsable, command_of, mask_ahead};
-ghost use Rattle.accepted_commands.specs.Standing.{Stands, position_lent, shown_by, shows_under};
-ghost use Rattle.accepted_commands.specs.Resume.{Resumes};
+ghost use Rattle.accepted_commands.specs.Words.{greatest_moment, opens, open_while, AreCommands, IsUsable, command_of, mask_ahead, Stands, position_lent, shown_by, shows_under, Resumes};
 
 use crate::ahead::legs_ahead;
 use crate::command::AcceptedCommand;
-use crate::slots::Slots;
+use crate::slots::CommandSlots;
 use crate::under::{list_in, mask_under};
 use gate_list::is_open;
 use list_position::{Need, Position};
@@ -40,7 +35,7 @@ fn stays_open_alone(
 }
 
 /// Whether a class stays open through all the legs of the commands that count.
-fn stays_open_through(slots: &Slots, resumed: &Option<Position>, need: Need) -> bool
+fn stays_open_through(slots: &CommandSlots, resumed: &Option<Position>, need: Need) -> bool
     requires sound { AreCommands slots.now.commands }
     requires stands { Stands slots.now.commands.in_force slots.now.commands.pending slots.now.commands.moment slots.now.position }
     requires resumes { Resumes slots.now.commands resumed.now }
@@ -54,7 +49,7 @@ fn stays_open_through(slots: &Slots, resumed: &Option<Position>, need: Need) -> 
 }
 
 /// Whether a class that needs some time is shut now, by the mask that shows.
-fn is_shut_now(slots: &Slots, need: Need) -> bool
+fn is_shut_now(slots: &CommandSlots, need: Need) -> bool
     requires class { need.class < CLASSES }
     ensures { result ≡ true → (0 < need.length) × (opens (shown_by slots.now.position) need.class ≡ false) }
 {
@@ -64,7 +59,7 @@ fn is_shut_now(slots: &Slots, need: Need) -> bool
 /// Whether a class stays open from now on, by the commands that count. The mask that shows is enough for a class that is shut now, which most
 /// that are asked for are. Where no other command comes up to the end of the need, the one in force decides, and no legs are made.
 #[tactic(auto, using(crate::proofs::CommandLaws::alone_while))]
-pub fn stays_open(slots: &Slots, resumed: &Option<Position>, need: Need) -> bool
+pub fn stays_open(slots: &CommandSlots, resumed: &Option<Position>, need: Need) -> bool
     requires sound { AreCommands slots.now.commands }
     requires stands { Stands slots.now.commands.in_force slots.now.commands.pending slots.now.commands.moment slots.now.position }
     requires resumes { Resumes slots.now.commands resumed.now }

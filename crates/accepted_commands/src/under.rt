@@ -1,13 +1,7 @@
 //! What the command in force shows: its list, or else all classes open.
 ghost use Rattle.std.specs.Prelude.{◌≡◌, ℕ, ◌*◌, ◌<◌, ◌≤◌, ◌+◌, Some, None, length};
 ghost use Rattle.std.specs.Option.{ForSome};
-ghost use Rattle.wire_time.specs.Moment.{greatest_moment};
-ghost use Rattle.gate_list.specs.Gate.{IsSchedule, last_mask, mask_since};
-ghost use Rattle.gate_list.specs.Open.{open_while};
-ghost use Rattle.list_config.specs.Current.{entry_count};
-ghost use Rattle.list_position.specs.Position.{BeginsAtMost, IsFlat, IsPlaced, StoodBy};
-ghost use Rattle.accepted_commands.specs.Commands.{IsUsable, accepted_in, command_of};
-ghost use Rattle.accepted_commands.specs.Standing.{EndsSo, IsListOf, Stands, accepted_list, boundary_in_force, hold_for, position_in, position_lent, shown_by, shows_under};
+ghost use Rattle.accepted_commands.specs.Words.{greatest_moment, IsSchedule, last_mask, entry_count, BeginsAtMost, IsFlat, IsPlaced, StoodBy, IsUsable, accepted_in, command_of, EndsSo, IsListOf, Stands, accepted_list, boundary_in_force, hold_for, position_in, position_lent, shown_by, shows_under};
 
 use crate::command::{AcceptedCommand, AcceptedList};
 use gate_list::Visits;

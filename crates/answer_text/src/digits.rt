@@ -119,7 +119,7 @@ fn long_before(number: u128, line: &mut Line, end: usize) -> usize
 }
 
 /// Puts a number in decimal before what ends a line from `end` on, and answers where the line begins then.
-pub fn number_before(number: u128, line: &mut Line, end: usize) -> usize
+pub(crate) fn number_before(number: u128, line: &mut Line, end: usize) -> usize
     requires room { NUMBER_CAPACITY ≤ end }
     requires within { end ≤ LINE_CAPACITY }
     ensures start { end ≤ result + NUMBER_CAPACITY }

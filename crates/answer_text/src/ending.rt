@@ -7,7 +7,7 @@ ghost use Rattle.answer_text.specs.declared.ending.TheConstants.{LINE_CAPACITY};
 pub(crate) const LINE_CAPACITY: usize = 128;
 
 /// The octets of a line, at its end those that it has so far.
-pub type Line = [u8; LINE_CAPACITY];
+pub(crate) type Line = [u8; LINE_CAPACITY];
 
 /// Puts a text before what ends a line from `end` on, and answers where the line begins then.
 pub(crate) fn text_before(text: &[u8], line: &mut Line, end: usize) -> usize

@@ -1,8 +1,7 @@
 //! The lines of answers.
 
-ghost use Rattle.std.specs.Prelude.{◌≡◌};
 ghost use Rattle.abstract_port.specs.Answers.{arrival_answer, command_answer};
-ghost use Rattle.answer_text.specs.Lines.{queued_line, dropped_line, installed_line, refused_line, start_line, count_line, left_line, answer_lines, number_text, tc_fault_line};
+ghost use Rattle.answer_text.specs.Lines.{queued_line, dropped_line, installed_line, refused_line, start_line, count_line, left_line, answer_lines, tc_fault_line};
 ghost use Rattle.octet_writer.specs.Writes.{Writes};
 
 use crate::digits::{octet_before, short_before};

@@ -1,6 +1,5 @@
 //! The lines of a report.
 
-ghost use Rattle.std.specs.Prelude.{◌≡◌};
 ghost use Rattle.answer_text.specs.Reports.{class_text, num_tc_text, now_line, map_text, range_text, ranges_text, map_and_ranges_line, classes_line, open_text, list_text, installed_text, schedule_line, report_lines};
 ghost use Rattle.octet_writer.specs.Writes.{Writes};
 

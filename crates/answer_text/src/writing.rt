@@ -1,6 +1,6 @@
 //! Writes text, with a loop over `write` of its own: a write that fails or takes nothing isn't tried again.
 
-ghost use Rattle.std.specs.Prelude.{◌≡◌, ◌<◌, ◌++◌, List, ℕ, decimal, true};
+ghost use Rattle.std.specs.Prelude.{◌≡◌, ◌<◌, ◌++◌, decimal, true};
 ghost use Rattle.std.specs.List.{flat_map};
 ghost use Rattle.answer_text.specs.Part.{hex_digit, text_of};
 ghost use Rattle.octet_writer.specs.Writes.{Writes};

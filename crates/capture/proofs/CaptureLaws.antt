@@ -2,14 +2,11 @@
 use Rattle.std.proofs.Common.{◌≡◌, ◌≢◌, ℕ, zero, suc, ◌+◌, ◌<◌, List, [], ◌∷◌, length, drop, Option, None, Some, Result, Ok, Err, refl, sym, ap, subst, ◌∙◌, arith, inl, inr}
 use Rattle.std.specs.Prelude.{◌⊎◌, IfSome, MatchOption}
 use Rattle.std.proofs.lemmas.List.{length-drop}
-use Rattle.capture.specs.declared.fault.CapFault.{CapFault}
-use Rattle.capture.specs.declared.fault.CapFault.TheVariants.{ShortHeader, BadMagic, BadVersion, BadLink, ShortRecord, LongRecord, BadFraction, TooManyRecords, Read, Write, Memory}
-use Rattle.capture.specs.declared.format.Format.{Format}
+use Rattle.capture.specs.Words.{CapFault, ShortHeader, BadMagic, BadVersion, BadLink, ShortRecord, LongRecord, BadFraction, TooManyRecords, Read, Write, Memory, Format, Whole, Entry, entry_at, rest_after, fault_at, AreRecords, HasOneReading, AnswersRecords}
 use Rattle.capture.specs.declared.reader.End.{End}
-use Rattle.capture.specs.declared.reader.End.TheVariants.{Whole, Broken}
-use Rattle.capture.specs.Records.{Entry, entry_at, rest_after, fault_at}
+use Rattle.capture.specs.declared.reader.End.TheVariants.{Broken}
 use Rattle.capture.specs.CaptureReader.{Left, octets_left, again, IsWanting, ReadsNext, Next}
-use Rattle.capture.specs.Captures.{AreRecords, HasOneReading, Calls, AreFailed, AreAnswers, AnswersRecords}
+use Rattle.capture.specs.Captures.{Calls, AreFailed, AreAnswers}
 
 -- nothing is no record
 fault_of_none : (format : Format) (number : ℕ) (octets : List ℕ) → octets ≡ [] → fault_at format number octets ≡ None → ⊥

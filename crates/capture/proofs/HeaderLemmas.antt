@@ -5,14 +5,8 @@ use Rattle.std.specs.declared.option.Option.{Option}
 use Rattle.std.specs.Io.KnownBytes.{Consumes, IsAtEnd}
 use Rattle.std.proofs.lemmas.List.{drop-append-le, drop_all, take_all, length-append, length-drop, length-take}
 use Rattle.std.proofs.lemmas.Bool.{le-ltb, lt-ltb}
-use Rattle.byteorder.specs.Numbers.{big_from-append, little_from-append}
-use Rattle.capture.specs.declared.fault.CapFault.{CapFault}
-use Rattle.capture.specs.declared.format.Endian.{Endian}
-use Rattle.capture.specs.declared.format.Endian.TheVariants.{Big, Little}
-use Rattle.capture.specs.declared.format.Format.{Format}
-use Rattle.capture.specs.declared.fault.CapFault.TheVariants.{ShortHeader, BadMagic, BadVersion, BadLink, ShortRecord, LongRecord, BadFraction, TooManyRecords, Read, Write, Memory}
-use Rattle.capture.specs.Numbers.{u16_at}
-use Rattle.capture.specs.FileHeader.{format_by_magic, format_with, header_format, format_of, is_header_fault, IsHeaderFault}
+use Rattle.capture.specs.Words.{big_from-append, little_from-append, CapFault, Endian, Big, Little, Format, ShortHeader, BadMagic, BadVersion, BadLink, ShortRecord, LongRecord, BadFraction, TooManyRecords, Read, Write, Memory, u16_at, format_by_magic, header_format, format_of, is_header_fault, IsHeaderFault}
+use Rattle.capture.specs.FileHeader.{format_with}
 use Rattle.capture.proofs.RecordLemmas.{u32_at-front, u32_at-inner}
 
 u16_at-inner : (endian : Endian) (k : ℕ) (xs ys : List ℕ) → k + 2 ≤ length xs → u16_at endian (drop k (xs ++ ys)) ≡ u16_at endian (drop k xs)

@@ -5,20 +5,8 @@ use Rattle.std.proofs.lemmas.List.{take-append-le, drop-append-le, drop-drop, le
 use Rattle.std.proofs.lemmas.Bool.{cases_lt, le-leb, le-ltb, lt-ltb}
 use Rattle.std.specs.Io.KnownBytes.{Keeps, IsAtEnd, prepend_known}
 use Rattle.std.specs.declared.option.Option.{Option}
-use Rattle.byteorder.specs.Numbers.{big_from-append, little_from-append}
-use Rattle.capture.specs.declared.fault.CapFault.{CapFault}
-use Rattle.capture.specs.declared.fault.CapFault.TheVariants.{ShortRecord, LongRecord, BadFraction, TooManyRecords, Read}
-use Rattle.capture.specs.declared.format.Endian.{Endian}
-use Rattle.capture.specs.declared.format.Endian.TheVariants.{Big, Little}
-use Rattle.capture.specs.declared.format.Format.{Format}
-use Rattle.capture.specs.declared.format.RecordHeader.{RecordHeader}
-use Rattle.capture.specs.declared.format.TheConstants.{MAX_RECORDS, MAX_RECORD_OCTETS}
-use Rattle.capture.specs.declared.window.Window.{Window}
-use Rattle.capture.specs.Window.{last_given}
-use Rattle.capture.specs.Numbers.{u32_at}
+use Rattle.capture.specs.Words.{big_from-append, little_from-append, CapFault, ShortRecord, LongRecord, BadFraction, TooManyRecords, Read, Endian, Big, Little, Format, RecordHeader, MAX_RECORDS, MAX_RECORD_OCTETS, ReadAhead, last_given, u32_at, fractions_of, header_at, rest_after, header_fault, ok_unless, fault_with, fault_at, Step, is_record_fault}
 use Rattle.std.specs.Option.{option_or}
-use Rattle.capture.specs.Records.{fractions_of, header_at, rest_after, header_fault, ok_unless, fault_with, fault_at}
-use Rattle.capture.specs.Step.{Step, is_record_fault}
 
 pub u32_at-front : (endian : Endian) (xs ys : List ℕ) → 4 ≤ length xs → u32_at endian (xs ++ ys) ≡ u32_at endian xs
 u32_at-front Big xs ys le = big_from-append 4 xs ys le
@@ -53,7 +41,7 @@ no_fault : (o : Option CapFault) → ok_unless o ≡ Ok tt → o ≡ None
 no_fault None e = refl
 no_fault (Some f) e = absurd cc
 
-pub is_record : {A : Type 0} (format : Format) (number : ℕ) (octets held1 held2 held3 : List ℕ) (o1 o2 : Option (List ℕ)) (head : RecordHeader) (w : Window A)
+pub is_record : {A : Type 0} (format : Format) (number : ℕ) (octets held1 held2 held3 : List ℕ) (o1 o2 : Option (List ℕ)) (head : RecordHeader) (w : ReadAhead A)
     → Keeps (Some octets) (prepend_known held1 o1) → 16 ≤ length held1
     → head ≡ header_at format held1 → ok_unless (header_fault format number head) ≡ Ok tt
     → Keeps (prepend_known held1 o1) (prepend_known held2 o2) → 16 + head.captured ≤ length held2

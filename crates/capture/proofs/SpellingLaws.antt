@@ -5,20 +5,10 @@ use Rattle.std.proofs.lemmas.Bool.{le-ltb, lt-leb}
 use Rattle.std.proofs.Math.Nat.{mod-eq_of_lt, div-one}
 use Rattle.std.proofs.Math.Seq.{take-append_seam, drop-append_seam}
 use Rattle.byteorder.specs.Numbers.{big_from-bytes, little_from-bytes}
-use Rattle.capture.specs.declared.format.Endian.{Endian}
-use Rattle.capture.specs.declared.format.Endian.TheVariants.{Big, Little}
-use Rattle.capture.specs.declared.format.Resolution.{Resolution}
-use Rattle.capture.specs.declared.format.Resolution.TheVariants.{Micros, Nanos}
-use Rattle.capture.specs.declared.format.Format.{Format}
-use Rattle.capture.specs.declared.format.RecordHeader.{RecordHeader}
-use Rattle.capture.specs.declared.reader.End.TheVariants.{Whole}
-use Rattle.capture.specs.Numbers.{u32_at, u32_octets}
-use Rattle.capture.specs.FileHeader.{header_format}
-use Rattle.capture.specs.Records.{Entry, IsWithin, fraction_of, fractions_of, moment_of, header_at, fault_at, fault_with, entry_at, rest_after}
-use Rattle.capture.specs.Captures.{AreRecords}
+use Rattle.capture.specs.Words.{Endian, Big, Little, Resolution, Micros, Nanos, Format, RecordHeader, Whole, u32_at, u32_octets, header_format, Entry, fraction_of, fractions_of, moment_of, header_at, fault_at, fault_with, entry_at, rest_after, AreRecords, spelled_record_header, IsSpelling, MAX_RECORDS, MAX_RECORD_OCTETS}
+use Rattle.capture.specs.Records.{IsWithin}
 use Rattle.capture.proofs.WriterLemmas.{length-spelled_record_header}
-use Rattle.capture.specs.Spelling.{spelled_header, spelled_record_header, spelled_record, spelled_records, rounded, AreWithin, IsSpelling}
-use Rattle.capture.specs.declared.format.TheConstants.{MAX_RECORDS, MAX_RECORD_OCTETS}
+use Rattle.capture.specs.Spelling.{spelled_header, spelled_record, spelled_records, rounded, AreWithin}
 
 -- a number that is spelled is read back, and what comes after it follows
 u32_at-octets : (e : Endian) (x : ℕ) (rest : List ℕ) → x < 4294967296 → u32_at e (u32_octets e x ++ rest) ≡ x

@@ -1,12 +1,8 @@
 -- What a record leaves in a writer.
 use Rattle.std.proofs.Common.{◌≡◌, ℕ, List, ◌++◌, length, Option, refl, arith}
 use Rattle.std.proofs.lemmas.List.{length-append}
-use Rattle.capture.specs.declared.format.Endian.{Endian}
-use Rattle.capture.specs.declared.format.Endian.TheVariants.{Big, Little}
-use Rattle.capture.specs.declared.format.Format.{Format}
-use Rattle.capture.specs.Numbers.{u32_octets}
+use Rattle.capture.specs.Words.{Endian, Big, Little, Format, u32_octets, spelled_record_header}
 use Rattle.octet_writer.specs.Writes.{FallsShort}
-use Rattle.capture.specs.Spelling.{spelled_record_header}
 use Rattle.octet_writer.proofs.Fronts.{sent_none}
 
 pub length-u32_octets : (e : Endian) (x : ℕ) → length (u32_octets e x) ≡ 4

@@ -10,7 +10,7 @@ use Rattle.capture.specs.declared.reader.End.TheVariants.{Whole, Broken}
 use Rattle.capture.specs.declared.record.Record.{Record}
 use Rattle.capture.specs.declared.reader.CaptureReader.{CaptureReader}
 use Rattle.capture.specs.FileHeader.{format_of}
-use Rattle.capture.specs.Window.{held, last_given}
+use Rattle.capture.specs.ReadAhead.{held, last_given}
 use Rattle.capture.specs.Step.{is_record_fault}
 use Rattle.capture.specs.Record.{entry}
 use Rattle.capture.specs.Records.{Entry, IsWithin, moment_of, entry_at, rest_after, fault_at}
@@ -26,7 +26,7 @@ pub record Left (R : Type 0) : Type 0 where
 
 -- what a contract sees of a reader
 abbrev pub left : {R A : Type 0} → CaptureReader R A → Left R
-left r = record { format = r.format; number = r.number; in_hand = held r.window; source = r.source; ended = r.ended }
+left r = record { format = r.format; number = r.number; in_hand = held r.ahead; source = r.source; ended = r.ended }
 
 -- the octets that are still to come, where the source says
 abbrev pub octets_left : {R : Type 0} → (R → Option (List ℕ)) → Left R → Option (List ℕ)
@@ -46,13 +46,13 @@ abbrev pub answer : Result (Option Record) CapFault → Result (Option Entry) Ca
 answer (Ok o) = Ok (option_map entry o)
 answer (Err f) = Err f
 
--- what a header stands for, whose octets the window gave last
+-- what a header stands for, whose octets were given last
 abbrev pub shown : {R A : Type 0} → CaptureReader R A → Result (Option RecordHeader) CapFault → Result (Option Entry) CapFault
 shown r (Ok o) = Ok (option_map (λ header. record {
   moment = moment_of r.format header;
   captured = header.captured;
   original = header.original;
-  octets = last_given r.window header.captured;
+  octets = last_given r.ahead header.captured;
 }) o)
 shown r (Err f) = Err f
 

@@ -1,10 +1,11 @@
 pub mod Numbers
 pub mod FileHeader
 pub mod Records
-pub mod Window
+pub mod ReadAhead
 pub mod Step
 pub mod Record
 pub mod CaptureReader
 pub mod Captures
 pub mod Spelling
 pub mod CaptureWriter
+pub mod Words

@@ -1,8 +1,7 @@
 //! The numbers of a capture, and what they stand for.
 
 ghost use Rattle.std.specs.Prelude.{◌≡◌, ◌≤◌, ◌<◌, length, IsOk};
-ghost use Rattle.capture.specs.Numbers.{u16_at, u32_at};
-ghost use Rattle.capture.specs.Records.{header_at, header_fault, moment_of, fractions_of, ok_unless};
+ghost use Rattle.capture.specs.Words.{u16_at, u32_at, header_at, header_fault, moment_of, fractions_of, ok_unless};
 
 use crate::fault::CapFault;
 use byteorder::{BigEndian, ByteOrder, LittleEndian};
@@ -42,7 +41,7 @@ pub struct Format {
 
 /// The 16 octets before the octets of a record.
 #[derive(Clone, Copy, Debug, PartialEq, Eq)]
-pub struct RecordHeader {
+pub(crate) struct RecordHeader {
     /// Whole seconds of the time stamp.
     pub seconds: u32,
     /// The rest of the time stamp, in the capture's resolution.
@@ -120,7 +119,7 @@ pub(crate) fn check_header(
 }
 
 /// A record's moment, in picoseconds.
-pub fn moment(format: Format, header: RecordHeader) -> u128
+pub(crate) fn moment(format: Format, header: RecordHeader) -> u128
     ensures { result ≡ moment_of format header }
 {
     let scale = match format.resolution {

@@ -2,11 +2,11 @@
 
 ghost use Rattle.std.specs.Prelude.{◌≡◌, ◌≤◌, ◌<◌, length, take, drop, Some, Ok, IsTrue, IfOk, IfErr, IfSome};
 ghost use Rattle.std.specs.Io.KnownBytes.{Consumes, IsAtEnd};
-ghost use Rattle.capture.specs.FileHeader.{resolution_of, format_by_magic, format_of, header_format, is_header_fault, IsHeaderFault};
+ghost use Rattle.capture.specs.Words.{resolution_of, format_by_magic, format_of, header_format, is_header_fault, IsHeaderFault};
 
 use crate::fault::CapFault;
 use crate::format::{Endian, Format, Resolution, read_u16, read_u32};
-use crate::window::read_behind;
+use crate::read_ahead::read_behind;
 use std::io;
 use std::io::Read;
 

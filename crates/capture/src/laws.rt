@@ -1,8 +1,6 @@
 //! Laws of captures. There is nothing to run: the contract of each function is its law.
 
-ghost use Rattle.capture.specs.Captures.{AnswersRecords, HasOneReading};
-ghost use Rattle.capture.specs.CaptureReader.{left};
-ghost use Rattle.capture.specs.Spelling.{IsSpelling};
+ghost use Rattle.capture.specs.Words.{AnswersRecords, HasOneReading, left, IsSpelling};
 
 use crate::reader::CaptureReader;
 use std::alloc::Allocator;

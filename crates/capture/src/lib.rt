@@ -8,9 +8,9 @@ mod fault;
 mod format;
 mod header;
 pub mod laws;
+mod read_ahead;
 mod reader;
 mod record;
-mod window;
 mod writer;
 
 pub use fault::CapFault;

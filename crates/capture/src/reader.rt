@@ -4,17 +4,13 @@ ghost use Rattle.std.specs.Prelude.{◌≡◌, ◌≢◌, ◌≤◌, ◌<◌, �
 ghost use Rattle.std.specs.Io.KnownBytes.{Keeps, IsAtEnd, prepend_known};
 ghost use Rattle.std.specs.Io.BufRead.{Rests};
 ghost use Rattle.std.specs.Borrow.{sem};
-ghost use Rattle.capture.specs.declared.format.TheConstants.{MAX_RECORDS, MAX_RECORD_OCTETS};
-ghost use Rattle.capture.specs.declared.window.TheConstants.{ROOM};
-ghost use Rattle.capture.specs.Window.{held};
-ghost use Rattle.capture.specs.Step.{Step, is_record_fault};
-ghost use Rattle.capture.specs.Records.{fault_at, fractions_of};
+ghost use Rattle.capture.specs.Words.{MAX_RECORDS, MAX_RECORD_OCTETS, ROOM, held, Step, is_record_fault, fault_at, fractions_of};
 
 use crate::fault::CapFault;
 use crate::format::{Format, RecordHeader, check_header, moment, read_header};
 use crate::header::read_file_header;
+use crate::read_ahead::{RECORD_HEADER, ReadAhead};
 use crate::record::Record;
-use crate::window::{RECORD_HEADER, Window};
 use std::alloc::{Allocator, Global};
 use std::io::Read;
 
@@ -34,7 +30,7 @@ pub enum End {
 #[derive(Drop)]
 pub struct CaptureReader<R, A: Allocator = Global> {
     source: R,
-    window: Window<A>,
+    ahead: ReadAhead<A>,
     format: Format,
     number: u32,
     ended: Option<End>,
@@ -42,20 +38,20 @@ pub struct CaptureReader<R, A: Allocator = Global> {
 
 /// Reads until so many octets are held, and no further. False: the input ends before.
 fn fetch<R: Read, A: Allocator>(
-    window: &mut Window<A>,
+    ahead: &mut ReadAhead<A>,
     source: &mut R,
     need: usize,
 ) -> Result<bool, CapFault>
     requires { need ≤ ROOM }
-    ensures octets { Keeps (prepend_known (held window.old) (R.remaining source.old)) (prepend_known (held window.new) (R.remaining source.new)) }
-    ensures enough { result ≡ Ok true → need ≤ length (held window.new) }
-    ensures ended { result ≡ Ok false → (length (held window.new) < need) × IsAtEnd (R.remaining source.new) }
+    ensures octets { Keeps (prepend_known (held ahead.old) (R.remaining source.old)) (prepend_known (held ahead.new) (R.remaining source.new)) }
+    ensures enough { result ≡ Ok true → need ≤ length (held ahead.new) }
+    ensures ended { result ≡ Ok false → (length (held ahead.new) < need) × IsAtEnd (R.remaining source.new) }
     ensures fault { IfErr result (λ f. f ≡ CapFault.Read) }
-    ensures in_hand { need ≤ length (held window.old) → (result ≡ Ok true) × (source.new ≡ source.old) × (held window.new ≡ held window.old) }
+    ensures in_hand { need ≤ length (held ahead.old) → (result ≡ Ok true) × (source.new ≡ source.old) × (held ahead.new ≡ held ahead.old) }
 {
-    while window.len() < need {
-        window.pull();
-        match window.fill(source) {
+    while ahead.len() < need {
+        ahead.pull();
+        match ahead.fill(source) {
             Ok(0) => return Ok(false),
             Ok(_) => {}
             Err(_) => return Err(CapFault::Read),
@@ -64,38 +60,38 @@ fn fetch<R: Read, A: Allocator>(
     Ok(true)
 }
 
-/// The next record, which the window then has given, or None at the end of the input.
+/// The next record, which has then been given, or None at the end of the input.
 fn read_record<R: Read, A: Allocator>(
-    window: &mut Window<A>,
+    ahead: &mut ReadAhead<A>,
     source: &mut R,
     format: Format,
     number: u32,
 ) -> Result<Option<RecordHeader>, CapFault>
-    ensures step { IfSome (prepend_known (held window.old) (R.remaining source.old)) (λ octets.
-        Step format number octets result window.new (prepend_known (held window.new) (R.remaining source.new))) }
-    ensures start { IfOk result (λ o. IfSome o (λ header. header.captured ≤ window.new.start)) }
+    ensures step { IfSome (prepend_known (held ahead.old) (R.remaining source.old)) (λ octets.
+        Step format number octets result ahead.new (prepend_known (held ahead.new) (R.remaining source.new))) }
+    ensures start { IfOk result (λ o. IfSome o (λ header. header.captured ≤ ahead.new.start)) }
     ensures short { IfOk result (λ o. IfSome o (λ header. header.captured ≤ MAX_RECORD_OCTETS)) }
     ensures fraction { IfOk result (λ o. IfSome o (λ header. header.fraction < fractions_of format.resolution)) }
     ensures few { IfOk result (λ o. IsSome o → number < MAX_RECORDS) }
     ensures fault { IfErr result (λ f. IsTrue (is_record_fault f)) }
-    ensures read { result ≡ Err CapFault.Read → fault_at format number (held window.old) ≡ Some CapFault.ShortRecord }
-    ensures unread { fault_at format number (held window.old) ≢ Some CapFault.ShortRecord → source.new ≡ source.old }
+    ensures read { result ≡ Err CapFault.Read → fault_at format number (held ahead.old) ≡ Some CapFault.ShortRecord }
+    ensures unread { fault_at format number (held ahead.old) ≢ Some CapFault.ShortRecord → source.new ≡ source.old }
 {
-    if !fetch(window, source, RECORD_HEADER)? {
-        return if window.len() == 0 {
+    if !fetch(ahead, source, RECORD_HEADER)? {
+        return if ahead.len() == 0 {
             Ok(None)
         } else {
             Err(CapFault::ShortRecord)
         };
     }
-    let header = read_header(format, window.octets());
+    let header = read_header(format, ahead.octets());
     check_header(format, number, header)?;
     let captured = header.captured as usize;
-    if !fetch(window, source, RECORD_HEADER + captured)? {
+    if !fetch(ahead, source, RECORD_HEADER + captured)? {
         return Err(CapFault::ShortRecord);
     }
-    window.give(RECORD_HEADER);
-    window.give(captured);
+    ahead.give(RECORD_HEADER);
+    ahead.give(captured);
     Ok(Some(header))
 }
 
@@ -113,13 +109,13 @@ impl<R: Read, A: Allocator> CaptureReader<R, A> {
     {
         let mut source = reader;
         let format = read_file_header(&mut source)?;
-        let window = match Window::new(alloc) {
-            Ok(window) => window,
+        let ahead = match ReadAhead::new(alloc) {
+            Ok(ahead) => ahead,
             Err(_) => return Err(CapFault::Memory),
         };
         Ok(CaptureReader {
             source,
-            window,
+            ahead,
             format,
             number: 0,
             ended: None,
@@ -137,21 +133,21 @@ impl<R: Read, A: Allocator> CaptureReader<R, A> {
                 moment: moment(self.format, header),
                 captured: header.captured,
                 original: header.original,
-                octets: self.window.given(header.captured as usize),
+                octets: self.ahead.given(header.captured as usize),
             })),
         }
     }
 
     fn advance(&mut self) -> Result<Option<RecordHeader>, CapFault>
         ensures next { Next R.remaining (left self.old) (shown self.new result) (left self.new) }
-        ensures start { IfOk result (λ o. IfSome o (λ header. header.captured ≤ self.new.window.start)) }
+        ensures start { IfOk result (λ o. IfSome o (λ header. header.captured ≤ self.new.ahead.start)) }
     {
         match self.ended {
             Some(End::Whole) => return Ok(None),
             Some(End::Broken(fault)) => return Err(fault),
             None => {}
         }
-        match read_record(&mut self.window, &mut self.source, self.format, self.number) {
+        match read_record(&mut self.ahead, &mut self.source, self.format, self.number) {
             Ok(Some(header)) => {
                 self.number += 1;
                 Ok(Some(header))

@@ -1,7 +1,7 @@
 //! A record, and the frame that it is of.
 
 ghost use Rattle.std.specs.Prelude.{◌≡◌, ◌/◌, Some, None, slice_index, if◌then◌else◌};
-ghost use Rattle.capture.specs.Record.{entry, is_tagged, frame_of};
+ghost use Rattle.capture.specs.Words.{entry, is_tagged, frame_of};
 
 use wire_time::Frame;
 

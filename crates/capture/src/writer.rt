@@ -2,15 +2,12 @@
 
 ghost use Rattle.std.specs.Prelude.{◌≡◌, ◌≤◌, ◌<◌, ◌/◌, ◌%◌, length, IsTrue, OnOk, OnErr, IfOk, IfErr, true, false, Err};
 ghost use Rattle.std.specs.Io.KnownBytes.{Keeps};
-ghost use Rattle.octet_writer.specs.Writes.{Writes};
-ghost use Rattle.capture.specs.Spelling.{spelled_record_header};
-ghost use Rattle.capture.specs.CaptureWriter.{written_format, written_header};
-ghost use Rattle.capture.specs.declared.writer.TheConstants.{CAPTURE_END};
+ghost use Rattle.capture.specs.Words.{Writes, spelled_record_header, written_format, written_header, CAPTURE_END};
 
 use crate::fault::CapFault;
 use crate::format::MAX_RECORD_OCTETS;
 use crate::header::{ETHERNET, FILE_HEADER, MAJOR_VERSION, MINOR_VERSION, NANOS_MAGIC};
-use crate::window::RECORD_HEADER;
+use crate::read_ahead::RECORD_HEADER;
 use byteorder::{ByteOrder, LittleEndian};
 use octet_writer::put;
 use std::io::Write;

@@ -1,27 +1,18 @@
 -- The end of a run that is drawn, from what its parts leave.
-use Rattle.std.proofs.Common.{◌≡◌, ℕ, List, Option, Some, None, Result, Ok, Err, ◌⊎◌, inl, inr, sym, ◌∙◌, subst}
+use Rattle.std.proofs.Common.{◌≡◌, ℕ, List, Option, Some, None, Result, Ok, Err, inl, inr, sym, ◌∙◌, subst}
 use Rattle.std.specs.Prelude.{IfSome}
 use Rattle.std.specs.Io.KnownBytes.{Keeps}
 use Rattle.std.proofs.KnownBytes.{Keeps-refl}
-use Rattle.abstract_port.specs.AbstractPort.{AbstractPort}
-use Rattle.abstract_port.specs.declared.Command.{Command}
-use Rattle.line_reader.specs.Script.{Script}
+use Rattle.drawing.specs.Words.{AbstractPort, Command, Script, Fault, IsReader, TcFault, Reading, BadLine, Course, IsDrawEnding, IsDrawn, fault_in, Takes}
 use Rattle.job.specs.Ending.{IsEndOf, IsOrFails}
-use Rattle.job.specs.declared.fault.Fault.{Fault}
 use Rattle.job.specs.declared.fault.Fault.TheVariants as Faults
 use Rattle.job.specs.declared.telling.Ended.{Ended}
 use Rattle.job.proofs.EndingLaws.{ended}
-use Rattle.tc_reader.specs.Reader.{IsReader}
-use Rattle.tc_reader.specs.declared.fault.TcFault.{TcFault}
-use Rattle.script.specs.Outcome.{Reading}
 use Rattle.script.specs.Setup.{Setup}
 use Rattle.script.specs.Texts.{script_telling}
-use Rattle.script.specs.declared.faults.BadLine.{BadLine}
 use Rattle.script.specs.declared.settings.BadValue.{BadValue}
-use Rattle.drawing.specs.Course.{Course}
-use Rattle.drawing.specs.Ending.{IsDrawEnding, IsDrawn, IsDrawnOut, IsPictureEnding, fault_in}
+use Rattle.drawing.specs.Ending.{IsDrawnOut, IsPictureEnding}
 use Rattle.drawing.specs.declared.options.DrawOptions.{DrawOptions}
-use Rattle.drawing.specs.Taken.{Takes}
 
 -- 1. Runs of lines, by what the lines leave
 

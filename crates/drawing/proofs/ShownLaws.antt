@@ -1,8 +1,8 @@
 -- What is shown after a start.
 use Rattle.std.proofs.Common.{◌≡◌, ℕ, List, true, false, if◌then◌else◌, ap, ap₂, ◌∙◌}
 use Rattle.abstract_port.specs.declared.Start.{Start}
-use Rattle.picture.specs.Rows.{Filled}
-use Rattle.drawing.specs.Shapes.{Shown, frame_drawn, is_drawn, wait_drawn, with_start}
+use Rattle.drawing.specs.Words.{Filled, frame_drawn, is_drawn, wait_drawn}
+use Rattle.drawing.specs.Shapes.{Shown, with_start}
 
 -- one that is drawn
 pub start_drawn : (came : ℕ) (s : Start) (x y : Shown) (frames waits : List Filled) → x ≡ y → true ≡ is_drawn s → frames ≡ frame_drawn x.view s x.frames → waits ≡ wait_drawn x.view came s x.waits

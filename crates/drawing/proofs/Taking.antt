@@ -1,29 +1,23 @@
 -- One line more of a script that is drawn, and the ends.
 use Rattle.std.proofs.Common.{◌≡◌, ℕ, List, ◌∷◌, Option, Some, None, Result, Ok, Err, true, false, refl, sym, ap, ◌∙◌, subst}
 use Rattle.std.specs.Prelude.{IfSome, ⊤}
-use Rattle.abstract_port.specs.AbstractPort.{AbstractPort, class_for, settled}
-use Rattle.abstract_port.specs.Answers.{answers_to, port_after}
-use Rattle.abstract_port.specs.Sound.{IsSoundPort}
+use Rattle.drawing.specs.Words.{AbstractPort, settled, answers_to, IsSoundPort, Command, TcFault, Script, Request, Asks, request_of, bad_line, Reading, reading_of, ScriptFault, Fault, BadLine, Course, seen_all, seen_at, Takes, TakesLine, seen_by}
+use Rattle.abstract_port.specs.AbstractPort.{class_for}
+use Rattle.abstract_port.specs.Answers.{port_after}
 use Rattle.abstract_port.specs.declared.Event.{Event}
 use Rattle.abstract_port.specs.declared.Event.TheVariants.{Arrive, Install, Clock, Query, Count}
-use Rattle.abstract_port.specs.declared.Command.{Command}
-use Rattle.tc_reader.specs.declared.fault.TcFault.{TcFault}
 use Rattle.separation.specs.Settling.{IsSettling}
-use Rattle.line_reader.specs.Script.{Script, Line}
+use Rattle.line_reader.specs.Script.{Line}
 use Rattle.line_reader.specs.LineReader.{Advances}
 use Rattle.line_reader.specs.declared.lines.LineFault.{LineFault}
 use Rattle.line_reader.specs.declared.lines.LineFault.TheVariants as LineFaults
-use Rattle.script.specs.Requests.{Request, Asks, NoCommand, request_of}
+use Rattle.script.specs.Requests.{NoCommand}
 use Rattle.script.specs.Responses.{events_of, responses_to}
 use Rattle.job.specs.Lines.{fault_of_line}
-use Rattle.script.specs.Outcome.{bad_line, long_line, Reading, reading_of, with_line}
-use Rattle.script.specs.declared.faults.ScriptFault.{ScriptFault}
-use Rattle.job.specs.declared.fault.Fault.{Fault}
+use Rattle.script.specs.Outcome.{long_line, with_line}
 use Rattle.job.specs.declared.fault.Fault.TheVariants as Faults
-use Rattle.script.specs.declared.faults.BadLine.{BadLine}
 use Rattle.script.proofs.Going.{StandsFor, stands_for_itself, stands-after, event-answers}
-use Rattle.drawing.specs.Course.{Course, class_at, seen_after, seen_all, seen_at}
-use Rattle.drawing.specs.Taken.{Takes, TakesLine, seen_by}
+use Rattle.drawing.specs.Course.{class_at, seen_after}
 
 module _ (law : IsSettling) (q p : AbstractPort) (s : StandsFor q p) where
   same-class : (e : Event) → class_at e q ≡ class_at e p

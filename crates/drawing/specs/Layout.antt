@@ -1,10 +1,10 @@
--- Where the rows and the labels of a picture lie.
+-- Where the lanes and the labels of a picture lie.
 use Rattle.std.specs.Prelude.{ℕ, ◌+◌, ◌-◌, ◌*◌, min, max, nat_lt, if◌then◌else◌}
-use Rattle.drawing.specs.declared.page.TheConstants.{CLASS_TOP, HALF_CHARACTER, ROW_STEP, WIRE}
+use Rattle.drawing.specs.declared.page.TheConstants.{CLASS_TOP, HALF_CHARACTER, LANE_STEP, WIRE}
 
--- where a row begins, in pixels from above: class 7 is the first, class 0 the eighth, and the wire the ninth
+-- where a lane begins, in pixels from above: class 7 is the first, class 0 the eighth, and the wire the ninth
 abbrev pub top_of : ℕ → ℕ
-top_of row = if nat_lt row WIRE then CLASS_TOP + (7 - row) * ROW_STEP else CLASS_TOP + WIRE * ROW_STEP
+top_of lane = if nat_lt lane WIRE then CLASS_TOP + (7 - lane) * LANE_STEP else CLASS_TOP + WIRE * LANE_STEP
 
 -- where the middle of a label of so many characters stands, in hundredths of a pixel, in a picture that is so many pixels wide: at its place,
 -- or as near to it as the label is still whole

@@ -7,3 +7,4 @@ pub mod Taken
 pub mod Given
 pub mod Options
 pub mod Ending
+pub mod Words

@@ -9,7 +9,7 @@ use Rattle.drawing.specs.declared.options.DrawOptions.{DrawOptions}
 use Rattle.drawing.specs.declared.options.TheConstants.{WIDTH, SHORTEST}
 use Rattle.drawing.specs.declared.page.TheConstants.{LEFT, MAX_WIDTH, MIN_WIDTH, RIGHT}
 use Rattle.picture.specs.Pane.{Pane}
-use Rattle.picture.specs.Windows.{window_of}
+use Rattle.picture.specs.Viewports.{viewport_of}
 
 -- the number of a word, at most the greatest; where there is no word, this one
 abbrev pub number_or : ℕ → ℕ → Option (List ℕ) → Option ℕ
@@ -55,5 +55,5 @@ end_shown from (Some to) last = to
 end_shown from None last = end_after from last
 
 -- the time that a picture shows of a run with this last moment, and how wide that part is
-abbrev pub window_shown : DrawOptions → ℕ → Option Pane
-window_shown o last = window_of o.from (end_shown o.from o.to last) (o.width - (LEFT + RIGHT))
+abbrev pub viewport_shown : DrawOptions → ℕ → Option Pane
+viewport_shown o last = viewport_of o.from (end_shown o.from o.to last) (o.width - (LEFT + RIGHT))

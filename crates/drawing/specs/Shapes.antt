@@ -3,26 +3,26 @@ use Rattle.std.specs.Prelude.{ℕ, ◌≡◌, ◌+◌, ◌<◌, zero, suc, lengt
 use Rattle.wire_time.specs.Moment.{greatest_moment}
 use Rattle.abstract_port.specs.Counting.{add_capped}
 use Rattle.abstract_port.specs.declared.Start.{Start}
-use Rattle.picture.specs.Drawn.{ClassRow, class_at}
-use Rattle.picture.specs.Rows.{Filled, no_shapes, pushed, joined_at}
+use Rattle.picture.specs.Drawn.{ClassLane, class_at}
+use Rattle.picture.specs.Lanes.{Filled, no_shapes, pushed, joined_at}
 use Rattle.picture.specs.declared.span.Shape.{Shape}
-use Rattle.drawing.specs.declared.page.TheConstants.{ROWS, WIRE}
+use Rattle.drawing.specs.declared.page.TheConstants.{LANES, WIRE}
 use Rattle.drawing.specs.declared.view.View.{View}
 use Rattle.drawing.specs.View.{shows}
 
--- 1. Rows
+-- 1. Lanes
 
--- nothing, in the rows of eight classes and of the wire
-abbrev pub empty_rows : List Filled
-empty_rows = no_shapes ∷ no_shapes ∷ no_shapes ∷ no_shapes ∷ no_shapes ∷ no_shapes ∷ no_shapes ∷ no_shapes ∷ no_shapes ∷ []
+-- nothing, in the lanes of eight classes and of the wire
+abbrev pub empty_lanes : List Filled
+empty_lanes = no_shapes ∷ no_shapes ∷ no_shapes ∷ no_shapes ∷ no_shapes ∷ no_shapes ∷ no_shapes ∷ no_shapes ∷ no_shapes ∷ []
 
--- what is drawn in a row
-abbrev pub row_at : List Filled → ℕ → Filled
-row_at rows row = slice_index_or rows row no_shapes
+-- what is drawn in a lane
+abbrev pub lane_at : List Filled → ℕ → Filled
+lane_at lanes lane = slice_index_or lanes lane no_shapes
 
--- one shape more in a row, where something of it is shown
+-- one shape more in a lane, where something of it is shown
 abbrev pub drawn_in : View → ℕ → Shape → List Filled → List Filled
-drawn_in view row shape rows = if shows view shape.span then slice_set rows row (pushed shape (row_at rows row)) else rows
+drawn_in view lane shape lanes = if shows view shape.span then slice_set lanes lane (pushed shape (lane_at lanes lane)) else lanes
 
 -- a frame, from one moment to another
 abbrev pub shape_of : ℕ → ℕ → ℕ → Shape
@@ -30,7 +30,7 @@ shape_of from upto id = record { span = record { from = from; to = upto }; id = 
 
 -- 2. A run
 
--- The time that is shown; by row, the frames on the wire, how long they waited, and those that were dropped; when the schedule changes; and
+-- The time that is shown; by lane, the frames on the wire, how long they waited, and those that were dropped; when the schedule changes; and
 -- how many commands were accepted.
 pub record Shown : Type 0 where
   pub view : View
@@ -42,17 +42,17 @@ pub record Shown : Type 0 where
 
 -- nothing
 abbrev pub nothing_shown : View → Shown
-nothing_shown view = record { view = view; frames = empty_rows; waits = empty_rows; drops = empty_rows; changes = no_shapes; accepted = 0 }
+nothing_shown view = record { view = view; frames = empty_lanes; waits = empty_lanes; drops = empty_lanes; changes = no_shapes; accepted = 0 }
 
 -- a frame waited from its arrival to its start, where it did not start at once
 abbrev pub wait_drawn : View → ℕ → Start → List Filled → List Filled
-wait_drawn view came s rows = if nat_lt came s.at then drawn_in view s.class (shape_of came s.at s.id) rows else rows
+wait_drawn view came s lanes = if nat_lt came s.at then drawn_in view s.class (shape_of came s.at s.id) lanes else lanes
 
--- a frame has the wire from its start to its end, and is drawn in the row of its class and in the wire's
+-- a frame has the wire from its start to its end, and is drawn in the lane of its class and in the wire's
 abbrev pub frame_drawn : View → Start → List Filled → List Filled
-frame_drawn view s rows = drawn_in view WIRE (shape_of s.at s.«end» s.id) (drawn_in view s.class (shape_of s.at s.«end» s.id) rows)
+frame_drawn view s lanes = drawn_in view WIRE (shape_of s.at s.«end» s.id) (drawn_in view s.class (shape_of s.at s.«end» s.id) lanes)
 
--- a start is drawn where its class has a row, and its moment is at most the greatest: every port's start is such a one
+-- a start is drawn where its class has a lane, and its moment is at most the greatest: every port's start is such a one
 abbrev pub is_drawn : Start → Bool
 is_drawn s = nat_lt s.class WIRE && nat_le s.at greatest_moment
 
@@ -60,18 +60,18 @@ is_drawn s = nat_lt s.class WIRE && nat_le s.at greatest_moment
 abbrev pub with_start : ℕ → Start → Shown → Shown
 with_start came s x = if is_drawn s then record x { frames = frame_drawn x.view s x.frames; waits = wait_drawn x.view came s x.waits } else x
 
--- the row of a class, or the wire's where there is none
-abbrev pub row_of : Option ℕ → ℕ
-row_of None = WIRE
-row_of (Some class) = if nat_lt class WIRE then class else WIRE
+-- the lane of a class, or the wire's where there is none
+abbrev pub lane_of : Option ℕ → ℕ
+lane_of None = WIRE
+lane_of (Some class) = if nat_lt class WIRE then class else WIRE
 
--- a frame was dropped when it came: it is marked in the row of its class, or in the wire's where it has none
+-- a frame was dropped when it came: it is marked in the lane of its class, or in the wire's where it has none
 abbrev pub with_dropped : ℕ → Option ℕ → ℕ → Shown → Shown
-with_dropped id class now x = record x { drops = drawn_in x.view (row_of class) (shape_of now now id) x.drops }
+with_dropped id class now x = record x { drops = drawn_in x.view (lane_of class) (shape_of now now id) x.drops }
 
 -- a change with its number, where it is shown; one after the greatest moment isn't drawn
 abbrev pub change_drawn : View → ℕ → ℕ → Filled → Filled
-change_drawn view at number row = if nat_le at greatest_moment && shows view (shape_of at at number).span then pushed (shape_of at at number) row else row
+change_drawn view at number lane = if nat_le at greatest_moment && shows view (shape_of at at number).span then pushed (shape_of at at number) lane else lane
 
 -- the schedule changes at a moment, by one more command that was accepted
 abbrev pub with_change : ℕ → Shown → Shown
@@ -79,24 +79,24 @@ with_change at x = record x { changes = change_drawn x.view at (add_capped x.acc
 
 -- 3. Too much for a picture
 
--- how many shapes there are in the first rows
+-- how many shapes there are in the first lanes
 unfoldable pub shapes_to : ℕ → List Filled → ℕ
-shapes_to zero rows = 0
-shapes_to (suc row) rows = shapes_to row rows + length (row_at rows row).shapes
+shapes_to zero lanes = 0
+shapes_to (suc lane) lanes = shapes_to lane lanes + length (lane_at lanes lane).shapes
 
 -- how many there are in all
 abbrev pub shape_count : Shown → ℕ
-shape_count x = shapes_to ROWS x.frames + shapes_to ROWS x.waits + shapes_to ROWS x.drops + length x.changes.shapes
+shape_count x = shapes_to LANES x.frames + shapes_to LANES x.waits + shapes_to LANES x.drops + length x.changes.shapes
 
 -- how many bands the first classes have
-unfoldable pub bands_to : ℕ → List ClassRow → ℕ
+unfoldable pub bands_to : ℕ → List ClassLane → ℕ
 bands_to zero classes = 0
-bands_to (suc class) classes = bands_to class classes + length (class_at classes class).row.shapes
+bands_to (suc class) classes = bands_to class classes + length (class_at classes class).lane.shapes
 
--- neighbours in each row are joined at a gap, and nothing else is different
+-- neighbours in each lane are joined at a gap, and nothing else is different
 pub record IsJoined (gap : ℕ) (old new : Shown) : Type 0 where
-  pub frames : (row : ℕ) → row < ROWS → row_at new.frames row ≡ joined_at gap (row_at old.frames row)
-  pub waits : (row : ℕ) → row < ROWS → row_at new.waits row ≡ joined_at gap (row_at old.waits row)
-  pub drops : (row : ℕ) → row < ROWS → row_at new.drops row ≡ joined_at gap (row_at old.drops row)
+  pub frames : (lane : ℕ) → lane < LANES → lane_at new.frames lane ≡ joined_at gap (lane_at old.frames lane)
+  pub waits : (lane : ℕ) → lane < LANES → lane_at new.waits lane ≡ joined_at gap (lane_at old.waits lane)
+  pub drops : (lane : ℕ) → lane < LANES → lane_at new.drops lane ≡ joined_at gap (lane_at old.drops lane)
   pub changes : new.changes ≡ joined_at gap old.changes
   pub same : (new.view ≡ old.view) × (new.accepted ≡ old.accepted)

@@ -1,15 +1,16 @@
 //! When the frames that wait have come.
 
 ghost use Rattle.std.specs.Prelude.{◌≡◌, ◌<◌, IfOk, slice_get, slice_set};
-ghost use Rattle.drawing.specs.Waiting.{none_wait, none_waits, waiting_in, with_arrival, without_first};
+ghost use Rattle.drawing.specs.Words.{none_wait, none_waits, waiting_in, with_arrival, without_first};
 
 use circular_buffer::HeapCircularBuffer;
 use std::alloc::{AllocError, Allocator};
 use std::marker::Model;
+use wire_time::CLASSES;
 
 /// The arrival moments of the frames of a class that wait, the first to go first. The memory for all that ever wait is taken once.
 #[derive(Drop)]
-pub struct ClassArrivals<A: Allocator> {
+pub(crate) struct ClassArrivals<A: Allocator> {
     moments: HeapCircularBuffer<u128, A>,
 }
 
@@ -85,7 +86,7 @@ fn four_classes<A: Allocator + Clone>(
 fn classes_of<A: Allocator + Clone>(
     alloc: &A,
     room: usize,
-) -> Result<[ClassArrivals<A>; 8], AllocError>
+) -> Result<[ClassArrivals<A>; CLASSES], AllocError>
     ensures { IfOk result (λ classes. classes ≡ none_wait room) }
 {
     let (class_0, class_1, class_2, class_3) = four_classes(alloc, room)?;
@@ -96,7 +97,7 @@ fn classes_of<A: Allocator + Clone>(
 }
 
 /// A frame of a class came.
-fn put_in<A: Allocator>(classes: &mut [ClassArrivals<A>; 8], class: u8, moment: u128)
+fn put_in<A: Allocator>(classes: &mut [ClassArrivals<A>; CLASSES], class: u8, moment: u128)
     requires { class < 8 }
     ensures { classes.new ≡ slice_set classes.old class (with_arrival moment (waiting_in classes.old class)) }
 {
@@ -104,7 +105,7 @@ fn put_in<A: Allocator>(classes: &mut [ClassArrivals<A>; 8], class: u8, moment: 
 }
 
 /// The first frame of a class waits no more.
-fn take_from<A: Allocator>(classes: &mut [ClassArrivals<A>; 8], class: u8) -> Option<u128>
+fn take_from<A: Allocator>(classes: &mut [ClassArrivals<A>; CLASSES], class: u8) -> Option<u128>
     requires { class < 8 }
     ensures first { result ≡ slice_get (waiting_in classes.old class).moments 0 }
     ensures rest { classes.new ≡ slice_set classes.old class (without_first (waiting_in classes.old class)) }
@@ -115,7 +116,7 @@ fn take_from<A: Allocator>(classes: &mut [ClassArrivals<A>; 8], class: u8) -> Op
 /// The arrival moments of the frames that wait, by class.
 #[derive(Drop)]
 pub struct Arrivals<A: Allocator> {
-    classes: [ClassArrivals<A>; 8],
+    classes: [ClassArrivals<A>; CLASSES],
 }
 
 /// A contract sees the eight classes.

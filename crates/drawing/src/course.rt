@@ -1,8 +1,7 @@
 //! What is drawn of a run, answer by answer.
 
 ghost use Rattle.std.specs.Prelude.{◌≡◌, ◌≤◌, IfOk};
-ghost use Rattle.wire_time.specs.Moment.{greatest_moment};
-ghost use Rattle.drawing.specs.Course.{nothing_seen};
+ghost use Rattle.drawing.specs.Words.{greatest_moment, nothing_seen};
 
 use crate::arrivals::Arrivals;
 use crate::shapes::Shapes;
@@ -69,7 +68,7 @@ impl<A: Allocator> Course<A> {
             } => self.arrivals.put(*taken, now),
             Answer::Start(start) => self.see_start(start),
             Answer::Dropped { id, why: _ } => self.shapes.put_drop(*id, class, now),
-            Answer::Installed(change) => self.shapes.put_change(*change),
+            Answer::Installed(change) => self.shapes.mark_change(*change),
             Answer::Refused(_)
             | Answer::Backward
             | Answer::Report(_)
@@ -85,7 +84,7 @@ impl<A: Allocator> Course<A> {
         &self.shapes
     }
 
-    /// Neighbours in a row that are closer to one another than a gap, in picoseconds, are joined.
+    /// Neighbours in a lane that are closer to one another than a gap, in picoseconds, are joined.
     pub fn join(&mut self, gap: u128)
         ensures shown { IsJoined gap self.old.shown self.new.shown }
         ensures same { (self.new.waiting ≡ self.old.waiting) × (self.new.last ≡ self.old.last) }

@@ -2,12 +2,7 @@
 
 ghost use Rattle.std.specs.Prelude.{◌≡◌, IfErr};
 ghost use Rattle.std.specs.Io.Buffered.{writer_contents};
-ghost use Rattle.script.specs.Ending.{settings_given};
-ghost use Rattle.script.specs.Given.{words_of_values};
-ghost use Rattle.wire_time.specs.Moment.{greatest_moment};
-ghost use Rattle.drawing.specs.Ending.{IsDrawEnding};
-ghost use Rattle.drawing.specs.Given.{words_of_draws};
-ghost use Rattle.drawing.specs.Options.{options_of};
+ghost use Rattle.drawing.specs.Words.{settings_given, words_of_values, greatest_moment, IsDrawEnding, words_of_draws, options_of};
 
 use crate::draw_run::draw;
 use crate::options::{DrawValues, options_given};

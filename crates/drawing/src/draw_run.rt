@@ -1,19 +1,8 @@
 //! Runs a script, and draws what happens.
 
 ghost use Rattle.std.specs.Prelude.{◌≡◌, ◌≤◌, ℕ, IfSome, List, Ok, Result};
-ghost use Rattle.abstract_port.specs.AbstractPort.{installs, settled};
-ghost use Rattle.abstract_port.specs.Answers.{answers_to};
-ghost use Rattle.abstract_port.specs.Sound.{IsSoundPort};
-ghost use Rattle.wire_time.specs.Moment.{greatest_moment};
-ghost use Rattle.abstract_port.specs.declared.Command.{Command};
-ghost use Rattle.line_reader.specs.LineReader.{script_left};
-ghost use Rattle.tc_reader.specs.Reader.{IsReader};
-ghost use Rattle.tc_reader.specs.declared.fault.TcFault.{TcFault};
-ghost use Rattle.script.specs.Outcome.{reading_of};
-ghost use Rattle.script.specs.Requests.{request_of, tc_request};
-ghost use Rattle.drawing.specs.Course.{class_at, seen_at};
-ghost use Rattle.drawing.specs.Ending.{IsDrawn, fault_in};
-ghost use Rattle.drawing.specs.Taken.{Takes, TakesLine, seen_by};
+ghost use Rattle.drawing.specs.Words.{installs, settled, answers_to, IsSoundPort, greatest_moment, Command, script_left, IsReader, TcFault, reading_of, request_of, tc_request, seen_at, IsDrawn, fault_in, Takes, TakesLine, seen_by};
+ghost use Rattle.drawing.specs.Course.{class_at};
 
 use crate::course::Course;
 use crate::fitting::fit;
@@ -156,8 +145,8 @@ fn end<A: Allocator>(
     options: DrawOptions,
     last: u128,
 ) {
-    if let Some(window) = options.window(last) {
-        take(port, course, &Event::Clock(window.to()));
+    if let Some(viewport) = options.viewport(last) {
+        take(port, course, &Event::Clock(viewport.to()));
     }
     follow(port, bands);
     bands.end();
@@ -172,15 +161,15 @@ fn put_run<A: Allocator, W: Write>(
     options: DrawOptions,
     last: u128,
 ) -> Result<(), WriteFault> {
-    let Some(window) = options.window(last) else {
+    let Some(viewport) = options.viewport(last) else {
         return Ok(());
     };
     let page = Page {
-        window,
+        viewport,
         rate: settings.rate(),
         mtu: settings.mtu(),
     };
-    fit(bands, course, &page.window);
+    fit(bands, course, &page.viewport);
     put_picture(writer, &page, bands, course.shapes())
 }
 

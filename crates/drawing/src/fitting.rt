@@ -1,42 +1,40 @@
 //! A picture that would show too much is made coarser.
 
 ghost use Rattle.std.specs.Prelude.{◌≡◌, ◌<◌, ◌≤◌, ◌+◌, ◌*◌, ℕ};
-ghost use Rattle.picture.specs.Drawn.{bands_joined, class_at};
-ghost use Rattle.picture.specs.Windows.{pixel_of};
-ghost use Rattle.picture.specs.declared.TheConstants.{MOST_SHAPES};
-ghost use Rattle.drawing.specs.Shapes.{IsJoined, bands_to, shape_count};
+ghost use Rattle.drawing.specs.Words.{bands_joined, pixel_of, MOST_SHAPES, IsJoined, bands_to, shape_count};
+ghost use Rattle.picture.specs.Drawn.{class_at};
 
 use crate::course::Course;
 use crate::page::WIRE;
-use picture::{Bands, Window};
+use picture::{Bands, Viewport};
 use std::alloc::Allocator;
 
 /// How many shapes a picture shows at most as they are.
-pub const MOST_APART: usize = 20_000;
+pub(crate) const MOST_APART: usize = 20_000;
 
-/// How many bands there are in all rows.
+/// How many bands there are in all lanes.
 fn count_bands<A: Allocator>(bands: &Bands<A>) -> usize
     ensures value { result ≡ bands_to WIRE bands.now.classes }
     ensures within { result ≤ WIRE * MOST_SHAPES }
 {
     let mut count = 0;
     for class in 0..WIRE {
-        count += bands.row(class).len();
+        count += bands.lane(class).len();
     }
     count
 }
 
-/// Where there are more than `MOST_APART` shapes in all rows of a picture with this window, neighbours in a row that are closer to one another
+/// Where there are more than `MOST_APART` shapes in all lanes of a picture with this viewport, neighbours in a lane that are closer to one another
 /// than a pixel are joined. So a picture of any length has a bounded number of shapes, and a short one shows each.
-pub fn fit<A: Allocator>(bands: &mut Bands<A>, course: &mut Course<A>, window: &Window)
+pub fn fit<A: Allocator>(bands: &mut Bands<A>, course: &mut Course<A>, viewport: &Viewport)
     ensures few { bands_to WIRE bands.old.classes + shape_count course.old.shown ≤ MOST_APART → (bands.new ≡ bands.old) × (course.new ≡ course.old) }
     ensures bands { MOST_APART < bands_to WIRE bands.old.classes + shape_count course.old.shown → (class : ℕ) → class < WIRE →
-        class_at bands.new.classes class ≡ bands_joined (pixel_of window.now) (class_at bands.old.classes class) }
-    ensures shapes { MOST_APART < bands_to WIRE bands.old.classes + shape_count course.old.shown → IsJoined (pixel_of window.now) course.old.shown course.new.shown }
+        class_at bands.new.classes class ≡ bands_joined (pixel_of viewport.now) (class_at bands.old.classes class) }
+    ensures shapes { MOST_APART < bands_to WIRE bands.old.classes + shape_count course.old.shown → IsJoined (pixel_of viewport.now) course.old.shown course.new.shown }
 {
     let count = count_bands(bands) + course.shapes().count();
     if count > MOST_APART {
-        let pixel = window.pixel();
+        let pixel = viewport.pixel();
         bands.join(pixel);
         course.join(pixel);
     }

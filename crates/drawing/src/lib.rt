@@ -1,4 +1,4 @@
-//! Draws the run of a script as an SVG picture: a row for each class with its open time, its frames and how long they wait, and a row for the wire.
+//! Draws the run of a script as an SVG picture: a lane for each class with its open time, its frames and how long they wait, and a lane for the wire.
 //!
 //! What is drawn is defined in specs/Course.antt and specs/Taken.antt; `take` promises it of the drawn run. How a
 //! run ends is specs/Ending.antt; no contract says what the SVG text is.
@@ -22,7 +22,7 @@ pub use draw_job::answer_draw;
 pub use draw_run::{draw, take};
 pub use fitting::fit;
 pub use options::{DrawOptions, DrawValues, options_given};
-pub use page::{Page, row_top};
+pub use page::{Page, lane_top};
 pub use shapes::Shapes;
 pub use svg::put_picture;
 pub use view::View;

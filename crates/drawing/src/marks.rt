@@ -2,7 +2,7 @@
 
 ghost use Rattle.std.specs.Prelude.{◌≡◌, ◌≤◌, decimal, length};
 
-use crate::page::{BOTTOM, CLASS_TOP, Page, ROW_HEIGHT};
+use crate::page::{BOTTOM, CLASS_TOP, LANE_HEIGHT, Page};
 use answer_text::{Part, WriteFault, put, put_parts};
 use picture::Shape;
 use std::io::Write;
@@ -14,7 +14,7 @@ const LEAST_WIDTH: u64 = 100;
 const LABEL_WIDTH: u64 = 9_600;
 
 /// Writes a rectangle from one place to another, both in hundredths of a pixel, at this height from above and of this height, in pixels.
-pub fn put_rect<W: Write>(
+pub(crate) fn put_rect<W: Write>(
     writer: &mut W,
     look: &[u8],
     left: u64,
@@ -48,7 +48,7 @@ pub fn put_rect<W: Write>(
 }
 
 /// Writes a line from above to below at this place, in hundredths of a pixel.
-pub fn put_line<W: Write>(
+pub(crate) fn put_line<W: Write>(
     writer: &mut W,
     look: &[u8],
     x: u64,
@@ -74,8 +74,8 @@ pub fn put_line<W: Write>(
     )
 }
 
-/// Writes the bands of a class, whose row begins at this height.
-pub fn put_bands<W: Write>(
+/// Writes the bands of a class, whose lane begins at this height.
+pub(crate) fn put_bands<W: Write>(
     writer: &mut W,
     page: &Page,
     top: u32,
@@ -84,14 +84,14 @@ pub fn put_bands<W: Write>(
     requires { top ≤ BOTTOM }
 {
     for shape in shapes {
-        if let Some(span) = page.window.cut(shape.span) {
+        if let Some(span) = page.viewport.cut(shape.span) {
             put_rect(
                 writer,
                 b"o",
                 page.x(span.from),
                 page.x(span.to),
                 top,
-                ROW_HEIGHT,
+                LANE_HEIGHT,
             )?;
         }
     }
@@ -99,7 +99,7 @@ pub fn put_bands<W: Write>(
 }
 
 /// How many decimal digits a number has.
-pub fn digits(number: u128) -> u32
+pub(crate) fn digits(number: u128) -> u32
     ensures value { result ≡ length (decimal number) }
     ensures within { result ≤ 40 }
 {
@@ -140,21 +140,21 @@ fn put_id<W: Write>(writer: &mut W, middle: u64, top: u32, id: u64) -> Result<()
 fn put_bar<W: Write>(writer: &mut W, page: &Page, top: u32, shape: &Shape) -> Result<(), WriteFault>
     requires { top ≤ BOTTOM }
 {
-    let Some(span) = page.window.cut(shape.span) else {
+    let Some(span) = page.viewport.cut(shape.span) else {
         return Ok(());
     };
     let left = page.x(span.from);
     let right = page.x(span.to);
     let width = right.saturating_sub(left);
-    put_rect(writer, b"f", left, right, top + 10, ROW_HEIGHT - 12)?;
+    put_rect(writer, b"f", left, right, top + 10, LANE_HEIGHT - 12)?;
     match shape.id {
         Some(id) if has_room(width, id) => put_id(writer, left + width / 2, top, id),
         _ => Ok(()),
     }
 }
 
-/// Writes the frames of a row that begins at this height.
-pub fn put_bars<W: Write>(
+/// Writes the frames of a lane that begins at this height.
+pub(crate) fn put_bars<W: Write>(
     writer: &mut W,
     page: &Page,
     top: u32,
@@ -168,7 +168,7 @@ pub fn put_bars<W: Write>(
     Ok(())
 }
 
-/// Writes the wait of a frame: a line from its arrival, which is marked where it lies within the window, to its start.
+/// Writes the wait of a frame: a line from its arrival, which is marked where it lies within the viewport, to its start.
 fn put_wait<W: Write>(
     writer: &mut W,
     page: &Page,
@@ -177,7 +177,7 @@ fn put_wait<W: Write>(
 ) -> Result<(), WriteFault>
     requires { top ≤ BOTTOM }
 {
-    let Some(span) = page.window.cut(shape.span) else {
+    let Some(span) = page.viewport.cut(shape.span) else {
         return Ok(());
     };
     let left = page.x(span.from);
@@ -205,8 +205,8 @@ fn put_wait<W: Write>(
     )
 }
 
-/// Writes the waits of a class, whose row begins at this height.
-pub fn put_waits<W: Write>(
+/// Writes the waits of a class, whose lane begins at this height.
+pub(crate) fn put_waits<W: Write>(
     writer: &mut W,
     page: &Page,
     top: u32,
@@ -220,8 +220,8 @@ pub fn put_waits<W: Write>(
     Ok(())
 }
 
-/// Writes a mark for each frame that was dropped, in a row that begins at this height.
-pub fn put_drops<W: Write>(
+/// Writes a mark for each frame that was dropped, in a lane that begins at this height.
+pub(crate) fn put_drops<W: Write>(
     writer: &mut W,
     page: &Page,
     top: u32,
@@ -230,7 +230,7 @@ pub fn put_drops<W: Write>(
     requires { top ≤ BOTTOM }
 {
     for shape in shapes {
-        if let Some(span) = page.window.cut(shape.span) {
+        if let Some(span) = page.viewport.cut(shape.span) {
             put_parts(
                 writer,
                 &[
@@ -282,14 +282,14 @@ fn put_change_name<W: Write>(
 }
 
 /// Writes a line for each change of the schedule, with its name where there is room.
-pub fn put_changes<W: Write>(
+pub(crate) fn put_changes<W: Write>(
     writer: &mut W,
     page: &Page,
     shapes: &[Shape],
 ) -> Result<(), WriteFault> {
     let mut free = 0;
     for shape in shapes {
-        if let Some(span) = page.window.cut(shape.span) {
+        if let Some(span) = page.viewport.cut(shape.span) {
             let x = page.x(span.from);
             put_line(writer, b"c", x, CLASS_TOP - 10, BOTTOM)?;
             if free <= x {

@@ -1,22 +1,20 @@
 //! What a picture shows, by the values of options.
 
 ghost use Rattle.std.specs.Prelude.{◌≡◌, ◌≤◌, IfSome};
-ghost use Rattle.script.specs.Given.{octets_of};
-ghost use Rattle.drawing.specs.Given.{words_of_draws};
-ghost use Rattle.drawing.specs.Options.{end_in, number_or, options_of, width_where, window_shown};
+ghost use Rattle.drawing.specs.Words.{octets_of, words_of_draws, end_in, number_or, options_of, width_where, viewport_shown};
 
 use crate::page::{LEFT, MAX_WIDTH, MIN_WIDTH, RIGHT};
 use crate::view::View;
-use picture::Window;
+use picture::Viewport;
 use script::BadValue;
 use wire_time::MAX_MOMENT;
 use words::number;
 
 /// The width of a picture where none is given, in pixels.
-pub const WIDTH: u32 = 1200;
+pub(crate) const WIDTH: u32 = 1200;
 
 /// What is shown where a run ends before the picture begins, in picoseconds: a microsecond.
-pub const SHORTEST: u128 = 1_000_000;
+pub(crate) const SHORTEST: u128 = 1_000_000;
 
 /// The values of the options of a picture, where they are given, as words.
 #[derive(Clone, Copy, Debug)]
@@ -53,8 +51,8 @@ impl DrawOptions {
 
     /// The time that the picture shows, where the run ends at this moment, in picoseconds: up to the end that is given, or to the run's; a
     /// microsecond where the run ends before the picture begins.
-    pub fn window(&self, last: u128) -> Option<Window>
-        ensures { result ≡ window_shown self.now last }
+    pub fn viewport(&self, last: u128) -> Option<Viewport>
+        ensures { result ≡ viewport_shown self.now last }
     {
         let to = match self.to {
             Some(to) => to,
@@ -64,7 +62,7 @@ impl DrawOptions {
                 self.from.saturating_add(SHORTEST)
             },
         };
-        Window::new(self.from, to, self.width.saturating_sub(LEFT + RIGHT))
+        Viewport::new(self.from, to, self.width.saturating_sub(LEFT + RIGHT))
     }
 }
 

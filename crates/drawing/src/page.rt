@@ -1,60 +1,59 @@
-//! The page of a picture: its window, its size and where its rows lie.
+//! The page of a picture: its viewport, its size and where its lanes lie.
 
 ghost use Rattle.std.specs.Prelude.{◌≡◌, ◌<◌, ◌≤◌, ◌+◌, ◌*◌};
-ghost use Rattle.picture.specs.Windows.{x_in};
-ghost use Rattle.drawing.specs.Layout.{label_at, top_of};
+ghost use Rattle.drawing.specs.Words.{x_in, label_at, top_of};
 
-use picture::Window;
+use picture::Viewport;
 use wire_time::Rate;
 
 /// Where time begins, in pixels from the left.
-pub const LEFT: u32 = 64;
+pub(crate) const LEFT: u32 = 64;
 
 /// What is left free after the end of time, in pixels.
-pub const RIGHT: u32 = 32;
+pub(crate) const RIGHT: u32 = 32;
 
-/// Where the row of class 7 begins, in pixels from above.
-pub const CLASS_TOP: u32 = 58;
+/// Where the lane of class 7 begins, in pixels from above.
+pub(crate) const CLASS_TOP: u32 = 58;
 
 /// The least width of a picture, in pixels.
-pub const MIN_WIDTH: u32 = 400;
+pub(crate) const MIN_WIDTH: u32 = 400;
 
 /// The greatest width of a picture, in pixels.
-pub const MAX_WIDTH: u32 = 2400;
+pub(crate) const MAX_WIDTH: u32 = 2400;
 
-/// The height of a row, in pixels.
-pub const ROW_HEIGHT: u32 = 28;
+/// The height of a lane, in pixels.
+pub(crate) const LANE_HEIGHT: u32 = 28;
 
-/// How far a row begins below the one above it, in pixels.
-pub const ROW_STEP: u32 = 36;
+/// How far a lane begins below the one above it, in pixels.
+pub(crate) const LANE_STEP: u32 = 36;
 
-/// How many rows there are: one for each class, and the wire's.
-pub const ROWS: u8 = 9;
+/// How many lanes there are: one for each class, and the wire's.
+pub(crate) const LANES: u8 = 9;
 
-/// The row of the wire.
-pub const WIRE: u8 = 8;
+/// The lane of the wire.
+pub(crate) const WIRE: u8 = 8;
 
-/// Where the rows end, in pixels from above.
-pub const BOTTOM: u32 = CLASS_TOP + 9 * ROW_STEP;
+/// Where the lanes end, in pixels from above.
+pub(crate) const BOTTOM: u32 = CLASS_TOP + 9 * LANE_STEP;
 
 /// The line of the axis' labels, in pixels from above.
-pub const AXIS: u32 = BOTTOM + 16;
+pub(crate) const AXIS: u32 = BOTTOM + 16;
 
 /// The line of the legend, in pixels from above.
-pub const LEGEND: u32 = BOTTOM + 44;
+pub(crate) const LEGEND: u32 = BOTTOM + 44;
 
 /// The height of the picture, in pixels.
-pub const HEIGHT: u32 = BOTTOM + 58;
+pub(crate) const HEIGHT: u32 = BOTTOM + 58;
 
 /// How many hundredths of a pixel half a character of a label takes, at most: a digit has seven pixels in DejaVu Sans, the widest of the common
 /// fonts.
-pub const HALF_CHARACTER: u64 = 350;
+pub(crate) const HALF_CHARACTER: u64 = 350;
 
-/// The window of a picture, its width, and the rate and the mtu that it shows.
+/// The viewport of a picture, its width, and the rate and the mtu that it shows.
 #[derive(Clone, Copy, Debug)]
 pub struct Page {
     /// The time that is shown, and the width of that part of the picture.
-    pub window: Window,
+    pub viewport: Viewport,
     /// The line rate.
     pub rate: Rate,
     /// The mtu, in octets.
@@ -64,18 +63,18 @@ pub struct Page {
 impl Page {
     /// Where a moment, in picoseconds, lies in the picture: hundredths of a pixel from the left.
     pub fn x(&self, moment: u128) -> u64
-        ensures place { result ≡ 100 * LEFT + x_in self.now.window moment }
+        ensures place { result ≡ 100 * LEFT + x_in self.now.viewport moment }
         ensures within { (100 * LEFT ≤ result) × (result ≤ 100 * (LEFT + MAX_WIDTH)) }
     {
         // For the prover: the getter says within which limits a width lies.
-        let _width = self.window.width();
-        u64::from(LEFT) * 100 + self.window.x(moment)
+        let _width = self.viewport.width();
+        u64::from(LEFT) * 100 + self.viewport.x(moment)
     }
 
     /// Where the middle of a label stands that belongs to this place and has so many characters: at its place, or as near to it as the label
     /// is still whole; both in hundredths of a pixel from the left.
     pub fn label(&self, place: u64, characters: u32) -> u64
-        ensures { result ≡ label_at (LEFT + self.now.window.width + RIGHT) place characters }
+        ensures { result ≡ label_at (LEFT + self.now.viewport.width + RIGHT) place characters }
     {
         let half = u64::from(characters) * HALF_CHARACTER;
         let most = (u64::from(self.width()) * 100).saturating_sub(half);
@@ -84,21 +83,21 @@ impl Page {
 
     /// The width of the picture, in pixels.
     pub fn width(&self) -> u32
-        ensures { result ≡ LEFT + self.now.window.width + RIGHT }
+        ensures { result ≡ LEFT + self.now.viewport.width + RIGHT }
     {
-        LEFT + self.window.width() + RIGHT
+        LEFT + self.viewport.width() + RIGHT
     }
 }
 
-/// Where a row begins, in pixels from above: class 7 is the first, class 0 the eighth, and the wire the ninth.
-pub fn row_top(row: u8) -> u32
-    requires { row < ROWS }
-    ensures row { result ≡ top_of row }
+/// Where a lane begins, in pixels from above: class 7 is the first, class 0 the eighth, and the wire the ninth.
+pub fn lane_top(lane: u8) -> u32
+    requires { lane < LANES }
+    ensures lane { result ≡ top_of lane }
     ensures within { result ≤ BOTTOM }
 {
-    if row < WIRE {
-        CLASS_TOP + u32::from(7 - row) * ROW_STEP
+    if lane < WIRE {
+        CLASS_TOP + u32::from(7 - lane) * LANE_STEP
     } else {
-        CLASS_TOP + u32::from(WIRE) * ROW_STEP
+        CLASS_TOP + u32::from(WIRE) * LANE_STEP
     }
 }

@@ -1,4 +1,4 @@
-//! The picture as SVG: its head, its axis, its rows and its legend.
+//! The picture as SVG: its head, its axis, its lanes and its legend.
 
 ghost use Rattle.std.specs.Prelude.{◌<◌};
 
@@ -6,7 +6,7 @@ use crate::marks::{
     digits, put_bands, put_bars, put_changes, put_drops, put_line, put_rect, put_waits,
 };
 use crate::page::{
-    AXIS, BOTTOM, CLASS_TOP, HALF_CHARACTER, HEIGHT, LEFT, LEGEND, Page, ROWS, WIRE, row_top,
+    AXIS, BOTTOM, CLASS_TOP, HALF_CHARACTER, HEIGHT, LANES, LEFT, LEGEND, Page, WIRE, lane_top,
 };
 use crate::shapes::Shapes;
 use answer_text::{Part, WriteFault, put, put_parts};
@@ -92,16 +92,16 @@ fn put_head<W: Write>(writer: &mut W, page: &Page) -> Result<(), WriteFault> {
 fn axis_step(page: &Page) -> u128
     ensures { 0 < result }
 {
-    let length = page.window.to() - page.window.from();
-    let plot = u128::from(page.window.width()) * 100;
+    let length = page.viewport.to() - page.viewport.from();
+    let plot = u128::from(page.viewport.width()) * 100;
     let step = tick_step(length, (plot / 8_000) as u32);
     let unit = unit_of(step);
-    let label = u128::from(digits(page.window.to() / unit.ps())) + 3;
+    let label = u128::from(digits(page.viewport.to() / unit.ps())) + 3;
     let most = (plot / (label * u128::from(2 * HALF_CHARACTER) + 1_200)).max(2);
     tick_step(length, most as u32).max(step).max(1)
 }
 
-/// Writes a tick of the axis at this place, with its line through the rows.
+/// Writes a tick of the axis at this place, with its line through the lanes.
 fn put_tick<W: Write>(
     writer: &mut W,
     page: &Page,
@@ -131,9 +131,9 @@ fn put_tick<W: Write>(
 fn put_axis<W: Write>(writer: &mut W, page: &Page) -> Result<(), WriteFault> {
     let step = axis_step(page);
     let unit = unit_of(step);
-    let from = page.window.from();
+    let from = page.viewport.from();
     let first = from.div_ceil(step);
-    let last = page.window.to() / step;
+    let last = page.viewport.to() / step;
     for tick in first..=last {
         let moment = tick * step;
         put_tick(
@@ -147,14 +147,14 @@ fn put_axis<W: Write>(writer: &mut W, page: &Page) -> Result<(), WriteFault> {
     Ok(())
 }
 
-/// Writes the names of the rows.
+/// Writes the names of the lanes.
 fn put_names<W: Write>(writer: &mut W) -> Result<(), WriteFault> {
     for class in 0..8u8 {
         put_parts(
             writer,
             &[
                 Part::Text(b"<text x=\"8\" y=\""),
-                Part::Number(u128::from(row_top(class) + 18)),
+                Part::Number(u128::from(lane_top(class) + 18)),
                 Part::Text(b"\">class "),
                 Part::Number(u128::from(class)),
                 Part::Text(b"</text>\n"),
@@ -165,7 +165,7 @@ fn put_names<W: Write>(writer: &mut W) -> Result<(), WriteFault> {
         writer,
         &[
             Part::Text(b"<text x=\"8\" y=\""),
-            Part::Number(u128::from(row_top(8) + 18)),
+            Part::Number(u128::from(lane_top(8) + 18)),
             Part::Text(b"\">wire</text>\n"),
         ],
     )
@@ -238,19 +238,19 @@ fn put_legend<W: Write>(writer: &mut W) -> Result<(), WriteFault> {
     put_legend_text(writer, left + 298, b"change")
 }
 
-/// Writes what is drawn in a row.
-fn put_row<A: Allocator, W: Write>(
+/// Writes what is drawn in a lane.
+fn put_lane<A: Allocator, W: Write>(
     writer: &mut W,
     page: &Page,
-    row: u8,
+    lane: u8,
     shapes: &Shapes<A>,
 ) -> Result<(), WriteFault>
-    requires { row < ROWS }
+    requires { lane < LANES }
 {
-    let top = row_top(row);
-    put_waits(writer, page, top, shapes.waits(row))?;
-    put_bars(writer, page, top, shapes.frames(row))?;
-    put_drops(writer, page, top, shapes.drops(row))
+    let top = lane_top(lane);
+    put_waits(writer, page, top, shapes.waits(lane))?;
+    put_bars(writer, page, top, shapes.frames(lane))?;
+    put_drops(writer, page, top, shapes.drops(lane))
 }
 
 /// Writes the picture of these bands and shapes. At a fault a prefix of it is written.
@@ -264,10 +264,10 @@ pub fn put_picture<A: Allocator, W: Write>(
     put_axis(writer, page)?;
     put_names(writer)?;
     for class in 0..WIRE {
-        put_bands(writer, page, row_top(class), bands.row(class))?;
+        put_bands(writer, page, lane_top(class), bands.lane(class))?;
     }
-    for row in 0..ROWS {
-        put_row(writer, page, row, shapes)?;
+    for lane in 0..LANES {
+        put_lane(writer, page, lane, shapes)?;
     }
     put_changes(writer, page, shapes.changes())?;
     put_legend(writer)?;

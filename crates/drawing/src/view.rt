@@ -1,7 +1,7 @@
 //! The time that a picture shows, of which the end may not be known.
 
 ghost use Rattle.std.specs.Prelude.{◌≡◌};
-ghost use Rattle.drawing.specs.View.{shows};
+ghost use Rattle.drawing.specs.Words.{shows};
 
 use picture::Span;
 

@@ -1,7 +1,7 @@
 //! Schedules: a gate control list with its times, and what it says about open time.
 ghost use Rattle.std.specs.Prelude.{◌≡◌, ◌<◌, ◌≤◌, ◌+◌, ◌^◌, OnErr, OnOk, Some, length, max, slice_get, sum_by};
 ghost use Rattle.gate_list.specs.Closed.{closed_plan};
-ghost use Rattle.gate_list.specs.Gate.{Plan, IsPlan, IsSchedule, in_ps, prefix, change_of, boundary_from, plan_with, plan_fault, ok_unless, least_interval, first_shorter, keeps_apart, is_apart_in};
+ghost use Rattle.gate_list.specs.Gate.{Plan, IsSchedule, in_ps, prefix, change_of, boundary_from, plan_with, plan_fault, ok_unless, least_interval, first_shorter, keeps_apart, is_apart_in};
 ghost use Rattle.gate_list.specs.Stay.{AreStays, AreClosed, TellOpenTime, TellsOpenTime, stay_from};
 ghost use Rattle.gate_list.specs.Visits.{one_more};
 ghost use Rattle.gate_list.specs.declared.Stay.TheVariants.{Lasts};

@@ -22,7 +22,7 @@ told_of_replay whole =
     record {
       status = status_of replay_telling whole.fault;
       report = whole.output.report;
-      departures = whole.output.capture;
+      departures = whole.output.departures;
       fault = text_of replay_telling whole.fault;
     }
 

@@ -1,7 +1,7 @@
 //! What is reported of an input comes into slices.
 
-ghost use Rattle.std.specs.Prelude.{◌≡◌, ◌≤◌, List, ℕ, Some, [], length};
-ghost use Rattle.in_memory.specs.Slices.{Answers, HasNoMemory, IsPut, refused, slices, told_of};
+ghost use Rattle.std.specs.Prelude.{◌≡◌, ◌≤◌, Some, [], length};
+ghost use Rattle.in_memory.specs.Slices.{Answers, IsPut, refused, slices, told_of};
 ghost use Rattle.job.specs.Outcome.{Outcome, Runs};
 
 use job::{Fault, InputFault, say_fault};
@@ -21,7 +21,7 @@ pub struct Ran {
 }
 
 /// Puts a text at the front of a slice that has room for it.
-pub fn put_front(text: &[u8], slice: &mut [u8])
+pub(crate) fn put_front(text: &[u8], slice: &mut [u8])
     requires { length text.now ≤ length slice.old }
     ensures { IsPut slice.old slice.new text.now }
 {
@@ -29,7 +29,13 @@ pub fn put_front(text: &[u8], slice: &mut [u8])
 }
 
 /// Puts an output and the text of a fault into their slices, where both have room, and neither where one has not.
-pub fn put_told(status: u8, text: &[u8], said: &[u8], output: &mut [u8], fault: &mut [u8]) -> Ran
+pub(crate) fn put_told(
+    status: u8,
+    text: &[u8],
+    said: &[u8],
+    output: &mut [u8],
+    fault: &mut [u8],
+) -> Ran
     ensures { Answers (record { status = status; output = text.now; fault = said.now }) result (slices output.old fault.old) (slices output.new fault.new) }
 {
     let ran = Ran {
@@ -46,7 +52,7 @@ pub fn put_told(status: u8, text: &[u8], said: &[u8], output: &mut [u8], fault: 
 }
 
 /// The end when out of memory: nothing is written.
-pub fn out_of_memory() -> Ran
+pub(crate) fn out_of_memory() -> Ran
     ensures { result ≡ record { output = 0; fault = 0; status = 4 } }
 {
     Ran {
@@ -57,7 +63,7 @@ pub fn out_of_memory() -> Ran
 }
 
 /// Ends a run that has written its output into memory: that, and the text of a fault, come into the slices.
-pub fn end_in_memory<A: Allocator, I: InputFault>(
+pub(crate) fn end_in_memory<A: Allocator, I: InputFault>(
     alloc: &A,
     run: Result<(), Fault<I>>,
     written: &[u8],
@@ -78,7 +84,7 @@ pub fn end_in_memory<A: Allocator, I: InputFault>(
 }
 
 /// Reports a bad value: its text comes into the slice of faults, and no output is written.
-pub fn refuse_value<A: Allocator>(
+pub(crate) fn refuse_value<A: Allocator>(
     alloc: &A,
     value: BadValue,
     output: &mut [u8],

@@ -1,5 +1,5 @@
 -- The end of a run through a buffer, from what its parts leave.
-use Rattle.std.proofs.Common.{◌≡◌, List, ℕ, [], Option, Some, None, Result, Ok, Err, ◌⊎◌, inl, inr, sym, ◌∙◌, subst, append-nil}
+use Rattle.std.proofs.Common.{List, ℕ, [], Option, Some, None, Result, Ok, Err, inl, inr, sym, ◌∙◌, subst, append-nil}
 use Rattle.std.specs.Prelude.{IfSome}
 use Rattle.std.specs.Io.KnownBytes.{Appends, Keeps, append_known}
 use Rattle.octet_writer.specs.Writes.{AppendsFront, Sent}

@@ -7,18 +7,10 @@ use Rattle.std.proofs.lemmas.Option.{slice_get_cases}
 use Rattle.std.proofs.lemmas.Nat.Bits.{bit_at-zero, bit_at-lt, bit_at-pow_same, bit_at_above, bit_at_and, bit_at_or}
 use Rattle.std.specs.Int.{bit_at}
 use Rattle.std.specs.Int.Bits.{bit_and, bit_or}
-use Rattle.gate_list.specs.Gate.{Plan, IsSchedule, in_ps, mask_since, opens}
-use Rattle.gate_list.specs.Open.{open_while}
-use Rattle.list_config.specs.History.{Accepted, cons_some}
-use Rattle.list_config.specs.Stretch.{mask_in, stretches_from}
-use Rattle.list_execute.specs.Walk.{end_of}
-use Rattle.list_position.specs.declared.Position.{Position}
-use Rattle.list_position.specs.Position.{IsPlaced, IsFlat, boundary_in}
+use Rattle.jumping.specs.Words.{Plan, IsSchedule, in_ps, mask_since, opens, open_while, Accepted, cons_some, mask_in, stretches_from, end_of, Position, IsPlaced, IsFlat, boundary_in, NoneFits, Searched, IsLoneList, shows_alone}
 use Rattle.list_position.proofs.PositionLaws.{flat_min, flat_cycle}
 use Rattle.accepted_commands.specs.declared.command.AcceptedList.{AcceptedList}
 use Rattle.accepted_commands.specs.Standing.{Standing, accepted_list}
-use Rattle.jumping.specs.Search.{NoneFits, Searched}
-use Rattle.jumping.specs.Alone.{IsLoneList, shows_alone}
 use Rattle.jumping.proofs.RepeatLaws.{plan_repeats}
 use Rattle.jumping.proofs.SearchLaws.{fits_flat, none_jump, searched_more}
 

@@ -2,16 +2,11 @@
 use Rattle.std.proofs.Common.{◌≡◌, ◌<◌, ◌≤◌, ℕ, min, List, ◌∷◌, Option, Some, None, inl, inr, refl, sym, ap, ◌∙◌, subst, arith, le_refl}
 use Rattle.std.proofs.lemmas.Bool.{cases_lt, le-leb}
 use Rattle.std.specs.Option.{ForSome}
-use Rattle.gate_list.specs.Gate.{has_come}
-use Rattle.list_config.specs.Stretch.{Stretch, mask_of, mask_in}
-use Rattle.list_position.specs.Position.{IsFlat}
+use Rattle.jumping.specs.Words.{has_come, Stretch, mask_of, mask_in, IsFlat, Rest, from_of, until_of, stretch_of, stretches_in, stretches_ahead, NoneFits, Searched}
 use Rattle.accepted_commands.specs.declared.leg.Leg.{Leg}
 use Rattle.accepted_commands.specs.declared.leg.Leg.TheVariants.{Open}
 use Rattle.accepted_commands.specs.declared.leg.OpenLeg.{OpenLeg}
-use Rattle.accepted_commands.specs.declared.leg.Rest.{Rest}
-use Rattle.accepted_commands.specs.Leg.{from_of, until_of, stretch_of, stretches_in, stretches_ahead}
 use Rattle.accepted_commands.proofs.LegLaws.{until_is}
-use Rattle.jumping.specs.Search.{NoneFits, Searched}
 use Rattle.jumping.proofs.SearchLaws.{searched_join, searched_over}
 use Rattle.jumping.proofs.RepeatLaws.{not_yet, shows_own}
 

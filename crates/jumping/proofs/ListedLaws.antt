@@ -2,21 +2,12 @@
 use Rattle.std.proofs.Common.{◌≡◌, ◌<◌, ◌≤◌, ℕ, ◌+◌, ◌*◌, min, Bool, true, false, List, slice_get, length, Option, Some, None, refl, sym, ap, ◌∙◌, subst, arith, le_trans}
 use Rattle.std.proofs.lemmas.Bool.{false≢true}
 use Rattle.std.specs.Option.{ForSome}
-use Rattle.wire_time.specs.Moment.{greatest_moment}
-use Rattle.gate_list.specs.Gate.{Plan, has_come, in_ps, mask_since, opens}
-use Rattle.gate_list.specs.Open.{open_while}
-use Rattle.list_config.specs.Stretch.{mask_in}
-use Rattle.list_execute.specs.Walk.{end_of, walk_mask}
-use Rattle.list_position.specs.declared.Position.{Position}
-use Rattle.list_position.specs.Position.{IsPlaced, IsFlat, Shows, boundary_in}
+use Rattle.jumping.specs.Words.{greatest_moment, Plan, has_come, in_ps, mask_since, opens, open_while, mask_in, end_of, Position, IsPlaced, IsFlat, boundary_in, Listed, ListedLeg, Rest, AreReady, DoFollow, stretch_of, stretches_in, stretches_ahead, Fits, IsSearch, NoneFits}
+use Rattle.list_execute.specs.Walk.{walk_mask}
+use Rattle.list_position.specs.Position.{Shows}
 use Rattle.list_position.proofs.PositionLaws.{placed_hold, placed_mask, flat_min, flat_cycle, shut_now}
-use Rattle.accepted_commands.specs.declared.leg.Leg.TheVariants.{Listed}
-use Rattle.accepted_commands.specs.declared.leg.ListedLeg.{ListedLeg}
-use Rattle.accepted_commands.specs.declared.leg.Rest.{Rest}
-use Rattle.accepted_commands.specs.Leg.{AreReady, DoFollow, stretch_of, stretches_in, stretches_ahead}
 use Rattle.accepted_commands.proofs.LegLaws.{endless_while, ready_later}
 use Rattle.jumping.specs.declared.search.ListSearch.{ListSearch}
-use Rattle.jumping.specs.Search.{Fits, IsSearch, NoneFits}
 use Rattle.jumping.proofs.RepeatLaws.{not_yet, shows_own, stretch_repeats}
 use Rattle.jumping.proofs.SearchLaws.{fits_flat}
 

@@ -3,19 +3,16 @@ use Rattle.std.proofs.Common.{◌≡◌, ◌<◌, ◌≤◌, ◌+◌, ℕ, min, 
 use Rattle.std.proofs.lemmas.Bool.{cases_lt, lt-leb, le-ltb}
 use Rattle.std.proofs.lemmas.Option.{same_Some}
 use Rattle.std.specs.Option.{ForSome, option_or}
-use Rattle.gate_list.specs.Gate.{Plan, IsSchedule, opens}
+use Rattle.jumping.specs.Words.{Plan, IsSchedule, opens, Accepted, cons_some, gates, open_through, plan_of, start_of, three, Position, BeginsAtMost, Commands, AreCommands, NoneBy, history_of, settled_at, Stands, edge_at, shown_by, Resumes, IsEdge, NothingComes, OneEntryComes}
 use Rattle.gate_list.proofs.OpenLaws.{open_from}
-use Rattle.list_config.specs.History.{Accepted, cons_some, gates, only_if, open_through, plan_of, start_of, three}
+use Rattle.list_config.specs.History.{only_if}
 use Rattle.list_config.specs.Event.{BeginsEntry, ComesAt}
 use Rattle.list_config.proofs.EventLaws.{any_after, any_here}
 use Rattle.list_config.proofs.HistoryLaws.{three_force}
-use Rattle.list_position.specs.declared.Position.{Position}
-use Rattle.list_position.specs.Position.{BeginsAtMost}
 use Rattle.list_position.proofs.PositionLaws.{placed_later}
-use Rattle.accepted_commands.specs.Commands.{Commands, AreCommands, IsUsable, NoneBy, history_of, settled_at, announced_by, pending_by}
-use Rattle.accepted_commands.specs.Standing.{Stands, StandsUnder, boundary_in_force, boundary_under, earlier, edge_at, hold_for, shown_by}
-use Rattle.accepted_commands.specs.Resume.{Resumes, ResumesBy}
-use Rattle.jumping.specs.Edge.{IsEdge, NothingComes, OneEntryComes}
+use Rattle.accepted_commands.specs.Commands.{IsUsable, announced_by, pending_by}
+use Rattle.accepted_commands.specs.Standing.{StandsUnder, boundary_in_force, boundary_under, earlier, hold_for}
+use Rattle.accepted_commands.specs.Resume.{ResumesBy}
 use Rattle.accepted_commands.proofs.CommandLaws.{force_still, gates_ahead, none_now, same_commands, shows_at}
 
 -- what is before the earlier of two moments is before both

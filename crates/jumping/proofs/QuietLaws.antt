@@ -4,16 +4,13 @@ use Rattle.std.proofs.lemmas.Option.{slice_get-get_or, slice_get_within, get_or_
 use Rattle.gate_list.proofs.OpenLaws.{same_while}
 use Rattle.gate_list.proofs.FirstLaws.{none_same}
 use Rattle.list_config.specs.Choice.{may_start, may_go, first_choice}
-use Rattle.list_config.specs.Current.{Clocked, entry_count, longest}
-use Rattle.list_config.specs.History.{Accepted, gates, cons_some, three, plan_of, pending, announced}
-use Rattle.list_config.specs.Stretch.{Stretch, mask_in, stretches_from}
+use Rattle.jumping.specs.Words.{Clocked, entry_count, longest, Accepted, gates, cons_some, three, plan_of, Stretch, mask_in, stretches_from, Commands, AreCommands, history_of, settled_at, NoneFits, Fits, Searched, most_in}
+use Rattle.list_config.specs.History.{pending, announced}
 use Rattle.list_config.proofs.ChoiceLaws.{greatest_below-none, greatest_below-some}
 use Rattle.list_config.proofs.HistoryLaws.{settled_force, settled_pending, settled_announced, past_three}
 use Rattle.list_config.proofs.StretchLaws.{stretches_gates}
 use Rattle.list_config.proofs.LongestLaws.{longest-kept}
-use Rattle.accepted_commands.specs.Commands.{Commands, AreCommands, history_of, settled_at}
 use Rattle.accepted_commands.proofs.CommandLaws.{settled_history}
-use Rattle.jumping.specs.Search.{NoneFits, Fits, Searched, most_in}
 
 -- masks that agree from a moment on
 pub searched_same : (f g : ℕ → ℕ) (needs : List (Option ℕ)) (t stop : ℕ) (r : Option ℕ) → ((n : ℕ) → t ≤ n → f n ≡ g n) → Searched g needs t stop r → Searched f needs t stop r

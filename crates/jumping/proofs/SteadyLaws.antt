@@ -1,9 +1,7 @@
 -- The search for the first moment from which a class is open for so long.
 use Rattle.std.proofs.Common.{◌≡◌, ◌<◌, ◌≤◌, ℕ, zero, suc, ◌+◌, ◌-◌, true, false, inl, inr, sym, ap, ◌∙◌, arith}
 use Rattle.std.proofs.lemmas.Bool.{cases_lt, false≢true, false_from_ne_true}
-use Rattle.gate_list.specs.Gate.{opens}
-use Rattle.gate_list.specs.Open.{open_while}
-use Rattle.gate_list.specs.Stay.{NoneFrom}
+use Rattle.jumping.specs.Words.{opens, open_while, NoneFrom}
 use Rattle.gate_list.proofs.OpenLaws.{open_at, open_from}
 
 -- one cycle back

@@ -1,3 +1,4 @@
 pub mod Search
 pub mod Edge
 pub mod Alone
+pub mod Words

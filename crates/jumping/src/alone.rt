@@ -1,12 +1,7 @@
 //! The search in a list that no other command follows: what it shows repeats for ever, so that one cycle decides all.
 ghost use Rattle.std.specs.Prelude.{◌≡◌, ℕ, ◌+◌, ◌*◌, ◌<◌, ◌≤◌, IfSome, Some, None, true, false, All, length, min, slice_get};
 ghost use Rattle.std.specs.Option.{ForSome};
-ghost use Rattle.wire_time.specs.Moment.{greatest_moment};
-ghost use Rattle.gate_list.specs.Gate.{IsSchedule, in_ps, mask_since, opens};
-ghost use Rattle.gate_list.specs.Open.{open_while};
-ghost use Rattle.list_position.specs.Position.{IsPlaced};
-ghost use Rattle.jumping.specs.Search.{Fits, Searched};
-ghost use Rattle.jumping.specs.Alone.{HaveNeeds, IsAlone, IsShown, shows_alone};
+ghost use Rattle.jumping.specs.Words.{greatest_moment, IsSchedule, in_ps, opens, open_while, IsPlaced, Fits, Searched, HaveNeeds, IsAlone, IsShown, shows_alone};
 
 use crate::search::boundary;
 use accepted_commands::AcceptedList;

@@ -1,25 +1,13 @@
 //! The gates, which pass whole cycles by division.
-ghost use Rattle.std.specs.Prelude.{All, ◌≡◌, ℕ, ◌+◌, ◌*◌, ◌<◌, ◌≤◌, ◌↔◌, IfSome, IsTrue, Some, None, true, false, option_map};
+ghost use Rattle.std.specs.Prelude.{All, ◌≡◌, ℕ, ◌+◌, ◌*◌, ◌<◌, ◌≤◌, ◌↔◌, IfSome, IsTrue, Some, None, true, false};
 ghost use Rattle.std.specs.Option.{ForSome};
-ghost use Rattle.wire_time.specs.Moment.{greatest_moment, greatest_lead};
-ghost use Rattle.gate_list.specs.Gate.{opens};
-ghost use Rattle.gate_list.specs.Open.{open_while};
-ghost use Rattle.list_config.specs.History.{gates, kept, plan_of, start_of};
-ghost use Rattle.list_position.specs.Position.{BeginsAtMost};
-ghost use Rattle.list_config.specs.Current.{IsCurrent, entry_count, longest};
-ghost use Rattle.accepted_commands.specs.Commands.{AreCommands, NoneBy, accepted_in, command_of, history_of, mask_ahead, settled_at, stretches_of};
-ghost use Rattle.accepted_commands.specs.Standing.{Stands};
-ghost use Rattle.accepted_commands.specs.Leg.{AreReady, from_of, stretches_ahead};
-ghost use Rattle.accepted_commands.specs.Resume.{Resumes};
-ghost use Rattle.jumping.specs.Edge.{IsEdge, NothingComes, OneEntryComes};
-ghost use Rattle.jumping.specs.Search.{Searched, most_in};
-ghost use Rattle.jumping.specs.Alone.{IsLoneList};
+ghost use Rattle.jumping.specs.Words.{greatest_moment, opens, open_while, gates, kept, plan_of, start_of, BeginsAtMost, IsCurrent, entry_count, longest, AreCommands, NoneBy, mask_ahead, settled_at, stretches_of, Stands, Resumes, IsEdge, NothingComes, OneEntryComes, Searched, most_in, IsLoneList};
 
 use crate::alone::{search_alone, stays_open_alone};
 use crate::search::search;
 use accepted_commands::{
-    AcceptedList, Slots, edge_of, installed, lead_moment, legs_ahead, list_in, mask_under, resumed,
-    stays_open,
+    AcceptedList, CommandSlots, edge_of, installed, lead_moment, legs_ahead, list_in, mask_under,
+    resumed, stays_open,
 };
 use gate_list::{Schedule, Visits, is_open};
 use list_config::{Gates, Installed, NotNow};
@@ -33,7 +21,7 @@ use wire_time::CLASSES;
 /// What a move and an answer look at doesn't grow with how far the moments are apart.
 #[derive(Drop)]
 pub struct Jumping {
-    slots: Slots,
+    slots: CommandSlots,
     resumed: Option<Position>,
     edge: Option<u128>,
     mask: u8,
@@ -66,7 +54,7 @@ fn is_before(moment: u128, edge: Option<u128>) -> bool
 }
 
 /// The next moment at which a boundary of the list in force comes, or a command does, in picoseconds; none: there is none.
-fn next_edge(slots: &Slots) -> Option<u128>
+fn next_edge(slots: &CommandSlots) -> Option<u128>
     requires sound { AreCommands slots.now.commands }
     requires stands { Stands slots.now.commands.in_force slots.now.commands.pending slots.now.commands.moment slots.now.position }
     ensures { IsEdge slots.now.commands slots.now.position result }
@@ -96,7 +84,7 @@ fn is_over_by(edge: Option<u128>, from: u128, length: u128) -> bool
 }
 
 /// The list in force, where no other command is to come.
-fn lone_list(slots: &Slots) -> Option<&AcceptedList>
+fn lone_list(slots: &CommandSlots) -> Option<&AcceptedList>
     ensures { IfSome result (λ list. IsLoneList slots.now list.now) }
 {
     if slots.pending().is_none() && slots.announced().is_none() {
@@ -110,7 +98,7 @@ fn lone_list(slots: &Slots) -> Option<&AcceptedList>
 /// in force decides. Apart, so that the loop over the classes stays small: mostly a class is shut now, or needs less than what is left
 /// up to the next edge.
 #[inline(never)]
-fn stays_open_from_now(slots: &Slots, resumed: &Option<Position>, need: Need) -> bool
+fn stays_open_from_now(slots: &CommandSlots, resumed: &Option<Position>, need: Need) -> bool
     requires sound { AreCommands slots.now.commands }
     requires stands { Stands slots.now.commands.in_force slots.now.commands.pending slots.now.commands.moment slots.now.position }
     requires resumes { Resumes slots.now.commands resumed.now }
@@ -128,7 +116,7 @@ fn stays_open_from_now(slots: &Slots, resumed: &Option<Position>, need: Need) ->
 /// Lets the commands and the list in force go on to a moment, in picoseconds, and looks for the next edge. It stays apart: the compiler
 /// would make room for two commands at each call of a body that it is taken into, and most moves come to no edge.
 #[inline(never)]
-fn move_on(slots: &mut Slots, edge: &mut Option<u128>, t: u128, visits: &mut Visits)
+fn move_on(slots: &mut CommandSlots, edge: &mut Option<u128>, t: u128, visits: &mut Visits)
     requires later { slots.old.commands.moment ≤ t }
     requires within { t ≤ greatest_moment }
     requires sound { AreCommands slots.old.commands }
@@ -150,7 +138,7 @@ fn move_on(slots: &mut Slots, edge: &mut Option<u128>, t: u128, visits: &mut Vis
 /// taken into, wanted or not.
 #[inline(never)]
 fn search_legs(
-    slots: &Slots,
+    slots: &CommandSlots,
     resumed: &Option<Position>,
     needs: &[Option<u128>; CLASSES],
     before: u128,
@@ -172,7 +160,7 @@ fn search_legs(
 /// The first moment from now on and before `before`, in picoseconds, at which some class with a need stays open through it. Where no
 /// other command is to come, which is mostly so, no legs are made.
 fn search_from_now(
-    slots: &Slots,
+    slots: &CommandSlots,
     resumed: &Option<Position>,
     needs: &[Option<u128>; CLASSES],
     before: u128,
@@ -207,7 +195,7 @@ impl Gates for Jumping {
     #[tactic(auto, using(accepted_commands::proofs::CommandLaws::current_of))]
     fn begin() -> Jumping {
         Jumping {
-            slots: Slots::begin(),
+            slots: CommandSlots::begin(),
             resumed: None,
             edge: None,
             mask: u8::MAX,

@@ -1,15 +1,7 @@
 //! The search for the first moment at which some class with a need stays open through it.
 ghost use Rattle.std.specs.Prelude.{◌≡◌, ℕ, ◌+◌, ◌-◌, ◌*◌, ◌<◌, ◌≤◌, ◌∷◌, Some, None, true, false, All, length, min, slice_get};
 ghost use Rattle.std.specs.Option.{ForSome};
-ghost use Rattle.wire_time.specs.Moment.{greatest_moment};
-ghost use Rattle.gate_list.specs.Gate.{IsSchedule, has_come, in_ps, mask_since, opens};
-ghost use Rattle.gate_list.specs.Open.{open_while};
-ghost use Rattle.list_config.specs.Stretch.{mask_in, mask_of};
-ghost use Rattle.list_execute.specs.Walk.{end_of};
-ghost use Rattle.list_position.specs.Position.{IsFlat, IsPlaced, boundary_in};
-ghost use Rattle.accepted_commands.specs.declared.leg.Leg.TheVariants.{Listed};
-ghost use Rattle.accepted_commands.specs.Leg.{AreReady, DoFollow, IsReady, stretch_in, from_of, until_of, stretch_of, stretches_ahead};
-ghost use Rattle.jumping.specs.Search.{Fits, IsSearch, Searched, up_to, most_visits, most_in};
+ghost use Rattle.jumping.specs.Words.{greatest_moment, IsSchedule, has_come, in_ps, mask_since, opens, open_while, mask_in, mask_of, end_of, IsFlat, IsPlaced, boundary_in, Listed, AreReady, DoFollow, IsReady, stretch_in, from_of, until_of, stretch_of, stretches_ahead, Fits, IsSearch, Searched, up_to, most_visits, most_in};
 
 use accepted_commands::{Leg, ListedLeg, Rest, copied};
 use gate_list::{Visits, is_open};
@@ -349,7 +341,7 @@ fn search_into(
 
 /// The first moment from a leg on, through what follows and before `before`, in picoseconds, at which some class with a need
 /// stays open through it.
-pub fn search(
+pub(crate) fn search(
     leg: &Leg<'_>,
     rest: &Rest<'_>,
     needs: &[Option<u128>; CLASSES],

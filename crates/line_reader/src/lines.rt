@@ -1,7 +1,7 @@
 //! The lines of a script.
 
 ghost use Rattle.std.specs.List.{list_all};
-ghost use Rattle.std.specs.Prelude.{take, drop, not, ◌≡◌, ◌≤◌, ◌<◌, ◌+◌, ◌^◌, ◌==◌, [], IsSome, IfSome, IfOk, IsOkUnless, length, None, Ok, Err, true, false, vec_len, vec_capacity, option_map};
+ghost use Rattle.std.specs.Prelude.{take, drop, not, ◌≡◌, ◌≤◌, ◌<◌, ◌+◌, ◌==◌, [], IfSome, IfOk, length, None, Ok, Err, true, false, vec_len, vec_capacity, option_map};
 ghost use Rattle.line_reader.specs.Script.{joins, script_of};
 ghost use Rattle.line_reader.specs.Endings.{answer_of, ended_by};
 ghost use Rattle.line_reader.specs.declared.lines.TheConstants.{MAX_LINE_OCTETS, MAX_LINES};

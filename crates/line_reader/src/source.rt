@@ -1,6 +1,6 @@
 //! The octets of a reader, a chunk in hand.
 
-ghost use Rattle.std.specs.Prelude.{length, drop, ◌≡◌, ◌≤◌, ◌<◌, ◌^◌, [], IsSome, IfOk, OnErr, None, Ok, true, false, vec_len};
+ghost use Rattle.std.specs.Prelude.{length, drop, ◌≡◌, ◌≤◌, ◌<◌, [], IsSome, IfOk, OnErr, None, Ok, true, false, vec_len};
 ghost use Rattle.line_reader.specs.declared.source.TheConstants.{CHUNK};
 
 use std::alloc::{AllocError, Allocator, Global};
@@ -11,11 +11,11 @@ pub(crate) const CHUNK: usize = 65_536;
 
 /// A read failed.
 #[derive(Clone, Copy, Debug, PartialEq, Eq)]
-pub struct ReadFault;
+pub(crate) struct ReadFault;
 
 /// A reader with a chunk of what it gave. Once it has given no octets it is at its end, and isn't asked again.
 #[derive(Drop)]
-pub struct Source<R, A: Allocator = Global> {
+pub(crate) struct Source<R, A: Allocator = Global> {
     reader: R,
     chunk: Vec<u8, A>,
     at: usize,

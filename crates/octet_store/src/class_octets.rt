@@ -11,7 +11,7 @@ use std::marker::Model;
 
 /// The two lengths of a frame.
 #[derive(Clone, Copy, Debug, PartialEq, Eq)]
-pub struct Lengths {
+pub(crate) struct Lengths {
     /// How many of its octets are kept, at most `MAX_OCTETS`.
     pub captured: u32,
     /// How many octets the frame had.
@@ -31,7 +31,7 @@ pub struct First<'a> {
 ///
 /// Their octets lie one after another in one buffer, so that no frame takes memory of its own. That buffer never shrinks.
 #[derive(Drop)]
-pub struct ClassOctets<A: Allocator = Global> {
+pub(crate) struct ClassOctets<A: Allocator = Global> {
     lengths: HeapCircularBuffer<Lengths, A>,
     octets: OctetQueue<A>,
 }

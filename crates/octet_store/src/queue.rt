@@ -13,7 +13,7 @@ const LENGTH: usize = 2;
 ///
 /// They lie in one piece. The buffer grows where they and those that come take more than half of it, and never shrinks.
 #[derive(Drop)]
-pub struct OctetQueue<A: Allocator = Global> {
+pub(crate) struct OctetQueue<A: Allocator = Global> {
     octets: Vec<u8, A>,
     head: usize,
     ghost within: { head ≤ vec_len octets },

@@ -1,26 +1,24 @@
--- Bands over the moments of a stretch, and in rows.
+-- Bands over the moments of a stretch, and in lanes.
 use Rattle.std.proofs.Common.{◌≡◌, ◌<◌, ◌≤◌, ℕ, zero, suc, ◌+◌, Bool, true, false, List, [], ◌∷◌, ◌++◌, Option, Some, None, unwrap_or, refl, sym, ap, ◌∙◌, arith, le_refl, append_assoc, append-nil}
-use Rattle.gate_list.specs.Gate.{opens}
-use Rattle.picture.specs.declared.span.Span.{Span}
-use Rattle.picture.specs.Rows.{Filled, pushed}
-use Rattle.picture.specs.Bands.{Going, closed, after, bands_from}
-use Rattle.picture.specs.Drawn.{ClassRow, push_all, begun, with_bands, stepped, drawn}
+use Rattle.picture.specs.Words.{opens, Span, Filled, pushed, Going, after, bands_from, ClassLane, begun, with_bands, stepped, drawn}
+use Rattle.picture.specs.Bands.{closed}
+use Rattle.picture.specs.Drawn.{push_all}
 
 -- ---- the shapes of a class after one moment
 
-pub step_open : (c : ClassRow) (m x : ℕ) → x ≡ unwrap_or c.since m → record { since = Some x; row = c.row } ≡ stepped true m c
+pub step_open : (c : ClassLane) (m x : ℕ) → x ≡ unwrap_or c.since m → record { since = Some x; lane = c.lane } ≡ stepped true m c
 unfolding push_all
-step_open c m x e = ap (λ y. let r : ClassRow = record { since = Some y; row = c.row } in r) e
+step_open c m x e = ap (λ y. let r : ClassLane = record { since = Some y; lane = c.lane } in r) e
 
-pub step_closed : (since : Option ℕ) (row next : Filled) (from m : ℕ) → since ≡ Some from → next ≡ pushed (record { span = record { from = from; to = m }; id = None }) row
-    → record { since = None; row = next } ≡ stepped false m (record { since = since; row = row })
+pub step_closed : (since : Option ℕ) (lane next : Filled) (from m : ℕ) → since ≡ Some from → next ≡ pushed (record { span = record { from = from; to = m }; id = None }) lane
+    → record { since = None; lane = next } ≡ stepped false m (record { since = since; lane = lane })
 unfolding push_all
-step_closed since row next from m is e =
+step_closed since lane next from m is e =
     rw (is, e) refl
 
-pub step_none : (since : Option ℕ) (row : Filled) (m : ℕ) → since ≡ None → record { since = since; row = row } ≡ stepped false m (record { since = since; row = row })
+pub step_none : (since : Option ℕ) (lane : Filled) (m : ℕ) → since ≡ None → record { since = since; lane = lane } ≡ stepped false m (record { since = since; lane = lane })
 unfolding push_all
-step_none since row m is = rw is refl
+step_none since lane m is = rw is refl
 
 -- ---- moments, one after another
 
@@ -61,30 +59,30 @@ bands_same f g class m (suc n) s e =
     ap (λ x. bands_from f class (m + 1) n (after (opens x class) m s)) (e m (le_refl m) (omega arith))
     ∙ bands_same f g class (m + 1) n (after (opens (g m) class) m s) (λ i from below. e i (omega arith) (omega arith))
 
--- ---- in rows
+-- ---- in lanes
 
-push_one : (bs : List Span) (b : Span) (row : Filled) → push_all (bs ++ b ∷ []) row ≡ pushed (record { span = b; id = None }) (push_all bs row)
+push_one : (bs : List Span) (b : Span) (lane : Filled) → push_all (bs ++ b ∷ []) lane ≡ pushed (record { span = b; id = None }) (push_all bs lane)
 unfolding push_all
-push_one [] b row = refl
-push_one (a ∷ rest) b row = push_one rest b (pushed (record { span = a; id = None }) row)
+push_one [] b lane = refl
+push_one (a ∷ rest) b lane = push_one rest b (pushed (record { span = a; id = None }) lane)
 
--- one moment more, in the row and in the bands
-pub step_on : (b : Bool) (m : ℕ) (c : ClassRow) (g : Going) → stepped b m (with_bands c g) ≡ with_bands c (after b m g)
+-- one moment more, in the lane and in the bands
+pub step_on : (b : Bool) (m : ℕ) (c : ClassLane) (g : Going) → stepped b m (with_bands c g) ≡ with_bands c (after b m g)
 unfolding push_all
 step_on true m c g = refl
 step_on false m c g = by g.since
   where
     by : (since : Option ℕ) → with_bands (with_bands c g) (closed m since []) ≡ with_bands c (closed m since g.bands)
     by None = refl
-    by (Some from) = ap (λ row. let r : ClassRow = record { since = None; row = row } in r) (sym (push_one g.bands (record { from = from; to = m }) c.row))
+    by (Some from) = ap (λ lane. let r : ClassLane = record { since = None; lane = lane } in r) (sym (push_one g.bands (record { from = from; to = m }) c.lane))
 
 -- nothing is drawn in no time
-pub drawn_none : (masks : ℕ → ℕ) (class m : ℕ) (c : ClassRow) → drawn masks class m 0 c ≡ c
+pub drawn_none : (masks : ℕ → ℕ) (class m : ℕ) (c : ClassLane) → drawn masks class m 0 c ≡ c
 unfolding bands_from push_all
 drawn_none masks class m c = refl
 
 -- a stretch more, through which the class stays open or closed
-pub drawn_on : (masks : ℕ → ℕ) (class m n k : ℕ) (c : ClassRow) → 0 < k → ((i : ℕ) → m + n ≤ i → i < m + n + k → opens (masks i) class ≡ opens (masks (m + n)) class)
+pub drawn_on : (masks : ℕ → ℕ) (class m n k : ℕ) (c : ClassLane) → 0 < k → ((i : ℕ) → m + n ≤ i → i < m + n + k → opens (masks i) class ≡ opens (masks (m + n)) class)
     → stepped (opens (masks (m + n)) class) (m + n) (drawn masks class m n c) ≡ drawn masks class m (n + k) c
 drawn_on masks class m n zero c some same = absurd (omega arith)
 drawn_on masks class m n (suc k) c some same =
@@ -115,19 +113,19 @@ bands_append masks class m (suc n) since bs = by (opens (masks m) class) since (
         ∙ ap (going (bands_from masks class (m + 1) n (going None [])).since) (append_assoc bs (record { from = from; to = m } ∷ []) (bands_from masks class (m + 1) n (going None [])).bands)
         ∙ sym (ap (λ (g : Going). going g.since (bs ++ g.bands)) (later None (record { from = from; to = m } ∷ [])))
 
-push_both : (xs ys : List Span) (row : Filled) → push_all (xs ++ ys) row ≡ push_all ys (push_all xs row)
+push_both : (xs ys : List Span) (lane : Filled) → push_all (xs ++ ys) lane ≡ push_all ys (push_all xs lane)
 unfolding push_all
-push_both [] ys row = refl
-push_both (x ∷ xs) ys row = push_both xs ys (pushed (record { span = x; id = None }) row)
+push_both [] ys lane = refl
+push_both (x ∷ xs) ys lane = push_both xs ys (pushed (record { span = x; id = None }) lane)
 
 -- what is drawn in two parts is drawn in one
-pub drawn_both : (masks : ℕ → ℕ) (class m n k : ℕ) (c : ClassRow) → drawn masks class (m + n) k (drawn masks class m n c) ≡ drawn masks class m (n + k) c
+pub drawn_both : (masks : ℕ → ℕ) (class m n k : ℕ) (c : ClassLane) → drawn masks class (m + n) k (drawn masks class m n c) ≡ drawn masks class m (n + k) c
 drawn_both masks class m n k c =
     let g : Going = bands_from masks class m n (begun c) in
     let e = bands_split masks class m n k (begun c) ∙ bands_append masks class (m + n) k (bands_from masks class m n (begun c)).since (bands_from masks class m n (begun c)).bands in
-    sym (ap (with_bands c) e ∙ ap (λ row. let r : ClassRow = record { since = (bands_from masks class (m + n) k (going (bands_from masks class m n (begun c)).since [])).since; row = row } in r)
-    (push_both (bands_from masks class m n (begun c)).bands (bands_from masks class (m + n) k (going (bands_from masks class m n (begun c)).since [])).bands c.row))
+    sym (ap (with_bands c) e ∙ ap (λ lane. let r : ClassLane = record { since = (bands_from masks class (m + n) k (going (bands_from masks class m n (begun c)).since [])).since; lane = lane } in r)
+    (push_both (bands_from masks class m n (begun c)).bands (bands_from masks class (m + n) k (going (bands_from masks class m n (begun c)).since [])).bands c.lane))
 
 -- masks that agree draw the same
-pub drawn_same : (f g : ℕ → ℕ) (class m n : ℕ) (c : ClassRow) → ((i : ℕ) → m ≤ i → i < m + n → f i ≡ g i) → drawn f class m n c ≡ drawn g class m n c
+pub drawn_same : (f g : ℕ → ℕ) (class m n : ℕ) (c : ClassLane) → ((i : ℕ) → m ≤ i → i < m + n → f i ≡ g i) → drawn f class m n c ≡ drawn g class m n c
 drawn_same f g class m n c e = ap (with_bands c) (bands_same f g class m n (begun c) e)

@@ -1,17 +1,15 @@
 -- A command that a port accepts, and the gates of a picture.
 use Rattle.std.proofs.Common.{◌≡◌, ℕ, ◌+◌, List, Option, Some, None, Ok, refl, sym, ap, ◌∙◌}
-use Rattle.wire_time.specs.Wire.{lead_of}
-use Rattle.gate_list.specs.Gate.{Plan, plan_fault, ok_unless}
+use Rattle.picture.specs.Words.{lead_of, plan_fault, Accepted, with_command, accepted_at, deletion_at, AbstractPort, installs, plan_asked, Command, ClassLane, Drawing, history_with, with_plan}
+use Rattle.gate_list.specs.Gate.{Plan, ok_unless}
 use Rattle.gate_list.specs.declared.PlanFault.{PlanFault}
-use Rattle.list_config.specs.History.{Accepted, announced}
-use Rattle.list_config.specs.Current.{with_command, with_command_by, accepted_at, deletion_at}
-use Rattle.abstract_port.specs.AbstractPort.{AbstractPort, installs, installs_by, refusal, own_refusal, map_refusal, limit_refusal, schedule_refusal, busy_refusal, busy_by, first_of, after_command, plan_asked}
-use Rattle.abstract_port.specs.declared.Command.{Command}
+use Rattle.list_config.specs.History.{announced}
+use Rattle.list_config.specs.Current.{with_command_by}
+use Rattle.abstract_port.specs.AbstractPort.{installs_by, refusal, own_refusal, map_refusal, limit_refusal, schedule_refusal, busy_refusal, busy_by, first_of, after_command}
 use Rattle.abstract_port.specs.declared.Command.TheVariants.{Replace, Delete}
 use Rattle.abstract_port.specs.declared.Change.{Change}
 use Rattle.abstract_port.specs.declared.Refused.{Refused}
 use Rattle.abstract_port.specs.declared.Refused.TheVariants.{Schedule}
-use Rattle.picture.specs.Drawn.{ClassRow, Drawing, history_with, with_plan}
 
 not_refused : (r : Option Refused) (p : AbstractPort) (command : Command) (change : ℕ) → (installs_by r p command).0 ≡ Ok change → r ≡ None
 not_refused None p command change e = refl
@@ -66,10 +64,10 @@ taken p command change ps lead m h eh em es el ok =
     ∙ installed_so (refusal p command) p command none
 
 -- what is drawn, with another history
-abbrev drawing : List Accepted → ℕ → ℕ → Option ℕ → List ClassRow → Drawing
+abbrev drawing : List Accepted → ℕ → ℕ → Option ℕ → List ClassLane → Drawing
 drawing history moment from to classes = record { history = history; moment = moment; from = from; to = to; classes = classes }
 
-pub same_drawing : (h k : List Accepted) (m n from : ℕ) (to : Option ℕ) (classes : List ClassRow) → h ≡ k → m ≡ n → drawing h m from to classes ≡ drawing k n from to classes
+pub same_drawing : (h k : List Accepted) (m n from : ℕ) (to : Option ℕ) (classes : List ClassLane) → h ≡ k → m ≡ n → drawing h m from to classes ≡ drawing k n from to classes
 same_drawing h k m n from to classes eh em = ap (λ x. drawing x m from to classes) eh ∙ ap (λ x. drawing k x from to classes) em
 
 pub plan_made : (fault : Option PlanFault) (plan made : Plan) → Ok made ≡ ok_unless fault plan → (fault ≡ None) × (made ≡ plan)

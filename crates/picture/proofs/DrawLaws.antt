@@ -2,11 +2,8 @@
 use Rattle.std.proofs.Common.{◌≡◌, ◌<◌, ◌≤◌, ℕ, ◌+◌, ◌-◌, min, max, List, Option, Some, None, MatchOption, unwrap_or, inl, inr, sym, ap, ◌∙◌, arith, le_refl}
 use Rattle.std.specs.Prelude.{IfSome}
 use Rattle.std.proofs.lemmas.Bool.{cases_lt}
-use Rattle.gate_list.specs.Gate.{opens}
-use Rattle.list_config.specs.History.{Accepted, gates, kept}
-use Rattle.list_config.specs.Current.{IsCurrent, IsSteady}
+use Rattle.picture.specs.Words.{opens, Accepted, gates, kept, IsCurrent, IsSteady, ClassLane, Drawing, begun, with_bands, stepped, drawn, up_to, gone_on, class_at}
 use Rattle.list_config.proofs.HistoryLaws.{kept_kept, kept_gates, past_later}
-use Rattle.picture.specs.Drawn.{ClassRow, Drawing, begun, with_bands, stepped, drawn, up_to, gone_on, class_at}
 use Rattle.picture.proofs.BandLaws.{drawn_none, drawn_on, bands_same}
 
 -- the moment up to which one mask shows: that of the next gate event, if there is one before
@@ -32,7 +29,7 @@ module _ (h : List Accepted) (first : ℕ) (current : IsCurrent h first) where
   gates_on m n k l r e = ap (λ x. gates x n) e ∙ kept_gates 0 m h current.rising (past_later first m h l current.past) n r
 
   -- a stretch more of one mask
-  pub drawn_to : (now next : ℕ) (k : List Accepted) (class : ℕ) (c : ClassRow) → first ≤ now → now < next → k ≡ kept h now → IsSteady k now next
+  pub drawn_to : (now next : ℕ) (k : List Accepted) (class : ℕ) (c : ClassLane) → first ≤ now → now < next → k ≡ kept h now → IsSteady k now next
       → stepped (opens (gates k now) class) now (drawn (gates h) class first (now - first) c) ≡ drawn (gates h) class first (next - first) c
   drawn_to now next k class c l r e same =
       let at : first + (now - first) ≡ now = omega arith in
@@ -47,7 +44,7 @@ module _ (h : List Accepted) (first : ℕ) (current : IsCurrent h first) where
       ∙ ap (λ n. drawn (gates h) class first n c) whole
 
   -- of what is kept at a moment the same is drawn from then on
-  pub drawn_kept : (m n class : ℕ) (k : List Accepted) (c : ClassRow) → first ≤ m → k ≡ kept h m → drawn (gates k) class m n c ≡ drawn (gates h) class m n c
+  pub drawn_kept : (m n class : ℕ) (k : List Accepted) (c : ClassLane) → first ≤ m → k ≡ kept h m → drawn (gates k) class m n c ≡ drawn (gates h) class m n c
   drawn_kept m n class k c l e = ap (with_bands c) (bands_same (gates k) (gates h) class m n (begun c) (λ i from below. gates_on m i k l from e))
 
 -- the moments that are drawn, where the gates go on to `first` at once

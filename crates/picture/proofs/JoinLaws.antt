@@ -1,13 +1,12 @@
--- What joining neighbours does to the shapes of a row.
+-- What joining neighbours does to the shapes of a lane.
 use Rattle.std.proofs.Common.{◌≡◌, ◌<◌, ◌≤◌, ℕ, suc, ◌+◌, ◌-◌, ◌*◌, true, false, min, max, cond, leb, ◌⊎◌, List, [], ◌∷◌, ◌++◌, length, None, inl, inr, refl, sym, ap, ◌∙◌, subst, arith, le_refl, append_assoc, append-nil}
 use Rattle.std.proofs.lemmas.Bool.{cases_lt, lt-ltb, le-ltb, ltb-true, ltb-false, le-leb, lt-leb}
 use Rattle.std.proofs.Math.Nat.{mul-suc, mul-le-mul_left, mul-zero}
-use Rattle.wire_time.specs.Moment.{greatest_moment}
-use Rattle.picture.specs.declared.TheConstants.{MAX_WIDTH, MOST_SHAPES}
-use Rattle.picture.specs.declared.span.Shape.{Shape}
-use Rattle.picture.specs.Rows.{distance, is_near, joined, join_from, join, put, least_distance, wider, roomy, pushed, AreEarly, Filled, no_shapes}
-use Rattle.picture.specs.Laws.{push_shapes, IsRowOf, AreApart, AreRising, AreForward, last_start, IsNarrow, IsWithin, AreWithin, IsOneOf, AreOwn}
-use Rattle.picture.proofs.RowLaws.{join_near, join_far, join_alone, early_all, fewer, length-put}
+use Rattle.picture.specs.Words.{greatest_moment, MOST_SHAPES, Shape, distance, is_near, joined, join_from, join, put, least_distance, wider, pushed, AreEarly, Filled, no_shapes, push_shapes, IsLaneOf}
+use Rattle.picture.specs.declared.TheConstants.{MAX_WIDTH}
+use Rattle.picture.specs.Lanes.{roomy}
+use Rattle.picture.specs.Laws.{AreApart, AreRising, AreForward, last_start, IsNarrow, IsWithin, AreWithin, IsOneOf, AreOwn}
+use Rattle.picture.proofs.LaneLaws.{join_near, join_far, join_alone, early_all, fewer, length-put}
 
 -- near, or not
 near_or : (gap : ℕ) (a b : Shape) → (is_near gap a b ≡ true) ⊎ (is_near gap a b ≡ false)
@@ -295,35 +294,35 @@ narrow_more gap xs s rising (inl small) = inl small
 narrow_more gap [] s rising (inr fits) = inr (omega (arith, fits))
 narrow_more gap (a ∷ rest) s rising (inr fits) = let l = last_more a s rest rising in inr (omega (arith, l, fits))
 
--- ---- a row
+-- ---- a lane
 
 early_push : (xs : List Shape) (s : Shape) → AreEarly xs → s.span.from ≤ greatest_moment → AreEarly (xs ++ s ∷ [])
 early_push [] s all early = (early, tt)
 early_push (a ∷ rest) s all early = (all.0, early_push rest s all.1 early)
 
-row_more : (xs : List Shape) (s : Shape) (row : Filled) → AreEarly (xs ++ s ∷ []) → IsRowOf xs row → IsRowOf (xs ++ s ∷ []) (pushed s row)
-row_more xs s row early is = elim (cases_lt MOST_SHAPES (length (put row.gap row.shapes s))) [
-  | inr few ↦ subst (IsRowOf (xs ++ s ∷ [])) (sym (roomy_so row.gap (put row.gap row.shapes s) (le-leb _ _ few))) (record {
+lane_more : (xs : List Shape) (s : Shape) (lane : Filled) → AreEarly (xs ++ s ∷ []) → IsLaneOf xs lane → IsLaneOf (xs ++ s ∷ []) (pushed s lane)
+lane_more xs s lane early is = elim (cases_lt MOST_SHAPES (length (put lane.gap lane.shapes s))) [
+  | inr few ↦ subst (IsLaneOf (xs ++ s ∷ [])) (sym (roomy_so lane.gap (put lane.gap lane.shapes s) (le-leb _ _ few))) (record {
     joined = all;
     few = few;
-    narrow = λ rising forward. narrow_more row.gap xs s rising (is.narrow (rising_front xs s rising) (forward_front xs s forward));
+    narrow = λ rising forward. narrow_more lane.gap xs s rising (is.narrow (rising_front xs s rising) (forward_front xs s forward));
   })
   | inl many ↦
-      (let early_all_of : AreEarly (put row.gap row.shapes s) = subst AreEarly (sym all) (early_all row.gap (xs ++ s ∷ []) early) in
-      let apart_all_of : AreApart row.gap (put row.gap row.shapes s) = subst (AreApart row.gap) (sym all) (apart row.gap (xs ++ s ∷ [])) in
-      let l = wider_gap row.gap (put row.gap row.shapes s) apart_all_of early_all_of (omega (arith, many)) in
-      let less = fewer (put row.gap row.shapes s) early_all_of (omega (arith, many)) in
-      let one = length-put row.gap row.shapes s in
-      subst (IsRowOf (xs ++ s ∷ [])) (sym (roomy_not row.gap (put row.gap row.shapes s) (lt-leb _ _ many)))
+      (let early_all_of : AreEarly (put lane.gap lane.shapes s) = subst AreEarly (sym all) (early_all lane.gap (xs ++ s ∷ []) early) in
+      let apart_all_of : AreApart lane.gap (put lane.gap lane.shapes s) = subst (AreApart lane.gap) (sym all) (apart lane.gap (xs ++ s ∷ [])) in
+      let l = wider_gap lane.gap (put lane.gap lane.shapes s) apart_all_of early_all_of (omega (arith, many)) in
+      let less = fewer (put lane.gap lane.shapes s) early_all_of (omega (arith, many)) in
+      let one = length-put lane.gap lane.shapes s in
+      subst (IsLaneOf (xs ++ s ∷ [])) (sym (roomy_not lane.gap (put lane.gap lane.shapes s) (lt-leb _ _ many)))
       (record {
-        joined = ap (join (wider (put row.gap row.shapes s))) all ∙ rejoin row.gap (wider (put row.gap row.shapes s)) l (xs ++ s ∷ []);
+        joined = ap (join (wider (put lane.gap lane.shapes s))) all ∙ rejoin lane.gap (wider (put lane.gap lane.shapes s)) l (xs ++ s ∷ []);
         few = omega (arith, less, one, is.few);
-        narrow = λ rising forward. narrow_gap row.gap (xs ++ s ∷ []) (put row.gap row.shapes s) all many rising forward;
+        narrow = λ rising forward. narrow_gap lane.gap (xs ++ s ∷ []) (put lane.gap lane.shapes s) all many rising forward;
       }))
 ]
   where
-    all : put row.gap row.shapes s ≡ join row.gap (xs ++ s ∷ [])
-    all = ap (λ ys. put row.gap ys s) is.joined ∙ put_all row.gap xs s
+    all : put lane.gap lane.shapes s ≡ join lane.gap (xs ++ s ∷ [])
+    all = ap (λ ys. put lane.gap ys s) is.joined ∙ put_all lane.gap xs s
 
     roomy_so : (gap : ℕ) (ys : List Shape) → leb (length ys) MOST_SHAPES ≡ true → roomy gap ys ≡ record { shapes = ys; gap = gap }
     roomy_so gap ys e = ap (λ b. let r : Filled = cond b (record { shapes = ys; gap = gap }) (record { shapes = join (wider ys) ys; gap = wider ys }) in r) e
@@ -335,14 +334,14 @@ early_front : (xs ys : List Shape) → AreEarly (xs ++ ys) → AreEarly xs
 early_front [] ys all = tt
 early_front (a ∷ rest) ys all = (all.0, early_front rest ys all.1)
 
-row_all : (xs ys : List Shape) (row : Filled) → AreEarly (ys ++ xs) → IsRowOf ys row → IsRowOf (ys ++ xs) (push_shapes xs row)
+lane_all : (xs ys : List Shape) (lane : Filled) → AreEarly (ys ++ xs) → IsLaneOf ys lane → IsLaneOf (ys ++ xs) (push_shapes xs lane)
 unfolding push_shapes
-row_all [] ys row early is = subst (λ zs. IsRowOf zs row) (sym (append-nil ys)) is
-row_all (s ∷ rest) ys row early is =
+lane_all [] ys lane early is = subst (λ zs. IsLaneOf zs lane) (sym (append-nil ys)) is
+lane_all (s ∷ rest) ys lane early is =
     let e : (ys ++ s ∷ []) ++ rest ≡ ys ++ s ∷ rest = append_assoc ys (s ∷ []) rest in
     let all : AreEarly ((ys ++ s ∷ []) ++ rest) = subst AreEarly (sym e) early in
-    subst (λ zs. IsRowOf zs (push_shapes rest (pushed s row))) e
-    (row_all rest (ys ++ s ∷ []) (pushed s row) all (row_more ys s row (early_front (ys ++ s ∷ []) rest all) is))
+    subst (λ zs. IsLaneOf zs (push_shapes rest (pushed s lane))) e
+    (lane_all rest (ys ++ s ∷ []) (pushed s lane) all (lane_more ys s lane (early_front (ys ++ s ∷ []) rest all) is))
 
-pub row_of : (xs : List Shape) → AreEarly xs → IsRowOf xs (push_shapes xs no_shapes)
-row_of xs early = row_all xs [] no_shapes early (record { joined = refl; few = omega arith; narrow = λ rising forward. inl (omega arith) })
+pub lane_of : (xs : List Shape) → AreEarly xs → IsLaneOf xs (push_shapes xs no_shapes)
+lane_of xs early = lane_all xs [] no_shapes early (record { joined = refl; few = omega arith; narrow = λ rising forward. inl (omega arith) })

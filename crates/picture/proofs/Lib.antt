@@ -1,5 +1,5 @@
 pub mod TickLaws
-pub mod RowLaws
+pub mod LaneLaws
 pub mod BandLaws
 pub mod DrawLaws
 pub mod CommandLaws

@@ -1,12 +1,10 @@
 -- Bands are the longest times for which a class is open.
 use Rattle.std.proofs.Common.{◌≡◌, ◌<◌, ◌≤◌, ℕ, zero, suc, ◌+◌, ◌-◌, Bool, true, false, ◌⊎◌, List, [], ◌∷◌, ◌++◌, Option, Some, None, inl, inr, refl, sym, ap, ◌∙◌, subst, arith, le_refl, le_trans}
 use Rattle.std.proofs.lemmas.Bool.{cases_lt, false≢true}
-use Rattle.gate_list.specs.Gate.{opens}
+use Rattle.picture.specs.Words.{opens, Span, Going, after, bands_from, AreBands}
 use Rattle.gate_list.specs.Open.{open_while}
 use Rattle.gate_list.proofs.OpenLaws.{open_at, open_from, same_while}
-use Rattle.picture.specs.declared.span.Span.{Span}
-use Rattle.picture.specs.Bands.{Going, after, bands_from}
-use Rattle.picture.specs.Laws.{MayBegin, IsOpenSince, IsLongest, AreLongest, AreInOrder, LiesIn, RunsSo, AreBands}
+use Rattle.picture.specs.Laws.{MayBegin, IsOpenSince, IsLongest, AreLongest, AreInOrder, LiesIn, RunsSo}
 
 longest_push : (masks : ℕ → ℕ) (class start m : ℕ) (bs : List Span) (b : Span) → AreLongest masks class start m bs → IsLongest masks class start m b → AreLongest masks class start m (bs ++ b ∷ [])
 longest_push masks class start m [] b all l = (l, tt)

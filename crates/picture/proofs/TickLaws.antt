@@ -2,7 +2,7 @@
 use Rattle.std.proofs.Common.{◌≡◌, ◌<◌, ◌≤◌, ℕ, suc, ◌+◌, ◌*◌, ◌^◌, inl, inr, refl, sym, ap, ◌∙◌, subst, arith}
 use Rattle.std.proofs.Math.Nat.{le-mul_of_pos_right, mul-le-mul}
 use Rattle.std.proofs.lemmas.Bool.{cases_lt}
-use Rattle.wire_time.specs.Moment.{greatest_moment}
+use Rattle.picture.specs.Words.{greatest_moment}
 use Rattle.picture.specs.Ticks.{tick}
 
 -- no step before is long enough; the step is a power of ten

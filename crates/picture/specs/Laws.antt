@@ -1,4 +1,4 @@
--- The laws of bands and of rows, each the promise of a function of its name.
+-- The laws of bands and of lanes, each the promise of a function of its name.
 use Rattle.std.specs.Prelude.{◌≡◌, ◌<◌, ◌≤◌, ℕ, ◌-◌, ◌*◌, ◌⊎◌, true, false, List, [], ◌∷◌, Option, Some, None, unwrap_or, length}
 use Rattle.gate_list.specs.Gate.{opens}
 use Rattle.gate_list.specs.Open.{open_while}
@@ -6,7 +6,7 @@ use Rattle.picture.specs.declared.TheConstants.{MAX_WIDTH, MOST_SHAPES}
 use Rattle.picture.specs.declared.span.Span.{Span}
 use Rattle.picture.specs.declared.span.Shape.{Shape}
 use Rattle.picture.specs.Bands.{Going}
-use Rattle.picture.specs.Rows.{Filled, distance, join, pushed}
+use Rattle.picture.specs.Lanes.{Filled, distance, join, pushed}
 
 -- 1. Bands
 
@@ -63,12 +63,12 @@ pub record AreBands (masks : ℕ → ℕ) (class start m : ℕ) (g : Going) : Ty
   pub ordered : AreInOrder g.bands (unwrap_or g.since m)
   pub all : (k : ℕ) → start ≤ k → k < m → opens (masks k) class ≡ true → LiesIn k g.bands ⊎ RunsAt k g.since
 
--- 2. Rows
+-- 2. Lanes
 
--- shapes that are put into a row, one after another
+-- shapes that are put into a lane, one after another
 unfoldable pub push_shapes : List Shape → Filled → Filled
-push_shapes [] row = row
-push_shapes (s ∷ rest) row = push_shapes rest (pushed s row)
+push_shapes [] lane = lane
+push_shapes (s ∷ rest) lane = push_shapes rest (pushed s lane)
 
 -- neighbours are so far from one another
 abbrev pub AreApart : ℕ → List Shape → Type 0
@@ -102,12 +102,12 @@ extent (a ∷ rest) = last_start a rest - a.span.from
 abbrev pub IsNarrow : ℕ → List Shape → Type 0
 IsNarrow gap shapes = (gap ≤ 1) ⊎ (gap * MAX_WIDTH ≤ extent shapes)
 
--- A row has these shapes: at most so many, which are those, with neighbours joined at its gap; and where they come by rising start the
+-- A lane has these shapes: at most so many, which are those, with neighbours joined at its gap; and where they come by rising start the
 -- gap is narrow.
-pub record IsRowOf (shapes : List Shape) (row : Filled) : Type 0 where
-  pub joined : row.shapes ≡ join row.gap shapes
-  pub few : length row.shapes ≤ MOST_SHAPES
-  pub narrow : AreRising shapes → AreForward shapes → IsNarrow row.gap shapes
+pub record IsLaneOf (shapes : List Shape) (lane : Filled) : Type 0 where
+  pub joined : lane.shapes ≡ join lane.gap shapes
+  pub few : length lane.shapes ≤ MOST_SHAPES
+  pub narrow : AreRising shapes → AreForward shapes → IsNarrow lane.gap shapes
 
 -- the whole time of a shape lies in that of one of others
 abbrev pub IsWithin : Shape → List Shape → Type 0

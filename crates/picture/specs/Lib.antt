@@ -1,7 +1,8 @@
 pub mod Pane
-pub mod Windows
+pub mod Viewports
 pub mod Ticks
-pub mod Rows
+pub mod Lanes
 pub mod Bands
 pub mod Drawn
 pub mod Laws
+pub mod Words

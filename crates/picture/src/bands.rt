@@ -1,14 +1,7 @@
 //! The bands of eight classes: when each is open, by gates of their own.
 
 ghost use Rattle.std.specs.Prelude.{◌≡◌, ◌≤◌, ◌<◌, ◌+◌, ◌-◌, ℕ, IfOk, Ok, false, length, max, min, slice_set};
-ghost use Rattle.wire_time.specs.Moment.{greatest_lead, greatest_moment};
-ghost use Rattle.wire_time.specs.Wire.{lead_of};
-ghost use Rattle.gate_list.specs.Gate.{opens, plan_fault};
-ghost use Rattle.list_config.specs.History.{gates, kept};
-ghost use Rattle.list_config.specs.Current.{IsCurrent, accepted_at, deletion_at, with_command};
-ghost use Rattle.abstract_port.specs.AbstractPort.{AbstractPort, installs, plan_asked};
-ghost use Rattle.picture.specs.declared.TheConstants.{MOST_SHAPES};
-ghost use Rattle.picture.specs.Drawn.{bands_joined, class_at, drawn, gone_on, history_with, new_drawing, no_bands, no_classes, stepped, up_to, with_plan};
+ghost use Rattle.picture.specs.Words.{greatest_lead, greatest_moment, lead_of, opens, plan_fault, gates, kept, IsCurrent, accepted_at, deletion_at, with_command, AbstractPort, installs, plan_asked, MOST_SHAPES, bands_joined, class_at, drawn, gone_on, history_with, new_drawing, no_bands, no_classes, stepped, up_to, with_plan};
 
 use crate::class_bands::ClassBands;
 use crate::span::Shape;
@@ -43,7 +36,7 @@ fn four_classes<A: Allocator + Clone>(
 }
 
 /// Eight classes without bands: four by four, so that few are given back when out of memory.
-fn no_classes<A: Allocator + Clone>(alloc: &A) -> Result<[ClassBands<A>; 8], AllocError>
+fn no_classes<A: Allocator + Clone>(alloc: &A) -> Result<[ClassBands<A>; CLASSES], AllocError>
     ensures { IfOk result (λ classes. classes ≡ no_classes) }
 {
     let (class_0, class_1, class_2, class_3) = four_classes(alloc)?;
@@ -54,16 +47,21 @@ fn no_classes<A: Allocator + Clone>(alloc: &A) -> Result<[ClassBands<A>; 8], All
 }
 
 /// The bands of a class that are complete.
-fn shapes_in<A: Allocator>(classes: &[ClassBands<A>; 8], class: u8) -> &[Shape]
+fn shapes_in<A: Allocator>(classes: &[ClassBands<A>; CLASSES], class: u8) -> &[Shape]
     requires { class < CLASSES }
-    ensures value { result.now ≡ (class_at classes.now class).row.shapes }
+    ensures value { result.now ≡ (class_at classes.now class).lane.shapes }
     ensures few { length result.now ≤ MOST_SHAPES }
 {
     classes[class as usize].shapes()
 }
 
 /// At a moment, in picoseconds, one class is open or closed.
-fn step_in<A: Allocator>(classes: &mut [ClassBands<A>; 8], class: u8, is_open: bool, moment: u128)
+fn step_in<A: Allocator>(
+    classes: &mut [ClassBands<A>; CLASSES],
+    class: u8,
+    is_open: bool,
+    moment: u128,
+)
     requires class { class < CLASSES }
     requires within { moment ≤ greatest_moment }
     ensures { classes.new ≡ slice_set classes.old class (stepped is_open moment (class_at classes.old class)) }
@@ -72,7 +70,7 @@ fn step_in<A: Allocator>(classes: &mut [ClassBands<A>; 8], class: u8, is_open: b
 }
 
 /// At a moment, in picoseconds, the classes of a mask are open, and the others closed.
-fn step_all<A: Allocator>(classes: &mut [ClassBands<A>; 8], mask: u8, moment: u128)
+fn step_all<A: Allocator>(classes: &mut [ClassBands<A>; CLASSES], mask: u8, moment: u128)
     requires { moment ≤ greatest_moment }
     ensures { (class : ℕ) → class < CLASSES → class_at classes.new class ≡ stepped (opens mask class) moment (class_at classes.old class) }
 {
@@ -82,7 +80,7 @@ fn step_all<A: Allocator>(classes: &mut [ClassBands<A>; 8], mask: u8, moment: u1
 }
 
 /// The bands of one class are joined at a gap, in picoseconds.
-fn join_in<A: Allocator>(classes: &mut [ClassBands<A>; 8], class: u8, gap: u128)
+fn join_in<A: Allocator>(classes: &mut [ClassBands<A>; CLASSES], class: u8, gap: u128)
     requires { class < CLASSES }
     ensures { classes.new ≡ slice_set classes.old class (bands_joined gap (class_at classes.old class)) }
 {
@@ -90,7 +88,7 @@ fn join_in<A: Allocator>(classes: &mut [ClassBands<A>; 8], class: u8, gap: u128)
 }
 
 /// The bands of each class are joined at a gap, in picoseconds.
-fn join_all<A: Allocator>(classes: &mut [ClassBands<A>; 8], gap: u128)
+fn join_all<A: Allocator>(classes: &mut [ClassBands<A>; CLASSES], gap: u128)
     ensures { (class : ℕ) → class < CLASSES → class_at classes.new class ≡ bands_joined gap (class_at classes.old class) }
 {
     for class in 0..CLASSES as u8 {
@@ -99,7 +97,7 @@ fn join_all<A: Allocator>(classes: &mut [ClassBands<A>; 8], gap: u128)
 }
 
 /// Goes on from gate event to gate event up to a moment, in picoseconds, unless it is past, and draws the bands of the time until then.
-fn draw_to<A: Allocator>(own: &mut Jumping, classes: &mut [ClassBands<A>; 8], upto: u128)
+fn draw_to<A: Allocator>(own: &mut Jumping, classes: &mut [ClassBands<A>; CLASSES], upto: u128)
     requires sound { IsCurrent own.old.history own.old.moment }
     requires within { upto ≤ greatest_moment }
     ensures sound { IsCurrent own.new.history own.new.moment }
@@ -117,11 +115,11 @@ fn draw_to<A: Allocator>(own: &mut Jumping, classes: &mut [ClassBands<A>; 8], up
 }
 
 /// The bands of the eight classes of a port: gates of its commands, since when each class is open, and the bands that are complete, in
-/// rows. A band is a longest time for which its class stays open, of the moments from one on and, where there is an end, before another.
+/// lanes. A band is a longest time for which its class stays open, of the moments from one on and, where there is an end, before another.
 #[derive(Drop)]
 pub struct Bands<A: Allocator = Global> {
     gates: Jumping,
-    classes: [ClassBands<A>; 8],
+    classes: [ClassBands<A>; CLASSES],
     from: u128,
     to: Option<u128>,
 }
@@ -140,7 +138,7 @@ impl<A: Allocator> Model for Bands<A> {
 
 impl<A: Allocator> Bands<A> {
     /// No bands at the moment 0, of gates that all are open. Nothing before `from` is drawn, in picoseconds, and nothing from `to` on,
-    /// where it is given. The room for all that the rows ever have is got here.
+    /// where it is given. The room for all that the lanes ever have is got here.
     pub fn new(alloc: &A, from: u128, to: Option<u128>) -> Result<Bands<A>, AllocError>
     where
         A: Clone,
@@ -201,13 +199,13 @@ impl<A: Allocator> Bands<A> {
         }
     }
 
-    /// The gates go on to a moment, in picoseconds. Each band that ends on the way is put into its row.
+    /// The gates go on to a moment, in picoseconds. Each band that ends on the way is put into its lane.
     pub fn go_to(&mut self, moment: u128)
         requires later { self.old.moment ≤ moment }
         requires within { moment ≤ greatest_moment }
         ensures moment { self.new.moment ≡ moment }
         ensures history { self.new.history ≡ kept self.old.history moment }
-        ensures window { (self.new.from ≡ self.old.from) × (self.new.to ≡ self.old.to) }
+        ensures viewport { (self.new.from ≡ self.old.from) × (self.new.to ≡ self.old.to) }
         ensures classes { (class : ℕ) → class < CLASSES → class_at self.new.classes class ≡ gone_on self.old moment class }
     {
         let first = self.from.max(self.gates.now()).min(moment);
@@ -242,9 +240,9 @@ impl<A: Allocator> Bands<A> {
     }
 
     /// The bands of a class, 0 to 7, that are complete, by rising start.
-    pub fn row(&self, class: u8) -> &[Shape]
+    pub fn lane(&self, class: u8) -> &[Shape]
         requires { class < CLASSES }
-        ensures value { result.now ≡ (class_at self.now.classes class).row.shapes }
+        ensures value { result.now ≡ (class_at self.now.classes class).lane.shapes }
         ensures few { length result.now ≤ MOST_SHAPES }
     {
         shapes_in(&self.classes, class)

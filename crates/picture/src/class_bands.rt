@@ -1,11 +1,9 @@
 //! The bands of one class.
 
-ghost use Rattle.std.specs.Prelude.{◌≡◌, ◌≤◌, ◌<◌, IfOk, length, slice_set};
-ghost use Rattle.wire_time.specs.Moment.{greatest_moment};
-ghost use Rattle.gate_list.specs.Gate.{opens};
-ghost use Rattle.picture.specs.declared.TheConstants.{MOST_SHAPES};
+ghost use Rattle.std.specs.Prelude.{◌≡◌, ◌≤◌, ◌<◌, IfOk, length};
+ghost use Rattle.picture.specs.Words.{greatest_moment, MOST_SHAPES};
 
-use crate::row::Row;
+use crate::lane::Lane;
 use crate::span::{Shape, Span};
 use gate_list::is_open;
 use std::alloc::{AllocError, Allocator, Global};
@@ -16,7 +14,7 @@ use wire_time::CLASSES;
 #[derive(Drop)]
 pub(crate) struct ClassBands<A: Allocator = Global> {
     since: Option<u128>,
-    row: Row<A>,
+    lane: Lane<A>,
 }
 
 /// A contract sees both.
@@ -24,11 +22,11 @@ impl<A: Allocator> Model for ClassBands<A> {
     ghost use Rattle.std.specs.Prelude.{◌≤◌};
     ghost use Rattle.std.specs.Option.{ForSome};
     ghost use Rattle.wire_time.specs.Moment.{greatest_moment};
-    ghost use Rattle.picture.specs.Drawn.{ClassRow};
+    ghost use Rattle.picture.specs.Drawn.{ClassLane};
 
-    ghost Value = { ClassRow };
+    ghost Value = { ClassLane };
 
-    ghost view = { λ c. record { since = c.since; row = c.row } };
+    ghost view = { λ c. record { since = c.since; lane = c.lane } };
 
     ghost invariant = { λ c. ForSome c.since (λ m. m ≤ greatest_moment) };
 }
@@ -36,14 +34,14 @@ impl<A: Allocator> Model for ClassBands<A> {
 impl<A: Allocator> ClassBands<A> {
     ghost use Rattle.picture.specs.Drawn.{no_bands, bands_joined, stepped};
 
-    /// No bands yet, and the room for all that the row ever has.
+    /// No bands yet, and the room for all that the lane ever has.
     pub(crate) fn new(alloc: &A) -> Result<ClassBands<A>, AllocError>
     where
         A: Clone,
         ensures { IfOk result (λ c. c ≡ no_bands) }
     {
-        let row = Row::new(alloc.clone()?)?;
-        Ok(ClassBands { since: None, row })
+        let lane = Lane::new(alloc.clone()?)?;
+        Ok(ClassBands { since: None, lane })
     }
 
     /// At a moment, in picoseconds, the class is open or closed.
@@ -59,7 +57,7 @@ impl<A: Allocator> ClassBands<A> {
             None => {}
             Some(from) => {
                 self.since = None;
-                self.row.push(Shape {
+                self.lane.push(Shape {
                     span: Span { from, to: moment },
                     id: None,
                 });
@@ -71,14 +69,14 @@ impl<A: Allocator> ClassBands<A> {
     pub(crate) fn join(&mut self, gap: u128)
         ensures { self.new ≡ bands_joined gap self.old }
     {
-        self.row.join(gap);
+        self.lane.join(gap);
     }
 
     /// The bands that are complete.
     pub(crate) fn shapes(&self) -> &[Shape]
-        ensures value { result.now ≡ self.now.row.shapes }
+        ensures value { result.now ≡ self.now.lane.shapes }
         ensures few { length result.now ≤ MOST_SHAPES }
     {
-        self.row.shapes()
+        self.lane.shapes()
     }
 }

@@ -1,10 +1,6 @@
-//! Laws of bands and of rows. The functions run nothing: the contract of each is its law.
+//! Laws of bands and of lanes. The functions run nothing: the contract of each is its law.
 ghost use Rattle.std.specs.Prelude.{◌≡◌, ℕ, ◌+◌, ◌<◌, ◌≤◌, [], List, None};
-ghost use Rattle.picture.specs.declared.span.Shape.{Shape};
-ghost use Rattle.picture.specs.Bands.{Going, bands_from};
-ghost use Rattle.picture.specs.Rows.{AreEarly, no_shapes};
-ghost use Rattle.picture.specs.Drawn.{ClassRow, drawn};
-ghost use Rattle.picture.specs.Laws.{AreBands, IsRowOf, Joins, push_shapes};
+ghost use Rattle.picture.specs.Words.{Shape, Going, bands_from, AreEarly, no_shapes, ClassLane, drawn, AreBands, IsLaneOf, Joins, push_shapes};
 
 /// Where drawing begins there are no bands, and from one moment to another they go on as the longest times for which the class is open.
 pub fn bands_law()
@@ -17,16 +13,16 @@ pub fn later_masks_law()
     ensures { (old new : ℕ → ℕ) (class start m : ℕ) (g : Going) → ((k : ℕ) → k < m → old k ≡ new k) → AreBands old class start m g → AreBands new class start m g }
 {}
 
-/// What is drawn in two parts is drawn in one, and masks that agree draw the same: however often and however far gates go on, the rows of a
+/// What is drawn in two parts is drawn in one, and masks that agree draw the same: however often and however far gates go on, the lanes of a
 /// run are those of its masks.
 pub fn drawn_law()
-    ensures both { (masks : ℕ → ℕ) (class m n k : ℕ) (c : ClassRow) → drawn masks class (m + n) k (drawn masks class m n c) ≡ drawn masks class m (n + k) c }
-    ensures same { (old new : ℕ → ℕ) (class m n : ℕ) (c : ClassRow) → ((i : ℕ) → m ≤ i → i < m + n → old i ≡ new i) → drawn old class m n c ≡ drawn new class m n c }
+    ensures both { (masks : ℕ → ℕ) (class m n k : ℕ) (c : ClassLane) → drawn masks class (m + n) k (drawn masks class m n c) ≡ drawn masks class m (n + k) c }
+    ensures same { (old new : ℕ → ℕ) (class m n : ℕ) (c : ClassLane) → ((i : ℕ) → m ≤ i → i < m + n → old i ≡ new i) → drawn old class m n c ≡ drawn new class m n c }
 {}
 
-/// Shapes that are put into a row, one after another, are there, with neighbours joined at the gap that the row has at last.
-pub fn row_law()
-    ensures { (shapes : List Shape) → AreEarly shapes → IsRowOf shapes (push_shapes shapes no_shapes) }
+/// Shapes that are put into a lane, one after another, are there, with neighbours joined at the gap that the lane has at last.
+pub fn lane_law()
+    ensures { (shapes : List Shape) → AreEarly shapes → IsLaneOf shapes (push_shapes shapes no_shapes) }
 {}
 
 /// What joining neighbours does to shapes.

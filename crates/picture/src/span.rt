@@ -1,4 +1,4 @@
-//! What is drawn in a row.
+//! What is drawn in a lane.
 
 /// A time from a moment on and before another, in picoseconds.
 #[derive(Clone, Copy, Debug, PartialEq, Eq)]
@@ -9,7 +9,7 @@ pub struct Span {
     pub to: u128,
 }
 
-/// What is drawn in a row: a time, and the identifier of the frame where it is one frame alone.
+/// What is drawn in a lane: a time, and the identifier of the frame where it is one frame alone.
 #[derive(Clone, Copy, Debug, PartialEq, Eq)]
 pub struct Shape {
     /// When it is.

@@ -1,8 +1,7 @@
 //! The steps of a time axis.
 
-ghost use Rattle.std.specs.Prelude.{◌≡◌, ◌≤◌, ◌<◌, ◌*◌, ℕ, codes};
-ghost use Rattle.wire_time.specs.Moment.{greatest_moment};
-ghost use Rattle.picture.specs.Ticks.{IsTickStep, name_of, ps_of, unit_of};
+ghost use Rattle.std.specs.Prelude.{◌≡◌, ◌≤◌, ◌<◌, ◌*◌};
+ghost use Rattle.picture.specs.Words.{greatest_moment, IsTickStep, name_of, ps_of, unit_of};
 
 /// A unit of time.
 #[derive(Clone, Copy, Debug, PartialEq, Eq)]

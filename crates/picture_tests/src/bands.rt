@@ -1,4 +1,4 @@
-//! The bands of schedules. With a change, a hold and a deletion, and in a window, they are rows of tests/draw.toml.
+//! The bands of schedules. With a change, a hold and a deletion, and in a viewport, they are lanes of tests/draw.toml.
 
 use abstract_port::{Change, Command};
 use gate_list::{Entry, GateList};
@@ -38,9 +38,9 @@ fn first(rt: &impl Abort) -> Command {
 /// The bands of a class, each with its first moment and the first after it.
 fn assert_bands(rt: &impl Abort, bands: &Bands, class: u8, expected: &[(u128, u128)]) {
     assert!(rt; class < 8);
-    let row = bands.row(class);
-    assert_eq!(rt; row.len(), expected.len());
-    for (shape, (from, to)) in row.iter().zip(expected) {
+    let lane = bands.lane(class);
+    assert_eq!(rt; lane.len(), expected.len());
+    for (shape, (from, to)) in lane.iter().zip(expected) {
         let span = Span {
             from: *from,
             to: *to,

@@ -1,9 +1,9 @@
-//! Windows, steps of an axis, and rows.
+//! Windows, steps of an axis, and lanes.
 
 ghost use Rattle.std.specs.Prelude.{◌≡◌, ◌≤◌, ◌<◌};
 ghost use Rattle.wire_time.specs.Moment.{greatest_moment};
 
-use picture::{MOST_SHAPES, Row, Shape, Span, Unit, Window, tick_step, unit_of};
+use picture::{Lane, MOST_SHAPES, Shape, Span, Unit, Viewport, tick_step, unit_of};
 use std::process::Abort;
 use std::test::Fail;
 use wire_time::MAX_MOMENT;
@@ -18,10 +18,10 @@ fn shape(from: u128, to: u128, id: Option<u64>) -> Shape
     }
 }
 
-/// From and up to which moment a window of these values shows, and its width, or that there is none.
-fn window_of(from: u128, to: u128, width: u32) -> Option<(u128, u128, u32)> {
-    let window = Window::new(from, to, width)?;
-    Some((window.from(), window.to(), window.width()))
+/// From and up to which moment a viewport of these values shows, and its width, or that there is none.
+fn viewport_of(from: u128, to: u128, width: u32) -> Option<(u128, u128, u32)> {
+    let viewport = Viewport::new(from, to, width)?;
+    Some((viewport.from(), viewport.to(), viewport.width()))
 }
 
 #[test]
@@ -34,20 +34,20 @@ fn windows_are_refused_past_their_limits(rt: HostRuntime) {
         (0, MAX_MOMENT + 1, 800),
     ];
     for (from, to, width) in refused {
-        assert_eq!(rt; window_of(from, to, width), None);
+        assert_eq!(rt; viewport_of(from, to, width), None);
     }
     let widest = (MAX_MOMENT - 1, MAX_MOMENT, 2400);
-    assert_eq!(rt; window_of(widest.0, widest.1, widest.2), Some(widest));
-    let window = Window::new(0, MAX_MOMENT, 200).expect(&rt, "a window");
-    assert_eq!(rt; window.x(MAX_MOMENT), 20_000);
-    assert_eq!(rt; window.x(u128::MAX), 20_000);
+    assert_eq!(rt; viewport_of(widest.0, widest.1, widest.2), Some(widest));
+    let viewport = Viewport::new(0, MAX_MOMENT, 200).expect(&rt, "a viewport");
+    assert_eq!(rt; viewport.x(MAX_MOMENT), 20_000);
+    assert_eq!(rt; viewport.x(u128::MAX), 20_000);
 }
 
-/// A moment's place is rounded down, and taken into the window.
+/// A moment's place is rounded down, and taken into the viewport.
 #[test]
 fn moments_have_places(rt: HostRuntime) {
-    let window = Window::new(1_000, 4_000, 300).expect(&rt, "a window");
-    let rows = [
+    let viewport = Viewport::new(1_000, 4_000, 300).expect(&rt, "a viewport");
+    let lanes = [
         (0, 0),
         (1_000, 0),
         (1_001, 10),
@@ -57,19 +57,19 @@ fn moments_have_places(rt: HostRuntime) {
         (4_000, 30_000),
         (9_000, 30_000),
     ];
-    for (moment, place) in rows {
-        assert_eq!(rt; window.x(moment), place);
+    for (moment, place) in lanes {
+        assert_eq!(rt; viewport.x(moment), place);
     }
-    let coarse = Window::new(0, 7_000_000, 200).expect(&rt, "a window");
+    let coarse = Viewport::new(0, 7_000_000, 200).expect(&rt, "a viewport");
     assert_eq!(rt; coarse.x(349), 0);
     assert_eq!(rt; coarse.x(350), 1);
 }
 
-/// What is left of a time in a window, and marks at its edges.
+/// What is left of a time in a viewport, and marks at its edges.
 #[test]
 fn times_are_cut(rt: HostRuntime) {
-    let window = Window::new(1_000, 4_000, 300).expect(&rt, "a window");
-    let rows = [
+    let viewport = Viewport::new(1_000, 4_000, 300).expect(&rt, "a viewport");
+    let lanes = [
         (0, 1_000, None),
         (0, 1_001, Some((1_000, 1_001))),
         (0, 9_000, Some((1_000, 4_000))),
@@ -82,9 +82,9 @@ fn times_are_cut(rt: HostRuntime) {
         (4_000, 4_000, None),
         (3_000, 2_000, None),
     ];
-    for (from, to, left) in rows {
+    for (from, to, left) in lanes {
         let left = left.map(|(from, to)| Span { from, to });
-        assert_eq!(rt; window.cut(Span { from, to }), left);
+        assert_eq!(rt; viewport.cut(Span { from, to }), left);
     }
 }
 
@@ -115,7 +115,7 @@ fn step_of(length: u128, most: u32) -> Step
 /// The least of 1, 2, 5, 10 and so on, and the unit that it is written in.
 #[test]
 fn steps_have_units(rt: HostRuntime) {
-    let rows = [
+    let lanes = [
         (0, 1, 1, Unit::Ps, "ps"),
         (10, 10, 1, Unit::Ps, "ps"),
         (11, 10, 2, Unit::Ps, "ps"),
@@ -127,7 +127,7 @@ fn steps_have_units(rt: HostRuntime) {
         (999_999_999, 1, 1_000_000_000, Unit::Ms, "ms"),
         (50_000_000_000_000, 10, 5_000_000_000_000, Unit::S, "s"),
     ];
-    for (length, most, step, unit, name) in rows {
+    for (length, most, step, unit, name) in lanes {
         assert!(rt; length <= MAX_MOMENT);
         assert!(rt; most > 0);
         let wanted = Step {
@@ -142,8 +142,8 @@ fn steps_have_units(rt: HostRuntime) {
     assert_eq!(rt; tick_step(MAX_MOMENT, u32::MAX), 5_000_000_000_000);
 }
 
-/// So many shapes as a row has, a nanosecond from one to the next, but two of them, at a place, so far as `near`.
-fn fill(rt: &impl Abort, row: &mut Row, place: u64, near: u128) {
+/// So many shapes as a lane has, a nanosecond from one to the next, but two of them, at a place, so far as `near`.
+fn fill(rt: &impl Abort, lane: &mut Lane, place: u64, near: u128) {
     for k in 0..MOST_SHAPES as u64 {
         let start = 2_000 * u128::from(k);
         let end = if k == place {
@@ -151,40 +151,40 @@ fn fill(rt: &impl Abort, row: &mut Row, place: u64, near: u128) {
         } else {
             start + 1_000
         };
-        row.push(shape(start, end, Some(k)));
+        lane.push(shape(start, end, Some(k)));
     }
-    assert_eq!(rt; row.shapes().len(), MOST_SHAPES);
-    assert_eq!(rt; row.gap(), 0);
+    assert_eq!(rt; lane.shapes().len(), MOST_SHAPES);
+    assert_eq!(rt; lane.gap(), 0);
 }
 
-/// What a row has come to.
+/// What a lane has come to.
 #[derive(Clone, Copy, Debug, PartialEq, Eq)]
-struct RowEnds {
+struct LaneEnds {
     shapes: usize,
     gap: u128,
     first: Option<Shape>,
     last: Option<Shape>,
 }
 
-/// What a row comes to with one shape more.
-fn pushed(row: &mut Row, shape: Shape) -> RowEnds
+/// What a lane comes to with one shape more.
+fn pushed(lane: &mut Lane, shape: Shape) -> LaneEnds
     requires { shape.span.from ≤ greatest_moment }
 {
-    row.push(shape);
-    let shapes = row.shapes();
-    RowEnds {
+    lane.push(shape);
+    let shapes = lane.shapes();
+    LaneEnds {
         shapes: shapes.len(),
-        gap: row.gap(),
+        gap: lane.gap(),
         first: shapes.first().copied(),
         last: shapes.last().copied(),
     }
 }
 
-/// The shapes of a row at a place and the two after it.
-fn three_at(row: &Row, place: usize) -> [Option<Shape>; 3]
+/// The shapes of a lane at a place and the two after it.
+fn three_at(lane: &Lane, place: usize) -> [Option<Shape>; 3]
     requires { place < 4096 }
 {
-    let shapes = row.shapes();
+    let shapes = lane.shapes();
     [
         shapes.get(place).copied(),
         shapes.get(place + 1).copied(),
@@ -195,16 +195,16 @@ fn three_at(row: &Row, place: usize) -> [Option<Shape>; 3]
 /// The last shape that there is room for changes none, and one more joins those that are close.
 #[test]
 fn neighbours_are_joined_where_there_are_too_many(rt: HostRuntime) -> Result<(), Fail> {
-    let mut row = Row::new(rt.alloc())?;
-    fill(&rt, &mut row, 7, 10);
-    let mut ends = RowEnds {
+    let mut lane = Lane::new(rt.alloc())?;
+    fill(&rt, &mut lane, 7, 10);
+    let mut ends = LaneEnds {
         shapes: MOST_SHAPES,
         gap: 20,
         first: Some(shape(0, 1_000, Some(0))),
         last: Some(shape(20_000_000, 20_000_001, Some(5_000))),
     };
     assert_eq!(rt;
-        pushed(&mut row, shape(20_000_000, 20_000_001, Some(5_000))),
+        pushed(&mut lane, shape(20_000_000, 20_000_001, Some(5_000))),
         ends
     );
     let near = [
@@ -212,26 +212,26 @@ fn neighbours_are_joined_where_there_are_too_many(rt: HostRuntime) -> Result<(),
         Some(shape(14_000, 17_000, None)),
         Some(shape(18_000, 19_000, Some(9))),
     ];
-    assert_eq!(rt; three_at(&row, 6), near);
+    assert_eq!(rt; three_at(&lane, 6), near);
     ends.last = Some(shape(20_000_000, 20_000_021, None));
     assert_eq!(rt;
-        pushed(&mut row, shape(20_000_020, 20_000_021, Some(5_001))),
+        pushed(&mut lane, shape(20_000_020, 20_000_021, Some(5_001))),
         ends
     );
     ends.gap = 40;
     ends.last = Some(shape(20_000_000, 20_000_042, None));
     assert_eq!(rt;
-        pushed(&mut row, shape(20_000_041, 20_000_042, Some(5_002))),
+        pushed(&mut lane, shape(20_000_041, 20_000_042, Some(5_002))),
         ends
     );
-    let ends = RowEnds {
+    let ends = LaneEnds {
         shapes: 2,
         gap: 2_000,
         first: Some(shape(0, 9_999_000, None)),
         last: Some(shape(20_000_000, 20_002_001, None)),
     };
     assert_eq!(rt;
-        pushed(&mut row, shape(20_002_000, 20_002_001, Some(5_003))),
+        pushed(&mut lane, shape(20_002_000, 20_002_001, Some(5_003))),
         ends
     );
     Ok(())
@@ -240,17 +240,17 @@ fn neighbours_are_joined_where_there_are_too_many(rt: HostRuntime) -> Result<(),
 /// Marks of one moment overlap, and are one mark where there are too many.
 #[test]
 fn marks_of_one_moment_are_joined(rt: HostRuntime) -> Result<(), Fail> {
-    let mut row = Row::new(rt.alloc())?;
+    let mut lane = Lane::new(rt.alloc())?;
     for k in 0..MOST_SHAPES as u64 {
-        row.push(shape(5, 5, Some(k)));
+        lane.push(shape(5, 5, Some(k)));
     }
-    assert_eq!(rt; row.shapes().len(), MOST_SHAPES);
-    let ends = RowEnds {
+    assert_eq!(rt; lane.shapes().len(), MOST_SHAPES);
+    let ends = LaneEnds {
         shapes: 2,
         gap: 1,
         first: Some(shape(5, 5, None)),
         last: Some(shape(6, 6, None)),
     };
-    assert_eq!(rt; pushed(&mut row, shape(6, 6, None)), ends);
+    assert_eq!(rt; pushed(&mut lane, shape(6, 6, None)), ends);
     Ok(())
 }

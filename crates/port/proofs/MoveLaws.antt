@@ -3,7 +3,8 @@ use Rattle.std.proofs.Common.{◌≡◌, ◌<◌, ◌≤◌, ℕ, inl, inr, List
 use Rattle.std.specs.Prelude.{OnSome, IfSome}
 use Rattle.std.proofs.lemmas.Bool.{cases_lt}
 use Rattle.list_config.specs.Choice.{first_choice}
-use Rattle.abstract_port.specs.AbstractPort.{AbstractPort, choice}
+use Rattle.port.specs.Words.{AbstractPort}
+use Rattle.abstract_port.specs.AbstractPort.{choice}
 use Rattle.abstract_port.proofs.ScanLaws.{needs_of, choice-free, choice-busy}
 
 module _ (p : AbstractPort) (needs : List (Option ℕ)) (same : needs ≡ needs_of p) where

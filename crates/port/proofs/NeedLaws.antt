@@ -3,11 +3,7 @@ use Rattle.std.proofs.Common.{◌≡◌, ◌<◌, ℕ, List, [], ◌∷◌, ◌+
 use Rattle.std.specs.Prelude.{slice_get, slice_index_or, slice_set}
 use Rattle.std.specs.Option.{option_or, IsSome}
 use Rattle.std.proofs.lemmas.List.{map-set, get_or-set_same}
-use Rattle.wire_time.specs.declared.Frame.{Frame}
-use Rattle.wire_time.specs.Wire.{occupancy_of}
-use Rattle.class_queue.specs.Queue.{Queue}
-use Rattle.abstract_port.specs.AbstractPort.{head_need}
-use Rattle.port.specs.View.{frames_of, queue_at, no_queue, with_frames}
+use Rattle.port.specs.Words.{Frame, occupancy_of, Queue, head_need, frames_of, queue_at, no_queue, with_frames}
 use Rattle.port.proofs.HeadLaws.{need_at}
 
 -- other frames of a class, and what its head needs then

@@ -7,16 +7,13 @@ use Rattle.list_config.specs.History.{Accepted, announced}
 use Rattle.list_config.specs.Current.{accepted_at, deletion_at, answer_by, answer_to, with_command_by, with_command}
 use Rattle.list_config.specs.declared.NotNow.{NotNow}
 use Rattle.list_config.specs.declared.NotNow.TheVariants as waiting
-use Rattle.wire_time.specs.Wire.{lead_of}
-use Rattle.gate_list.specs.Gate.{Plan, ok_unless, plan_fault}
+use Rattle.port.specs.Words.{lead_of, plan_fault, Refused, Schedule, busy_of, AbstractPort, plan_asked, refusal, installs_by}
+use Rattle.gate_list.specs.Gate.{Plan, ok_unless}
 use Rattle.gate_list.specs.declared.PlanFault.{PlanFault}
 use Rattle.abstract_port.specs.declared.Change.{Change}
-use Rattle.abstract_port.specs.declared.Refused.{Refused}
-use Rattle.abstract_port.specs.declared.Refused.TheVariants.{Schedule}
 use Rattle.abstract_port.specs.declared.Command.{Command}
 use Rattle.abstract_port.specs.declared.Command.TheVariants.{Replace, Delete}
-use Rattle.port.specs.View.{busy_of}
-use Rattle.abstract_port.specs.AbstractPort.{AbstractPort, plan_asked, first_of, map_refusal, limit_refusal, own_refusal, refusal, busy_by, busy_refusal, new_command, after_command, installs, installs_by, classes_after}
+use Rattle.abstract_port.specs.AbstractPort.{first_of, map_refusal, limit_refusal, own_refusal, busy_by, busy_refusal, new_command, after_command, installs, classes_after}
 use Rattle.abstract_port.proofs.RunLaws.{refused_for}
 
 pub made : {T E : Type 0} (o : Option E) (wanted x : T) → Ok x ≡ ok_unless o wanted → (x ≡ wanted) × (o ≡ None)

@@ -1,12 +1,10 @@
 -- Where a port makes no step.
 use Rattle.std.proofs.Common.{◌≡◌, ◌<◌, ◌≤◌, ℕ, true, false, not, ◌||◌, ltb, All, List, length, get_or, Option, Some, None, IfSome, is_some, refl, sym, ap, ◌∙◌, subst}
 use Rattle.std.proofs.lemmas.Bool.{false≢true, le-ltb}
-use Rattle.wire_time.specs.Moment.{greatest_moment}
-use Rattle.abstract_port.specs.declared.Answer.{Answer}
+use Rattle.port.specs.Words.{greatest_moment, Answer, Refused, AbstractPort, installs_by, refusal}
 use Rattle.abstract_port.specs.declared.Event.{Event}
 use Rattle.abstract_port.specs.declared.Event.TheVariants.{Arrive, Install, Clock, Query, Count}
-use Rattle.abstract_port.specs.declared.Refused.{Refused}
-use Rattle.abstract_port.specs.AbstractPort.{AbstractPort, PortState, installs_by, refusal, settled, verdict}
+use Rattle.abstract_port.specs.AbstractPort.{PortState, settled, verdict}
 use Rattle.abstract_port.specs.Answers.{answers_to}
 use Rattle.abstract_port.specs.Asked.{IsOneStart}
 use Rattle.abstract_port.proofs.RunLaws.{after_command-keeps, arrival-keeps}

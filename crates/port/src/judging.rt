@@ -1,15 +1,12 @@
 //! What becomes of a frame or a command, by numbers alone.
 
 ghost use Rattle.std.specs.Prelude.{◌≡◌, ◌<◌, IfSome, IfOk, OnOk};
-ghost use Rattle.wire_time.specs.Wire.{sdu_of};
-ghost use Rattle.abstract_port.specs.AbstractPort.{changes_map, changes_queues, default_class, first_over, judged};
-ghost use Rattle.abstract_port.specs.Counting.{count_dropped};
-ghost use Rattle.port.specs.View.{busy_of};
+ghost use Rattle.port.specs.Words.{sdu_of, changes_map, changes_queues, default_class, first_over, judged, count_dropped, busy_of};
 
 use abstract_port::{Counts, Dropped, Refused};
 use class_map::{ClassMap, Queues};
 use list_config::NotNow;
-use wire_time::{Frame, sdu};
+use wire_time::{CLASSES, Frame, sdu};
 
 /// The counts with one more dropped frame.
 pub(crate) fn count_dropped(why: Dropped, mut counts: Counts) -> Counts
@@ -96,7 +93,7 @@ pub(crate) fn changes_queues(given: Option<Queues>, installed: Queues) -> bool
 }
 
 /// The refusal of the least class whose limit is over the mtu, if any.
-pub(crate) fn first_over(mtu: u32, limits: &[u32; 8]) -> Option<Refused>
+pub(crate) fn first_over(mtu: u32, limits: &[u32; CLASSES]) -> Option<Refused>
     ensures { result ≡ first_over mtu 0 limits.now }
 {
     for class in 0..8u8 {

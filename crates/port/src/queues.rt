@@ -2,19 +2,17 @@
 
 ghost use Rattle.std.specs.Prelude.{◌≡◌, ◌<◌, ◌≤◌, ◌∷◌, [], ◌++◌, IfOk, length, drop, slice_get, slice_set};
 ghost use Rattle.std.specs.Option.{ForSome};
-ghost use Rattle.wire_time.specs.Moment.{greatest_moment};
-ghost use Rattle.abstract_port.specs.AbstractPort.{head_need};
-ghost use Rattle.port.specs.View.{HaveRoom, IsEmpty, frames_of, queue_at, with_frames};
+ghost use Rattle.port.specs.Words.{greatest_moment, head_need, HaveRoom, IsEmpty, frames_of, queue_at, with_frames};
 
 use class_queue::{ClassQueue, QueueNew};
 use std::alloc::Allocator;
-use wire_time::{Frame, Rate, occupancy};
+use wire_time::{CLASSES, Frame, Rate, occupancy};
 
 /// Eight empty queues: four by four, so that few are given back when out of memory.
 pub(crate) fn queues_of<A: Allocator + Clone>(
     alloc: A,
     room: u32,
-) -> Result<[ClassQueue<A>; 8], QueueNew>
+) -> Result<[ClassQueue<A>; CLASSES], QueueNew>
     ensures { IfOk result (λ queues. (frames_of queues ≡ [] ∷ [] ∷ [] ∷ [] ∷ [] ∷ [] ∷ [] ∷ [] ∷ []) × HaveRoom room queues) }
 {
     let (class_0, class_1, class_2, class_3) = four_queues(&alloc, room)?;
@@ -72,7 +70,7 @@ fn need_of<A: Allocator>(rate: Rate, queue: &ClassQueue<A>) -> Option<u128>
 /// How long the head of a class occupies the wire, if a frame waits.
 pub(crate) fn need_in<A: Allocator>(
     rate: Rate,
-    queues: &[ClassQueue<A>; 8],
+    queues: &[ClassQueue<A>; CLASSES],
     class: u8,
 ) -> Option<u128>
     requires { class < 8 }
@@ -83,7 +81,7 @@ pub(crate) fn need_in<A: Allocator>(
 }
 
 /// How many frames of a class wait.
-pub(crate) fn waiting_in<A: Allocator>(queues: &[ClassQueue<A>; 8], class: u8) -> usize
+pub(crate) fn waiting_in<A: Allocator>(queues: &[ClassQueue<A>; CLASSES], class: u8) -> usize
     requires { class < 8 }
     ensures { result ≡ length (queue_at queues.now class).frames }
 {
@@ -91,7 +89,7 @@ pub(crate) fn waiting_in<A: Allocator>(queues: &[ClassQueue<A>; 8], class: u8) -
 }
 
 /// Puts a frame at the end of the queue of a class, which has room.
-pub(crate) fn offer_to<A: Allocator>(queues: &mut [ClassQueue<A>; 8], class: u8, frame: Frame)
+pub(crate) fn offer_to<A: Allocator>(queues: &mut [ClassQueue<A>; CLASSES], class: u8, frame: Frame)
     requires class { class < 8 }
     requires room { length (queue_at queues.old class).frames < (queue_at queues.old class).room }
     ensures { queues.new ≡ slice_set queues.old class (with_frames (queue_at queues.old class) ((queue_at queues.old class).frames ++ frame ∷ [])) }
@@ -100,7 +98,10 @@ pub(crate) fn offer_to<A: Allocator>(queues: &mut [ClassQueue<A>; 8], class: u8,
 }
 
 /// Takes the frame that goes first off the queue of a class.
-pub(crate) fn take_from<A: Allocator>(queues: &mut [ClassQueue<A>; 8], class: u8) -> Option<Frame>
+pub(crate) fn take_from<A: Allocator>(
+    queues: &mut [ClassQueue<A>; CLASSES],
+    class: u8,
+) -> Option<Frame>
     requires { class < 8 }
     ensures head { result ≡ slice_get (queue_at queues.old class).frames 0 }
     ensures rest { queues.new ≡ slice_set queues.old class (with_frames (queue_at queues.old class) (drop 1 (queue_at queues.old class).frames)) }

@@ -1,6 +1,6 @@
 //! What is answered to the words of the program.
 
-ghost use Rattle.std.specs.Prelude.{◌≡◌, ℕ, IfErr};
+ghost use Rattle.std.specs.Prelude.{◌≡◌, IfErr};
 ghost use Rattle.std.specs.Io.Buffered.{writer_contents};
 ghost use Rattle.clap.specs.Matches.{found_of};
 ghost use Rattle.schedule_check.specs.Checked.{whole_check};

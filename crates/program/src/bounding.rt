@@ -1,6 +1,6 @@
 //! The delays of the streams of a table from a file.
 
-ghost use Rattle.std.specs.Prelude.{◌≡◌, ◌⊎◌, List, ℕ, Option, None, Some, codes};
+ghost use Rattle.std.specs.Prelude.{Some, codes};
 ghost use Rattle.std.specs.Io.Buffered.{writer_contents};
 ghost use Rattle.clap.specs.Matches.{first_value, found_of};
 ghost use Rattle.program.specs.Given.{IsGivenBounds, bounds_in};

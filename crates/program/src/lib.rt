@@ -17,6 +17,7 @@ mod streaming;
 pub use answering::{answer_given, answer_words, check_given, draw_given};
 pub use bounding::bounds_given;
 use job::{Ended, say_fault};
+use options::reads_input;
 pub use options::values_of;
 pub use progress::Progress;
 pub use replaying::replay_given;
@@ -28,6 +29,11 @@ pub use streaming::streams_given;
 /// How the program ends when out of memory before it has begun.
 fn end_without_memory<E: Write>(errors: &mut E) -> Ended {
     say_fault(&RunFault::Memory, errors)
+}
+
+/// Says that the input is read from a terminal. Whether that can be told changes nothing.
+fn prompt<E: Write>(errors: &mut E) {
+    let _ = errors.write_all(b"reading from the terminal; Ctrl-D ends the input\n");
 }
 
 /// Runs the program on the words, the standard input and the two standard outputs of the process, and answers its exit status.
@@ -45,6 +51,9 @@ pub fn run(rt: &HostRuntime) -> ExitCode {
     let mut progress = Progress::new(rt, rt.stderr());
     if errors.is_terminal() {
         progress.start();
+    }
+    if rt.stdin().is_terminal() && reads_input(words.as_slice()) {
+        prompt(&mut errors);
     }
     let (ended, _stdout) = answer_words(
         rt,

@@ -12,6 +12,17 @@ use script::Values;
 use std::alloc::{AllocError, Global};
 use stream_bounds::BoundsWords;
 
+/// Whether the words ask for a job that reads the standard input, as far as can be told before they are read: for a prompt alone.
+pub(crate) fn reads_input(words: &[String]) -> bool {
+    let mut words = words.iter().skip(1).map(|word| word.as_str());
+    let waits = match words.next() {
+        Some("replay") => false,
+        Some(name) => JOBS.iter().any(|job| job.name == name),
+        None => false,
+    };
+    waits && words.all(|word| word != "--help" && word != "-h")
+}
+
 /// Whether a subcommand is given a flag.
 fn is_given(matches: &ArgMatches<'_>, name: &str) -> bool
     ensures { result ≡ flag_in name.now (found_of matches.now) }
@@ -36,7 +47,7 @@ pub fn values_of<'a>(matches: &ArgMatches<'a>) -> Values<'a>
 }
 
 /// The values that a picture is given.
-pub fn draws_of<'a>(matches: &ArgMatches<'a>) -> DrawValues<'a>
+pub(crate) fn draws_of<'a>(matches: &ArgMatches<'a>) -> DrawValues<'a>
     ensures { words_of_draws result ≡ draw_words_in (found_of matches.now) }
 {
     DrawValues {
@@ -47,7 +58,7 @@ pub fn draws_of<'a>(matches: &ArgMatches<'a>) -> DrawValues<'a>
 }
 
 /// The values that bounds are given.
-pub fn bounds_of<'a>(matches: &ArgMatches<'a>) -> BoundsWords<'a>
+pub(crate) fn bounds_of<'a>(matches: &ArgMatches<'a>) -> BoundsWords<'a>
     ensures port { words_of_values result.port ≡ words_in (found_of matches.now) }
     ensures frames { octets_of result.frames ≡ first_value (found_of matches.now) (codes "frames") }
     ensures strict { result.strict ≡ flag_in (codes "strict") (found_of matches.now) }
@@ -60,14 +71,14 @@ pub fn bounds_of<'a>(matches: &ArgMatches<'a>) -> BoundsWords<'a>
 }
 
 /// The line rate that a subcommand is given.
-pub fn rate_of<'a>(matches: &ArgMatches<'a>) -> Option<&'a str>
+pub(crate) fn rate_of<'a>(matches: &ArgMatches<'a>) -> Option<&'a str>
     ensures { octets_of result ≡ first_value (found_of matches.now) (codes "rate") }
 {
     matches.get_str("rate")
 }
 
 /// Whether a subcommand is asked for windows.
-pub fn windows_of(matches: &ArgMatches<'_>) -> bool
+pub(crate) fn windows_of(matches: &ArgMatches<'_>) -> bool
     ensures { result ≡ windows_in (found_of matches.now) }
 {
     is_given(matches, "windows")
@@ -288,9 +299,15 @@ fn arg_of<'a>(alloc: Global, word: &Word) -> Arg<'a> {
     }
 }
 
+/// What the help says of the exit status.
+const STATUSES: &str = "Exit status: 0 done, 1 a strict run has found something, 2 a word or a value is refused,\n\
+3 an input is malformed, 4 a file can't be opened, a read or a write failed, or out of memory";
+
 /// A job with its words as `clap` has it.
 fn command_of<'a>(alloc: Global, job: &Job) -> Result<Command<'a>, AllocError> {
-    let mut command = Command::new(alloc, job.name).about(job.about);
+    let mut command = Command::new(alloc, job.name)
+        .about(job.about)
+        .after_help(STATUSES);
     for word in job.words {
         command = command.arg(arg_of(alloc, word))?;
     }
@@ -298,10 +315,11 @@ fn command_of<'a>(alloc: Global, job: &Job) -> Result<Command<'a>, AllocError> {
 }
 
 /// What the program understands.
-pub fn command<'a>(alloc: Global) -> Result<Command<'a>, AllocError> {
+pub(crate) fn command<'a>(alloc: Global) -> Result<Command<'a>, AllocError> {
     let mut program = Command::new(alloc, "taprio_port")
         .version("0.1.0")
         .about("An IEEE 802.1Qbv time-aware transmit port")
+        .after_help(STATUSES)
         .subcommand_required(true);
     for job in &JOBS {
         program = program.subcommand(command_of(alloc, job)?)?;

@@ -27,7 +27,7 @@ fn path_of<'a>(matches: &ArgMatches<'a>, name: &str) -> &'a str {
 }
 
 /// Opens the file of a path to be read, or gives the path back. `-` is no file: one of that name is reached as `./-`.
-pub fn open<'a, F: Files>(files: &F, path: &'a str) -> Result<F::File, &'a str>
+pub(crate) fn open<'a, F: Files>(files: &F, path: &'a str) -> Result<F::File, &'a str>
     ensures { IfErr result (λ unopened. unopened.now ≡ path.now) }
 {
     if path == "-" {
@@ -74,7 +74,7 @@ fn open_all<'a, F: Files>(files: &F, matches: &ArgMatches<'a>) -> Result<Opened<
 }
 
 /// Reports a path that can't be opened, and gives the writer of the answers back. Nothing is answered.
-pub fn end_unopened<B: Allocator, W: Write + Drop, E: Write>(
+pub(crate) fn end_unopened<B: Allocator, W: Write + Drop, E: Write>(
     path: &str,
     answers: BufWriter<W, B>,
     errors: &mut E,

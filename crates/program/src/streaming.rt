@@ -1,6 +1,6 @@
 //! A table of streams, and a script from a file, become a script.
 
-ghost use Rattle.std.specs.Prelude.{◌≡◌, ◌⊎◌, [], List, ℕ, Option, None, Some, IfSome, codes};
+ghost use Rattle.std.specs.Prelude.{Some, codes};
 ghost use Rattle.std.specs.Io.Buffered.{writer_contents};
 ghost use Rattle.clap.specs.Matches.{first_value, found_of};
 ghost use Rattle.program.specs.Given.{IsGivenStreams, from_in};

@@ -1,5 +1,5 @@
 //! What shows by the list of accepted commands, case by case as the definitions have it.
-ghost use Rattle.std.specs.Prelude.{◌≡◌, ℕ, ◌+◌, ◌-◌, ◌<◌, ◌≤◌, length, map, nat_le};
+ghost use Rattle.std.specs.Prelude.{◌≡◌, ◌-◌, ◌<◌, map};
 ghost use Rattle.gate_list.specs.Gate.{mask_at, last_mask};
 ghost use Rattle.list_config.specs.History.{announced, gates, in_force, is_held, is_in_time, kept, last, latest, mask_under, pending, planned_mask};
 ghost use Rattle.reference.specs.Plain.{accepted_in, command_of, counts, AreSound};

@@ -1,5 +1,5 @@
 //! The gates by the list of accepted commands.
-ghost use Rattle.std.specs.Prelude.{◌≡◌, ℕ, ◌+◌, ◌<◌, ◌≤◌, ◌++◌, ◌∷◌, Some, None, true, false, []};
+ghost use Rattle.std.specs.Prelude.{◌≡◌, ◌+◌, ◌<◌, ◌++◌, ◌∷◌, Some, None, true, false, []};
 ghost use Rattle.list_config.specs.History.{IsSound, announced, gates};
 ghost use Rattle.list_config.specs.Current.{IsCurrent};
 ghost use Rattle.reference.specs.Plain.{accepted_in};

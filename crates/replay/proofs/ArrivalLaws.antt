@@ -1,25 +1,16 @@
 -- What an arrival and a single answer do to the store and the outputs.
-use Rattle.std.proofs.Common.{◌≡◌, ◌<◌, ◌≤◌, ◌+◌, ◌++◌, ℕ, List, [], ◌∷◌, length, map, Option, Some, None, refl, sym, ap, ◌∙◌, append-nil, arith}
-use Rattle.std.proofs.Math.ListN.{get_or, set, get_or-map}
+use Rattle.std.proofs.Common.{◌≡◌, ◌<◌, ◌+◌, ◌++◌, ℕ, List, [], ◌∷◌, length, map, Option, Some, None, refl, sym, ap, ◌∙◌, append-nil, arith}
+use Rattle.std.proofs.Math.ListN.{set, get_or-map}
 use Rattle.std.proofs.lemmas.List.{map-set, map-append, length-append}
-use Rattle.wire_time.specs.declared.Frame.{Frame}
-use Rattle.abstract_port.specs.AbstractPort.{AbstractPort, drop_in, queue_of}
-use Rattle.abstract_port.specs.Sound.{IsSoundPort}
-use Rattle.abstract_port.specs.declared.Answer.{Answer}
-use Rattle.abstract_port.specs.declared.Dropped.{Dropped}
-use Rattle.answer_text.specs.Lines.{answer_lines}
-use Rattle.capture.specs.Records.{Entry}
-use Rattle.octet_store.specs.Stored.{Kept, Stored, kept_at}
-use Rattle.script.specs.Responses.{Gave}
-use Rattle.replay.specs.Outputs.{Output, answer_record, kept_in, output}
-use Rattle.replay.specs.Running.{IsTogether, Keeps, State}
+use Rattle.replay.specs.Words.{Frame, AbstractPort, queue_of, IsSoundPort, Answer, Dropped, answer_lines, Entry, Kept, Stored, kept_at, Gave, answer_record, kept_in, output, IsTogether, Keeps, State}
+use Rattle.abstract_port.specs.AbstractPort.{drop_in}
 use Rattle.replay.proofs.StartLaws.{length-at}
 
 -- an answer without a record
-pub one_answer : (es : List Entry) (a : Answer) → answer_record es a ≡ [] → output es (Gave a ∷ []) ≡ record { report = answer_lines a; capture = [] }
+pub one_answer : (es : List Entry) (a : Answer) → answer_record es a ≡ [] → output es (Gave a ∷ []) ≡ record { report = answer_lines a; departures = [] }
 one_answer es a none =
-    ap (λ (t : List ℕ). record { report = t; capture = answer_record es a ++ [] }) (append-nil (answer_lines a))
-    ∙ ap (λ (t : List ℕ). record { report = answer_lines a; capture = t }) (append-nil (answer_record es a) ∙ none)
+    ap (λ (t : List ℕ). record { report = t; departures = answer_record es a ++ [] }) (append-nil (answer_lines a))
+    ∙ ap (λ (t : List ℕ). record { report = answer_lines a; departures = t }) (append-nil (answer_record es a) ∙ none)
 
 pub dropped_queues : (p : AbstractPort) (why : Dropped) (class : Option ℕ) → (drop_in p why class).queues ≡ p.queues
 dropped_queues p why None = refl

@@ -1,33 +1,14 @@
 -- The end of a replay, from what its parts leave.
 use Rattle.std.proofs.Common.{◌≡◌, ◌≤◌, ℕ, List, [], ◌++◌, length, false, Option, Some, None, Result, Ok, Err, refl, sym, ap, ◌∙◌, append_assoc, arith, subst}
-use Rattle.abstract_port.specs.AbstractPort.{AbstractPort, settled}
-use Rattle.abstract_port.specs.Sound.{IsSoundPort}
+use Rattle.replay.specs.Words.{AbstractPort, settled, IsSoundPort, Entry, CapFault, End, Whole, Broken, CAPTURE_END, clock_after, Timed, all_requests, before_end, came_from, lines_after, requests_of, timed_from, EndsSo, Request, responses_of, BadLine, Observed, fault_of_stop, AppendsBoth, Ends, IsOpenFault, Outcome, end_fault, header, is_too_late, open_fault, refused, told_to_end, Got, Output, PutsBoth, SentBoth, joined, nothing, output, Answers, State, Fault, ReplayInput, Stop}
 use Rattle.capture.specs.FileHeader.{IsHeaderFault}
-use Rattle.capture.specs.Records.{Entry}
-use Rattle.capture.specs.declared.fault.CapFault.{CapFault}
 use Rattle.capture.specs.declared.fault.CapFault.TheVariants as CapFaults
-use Rattle.capture.specs.declared.reader.End.{End}
-use Rattle.capture.specs.declared.reader.End.TheVariants.{Whole, Broken}
-use Rattle.capture.specs.declared.writer.TheConstants.{CAPTURE_END}
 use Rattle.std.proofs.lemmas.Bool.{ltb-false}
 use Rattle.octet_writer.proofs.Fronts.{Appends-append, Appends-nil, sent_all}
-use Rattle.script.specs.Outcome.{clock_after}
-use Rattle.replay.specs.Merge.{Timed, all_requests, before_end, came_from, lines_after, requests_of, timed_from}
-use Rattle.replay.specs.RecordsLeft.{EndsSo}
-use Rattle.script.specs.Requests.{Request}
-use Rattle.script.specs.Responses.{responses_of}
-use Rattle.script.specs.declared.faults.BadLine.{BadLine}
 use Rattle.script.proofs.LeftLaws.{end-settled}
-use Rattle.summary.specs.Observed.{Observed}
-use Rattle.replay.specs.Faults.{fault_of_stop}
-use Rattle.replay.specs.Outcome.{AppendsBoth, Ends, IsOpenFault, Outcome, end_fault, header, is_too_late, end_of, open_fault, refused, told_to_end}
-use Rattle.replay.specs.Outputs.{Got, Output, PutsBoth, SentBoth, joined, nothing, output}
-use Rattle.replay.specs.Running.{Answers, State}
-use Rattle.job.specs.declared.fault.Fault.{Fault}
+use Rattle.replay.specs.Outcome.{end_of}
 use Rattle.job.specs.declared.fault.Fault.TheVariants as Faults
-use Rattle.replay.specs.declared.faults.ReplayInput.{ReplayInput}
 use Rattle.replay.specs.declared.faults.ReplayInput.TheVariants as Inputs
-use Rattle.replay.specs.declared.faults.Stop.{Stop}
 use Rattle.replay.specs.declared.faults.Stop.TheVariants as Stops
 use Rattle.replay.proofs.RunLaws.{after, later_port, later_seen, parts}
 use Rattle.replay.proofs.SeenLaws.{seen_of}
@@ -37,11 +18,11 @@ use Rattle.replay.proofs.Sends.{both_exit, both_last, both_more, both_none, both
 
 joined-assoc : (x y z : Output) → joined (joined x y) z ≡ joined x (joined y z)
 joined-assoc x y z =
-    ap (λ (t : List ℕ). record { report = t; capture = (x.capture ++ y.capture) ++ z.capture }) (append_assoc x.report y.report z.report)
-    ∙ ap (λ (t : List ℕ). record { report = x.report ++ (y.report ++ z.report); capture = t }) (append_assoc x.capture y.capture z.capture)
+    ap (λ (t : List ℕ). record { report = t; departures = (x.departures ++ y.departures) ++ z.departures }) (append_assoc x.report y.report z.report)
+    ∙ ap (λ (t : List ℕ). record { report = x.report ++ (y.report ++ z.report); departures = t }) (append_assoc x.departures y.departures z.departures)
 
 end-same : (q p : AbstractPort) (o : Option Observed) → q ≡ settled p → end_of q o ≡ end_of p o
-end-same q p o is = ap (λ (x : AbstractPort). end_of x o) is ∙ ap (λ (t : List ℕ). record { report = t; capture = [] }) (end-settled p o)
+end-same q p o is = ap (λ (x : AbstractPort). end_of x o) is ∙ ap (λ (t : List ℕ). record { report = t; departures = [] }) (end-settled p o)
 
 module _ {T : Type 0} (r : Result T Stop) (es : List Entry) where
   -- all is reported, and then what is left
@@ -76,7 +57,7 @@ module _ {T : Type 0} (r : Result T Stop) (es : List Entry) where
 whole_of : {old new : Got} {whole left : Output} → SentBoth old new whole left → left ≡ nothing → AppendsBoth old new whole
 whole_of s e = record {
   report = sent_all s.report (ap (λ (o : Output). o.report) e);
-  capture = sent_all s.capture (ap (λ (o : Output). o.capture) e);
+  departures = sent_all s.departures (ap (λ (o : Output). o.departures) e);
 }
 
 pub ends_ok : {T U : Type 0} {x : U} (y : T) (old new : Got) (o : Outcome) → PutsBoth {T = U} (Ok x) old new o.output → o.fault ≡ None → Ends {T = T} (Ok y) old new o
@@ -95,7 +76,7 @@ ends_stop {T} {U} r y old new o is p = subst (λ (q : Result T (Fault ReplayInpu
 
 -- nothing was written
 nothing_written : (old : Got) → AppendsBoth old old nothing
-nothing_written old = record { report = Appends-nil old.report; capture = Appends-nil old.capture }
+nothing_written old = record { report = Appends-nil old.report; departures = Appends-nil old.departures }
 
 -- the inputs are refused before anything was written
 pub refused_so : {T : Type 0} (r : Result T (Fault ReplayInput)) (fault : ReplayInput) (old : Got) (o : Outcome) → r ≡ Err (Faults.Input fault) → o ≡ refused fault → Ends {T = T} (Err (Faults.Input fault)) old old (refused fault) → Ends r old old o
@@ -124,7 +105,7 @@ with_header o = record { output = joined header o.output; fault = o.fault }
 append_both : (old mid new : Got) (x y : Output) → AppendsBoth old mid x → AppendsBoth mid new y → AppendsBoth old new (joined x y)
 append_both old mid new x y a b = record {
   report = Appends-append old.report mid.report new.report x.report y.report a.report b.report;
-  capture = Appends-append old.capture mid.capture new.capture x.capture y.capture a.capture b.capture;
+  departures = Appends-append old.departures mid.departures new.departures x.departures y.departures a.departures b.departures;
 }
 
 sent_behind : {old mid new : Got} (x y left : Output) → SentBoth old mid (joined x y) y → SentBoth mid new y left → SentBoth old new (joined x y) left

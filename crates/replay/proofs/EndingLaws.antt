@@ -1,43 +1,32 @@
 -- The end of a replay through buffers, from what its parts leave.
-use Rattle.std.proofs.Common.{◌≡◌, List, ℕ, [], Option, Some, None, Result, Ok, Err, ◌⊎◌, inl, inr, refl, sym, ap, ◌∙◌, subst}
+use Rattle.std.proofs.Common.{◌≡◌, List, ℕ, [], Option, Some, None, Result, Ok, Err, ◌⊎◌, inl, inr, sym, ap, ◌∙◌, subst}
 use Rattle.std.specs.Prelude.{IfSome}
-use Rattle.std.specs.Io.KnownBytes.{Keeps, append_known}
-use Rattle.abstract_port.specs.declared.Command.{Command}
-use Rattle.capture.specs.Records.{Entry}
-use Rattle.capture.specs.declared.fault.CapFault.{CapFault}
-use Rattle.capture.specs.declared.reader.End.{End}
-use Rattle.tc_reader.specs.Reader.{IsReader}
-use Rattle.tc_reader.specs.declared.fault.TcFault.{TcFault}
-use Rattle.job.specs.Texts.{IsTold, run_status, run_text}
-use Rattle.script.specs.Setup.{Setup}
+use Rattle.std.specs.Io.KnownBytes.{Keeps}
+use Rattle.replay.specs.Words.{Command, Entry, CapFault, End, IsReader, TcFault, IsTold, Setup, IsReplayEnding, AppendsBoth, Ends, Outcome, ReadsAs, outcome_of, Got, Output, SentBoth, nothing, replay_telling, Fault, ReplayInput}
+use Rattle.job.specs.Texts.{run_status, run_text}
 use Rattle.job.specs.declared.telling.Ended.{Ended}
 use Rattle.job.proofs.EndingLaws.{appends_kept, sent_kept, sent_whole}
-use Rattle.replay.specs.Ending.{EndsOut, IsReplayEnding, with_unwritten}
-use Rattle.replay.specs.Outcome.{AppendsBoth, Ends, Outcome, ReadsAs, outcome_of}
-use Rattle.replay.specs.Outputs.{Got, Output, SentBoth, nothing}
-use Rattle.replay.specs.Texts.{replay_telling}
-use Rattle.job.specs.declared.fault.Fault.{Fault}
+use Rattle.replay.specs.Ending.{EndsOut, with_unwritten}
 use Rattle.job.specs.declared.fault.Fault.TheVariants as Faults
-use Rattle.replay.specs.declared.faults.ReplayInput.{ReplayInput}
 
 -- both writers keep what they hold
 abbrev pub KeepsBoth : Got → Got → Type 0
-KeepsBoth old new = Keeps old.report new.report × Keeps old.capture new.capture
+KeepsBoth old new = Keeps old.report new.report × Keeps old.departures new.departures
 
 both_appended : (a b c : Got) (whole : Output) → AppendsBoth a b whole → KeepsBoth b c → AppendsBoth a c whole
 both_appended a b c whole w k = record {
   report = appends_kept a.report b.report c.report whole.report w.report k.0;
-  capture = appends_kept a.capture b.capture c.capture whole.capture w.capture k.1;
+  departures = appends_kept a.departures b.departures c.departures whole.departures w.departures k.1;
 }
 
 both_sent : (a b c : Got) (whole left : Output) → SentBoth a b whole left → KeepsBoth b c → SentBoth a c whole left
 both_sent a b c whole left s k = record {
   report = sent_kept a.report b.report c.report whole.report left.report s.report k.0;
-  capture = sent_kept a.capture b.capture c.capture whole.capture left.capture s.capture k.1;
+  departures = sent_kept a.departures b.departures c.departures whole.departures left.departures s.departures k.1;
 }
 
 front_of_both : (a b : Got) (whole : Output) → AppendsBoth a b whole → (left : Output) × SentBoth a b whole left
-front_of_both a b whole w = (nothing, record { report = sent_whole a.report b.report whole.report w.report; capture = sent_whole a.capture b.capture whole.capture w.capture })
+front_of_both a b whole w = (nothing, record { report = sent_whole a.report b.report whole.report w.report; departures = sent_whole a.departures b.departures whole.departures w.departures })
 
 ends_kept : (r : Result (Unit {0}) (Fault ReplayInput)) (old mid out : Got) (whole : Outcome) → Ends r old mid whole → KeepsBoth mid out → Ends r old out whole
 ends_kept (Ok x) old mid out whole w k = (w.0, both_appended old mid out whole.output w.1 k)
@@ -90,14 +79,14 @@ module _ (s : Setup) (ended : Ended) (old mid out got : Got) (errors_old errors_
   }
 
 -- both parts are empty
-pub nothing_left : (r d : List ℕ) → r ≡ [] → d ≡ [] → ◌≡◌ {A = Output} (record { report = r; capture = d }) nothing
-nothing_left r d e f = ap (λ (t : List ℕ). record { report = t; capture = d }) e ∙ ap (λ (t : List ℕ). record { report = []; capture = t }) f
+pub nothing_left : (r d : List ℕ) → r ≡ [] → d ≡ [] → ◌≡◌ {A = Output} (record { report = r; departures = d }) nothing
+nothing_left r d e f = ap (λ (t : List ℕ). record { report = t; departures = d }) e ∙ ap (λ (t : List ℕ). record { report = []; departures = t }) f
 
 -- nothing is left of both outputs, or a write failed
-pub out_both : (run : Result (Unit {0}) (Fault ReplayInput)) (r d : List ℕ) → ((r ≡ []) × (d ≡ [])) ⊎ (run ≡ Err Faults.Write) → ◌⊎◌ (◌≡◌ {A = Output} (record { report = r; capture = d }) nothing) (run ≡ Err Faults.Write)
+pub out_both : (run : Result (Unit {0}) (Fault ReplayInput)) (r d : List ℕ) → ((r ≡ []) × (d ≡ [])) ⊎ (run ≡ Err Faults.Write) → ◌⊎◌ (◌≡◌ {A = Output} (record { report = r; departures = d }) nothing) (run ≡ Err Faults.Write)
 out_both run r d (inl e) = inl (nothing_left r d e.0 e.1)
 out_both run r d (inr e) = inr e
 
 -- what both writers have got is equal where each has got the same
-pub both_same : (a a' b b' : Option (List ℕ)) → a ≡ a' → b ≡ b' → ◌≡◌ {A = Got} (record { report = a; capture = b }) (record { report = a'; capture = b' })
-both_same a a' b b' e f = ap (λ (t : Option (List ℕ)). record { report = t; capture = b }) e ∙ ap (λ (t : Option (List ℕ)). record { report = a'; capture = t }) f
+pub both_same : (a a' b b' : Option (List ℕ)) → a ≡ a' → b ≡ b' → ◌≡◌ {A = Got} (record { report = a; departures = b }) (record { report = a'; departures = b' })
+both_same a a' b b' e f = ap (λ (t : Option (List ℕ)). record { report = t; departures = b }) e ∙ ap (λ (t : Option (List ℕ)). record { report = a'; departures = t }) f

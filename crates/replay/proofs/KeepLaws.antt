@@ -1,32 +1,22 @@
 -- A script that is kept, line by line.
-use Rattle.std.proofs.Common.{◌≡◌, ◌≤◌, ◌<◌, ◌-◌, ◌+◌, ℕ, List, [], ◌∷◌, ◌++◌, length, map, take, drop, Option, Some, None, Result, Ok, Err, true, false, refl, sym, ap, ◌∙◌, subst, append_assoc, append-nil, arith}
-use Rattle.std.specs.Prelude.{All, IfSome, option_map, slice_range}
-use Rattle.std.proofs.lemmas.List.{drop-append-le, length-append, length-drop, map-append, take-append-le, take_all}
-use Rattle.std.proofs.lemmas.List.Elements.{All-append, All-cons, All-head, All-tail}
+use Rattle.std.proofs.Common.{◌≡◌, ◌≤◌, ◌-◌, ◌+◌, ℕ, List, [], ◌∷◌, ◌++◌, length, take, drop, Option, Some, None, Result, Ok, Err, true, false, refl, sym, ap, ◌∙◌, subst, append_assoc, append-nil, arith}
+use Rattle.std.specs.Prelude.{IfSome, option_map, slice_range}
+use Rattle.std.proofs.lemmas.List.{drop-append-le, length-append, length-drop, take-append-le, take_all}
+use Rattle.std.proofs.lemmas.List.Elements.{All-head, All-tail}
 use Rattle.std.proofs.Math.Seq.{drop-append_seam}
-use Rattle.abstract_port.specs.declared.Command.{Command}
+use Rattle.replay.specs.Words.{Command, script_of, TcFault, words_of, bad_line, Reading, Request, tc_request, script_limited, GivesScript, ReadsRest, IsScriptFault, AreKept, IsKept, kept_request, kept_requests, reading_of, request_in, Fault, ReplayInput, KeptLine, Tc}
 use Rattle.line_reader.specs.LineReader.{Advances}
-use Rattle.line_reader.specs.Script.{Script, Line, script_of}
+use Rattle.line_reader.specs.Script.{Script}
 use Rattle.line_reader.specs.declared.lines.LineFault.{LineFault}
 use Rattle.line_reader.specs.declared.lines.LineFault.TheVariants as LineFaults
-use Rattle.tc_reader.specs.declared.fault.TcFault.{TcFault}
-use Rattle.words.specs.Words.{words_of}
-use Rattle.script.specs.Outcome.{bad_line, Reading, with_line}
-use Rattle.script.specs.Requests.{Request, tc_request}
+use Rattle.script.specs.Outcome.{with_line}
 use Rattle.script.specs.declared.faults.ScriptFault.{ScriptFault}
 use Rattle.script.proofs.ReaderLaws.{of_input}
 use Rattle.job.specs.Lines.{fault_of_line}
-use Rattle.replay.specs.Faults.{script_limited}
-use Rattle.replay.specs.Keeping.{GivesScript, ReadsRest, IsScriptFault}
-use Rattle.replay.specs.KeptScript.{AreKept, IsKept, kept_request, kept_requests}
-use Rattle.replay.specs.Lines.{reading_of, request_in}
-use Rattle.job.specs.declared.fault.Fault.{Fault}
 use Rattle.job.specs.declared.fault.Fault.TheVariants as Faults
-use Rattle.replay.specs.declared.faults.ReplayInput.{ReplayInput}
 use Rattle.replay.specs.declared.faults.ReplayInput.TheVariants as Inputs
-use Rattle.replay.specs.declared.kept_script.KeptLine.{KeptLine}
 use Rattle.replay.specs.declared.kept_script.KeptScript.{KeptScript}
-use Rattle.replay.specs.declared.kept_script.KeptLine.TheVariants.{Clock, Query, Count, Tc}
+use Rattle.replay.specs.declared.kept_script.KeptLine.TheVariants.{Clock, Query, Count}
 
 -- ---- octets after those that are kept
 

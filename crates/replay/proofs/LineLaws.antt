@@ -1,19 +1,12 @@
 -- The lines of a kept script, one after another.
-use Rattle.std.proofs.Common.{◌≡◌, ◌≤◌, ◌<◌, ◌+◌, ◌++◌, ℕ, List, [], ◌∷◌, length, map, drop, Result, Ok, Err, refl, sym, ap, ◌∙◌, subst, arith, drop-cons, add-one}
-use Rattle.std.specs.Prelude.{All, max, slice_range}
+use Rattle.std.proofs.Common.{◌≡◌, ◌≤◌, ◌<◌, ◌+◌, ◌++◌, ℕ, List, [], ◌∷◌, length, map, drop, Result, Ok, Err, refl, sym, ap, ◌∙◌, arith, drop-cons, add-one}
+use Rattle.std.specs.Prelude.{slice_range}
 use Rattle.std.proofs.Math.ListN.{get_or}
 use Rattle.std.proofs.lemmas.List.{drop-map, drop_all}
 use Rattle.std.proofs.lemmas.List.Elements.{All-drop, All-head, All-tail}
 use Rattle.std.proofs.lemmas.Bool.{le-leb, lt-leb}
-use Rattle.abstract_port.specs.declared.Command.{Command}
-use Rattle.capture.specs.declared.writer.TheConstants.{CAPTURE_END}
-use Rattle.tc_reader.specs.declared.fault.TcFault.{TcFault}
-use Rattle.words.specs.Words.{words_of}
-use Rattle.script.specs.Requests.{Request, tc_request}
-use Rattle.replay.specs.KeptScript.{AreKept, IsKept, kept_clock, kept_request, kept_requests}
-use Rattle.replay.specs.Merge.{Timed, latest_clock, lines_by, lines_past, requests_of, timed_from}
-use Rattle.replay.specs.declared.kept_script.KeptLine.{KeptLine}
-use Rattle.replay.specs.declared.kept_script.KeptLine.TheVariants.{Clock, Query, Count, Tc}
+use Rattle.replay.specs.Words.{Command, CAPTURE_END, TcFault, words_of, Request, tc_request, AreKept, IsKept, kept_clock, kept_request, kept_requests, Timed, latest_clock, lines_by, lines_past, requests_of, timed_from, KeptLine, Tc}
+use Rattle.replay.specs.declared.kept_script.KeptLine.TheVariants.{Clock, Query, Count}
 
 -- a line that begins with tc says no moment
 tc-clock : (clock : ℕ) (command : Result Command TcFault) → latest_clock clock (tc_request command) ≡ clock

@@ -1,13 +1,12 @@
 -- What is merged keeps the order of both sources.
-use Rattle.std.proofs.Common.{◌≡◌, ◌≤◌, ◌<◌, ◌+◌, ◌++◌, ℕ, List, [], ◌∷◌, map, Bool, true, false, refl, sym, ap, ◌∙◌, subst, append_assoc, append-nil, arith}
+use Rattle.std.proofs.Common.{◌≡◌, ◌≤◌, ◌<◌, ◌+◌, ◌++◌, ℕ, List, [], ◌∷◌, Bool, true, false, refl, sym, ap, subst, append_assoc, arith}
 use Rattle.std.specs.Prelude.{max, nat_le, if◌then◌else◌}
 use Rattle.std.specs.List.{flat_map}
 use Rattle.std.proofs.lemmas.Bool.{leb-false, leb-true}
-use Rattle.abstract_port.specs.declared.Event.TheVariants.{Arrive, Clock, Install, Query, Count}
-use Rattle.capture.specs.Records.{Entry}
-use Rattle.script.specs.Requests.{Request, Asks, NoCommand}
-use Rattle.replay.specs.Merge.{Came, Timed, before_end, came_from, latest_clock, lines_after, lines_by, lines_past, merged, requests_of, timed_from}
-use Rattle.replay.specs.Sources.{FromCapture, FromScript, IsInOrder, IsMerge, MayFollow, MergeLaw, Taken, lines_among, records_among, requests_in}
+use Rattle.replay.specs.Words.{Arrive, Entry, Request, Asks, NoCommand, Came, Timed, before_end, came_from, latest_clock, lines_after, lines_by, lines_past, requests_of, timed_from, MergeLaw}
+use Rattle.abstract_port.specs.declared.Event.TheVariants.{Clock, Install, Query, Count}
+use Rattle.replay.specs.Merge.{merged}
+use Rattle.replay.specs.Sources.{FromCapture, FromScript, IsInOrder, MayFollow, Taken, lines_among, records_among, requests_in}
 
 -- lines that rise, none before a moment
 abbrev Rise : ℕ → List Timed → Type 0

@@ -1,28 +1,16 @@
 -- The records that come from a reader, one after another.
-use Rattle.std.specs.Prelude.{IfOk, IfSome, MatchOption, OnOk, max}
+use Rattle.std.specs.Prelude.{IfSome, MatchOption, max}
 use Rattle.std.proofs.Common.{◌≡◌, ◌≢◌, ◌<◌, ◌+◌, ◌++◌, ℕ, List, [], ◌∷◌, length, Option, Some, None, Result, Ok, Err, refl, sym, ap, ◌∙◌, subst, append_assoc, append-nil}
 use Rattle.std.proofs.Math.ListN.{get_or}
 use Rattle.std.proofs.Math.Seq.{get_or-append_seam}
 use Rattle.std.proofs.lemmas.List.{length-append}
-use Rattle.capture.specs.CaptureReader.{IsWanting, Left, Next, ReadsNext, again, octets_left}
-use Rattle.capture.specs.Captures.{AreRecords}
-use Rattle.capture.specs.Record.{frame_of}
-use Rattle.capture.specs.Records.{Entry, IsWithin, entry_at, fault_at, rest_after}
-use Rattle.capture.specs.declared.format.TheConstants.{MAX_RECORDS}
-use Rattle.capture.specs.declared.fault.CapFault.{CapFault}
+use Rattle.replay.specs.Words.{Left, Next, AreRecords, frame_of, Entry, MAX_RECORDS, CapFault, Format, End, Whole, Broken, Arrive, kept, Request, Asks, Came, Timed, before_end, came_from, lines_after, lines_by, lines_past, requests_of, kept_in, Comes, found, RunsRecords, Answers, Keeps, State, IsSoundPort, Stop}
+use Rattle.capture.specs.CaptureReader.{IsWanting, ReadsNext, again, octets_left}
+use Rattle.capture.specs.Records.{IsWithin, entry_at, fault_at, rest_after}
 use Rattle.capture.specs.declared.fault.CapFault.TheVariants.{ShortHeader, BadMagic, BadVersion, BadLink, ShortRecord, LongRecord, BadFraction, TooManyRecords, Read, Write, Memory}
-use Rattle.capture.specs.declared.format.Format.{Format}
-use Rattle.capture.specs.declared.reader.End.{End}
-use Rattle.capture.specs.declared.reader.End.TheVariants.{Whole, Broken}
-use Rattle.abstract_port.specs.declared.Event.TheVariants.{Arrive, Clock}
-use Rattle.octet_store.specs.Stored.{kept}
-use Rattle.script.specs.Requests.{Request, Asks}
-use Rattle.replay.specs.Merge.{Came, Timed, before_end, came_from, lines_after, lines_by, lines_past, requests_of}
-use Rattle.replay.specs.Outputs.{kept_in, no_entry}
-use Rattle.replay.specs.RecordsLeft.{Comes, EndsSo, ending, found}
-use Rattle.replay.specs.Running.{Answers, Keeps, State}
-use Rattle.abstract_port.specs.Sound.{IsSoundPort}
-use Rattle.replay.specs.declared.faults.Stop.{Stop}
+use Rattle.abstract_port.specs.declared.Event.TheVariants.{Clock}
+use Rattle.replay.specs.Outputs.{no_entry}
+use Rattle.replay.specs.RecordsLeft.{ending}
 use Rattle.replay.specs.declared.faults.Stop.TheVariants as Stops
 use Rattle.replay.proofs.RunLaws.{Done, done_exit, done_more, done_stop, done_whole}
 
@@ -119,12 +107,6 @@ module _ {R : Type 0} (remaining : R → Option (List ℕ)) (l after : Left R) (
   pub step_within : IsWithin e
   step_within = (going remaining l after (Ok (Some e)) begun p).0.3
 
--- the records are over: how they end, which lines are left, and what was answered
-pub record Over (es : List Entry) (last : End) (all lines : List Timed) (s t : State) (r : Result (Option (ℕ × CapFault)) Stop) : Type 0 where
-  pub ending : IfOk r (EndsSo es last)
-  pub left : OnOk r (lines ≡ lines_after all (came_from 0 0 es))
-  pub answers : Keeps es s → Answers es r (before_end all (came_from 0 0 es)) s t
-
 -- all that is asked up to the last record
 abbrev pub asked : List Timed → List Entry → List Request
 asked all es = before_end all (came_from 0 0 es)
@@ -198,12 +180,12 @@ module _ {R : Type 0} (remaining : R → Option (List ℕ)) (es : List Entry) (l
   counted none = ap (λ (xs : List Entry). length xs) (st.split ∙ ap (λ (xs : List Entry). st.front ++ xs) none ∙ append-nil st.front) ∙ st.count
 
   -- the end was answered
-  pub over_well : Next remaining reader (Ok None) after → Over es last all lines s t (Ok None)
+  pub over_well : Next remaining reader (Ok None) after → RunsRecords es last all lines s t (Ok None)
   over_well p =
       let n = next_end remaining reader after st.rest last begun st.comes p in
       record { ending = sym (ap (λ (x : End). ending es x) n.1); left = nothing_left n.0; answers = λ k. all_asked None n.0 k }
 
-  over_fault : (f : CapFault) → f ≢ Read → Next remaining reader (Err f) after → Over es last all lines s t (Ok (Some (number, f)))
+  over_fault : (f : CapFault) → f ≢ Read → Next remaining reader (Err f) after → RunsRecords es last all lines s t (Ok (Some (number, f)))
   over_fault f other p =
       let n = next_fault remaining reader after st.rest last begun st.comes f p other in
       record {
@@ -212,11 +194,11 @@ module _ {R : Type 0} (remaining : R → Option (List ℕ)) (es : List Entry) (l
         answers = λ k. all_asked (Some (number, f)) n.0 k;
       }
 
-  over_read : Over es last all lines s t (Err Stops.Read)
+  over_read : RunsRecords es last all lines s t (Err Stops.Read)
   over_read = record { ending = tt; left = tt; answers = λ k. done_stop sound (Err Stops.Read) refl (λ w. (let both : Stops.Read ≡ Stops.Write = w in cc)) (st.run k) }
 
   -- a fault was answered
-  pub over : (f : CapFault) → Next remaining reader (Err f) after → Over es last all lines s t (found number f)
+  pub over : (f : CapFault) → Next remaining reader (Err f) after → RunsRecords es last all lines s t (found number f)
   over Read p = over_read
   over ShortHeader p = over_fault ShortHeader (λ e. cc) p
   over BadMagic p = over_fault BadMagic (λ e. cc) p

@@ -2,35 +2,10 @@
 use Rattle.std.specs.Prelude.{IfSome}
 use Rattle.std.specs.Io.KnownBytes.{prepend_known}
 use Rattle.std.proofs.Common.{◌≡◌, ℕ, List, [], length, drop, map, false, Option, Some, None, Result, Ok, Err, refl, sym, ap, ◌∙◌, subst}
-use Rattle.abstract_port.specs.AbstractPort.{AbstractPort, new_port}
-use Rattle.abstract_port.specs.declared.Command.{Command}
-use Rattle.capture.specs.CaptureReader.{IsNewReader, Left}
-use Rattle.capture.specs.Captures.{AreRecords}
+use Rattle.replay.specs.Words.{AbstractPort, new_port, Command, IsNewReader, Left, AreRecords, Entry, CapFault, Format, End, script_of, Reading, Request, Setup, BadLine, TcFault, Observed, watched, IsScriptFault, reading_of, all_requests, Ends, IsOpenFault, Outcome, ReadsAs, end_fault, is_too_late, outcome_of, refused, told_to_end, Stored, new_store, Frame, Got, kept_in, Keeps, State, Comes, Fault, ReplayInput}
 use Rattle.capture.specs.FileHeader.{format_of}
-use Rattle.capture.specs.Records.{Entry}
-use Rattle.capture.specs.declared.fault.CapFault.{CapFault}
-use Rattle.capture.specs.declared.format.Format.{Format}
-use Rattle.capture.specs.declared.reader.End.{End}
-use Rattle.line_reader.specs.Script.{script_of}
-use Rattle.script.specs.Outcome.{Reading}
-use Rattle.script.specs.Requests.{Request}
-use Rattle.script.specs.Setup.{Setup}
-use Rattle.script.specs.declared.faults.BadLine.{BadLine}
-use Rattle.tc_reader.specs.declared.fault.TcFault.{TcFault}
-use Rattle.summary.specs.Observed.{Observed}
-use Rattle.summary.specs.Wanted.{watched}
-use Rattle.replay.specs.Keeping.{IsScriptFault}
-use Rattle.replay.specs.Lines.{reading_of}
-use Rattle.replay.specs.Merge.{all_requests}
-use Rattle.replay.specs.Outcome.{Ends, IsOpenFault, Outcome, ReadsAs, end_fault, is_too_late, outcome_of, outcome_read, outcome_said, outcome_whole, refused, told_to_end}
-use Rattle.octet_store.specs.Stored.{Stored, new_store}
-use Rattle.wire_time.specs.declared.Frame.{Frame}
-use Rattle.replay.specs.Outputs.{Got, kept_in}
-use Rattle.replay.specs.Running.{Keeps, State}
-use Rattle.replay.specs.RecordsLeft.{Comes}
-use Rattle.job.specs.declared.fault.Fault.{Fault}
+use Rattle.replay.specs.Outcome.{outcome_read, outcome_said, outcome_whole}
 use Rattle.job.specs.declared.fault.Fault.TheVariants as Faults
-use Rattle.replay.specs.declared.faults.ReplayInput.{ReplayInput}
 use Rattle.replay.specs.declared.faults.ReplayInput.TheVariants as Inputs
 use Rattle.replay.proofs.EndLaws.{refused_header, refused_script, refused_so, with_header}
 use Rattle.replay.proofs.Sends.{both_none}

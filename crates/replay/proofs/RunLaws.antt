@@ -2,17 +2,9 @@
 use Rattle.std.specs.List.{flat_map}
 use Rattle.std.proofs.Common.{◌≡◌, ℕ, List, [], ◌∷◌, ◌++◌, map, Result, Ok, Err, refl, sym, ap, ◌∙◌, append_assoc, append-nil, subst}
 use Rattle.std.proofs.lemmas.Grind.{flat_map-append}
-use Rattle.abstract_port.specs.AbstractPort.{AbstractPort, settled}
-use Rattle.abstract_port.specs.Answers.{answers_to, port_after}
-use Rattle.abstract_port.specs.Sound.{IsSoundPort}
-use Rattle.abstract_port.specs.declared.Answer.{Answer}
+use Rattle.replay.specs.Words.{AbstractPort, settled, answers_to, port_after, IsSoundPort, Answer, Entry, Request, Asks, NoCommand, Gave, Response, events_of, responses_of, responses_to, PutsBoth, joined, nothing, output, response_record, Answers, Keeps, State, Stop}
 use Rattle.abstract_port.proofs.RunLaws.{IsTimely, same-event, settled-after, settled-current, timely-after, timely-settled, timely-sound}
-use Rattle.capture.specs.Records.{Entry}
-use Rattle.script.specs.Requests.{Request, Asks, NoCommand}
-use Rattle.script.specs.Responses.{Gave, Faulted, Response, events_of, response_lines, responses_of, responses_to}
-use Rattle.replay.specs.Outputs.{PutsBoth, joined, nothing, output, response_record}
-use Rattle.replay.specs.Running.{Answers, Keeps, State}
-use Rattle.replay.specs.declared.faults.Stop.{Stop}
+use Rattle.script.specs.Responses.{Faulted, response_lines}
 use Rattle.replay.specs.declared.faults.Stop.TheVariants as Stops
 use Rattle.replay.proofs.SeenLaws.{seen-append, seen-nil, seen-settled, seen_of}
 use Rattle.replay.proofs.Sends.{both_all, both_exit, both_none, both_stop, both_then, never, on_ok_map}
@@ -51,8 +43,8 @@ responses-settled (NoCommand fault ∷ rest) p fit = ap (λ (x : List Response).
 
 pub output-append : (es : List Entry) (xs ys : List Response) → output es (xs ++ ys) ≡ joined (output es xs) (output es ys)
 output-append es xs ys =
-    ap (λ (t : List ℕ). record { report = t; capture = flat_map (response_record es) (xs ++ ys) }) (flat_map-append response_lines xs ys)
-    ∙ ap (λ (t : List ℕ). record { report = flat_map response_lines xs ++ flat_map response_lines ys; capture = t }) (flat_map-append (response_record es) xs ys)
+    ap (λ (t : List ℕ). record { report = t; departures = flat_map (response_record es) (xs ++ ys) }) (flat_map-append response_lines xs ys)
+    ∙ ap (λ (t : List ℕ). record { report = flat_map response_lines xs ++ flat_map response_lines ys; departures = t }) (flat_map-append (response_record es) xs ys)
 
 -- nothing is asked
 pub answers_none : {T : Type 0} (x : T) (es : List Entry) (s : State) → IsSoundPort s.port → Keeps es s → Answers {T = T} es (Ok x) [] s s

@@ -1,14 +1,9 @@
 -- What is seen of requests, of more after them, and of what is reported of one.
 use Rattle.std.proofs.Common.{◌≡◌, ℕ, List, [], ◌∷◌, ◌++◌, Option, Some, None, refl, sym, ap, ◌∙◌}
-use Rattle.abstract_port.specs.AbstractPort.{AbstractPort, settled}
-use Rattle.abstract_port.specs.Answers.{answers_to, port_after}
-use Rattle.abstract_port.specs.declared.Answer.{Answer}
-use Rattle.abstract_port.specs.declared.Event.{Event}
+use Rattle.replay.specs.Words.{AbstractPort, settled, answers_to, port_after, Answer, Event, Request, Asks, NoCommand, events_of, noted_by, Observed, noted, noted_all}
 use Rattle.abstract_port.proofs.RunLaws.{IsTimely, same-event, timely-settled}
-use Rattle.script.specs.Requests.{Request, Asks, NoCommand}
-use Rattle.script.specs.Responses.{events_of, noted_by}
-use Rattle.summary.specs.Observed.{Observed, seen_all}
-use Rattle.summary.specs.Wanted.{noted, noted_after, noted_all, noted_at}
+use Rattle.summary.specs.Observed.{seen_all}
+use Rattle.summary.specs.Wanted.{noted_after, noted_at}
 use Rattle.summary.proofs.WantedLaws.{noted_after-cons, noted_after-one, noted_all-cons, noted_all-event, noted_all-nil}
 
 -- what is seen of requests

@@ -3,10 +3,9 @@ use Rattle.std.specs.Prelude.{IfErr, OnOk}
 use Rattle.std.proofs.Common.{◌≡◌, ℕ, ◌+◌, List, [], ◌++◌, length, Option, Result, Ok, Err, refl, sym, ap, ◌∙◌, append_assoc, append-nil, subst, arith}
 use Rattle.std.proofs.lemmas.List.{length-append}
 use Rattle.std.specs.Io.KnownBytes.{Appends}
-use Rattle.octet_writer.specs.Writes.{FallsShort, Sent, Writes}
+use Rattle.replay.specs.Words.{FallsShort, Writes, Got, Output, PutsBoth, SentBoth, joined, nothing, Stop}
+use Rattle.octet_writer.specs.Writes.{Sent}
 use Rattle.octet_writer.proofs.Fronts.{Appends-append, sent_none}
-use Rattle.replay.specs.Outputs.{Got, Output, PutsBoth, SentBoth, joined, nothing}
-use Rattle.replay.specs.declared.faults.Stop.{Stop}
 use Rattle.replay.specs.declared.faults.Stop.TheVariants as Stops
 
 pub always : {T P : Type 0} (r : Result T Stop) → P → OnOk r P
@@ -38,18 +37,18 @@ sent_front {a} {b} {x} {left} whole rest e s = record { done = s.done; appended 
 
 -- how much there is of both
 abbrev pub size : Output → ℕ
-size o = length o.report + length o.capture
+size o = length o.report + length o.departures
 
 pub both_none : (g : Got) (whole : Output) → SentBoth g g whole whole
-both_none g whole = record { report = sent_none g.report whole.report; capture = sent_none g.capture whole.capture }
+both_none g whole = record { report = sent_none g.report whole.report; departures = sent_none g.departures whole.departures }
 
 pub both_last : {f g : Got} {whole left : Output} (h : Got) (l : Output) → SentBoth f g whole left → SentBoth g h left l → SentBoth f h whole l
-both_last h l s t = record { report = sent_last h.report l.report s.report t.report; capture = sent_last h.capture l.capture s.capture t.capture }
+both_last h l s t = record { report = sent_last h.report l.report s.report t.report; departures = sent_last h.departures l.departures s.departures t.departures }
 
 both_front : {f g : Got} {x left : Output} (whole rest : Output) → whole ≡ joined x rest → SentBoth f g x left → SentBoth f g whole (joined left rest)
 both_front whole rest e s = record {
   report = sent_front whole.report rest.report (ap (λ (o : Output). o.report) e) s.report;
-  capture = sent_front whole.capture rest.capture (ap (λ (o : Output). o.capture) e) s.capture;
+  departures = sent_front whole.departures rest.departures (ap (λ (o : Output). o.departures) e) s.departures;
 }
 
 -- one part more: what a call puts of the part x of what is left
@@ -71,7 +70,7 @@ both_exit {T} {T'} {f} {g} {whole} {left} {y} r h x rest is s e p = record {
   short = λ w.
       let same : y ≡ Stops.Write = let both : Err y ≡ r = sym is in cc in
       let some = p.short (ap (λ (z : Stop). Err z) same) in
-      omega (arith, some, length-append p.left.report rest.report, length-append p.left.capture rest.capture);
+      omega (arith, some, length-append p.left.report rest.report, length-append p.left.departures rest.departures);
 }
 
 -- the exit of a call that wrote nothing, and reports no failed write
@@ -94,10 +93,10 @@ both_then {T} {U} {f} {g} {x} {y} r h whole rest e p n = both_rest r h (both_mor
 
 -- the report falls short
 pub report_short : {T : Type 0} {a b : Option (List ℕ)} {x : List ℕ} {y : Stop} (r : Result T Stop) (c : Option (List ℕ)) (rec : List ℕ) → r ≡ Err y → FallsShort a b x
-    → PutsBoth r (record { report = a; capture = c }) (record { report = b; capture = c }) (record { report = x; capture = rec })
+    → PutsBoth r (record { report = a; departures = c }) (record { report = b; departures = c }) (record { report = x; departures = rec })
 report_short r c rec is (left, some, sent) = record {
-  left = record { report = left; capture = rec };
-  sent = record { report = sent; capture = sent_none c rec };
+  left = record { report = left; departures = rec };
+  sent = record { report = sent; departures = sent_none c rec };
   all = never _ is;
   short = λ w. omega arith;
 }
@@ -107,45 +106,45 @@ sent_all_of {a} {b} {x} e = record { done = x; appended = e; parts = sym (append
 
 -- a text of the report, and a record by a call whose result is returned
 pub report_and_record : {T : Type 0} {a b c d : Option (List ℕ)} {x : List ℕ} (r : Result T Stop) (rec : List ℕ) → Appends a b x → Writes r c d rec
-    → PutsBoth r (record { report = a; capture = c }) (record { report = b; capture = d }) (record { report = x; capture = rec })
+    → PutsBoth r (record { report = a; departures = c }) (record { report = b; departures = d }) (record { report = x; departures = rec })
 report_and_record (Ok y) rec p n = record {
   left = nothing;
-  sent = record { report = sent_all_of p; capture = sent_all_of n };
+  sent = record { report = sent_all_of p; departures = sent_all_of n };
   all = refl;
   short = λ w. cc;
 }
 report_and_record (Err y) rec p (left, some, sent) = record {
-  left = record { report = []; capture = left };
-  sent = record { report = sent_all_of p; capture = sent };
+  left = record { report = []; departures = left };
+  sent = record { report = sent_all_of p; departures = sent };
   all = tt;
   short = λ w. omega arith;
 }
 
 -- a text of the report alone
 pub report_whole : {T : Type 0} {a b : Option (List ℕ)} {x : List ℕ} (y : T) (c : Option (List ℕ)) → Appends a b x
-    → PutsBoth (Ok y) (record { report = a; capture = c }) (record { report = b; capture = c }) (record { report = x; capture = [] })
+    → PutsBoth (Ok y) (record { report = a; departures = c }) (record { report = b; departures = c }) (record { report = x; departures = [] })
 report_whole {T} {a} {b} {x} y c p = record {
   left = nothing;
-  sent = record { report = sent_all_of p; capture = sent_none c [] };
+  sent = record { report = sent_all_of p; departures = sent_none c [] };
   all = refl;
   short = λ w. cc;
 }
 
 -- an output capture alone: whole, and a prefix of it
 pub capture_whole : {T : Type 0} {c d : Option (List ℕ)} {rec : List ℕ} (y : T) (report : Option (List ℕ)) → Appends c d rec
-    → PutsBoth (Ok y) (record { report = report; capture = c }) (record { report = report; capture = d }) (record { report = []; capture = rec })
+    → PutsBoth (Ok y) (record { report = report; departures = c }) (record { report = report; departures = d }) (record { report = []; departures = rec })
 capture_whole {T} {c} {d} {rec} y report p = record {
   left = nothing;
-  sent = record { report = sent_none report []; capture = sent_all_of p };
+  sent = record { report = sent_none report []; departures = sent_all_of p };
   all = refl;
   short = λ w. cc;
 }
 
 pub capture_short : {T : Type 0} {c d : Option (List ℕ)} {rec : List ℕ} {y : Stop} (r : Result T Stop) (report : Option (List ℕ)) → r ≡ Err y → FallsShort c d rec
-    → PutsBoth r (record { report = report; capture = c }) (record { report = report; capture = d }) (record { report = []; capture = rec })
+    → PutsBoth r (record { report = report; departures = c }) (record { report = report; departures = d }) (record { report = []; departures = rec })
 capture_short r report is (left, some, sent) = record {
-  left = record { report = []; capture = left };
-  sent = record { report = sent_none report []; capture = sent };
+  left = record { report = []; departures = left };
+  sent = record { report = sent_none report []; departures = sent };
   all = never _ is;
   short = λ w. omega arith;
 }

@@ -1,12 +1,9 @@
 -- What concerns a class that is kept apart, in both outputs.
-use Rattle.std.proofs.Common.{◌≡◌, ◌≤◌, ◌<◌, ℕ, List, sym, ap, ◌∙◌}
-use Rattle.abstract_port.specs.AbstractPort.{new_port}
-use Rattle.capture.specs.Records.{Entry}
+use Rattle.std.proofs.Common.{◌≤◌, ℕ, List, sym, ap, ◌∙◌}
+use Rattle.replay.specs.Words.{new_port, Entry, Request, events_of, IsSeparatedBy}
 use Rattle.separation.specs.Separation.{IsSeparation}
-use Rattle.script.specs.Requests.{Request}
-use Rattle.script.specs.Responses.{events_of}
 use Rattle.script.proofs.SeparatedLaws.{only-events}
-use Rattle.replay.specs.Separated.{IsSeparatedBy, output_concerning, output_of}
+use Rattle.replay.specs.Separated.{output_concerning, output_of}
 
 pub is_separated : IsSeparation → (entries : List Entry) (requests : List Request) (ps mtu room : ℕ) → 80 ≤ ps → 68 ≤ mtu → IsSeparatedBy entries requests (new_port ps mtu room)
 is_separated law entries requests ps mtu room rate within class less apart =

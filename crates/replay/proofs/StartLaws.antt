@@ -3,24 +3,15 @@ use Rattle.std.proofs.Common.{◌≡◌, ◌<◌, ◌≤◌, ◌+◌, ◌-◌, �
 use Rattle.std.specs.Prelude.{slice_get}
 use Rattle.std.proofs.Math.ListN.{get_or, set, get_or-map}
 use Rattle.std.proofs.lemmas.List.{map-set, length-drop}
-use Rattle.wire_time.specs.declared.Frame.{Frame}
+use Rattle.replay.specs.Words.{Frame, AbstractPort, queue_of, settled, starts_until, waiting, IsSoundPort, answer_lines, Entry, Kept, Stored, kept, kept_at, Gave, Observed, noted, noted_all, joined, kept_in, nothing, output, start_record, IsTogether, Keeps, State, first_kept}
 use Rattle.wire_time.specs.Wire.{occupancy_of}
-use Rattle.abstract_port.specs.AbstractPort.{AbstractPort, choice, next_start, queue_of, scan, settled, start_head, start_or, starts_until, waiting}
-use Rattle.abstract_port.specs.Sound.{IsSoundPort}
+use Rattle.abstract_port.specs.AbstractPort.{choice, next_start, scan, start_head, start_or}
 use Rattle.abstract_port.specs.declared.Start.{Start}
 use Rattle.abstract_port.specs.declared.Answer.TheVariants as Answered
 use Rattle.abstract_port.proofs.TurnLaws.{next_start-started, scan-none_started}
 use Rattle.abstract_port.proofs.StartsLaws.{next_start-history, next_start-onward, next_start-rate, next_start-within, settled-port, settled-starts, starts_until-none, starts_until-some, waiting-next_start}
 use Rattle.abstract_port.proofs.RunLaws.{IsTimely, timely-later, timely-sound}
-use Rattle.answer_text.specs.Lines.{answer_lines}
-use Rattle.capture.specs.Records.{Entry}
-use Rattle.octet_store.specs.Stored.{Kept, Stored, kept, kept_at}
-use Rattle.script.specs.Responses.{Gave}
-use Rattle.summary.specs.Observed.{Observed}
-use Rattle.summary.specs.Wanted.{noted, noted_all}
 use Rattle.summary.proofs.WantedLaws.{noted_all-cons, noted_all-nil}
-use Rattle.replay.specs.Outputs.{joined, kept_in, nothing, output, start_record}
-use Rattle.replay.specs.Running.{IsTogether, Keeps, State, first_kept}
 
 -- ---- the frame that starts
 
@@ -103,7 +94,7 @@ module _ (p q : AbstractPort) (upto : ℕ) (later : p.now ≤ upto) (after : q �
         ∙ ap (λ (x : List Start). s ∷ x) (sym (ap (λ (x : AbstractPort). (starts_until x upto).0) after ∙ settled-starts (next_start p upto).1 upto next_timely.rising next_timely.past))
 
     pub starts-out : (es : List Entry) → output es (map Gave (map Answered.Start (starts_until p upto).0))
-        ≡ joined (record { report = answer_lines (Answered.Start s); capture = start_record s.at (kept_in es s.id) }) (output es (map Gave (map Answered.Start (starts_until q upto).0)))
+        ≡ joined (record { report = answer_lines (Answered.Start s); departures = start_record s.at (kept_in es s.id) }) (output es (map Gave (map Answered.Start (starts_until q upto).0)))
     starts-out es = ap (λ (x : List Start). output es (map Gave (map Answered.Start x))) starts-more
 
     pub starts-seen : (now : ℕ) (o : Option Observed) → noted_all now (map Answered.Start (starts_until p upto).0) o ≡ noted_all now (map Answered.Start (starts_until q upto).0) (noted now (Answered.Start s) o)
@@ -179,10 +170,10 @@ module _ (s t : State) (x : Start) (is : Leaves s.port x t.port) (given : t.stor
 -- the outputs of the starts, of which the first is reported from the store
 pub starts-kept : (s : State) (q : AbstractPort) (upto : ℕ) (later : s.port.now ≤ upto) (after : q ≡ settled (next_start s.port upto).1) (sound : IsSoundPort s.port) (x : Start) (e : (next_start s.port upto).0 ≡ Some x) (es : List Entry) → Keeps es s
     → output es (map Gave (map Answered.Start (starts_until s.port upto).0))
-    ≡ joined (record { report = answer_lines (Answered.Start x); capture = start_record x.at (first_kept s.store x.class) }) (output es (map Gave (map Answered.Start (starts_until q upto).0)))
+    ≡ joined (record { report = answer_lines (Answered.Start x); departures = start_record x.at (first_kept s.store x.class) }) (output es (map Gave (map Answered.Start (starts_until q upto).0)))
 starts-kept s q upto later after sound x e es k =
     starts-out s.port q upto later after sound x e es
-    ∙ ap (λ (y : Kept). joined (record { report = answer_lines (Answered.Start x); capture = start_record x.at y }) (output es (map Gave (map Answered.Start (starts_until q upto).0))))
+    ∙ ap (λ (y : Kept). joined (record { report = answer_lines (Answered.Start x); departures = start_record x.at y }) (output es (map Gave (map Answered.Start (starts_until q upto).0))))
     (sym (first-kept s q x (leaves s.port q upto later after sound x e) es k))
 
 -- the first of a list

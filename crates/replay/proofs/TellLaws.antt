@@ -4,33 +4,16 @@ use Rattle.std.specs.List.{flat_map}
 use Rattle.std.specs.Io.KnownBytes.{Appends}
 use Rattle.std.proofs.Common.{◌≡◌, ◌<◌, ◌≤◌, ℕ, List, [], ◌∷◌, ◌++◌, map, Bool, true, false, Option, Some, None, Result, Ok, Err, refl, sym, ap, ◌∙◌, subst, append-nil, arith}
 use Rattle.std.proofs.lemmas.Bool.{lt-ltb, le-ltb}
-use Rattle.wire_time.specs.declared.Frame.{Frame}
+use Rattle.replay.specs.Words.{Frame, AbstractPort, after_arrival, settled, starts_until, answers_to, arrival_answer, port_after, IsSoundPort, Answer, Command, Dropped, Event, Arrive, answer_lines, Entry, CAPTURE_END, Stored, FallsShort, TcFault, Request, Asks, NoCommand, tc_request, Gave, Response, events_of, noted_by, responses_of, responses_to, Observed, noted, noted_all, Output, PutsBoth, answer_record, got, output, response_record, Answers, IsTogether, Keeps, State, Stop}
 use Rattle.wire_time.specs.Moment.{greatest_moment}
-use Rattle.abstract_port.specs.AbstractPort.{AbstractPort, after_arrival, counters_of, installs, installs_by, refusal, settled, starts_until, verdict}
-use Rattle.abstract_port.specs.Answers.{answers_to, arrival_answer, command_answer, port_after}
-use Rattle.abstract_port.specs.Sound.{IsSoundPort}
-use Rattle.abstract_port.specs.declared.Answer.{Answer}
+use Rattle.abstract_port.specs.AbstractPort.{counters_of, installs, installs_by, refusal, verdict}
+use Rattle.abstract_port.specs.Answers.{command_answer}
 use Rattle.abstract_port.specs.declared.Answer.TheVariants as Answered
-use Rattle.abstract_port.specs.declared.Command.{Command}
 use Rattle.abstract_port.specs.declared.Command.TheVariants.{Delete, Replace}
-use Rattle.abstract_port.specs.declared.Dropped.{Dropped}
-use Rattle.abstract_port.specs.declared.Event.{Event}
-use Rattle.abstract_port.specs.declared.Event.TheVariants.{Arrive, Clock, Count, Query}
+use Rattle.abstract_port.specs.declared.Event.TheVariants.{Clock, Count, Query}
 use Rattle.abstract_port.specs.declared.Refused.{Refused}
 use Rattle.abstract_port.proofs.RunLaws.{settled-current}
-use Rattle.answer_text.specs.Lines.{answer_lines}
-use Rattle.capture.specs.Records.{Entry}
-use Rattle.capture.specs.declared.writer.TheConstants.{CAPTURE_END}
-use Rattle.octet_store.specs.Stored.{Stored}
-use Rattle.octet_writer.specs.Writes.{FallsShort}
-use Rattle.tc_reader.specs.declared.fault.TcFault.{TcFault}
-use Rattle.script.specs.Requests.{Request, Asks, NoCommand, tc_request}
-use Rattle.script.specs.Responses.{Gave, Response, events_of, lines_of, noted_by, responses_of, responses_to}
-use Rattle.summary.specs.Observed.{Observed}
-use Rattle.summary.specs.Wanted.{noted, noted_all}
-use Rattle.replay.specs.Outputs.{Output, PutsBoth, answer_record, got, output, response_record}
-use Rattle.replay.specs.Running.{Answers, IsTogether, Keeps, State}
-use Rattle.replay.specs.declared.faults.Stop.{Stop}
+use Rattle.script.specs.Responses.{lines_of}
 use Rattle.replay.proofs.ArrivalLaws.{one_answer}
 use Rattle.replay.proofs.Sends.{never, on_ok_map, report_short, report_whole}
 use Rattle.replay.proofs.StartLaws.{still_keeps, still_together}
@@ -101,12 +84,12 @@ one_after (NoCommand fault) p = refl
 
 -- a port, its store, what is seen of it and what was written
 abbrev pub at : AbstractPort → Stored → Option Observed → Option (List ℕ) → Option (List ℕ) → State
-at p w o report capture = record { port = p; store = w; seen = o; got = got report capture }
+at p w o report departures = record { port = p; store = w; seen = o; got = got report departures }
 
-one_told : (es : List Entry) (r : Request) (p : AbstractPort) → IsSilent es r p → output es (responses_of (r ∷ []) p) ≡ record { report = lines_of (responses_to r p).0; capture = [] }
+one_told : (es : List Entry) (r : Request) (p : AbstractPort) → IsSilent es r p → output es (responses_of (r ∷ []) p) ≡ record { report = lines_of (responses_to r p).0; departures = [] }
 one_told es r p silent =
     ap (λ (x : List Response). output es x) (append-nil (responses_to r p).0)
-    ∙ ap (λ (t : List ℕ). record { report = lines_of (responses_to r p).0; capture = t }) silent.told
+    ∙ ap (λ (t : List ℕ). record { report = lines_of (responses_to r p).0; departures = t }) silent.told
 
 module _ (es : List Entry) (r : Request) (p q : AbstractPort) (w : Stored) (n o : Option Observed) (a b c : Option (List ℕ)) (silent : IsSilent es r p) where
   -- what is reported of it is written
@@ -138,7 +121,7 @@ arrival_record es f (Ok class) = refl
 arrival_record es f (Err why) = refl
 
 pub arrival_told : {T : Type 0} (r : Result T Stop) (es : List Entry) (f : Frame) (v : Result ℕ Dropped) (s t : State) → v ≡ verdict s.port f
-    → OnOk r (t.port ≡ settled (after_arrival s.port f v)) → OnOk r (Keeps es t) → OnOk r (t.seen ≡ noted s.port.now (arrival_answer f v) s.seen) → PutsBoth r s.got t.got (record { report = answer_lines (arrival_answer f v); capture = [] })
+    → OnOk r (t.port ≡ settled (after_arrival s.port f v)) → OnOk r (Keeps es t) → OnOk r (t.seen ≡ noted s.port.now (arrival_answer f v) s.seen) → PutsBoth r s.got t.got (record { report = answer_lines (arrival_answer f v); departures = [] })
     → Answers es r (Asks (Arrive f) ∷ []) s t
 arrival_told r es f v s t is port keeps seen out =
     answers_one r es (Arrive f) s t (arrival_answer f v ∷ []) (after_arrival s.port f v) (ap (λ (v : Result ℕ Dropped). (arrival_answer f v ∷ [], after_arrival s.port f v)) (sym is)) port keeps

@@ -19,7 +19,7 @@ use Rattle.replay.specs.declared.faults.ReplayInput.{ReplayInput}
 
 -- what two writers got, and then what no write let out
 abbrev pub with_unwritten : Got → Output → Got
-with_unwritten got unwritten = record { report = append_known got.report unwritten.report; capture = append_known got.capture unwritten.capture }
+with_unwritten got unwritten = record { report = append_known got.report unwritten.report; departures = append_known got.departures unwritten.departures }
 
 -- what is written where both outputs go through buffers: after a failed write a prefix of each, which the buffers' octets end
 abbrev pub EndsOut : {T : Type 0} → Result T (Fault ReplayInput) → Got → Got → Outcome → Type 0

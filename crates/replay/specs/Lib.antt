@@ -8,7 +8,9 @@ pub mod Outputs
 pub mod Running
 pub mod LinesLeft
 pub mod RecordsLeft
+pub mod RecordsRun
 pub mod Outcome
 pub mod Texts
 pub mod Ending
 pub mod Separated
+pub mod Words

@@ -50,11 +50,11 @@ refused fault = record { output = nothing; fault = Some fault }
 
 -- the file header of the output capture
 abbrev pub header : Output
-header = record { report = []; capture = written_header }
+header = record { report = []; departures = written_header }
 
 -- how many frames each class still has, and the summary where one is wanted
 abbrev pub end_of : AbstractPort → Option Observed → Output
-end_of p o = record { report = end_lines p o; capture = [] }
+end_of p o = record { report = end_lines p o; departures = [] }
 
 -- what is reported of requests, and then how many frames are left, and the summary
 abbrev pub told_to_end : List Entry → List Request → AbstractPort → Option Observed → Output
@@ -114,7 +114,7 @@ outcome_of read s script capture =
 -- both outputs were written whole
 pub record AppendsBoth (old new : Got) (whole : Output) : Type 0 where
   pub report : Appends old.report new.report whole.report
-  pub capture : Appends old.capture new.capture whole.capture
+  pub departures : Appends old.departures new.departures whole.departures
 
 -- At Ok, and at a fault of the inputs, both outputs are written whole, and the fault is theirs; at the other faults a prefix of each,
 -- and after a failed write not all of both.
@@ -122,5 +122,5 @@ abbrev pub Ends : {T : Type 0} → Result T (Fault ReplayInput) → Got → Got 
 Ends (Ok x) old new whole = (whole.fault ≡ None) × AppendsBoth old new whole.output
 Ends (Err (Faults.Input fault)) old new whole = (whole.fault ≡ Some fault) × AppendsBoth old new whole.output
 Ends (Err Faults.Read) old new whole = (left : Output) × SentBoth old new whole.output left
-Ends (Err Faults.Write) old new whole = (left : Output) × (0 < length left.report + length left.capture) × SentBoth old new whole.output left
+Ends (Err Faults.Write) old new whole = (left : Output) × (0 < length left.report + length left.departures) × SentBoth old new whole.output left
 Ends (Err Faults.Memory) old new whole = (left : Output) × SentBoth old new whole.output left

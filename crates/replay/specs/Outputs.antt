@@ -16,15 +16,15 @@ use Rattle.replay.specs.declared.faults.Stop.TheVariants as Stops
 -- a report, and an output capture without its header
 pub record Output : Type 0 where
   pub report : List ℕ
-  pub capture : List ℕ
+  pub departures : List ℕ
 
 -- nothing on either
 abbrev pub nothing : Output
-nothing = record { report = []; capture = [] }
+nothing = record { report = []; departures = [] }
 
 -- one output after the other
 abbrev pub joined : Output → Output → Output
-joined x y = record { report = x.report ++ y.report; capture = x.capture ++ y.capture }
+joined x y = record { report = x.report ++ y.report; departures = x.departures ++ y.departures }
 
 -- a record that is not there
 abbrev pub no_entry : Entry
@@ -50,23 +50,23 @@ response_record entries (Faulted fault) = []
 
 -- the lines of what is reported, and the records of its starts
 abbrev pub output : List Entry → List Response → Output
-output entries responses = record { report = lines_of responses; capture = flat_map (response_record entries) responses }
+output entries responses = record { report = lines_of responses; departures = flat_map (response_record entries) responses }
 
 -- 2. What calls that may fail leave in two writers
 
 -- what two writers have got
 pub record Got : Type 0 where
   pub report : Option (List ℕ)
-  pub capture : Option (List ℕ)
+  pub departures : Option (List ℕ)
 
 -- what two writers have got, as a record
 abbrev pub got : Option (List ℕ) → Option (List ℕ) → Got
-got report capture = record { report = report; capture = capture }
+got report departures = record { report = report; departures = departures }
 
 -- of each output a prefix was appended, and `left` is still to come
 pub record SentBoth (old new : Got) (whole left : Output) : Type 0 where
   pub report : Sent old.report new.report whole.report left.report
-  pub capture : Sent old.capture new.capture whole.capture left.capture
+  pub departures : Sent old.departures new.departures whole.departures left.departures
 
 -- of each output a prefix was appended: at Ok all, and after a failed write not all of both
 module _ {T : Type 0} where
@@ -74,4 +74,4 @@ module _ {T : Type 0} where
     pub left : Output
     pub sent : SentBoth old new whole left
     pub all : OnOk r (left ≡ nothing)
-    pub short : r ≡ Err Stops.Write → 0 < length left.report + length left.capture
+    pub short : r ≡ Err Stops.Write → 0 < length left.report + length left.departures

@@ -24,7 +24,7 @@ pub record State : Type 0 where
 
 -- the state of a replay that runs
 abbrev pub state : {A : Type 0} → Sending A → Option (List ℕ) → Option (List ℕ) → State
-state s report capture = record { port = s.port.port; store = s.store; seen = s.summary; got = record { report = report; capture = capture } }
+state s report departures = record { port = s.port.port; store = s.store; seen = s.summary; got = record { report = report; departures = departures } }
 
 -- the store beside the queues: as many frames in each class, and the same room
 pub record IsTogether (s : State) : Type 0 where

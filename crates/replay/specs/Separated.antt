@@ -15,7 +15,7 @@ use Rattle.replay.specs.Outputs.{Output, answer_record}
 abbrev pub output_of : List Entry → List Noted → Output
 output_of entries notes = record {
   report = flat_map (λ n. answer_lines n.answer) notes;
-  capture = flat_map (λ n. answer_record entries n.answer) notes;
+  departures = flat_map (λ n. answer_record entries n.answer) notes;
 }
 
 -- both outputs of the answers that concern a class

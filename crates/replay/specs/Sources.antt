@@ -1,5 +1,5 @@
 -- The merged list apart from how it is made: both sources, each in its own order, by rising moment.
-use Rattle.std.specs.Prelude.{◌≡◌, ◌≤◌, ◌<◌, ◌++◌, ℕ, List, [], ◌∷◌}
+use Rattle.std.specs.Prelude.{◌≡◌, ◌≤◌, ◌<◌, List, [], ◌∷◌}
 use Rattle.std.specs.List.{flat_map}
 use Rattle.abstract_port.specs.declared.Event.TheVariants.{Arrive, Clock}
 use Rattle.capture.specs.Record.{frame_of}

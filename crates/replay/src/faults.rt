@@ -1,7 +1,7 @@
 //! Why a replay ends early.
 
 ghost use Rattle.std.specs.Prelude.{◌≡◌};
-ghost use Rattle.replay.specs.Faults.{fault_of_stop, script_limited};
+ghost use Rattle.replay.specs.Words.{fault_of_stop, script_limited};
 ghost use Rattle.replay.specs.declared.faults.Stop.TheVariants as Stops;
 
 use answer_text::WriteFault;
@@ -40,7 +40,7 @@ impl LineInput for ReplayInput {
 
 /// Why a replay stops where it stands, whatever its inputs say.
 #[derive(Clone, Copy, Debug, PartialEq, Eq)]
-pub enum Stop {
+pub(crate) enum Stop {
     /// A read failed.
     Read,
     /// A write failed, or took nothing.

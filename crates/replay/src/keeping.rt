@@ -1,15 +1,7 @@
 //! Reads a script whole and keeps it.
 
-ghost use Rattle.std.specs.Prelude.{◌≡◌, ◌≤◌, ◌<◌, ◌∷◌, ◌++◌, [], ℕ, List, Result, IfOk, IfSome, OnOk, Ok, slice_range, length};
-ghost use Rattle.abstract_port.specs.declared.Command.{Command};
-ghost use Rattle.line_reader.specs.LineReader.{script_left};
-ghost use Rattle.line_reader.specs.Script.{script_of};
-ghost use Rattle.tc_reader.specs.Reader.{IsReader};
-ghost use Rattle.tc_reader.specs.declared.fault.TcFault.{TcFault};
-ghost use Rattle.words.specs.Words.{words_of};
-ghost use Rattle.replay.specs.KeptScript.{IsKept, kept_request, kept_requests};
-ghost use Rattle.replay.specs.Keeping.{GivesScript, ReadsRest};
-ghost use Rattle.replay.specs.Lines.{IsEarly, line_request, reading_of};
+ghost use Rattle.std.specs.Prelude.{◌≡◌, ◌<◌, ◌∷◌, ◌++◌, [], ℕ, List, Result, IfOk, IfSome, OnOk, Ok, length};
+ghost use Rattle.replay.specs.Words.{Command, script_left, script_of, IsReader, TcFault, words_of, IsKept, kept_request, kept_requests, GivesScript, ReadsRest, IsEarly, line_request, reading_of};
 
 use crate::faults::{ReplayFault, ReplayInput};
 use crate::kept_script::{KeptLine, KeptScript};
@@ -94,7 +86,7 @@ fn keep_lines<A: Allocator, B: Allocator, R: Read + Drop>(
 }
 
 /// Reads a script to its end, or to its first fault.
-pub fn read_script<A: Allocator + Clone, R: Read + Drop>(
+pub(crate) fn read_script<A: Allocator + Clone, R: Read + Drop>(
     alloc: &A,
     reader: R,
 ) -> Result<KeptScript<A>, ReplayFault>

@@ -6,7 +6,7 @@ use std::alloc::{Allocator, Global};
 
 /// What is kept of a line.
 #[derive(Clone, Copy, Debug, PartialEq, Eq)]
-pub enum KeptLine {
+pub(crate) enum KeptLine {
     /// The clock goes on to this moment, in picoseconds, at most `CAPTURE_END`.
     Clock(u128),
     /// A report is asked for.
@@ -24,7 +24,7 @@ pub enum KeptLine {
 
 /// The lines of a script that are not skipped. A line takes 32 octets, and its own where it begins with `tc`.
 #[derive(Drop)]
-pub struct KeptScript<A: Allocator = Global> {
+pub(crate) struct KeptScript<A: Allocator = Global> {
     /// The lines, in order.
     pub lines: Vec<KeptLine, A>,
     /// The octets of those that begin with `tc`.

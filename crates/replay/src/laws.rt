@@ -1,15 +1,7 @@
 //! Laws of replays. The functions run nothing: the contract of each is its law.
 
 ghost use Rattle.std.specs.Prelude.{◌≤◌, List};
-ghost use Rattle.abstract_port.specs.AbstractPort.{new_port};
-ghost use Rattle.capture.specs.Records.{Entry};
-ghost use Rattle.script.specs.Outcome.{IsFaithful};
-ghost use Rattle.script.specs.Requests.{Request};
-ghost use Rattle.script.specs.Setup.{Setup};
-ghost use Rattle.wire_time.specs.declared.TheConstants.{MIN_MTU, MIN_PS_PER_OCTET};
-ghost use Rattle.replay.specs.Merge.{all_requests};
-ghost use Rattle.replay.specs.Separated.{IsSeparatedBy};
-ghost use Rattle.replay.specs.Sources.{MergeLaw};
+ghost use Rattle.replay.specs.Words.{new_port, Entry, IsFaithful, Request, Setup, MIN_MTU, MIN_PS_PER_OCTET, all_requests, IsSeparatedBy, MergeLaw};
 
 use separation::separation;
 

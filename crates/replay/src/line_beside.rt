@@ -1,8 +1,7 @@
 //! What the lines of a script say that runs beside a capture.
 
 ghost use Rattle.std.specs.Prelude.{◌≡◌, IfOk, IfSome};
-ghost use Rattle.words.specs.Words.{words_of};
-ghost use Rattle.replay.specs.Lines.{IsEarly, begins_with_frame, line_in, line_said};
+ghost use Rattle.replay.specs.Words.{words_of, IsEarly, begins_with_frame, line_in, line_said};
 
 use abstract_port::Event;
 use capture::CAPTURE_END;
@@ -11,7 +10,7 @@ use words::Words;
 
 /// What a line says.
 #[derive(Clone, Copy, Debug, PartialEq, Eq)]
-pub enum Line {
+pub(crate) enum Line {
     /// The clock goes on to this moment, in picoseconds, at most `CAPTURE_END`.
     Clock(u128),
     /// A report is asked for.
@@ -56,7 +55,7 @@ fn line_said(said: Said) -> Result<Line, ScriptFault>
 }
 
 /// What a line says, or None where it is skipped: it has no words, or is a comment.
-pub fn read_line_beside(octets: &[u8]) -> Result<Option<Line>, ScriptFault>
+pub(crate) fn read_line_beside(octets: &[u8]) -> Result<Option<Line>, ScriptFault>
     ensures says { result ≡ line_in octets.now }
     ensures early { IfOk result (λ o. IfSome o IsEarly) }
 {

@@ -1,15 +1,7 @@
 //! The lines of a kept script, as their turn comes.
 
-ghost use Rattle.std.specs.Prelude.{◌≡◌, ◌≤◌, ◌∷◌, [], ℕ, List, Result, OnOk};
-ghost use Rattle.abstract_port.specs.declared.Command.{Command};
-ghost use Rattle.capture.specs.Records.{Entry};
-ghost use Rattle.capture.specs.declared.writer.TheConstants.{CAPTURE_END};
-ghost use Rattle.tc_reader.specs.Reader.{IsReader};
-ghost use Rattle.tc_reader.specs.declared.fault.TcFault.{TcFault};
-ghost use Rattle.replay.specs.KeptScript.{IsKept, kept_clock, kept_request};
-ghost use Rattle.replay.specs.LinesLeft.{lines_left};
-ghost use Rattle.replay.specs.Merge.{lines_by, lines_past, requests_of};
-ghost use Rattle.replay.specs.Running.{Answers, IsTogether, Keeps, state};
+ghost use Rattle.std.specs.Prelude.{◌≡◌, ◌∷◌, [], ℕ, List, Result, OnOk};
+ghost use Rattle.replay.specs.Words.{Command, Entry, IsReader, TcFault, IsKept, kept_clock, kept_request, lines_left, lines_by, lines_past, requests_of, Answers, IsTogether, Keeps, state};
 
 use crate::cursor::Cursor;
 use crate::faults::Stop;
@@ -27,19 +19,19 @@ fn put_line<A: Allocator, B: Allocator, W: Write, V: Write>(
     sending: &mut Sending<A>,
     script: &KeptScript<B>,
     line: KeptLine,
-    capture: &mut W,
+    departures: &mut W,
     report: &mut V,
 ) -> Result<(), Stop>
     requires kept { IsKept script.now.octets.items line }
-    requires together { IsTogether (state sending.old (V.contents report.old) (W.contents capture.old)) }
-    ensures together { OnOk result (IsTogether (state sending.new (V.contents report.new) (W.contents capture.new))) }
+    requires together { IsTogether (state sending.old (V.contents report.old) (W.contents departures.old)) }
+    ensures together { OnOk result (IsTogether (state sending.new (V.contents report.new) (W.contents departures.new))) }
     ensures answers { (read : List (List ℕ) → Result Command TcFault) → IsReader read
-        → (entries : List Entry) → Keeps entries (state sending.old (V.contents report.old) (W.contents capture.old)) →
-        Answers entries result (kept_request read script.now.octets.items line ∷ []) (state sending.old (V.contents report.old) (W.contents capture.old)) (state sending.new (V.contents report.new) (W.contents capture.new)) }
+        → (entries : List Entry) → Keeps entries (state sending.old (V.contents report.old) (W.contents departures.old)) →
+        Answers entries result (kept_request read script.now.octets.items line ∷ []) (state sending.old (V.contents report.old) (W.contents departures.old)) (state sending.new (V.contents report.new) (W.contents departures.new)) }
 {
     one_reader();
     match line {
-        KeptLine::Clock(moment) => return put_clock(sending, moment, capture, report),
+        KeptLine::Clock(moment) => return put_clock(sending, moment, departures, report),
         KeptLine::Query => put_answers(
             &mut sending.port,
             &mut sending.summary,
@@ -76,21 +68,21 @@ fn kept_clock(clock: u128, line: KeptLine) -> u128
 
 /// Answers the lines up to a moment that are to come.
 #[inline(always)]
-pub fn run_lines<A: Allocator, B: Allocator, W: Write, V: Write>(
+pub(crate) fn run_lines<A: Allocator, B: Allocator, W: Write, V: Write>(
     sending: &mut Sending<A>,
     script: &KeptScript<B>,
     cursor: &mut Cursor,
     upto: u128,
-    capture: &mut W,
+    departures: &mut W,
     report: &mut V,
 ) -> Result<(), Stop>
-    requires together { IsTogether (state sending.old (V.contents report.old) (W.contents capture.old)) }
-    ensures together { OnOk result (IsTogether (state sending.new (V.contents report.new) (W.contents capture.new))) }
+    requires together { IsTogether (state sending.old (V.contents report.old) (W.contents departures.old)) }
+    ensures together { OnOk result (IsTogether (state sending.new (V.contents report.new) (W.contents departures.new))) }
     ensures left { (read : List (List ℕ) → Result Command TcFault) → IsReader read →
         OnOk result (lines_left read script.now cursor.new ≡ lines_past upto (lines_left read script.now cursor.old)) }
     ensures answers { (read : List (List ℕ) → Result Command TcFault) → IsReader read
-        → (entries : List Entry) → Keeps entries (state sending.old (V.contents report.old) (W.contents capture.old)) →
-        Answers entries result (requests_of (lines_by upto (lines_left read script.now cursor.old))) (state sending.old (V.contents report.old) (W.contents capture.old)) (state sending.new (V.contents report.new) (W.contents capture.new)) }
+        → (entries : List Entry) → Keeps entries (state sending.old (V.contents report.old) (W.contents departures.old)) →
+        Answers entries result (requests_of (lines_by upto (lines_left read script.now cursor.old))) (state sending.old (V.contents report.old) (W.contents departures.old)) (state sending.new (V.contents report.new) (W.contents departures.new)) }
 {
     let lines = script.lines.as_slice();
     while cursor.at < lines.len() {
@@ -99,7 +91,7 @@ pub fn run_lines<A: Allocator, B: Allocator, W: Write, V: Write>(
         if clock > upto {
             return Ok(());
         }
-        put_line(sending, script, line, capture, report)?;
+        put_line(sending, script, line, departures, report)?;
         cursor.clock = clock;
         cursor.at += 1;
     }

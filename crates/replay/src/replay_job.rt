@@ -4,8 +4,7 @@ ghost use Rattle.std.specs.Prelude.{◌≡◌, ◌⊎◌, [], Err};
 ghost use Rattle.std.specs.Io.Buffered.{writer_buffer, writer_contents};
 ghost use Rattle.std.specs.Io.KnownBytes.{Keeps};
 ghost use Rattle.job.specs.declared.fault.Fault.TheVariants as Faults;
-ghost use Rattle.replay.specs.Ending.{IsReplayEnding};
-ghost use Rattle.replay.specs.Outputs.{got};
+ghost use Rattle.replay.specs.Words.{IsReplayEnding, got};
 
 use crate::faults::ReplayFault;
 use crate::replay_run::replay;

@@ -1,26 +1,9 @@
 //! Runs a script and a capture.
 
 ghost use Rattle.std.specs.Prelude.{◌≡◌, ◌++◌, ℕ, List, None, Option, Result, OnOk, IfOk, IfErr, IfSome, Err, false, true, length};
-ghost use Rattle.abstract_port.specs.AbstractPort.{new_port};
-ghost use Rattle.abstract_port.specs.Sound.{IsSoundPort};
-ghost use Rattle.abstract_port.specs.declared.Command.{Command};
-ghost use Rattle.capture.specs.CaptureReader.{IsNewReader, left};
-ghost use Rattle.capture.specs.Records.{Entry};
-ghost use Rattle.capture.specs.declared.fault.CapFault.{CapFault};
-ghost use Rattle.capture.specs.declared.reader.End.{End};
-ghost use Rattle.script.specs.Outcome.{clock_after};
-ghost use Rattle.tc_reader.specs.Reader.{IsReader};
-ghost use Rattle.tc_reader.specs.declared.fault.TcFault.{TcFault};
-ghost use Rattle.replay.specs.LinesLeft.{lines_left};
-ghost use Rattle.octet_store.specs.Stored.{new_store};
-ghost use Rattle.replay.specs.KeptScript.{kept_requests};
-ghost use Rattle.replay.specs.Merge.{all_requests, requests_of};
-ghost use Rattle.replay.specs.Outcome.{Ends, IsOpenFault, ReadsAs, end_fault, header, is_too_late, open_fault, outcome_of, told_to_end};
-ghost use Rattle.replay.specs.Outputs.{PutsBoth, got};
-ghost use Rattle.replay.specs.RecordsLeft.{Comes};
+ghost use Rattle.replay.specs.Words.{new_port, IsSoundPort, Command, IsNewReader, left, Entry, CapFault, End, clock_after, IsReader, TcFault, lines_left, new_store, kept_requests, all_requests, requests_of, Ends, IsOpenFault, ReadsAs, end_fault, header, is_too_late, open_fault, outcome_of, told_to_end, PutsBoth, got, Comes, Answers, IsTogether, Keeps, state};
 ghost use Rattle.job.specs.declared.fault.Fault.TheVariants as Faults;
 ghost use Rattle.replay.specs.declared.faults.ReplayInput.TheVariants as Inputs;
-ghost use Rattle.replay.specs.Running.{Answers, IsTogether, Keeps, state};
 
 use crate::cursor::Cursor;
 use crate::faults::{ReplayFault, ReplayInput, Stop};
@@ -51,18 +34,18 @@ fn is_too_late(until: Option<u128>) -> bool
 fn run_to<A: Allocator, W: Write, V: Write>(
     sending: &mut Sending<A>,
     until: Option<u128>,
-    capture: &mut W,
+    departures: &mut W,
     report: &mut V,
 ) -> Result<(), Stop>
     requires until { is_too_late until ≡ false }
-    requires together { IsTogether (state sending.old (V.contents report.old) (W.contents capture.old)) }
-    ensures together { OnOk result (IsTogether (state sending.new (V.contents report.new) (W.contents capture.new))) }
-    ensures answers { (entries : List Entry) → Keeps entries (state sending.old (V.contents report.old) (W.contents capture.old)) →
-        Answers entries result (clock_after until) (state sending.old (V.contents report.old) (W.contents capture.old)) (state sending.new (V.contents report.new) (W.contents capture.new)) }
+    requires together { IsTogether (state sending.old (V.contents report.old) (W.contents departures.old)) }
+    ensures together { OnOk result (IsTogether (state sending.new (V.contents report.new) (W.contents departures.new))) }
+    ensures answers { (entries : List Entry) → Keeps entries (state sending.old (V.contents report.old) (W.contents departures.old)) →
+        Answers entries result (clock_after until) (state sending.old (V.contents report.old) (W.contents departures.old)) (state sending.new (V.contents report.new) (W.contents departures.new)) }
 {
     match until {
         None => Ok(()),
-        Some(moment) => put_clock(sending, moment, capture, report),
+        Some(moment) => put_clock(sending, moment, departures, report),
     }
 }
 
@@ -73,18 +56,18 @@ fn finish<A: Allocator, B: Allocator, W: Write, V: Write>(
     script: &KeptScript<B>,
     cursor: &mut Cursor,
     until: Option<u128>,
-    capture: &mut W,
+    departures: &mut W,
     report: &mut V,
 ) -> Result<(), Stop>
     requires until { is_too_late until ≡ false }
-    requires together { IsTogether (state sending.old (V.contents report.old) (W.contents capture.old)) }
+    requires together { IsTogether (state sending.old (V.contents report.old) (W.contents departures.old)) }
     ensures { (read : List (List ℕ) → Result Command TcFault) → IsReader read
-        → (entries : List Entry) → Keeps entries (state sending.old (V.contents report.old) (W.contents capture.old)) →
-        PutsBoth result (got (V.contents report.old) (W.contents capture.old)) (got (V.contents report.new) (W.contents capture.new))
+        → (entries : List Entry) → Keeps entries (state sending.old (V.contents report.old) (W.contents departures.old)) →
+        PutsBoth result (got (V.contents report.old) (W.contents departures.old)) (got (V.contents report.new) (W.contents departures.new))
         (told_to_end entries (requests_of (lines_left read script.now cursor.old) ++ clock_after until) sending.old.port.port sending.old.summary) }
 {
-    run_lines(sending, script, cursor, CAPTURE_END, capture, report)?;
-    run_to(sending, until, capture, report)?;
+    run_lines(sending, script, cursor, CAPTURE_END, departures, report)?;
+    run_to(sending, until, departures, report)?;
     put_end(&sending.port, &sending.summary, report)?;
     Ok(())
 }
@@ -95,18 +78,18 @@ fn run<A: Allocator + Clone, B: Allocator, C: Allocator, R: Read, W: Write, V: W
     script: &KeptScript<B>,
     until: Option<u128>,
     records: &mut CaptureReader<R, C>,
-    capture: &mut W,
+    departures: &mut W,
     report: &mut V,
     watch: &mut P,
 ) -> Result<(), ReplayFault>
     requires until { is_too_late until ≡ false }
-    requires together { IsTogether (state sending.old (V.contents report.old) (W.contents capture.old)) }
+    requires together { IsTogether (state sending.old (V.contents report.old) (W.contents departures.old)) }
     requires begun { (left records.old).ended ≡ None }
     requires first { (left records.old).number ≡ 0 }
     ensures { (read : List (List ℕ) → Result Command TcFault) → IsReader read
         → (entries : List Entry) (last : End) → Comes R.remaining (left records.old) entries last
-        → Keeps entries (state sending.old (V.contents report.old) (W.contents capture.old)) →
-        Ends result (got (V.contents report.old) (W.contents capture.old)) (got (V.contents report.new) (W.contents capture.new))
+        → Keeps entries (state sending.old (V.contents report.old) (W.contents departures.old)) →
+        Ends result (got (V.contents report.old) (W.contents departures.old)) (got (V.contents report.new) (W.contents departures.new))
         (record { output = told_to_end entries (all_requests (kept_requests read script.now.octets.items script.now.lines.items) entries until) sending.old.port.port sending.old.summary; fault = end_fault (length entries) last }) }
 {
     let mut cursor = Cursor { at: 0, clock: 0 };
@@ -115,11 +98,11 @@ fn run<A: Allocator + Clone, B: Allocator, C: Allocator, R: Read, W: Write, V: W
         script,
         &mut cursor,
         records,
-        capture,
+        departures,
         report,
         watch,
     )?;
-    finish(sending, script, &mut cursor, until, capture, report)?;
+    finish(sending, script, &mut cursor, until, departures, report)?;
     match broken {
         None => Ok(()),
         Some((number, fault)) => Err(ReplayFault::Input(ReplayInput::Capture(number, fault))),
@@ -156,13 +139,13 @@ fn begin<A: Allocator + Clone, W: Write>(
     alloc: &A,
     settings: Settings,
     summary: Option<Summary<A>>,
-    capture: &mut W,
+    departures: &mut W,
 ) -> Result<Sending<A>, Stop>
     ensures port { IfOk result (λ s. s.port.port ≡ new_port settings.rate settings.mtu settings.room) }
     ensures store { IfOk result (λ s. s.store ≡ new_store settings.room) }
     ensures seen { IfOk result (λ s. s.summary ≡ summary) }
     ensures sound { IfOk result (λ s. IsSoundPort s.port.port) }
-    ensures out { (report : Option (List ℕ)) → PutsBoth result (got report (W.contents capture.old)) (got report (W.contents capture.new)) header }
+    ensures out { (report : Option (List ℕ)) → PutsBoth result (got report (W.contents departures.old)) (got report (W.contents departures.new)) header }
 {
     let rate = settings.rate();
     // For the prover: the getter says within which limits a rate lies.
@@ -175,7 +158,7 @@ fn begin<A: Allocator + Clone, W: Write>(
     // For the prover: a call on a port says what holds of every port.
     let _now = port.now();
     let store = OctetStore::new(alloc, room)?;
-    match CaptureWriter::begin(capture) {
+    match CaptureWriter::begin(departures) {
         Ok(writer) => Ok(Sending {
             port,
             summary,
@@ -202,15 +185,15 @@ pub fn replay<A: Allocator, R: Read + Drop, S: Read + Drop, W: Write, V: Write, 
     alloc: A,
     script: R,
     capture: S,
-    out_capture: &mut W,
-    out_report: &mut V,
+    departures: &mut W,
+    report: &mut V,
     settings: Settings,
     watch: &mut P,
 ) -> Result<(), ReplayFault>
     ensures replay { (read : List (List ℕ) → Result Command TcFault) → IsReader read → IfSome (R.remaining script) (λ lines. IfSome (S.remaining capture) (λ octets.
         (records : Result (List Entry × End) CapFault) → ReadsAs octets records →
-        Ends result (got (V.contents out_report.old) (W.contents out_capture.old)) (got (V.contents out_report.new) (W.contents out_capture.new)) (outcome_of read settings lines records))) }
-    ensures late { is_too_late settings.until ≡ true → (result ≡ Err (Faults.Input Inputs.Until)) × (out_capture.new ≡ out_capture.old) × (out_report.new ≡ out_report.old) }
+        Ends result (got (V.contents report.old) (W.contents departures.old)) (got (V.contents report.new) (W.contents departures.new)) (outcome_of read settings lines records))) }
+    ensures late { is_too_late settings.until ≡ true → (result ≡ Err (Faults.Input Inputs.Until)) × (departures.new ≡ departures.old) × (report.new ≡ report.old) }
 {
     let until = settings.until();
     if is_too_late(until) {
@@ -220,14 +203,14 @@ pub fn replay<A: Allocator, R: Read + Drop, S: Read + Drop, W: Write, V: Write, 
     let summary = summary_wanted(&alloc, settings.summary(), settings.room())?;
     let script = read_script(&alloc, script)?;
     let mut records = open(alloc, capture)?;
-    let mut sending = begin(&alloc, settings, summary, out_capture)?;
+    let mut sending = begin(&alloc, settings, summary, departures)?;
     run(
         &mut sending,
         &script,
         until,
         &mut records,
-        out_capture,
-        out_report,
+        departures,
+        report,
         watch,
     )
 }

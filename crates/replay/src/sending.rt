@@ -1,20 +1,10 @@
 //! A port that runs, beside it the octets of the frames that wait, what is seen of it, and the capture of what leaves.
 
 ghost use Rattle.std.specs.Prelude.{◌≡◌, ◌≤◌, ◌<◌, ◌∷◌, ◌⊎◌, [], ℕ, List, None, Option, length, drop, IfErr, OnOk, slice_set};
-ghost use Rattle.abstract_port.specs.Answers.{arrival_answer};
+ghost use Rattle.replay.specs.Words.{arrival_answer, answer_lines, CAPTURE_END, MAX_RECORD_OCTETS, Entry, kept, kept_at, Writes, Asks, PutsBoth, kept_in, start_record, Answers, AnswersStarts, IsTogether, Keeps, first_kept, state, noted};
 ghost use Rattle.abstract_port.specs.declared.Answer.TheVariants as Answered;
 ghost use Rattle.abstract_port.specs.declared.Event.TheVariants as Events;
-ghost use Rattle.answer_text.specs.Lines.{answer_lines};
-ghost use Rattle.capture.specs.declared.writer.TheConstants.{CAPTURE_END};
-ghost use Rattle.capture.specs.declared.format.TheConstants.{MAX_RECORD_OCTETS};
-ghost use Rattle.capture.specs.Records.{Entry};
-ghost use Rattle.octet_store.specs.Stored.{kept, kept_at};
-ghost use Rattle.octet_writer.specs.Writes.{Writes};
-ghost use Rattle.script.specs.Requests.{Asks};
-ghost use Rattle.replay.specs.Outputs.{PutsBoth, kept_in, start_record};
-ghost use Rattle.replay.specs.Running.{Answers, AnswersStarts, IsTogether, Keeps, first_kept, state};
 ghost use Rattle.replay.specs.declared.faults.Stop.TheVariants as Stops;
-ghost use Rattle.summary.specs.Wanted.{noted};
 
 use crate::faults::Stop;
 use abstract_port::{Answer, Dropped, Start};
@@ -29,7 +19,7 @@ use wire_time::Frame;
 
 /// A port that runs, with the octets of the frames that wait in it, and the capture that they leave for.
 #[derive(Drop)]
-pub struct Sending<A: Allocator = Global> {
+pub(crate) struct Sending<A: Allocator = Global> {
     /// The port.
     pub port: RunningPort<A>,
     /// What is seen of it, where a summary is wanted.
@@ -90,7 +80,7 @@ fn put_noted_arrival<A: Allocator, V: Write>(
 fn put_record<A: Allocator, W: Write>(
     sending: &mut Sending<A>,
     start: Start,
-    capture: &mut W,
+    departures: &mut W,
 ) -> Result<(), Stop>
     requires class { start.class < 8 }
     requires waits { 0 < length (kept_at sending.old.store.kept start.class) }
@@ -98,13 +88,13 @@ fn put_record<A: Allocator, W: Write>(
     ensures port { sending.new.port ≡ sending.old.port }
     ensures seen { sending.new.summary ≡ sending.old.summary }
     ensures store { sending.new.store ≡ record sending.old.store { kept = slice_set sending.old.store.kept start.class (drop 1 (kept_at sending.old.store.kept start.class)) } }
-    ensures out { Writes result (W.contents capture.old) (W.contents capture.new) (start_record start.at (first_kept sending.old.store start.class)) }
+    ensures out { Writes result (W.contents departures.old) (W.contents departures.new) (start_record start.at (first_kept sending.old.store start.class)) }
     ensures fault { IfErr result (λ fault. fault ≡ Stops.Write) }
 {
     let first = sending.store.first(start.class);
     let put = sending
         .writer
-        .put(capture, start.at, first.original, first.octets);
+        .put(departures, start.at, first.original, first.octets);
     sending.store.give_up(start.class);
     match put {
         Ok(()) => Ok(()),
@@ -118,7 +108,7 @@ fn put_start<A: Allocator, W: Write, V: Write>(
     sending: &mut Sending<A>,
     now: u128,
     start: Start,
-    capture: &mut W,
+    departures: &mut W,
     report: &mut V,
 ) -> Result<(), Stop>
     requires class { start.class < 8 }
@@ -127,50 +117,50 @@ fn put_start<A: Allocator, W: Write, V: Write>(
     ensures port { sending.new.port ≡ sending.old.port }
     ensures seen { sending.new.summary ≡ noted now (Answered.Start start) sending.old.summary }
     ensures store { OnOk result (sending.new.store ≡ record sending.old.store { kept = slice_set sending.old.store.kept start.class (drop 1 (kept_at sending.old.store.kept start.class)) }) }
-    ensures out { PutsBoth result (record { report = V.contents report.old; capture = W.contents capture.old }) (record { report = V.contents report.new; capture = W.contents capture.new })
-        (record { report = answer_lines (Answered.Start start); capture = start_record start.at (first_kept sending.old.store start.class) }) }
+    ensures out { PutsBoth result (record { report = V.contents report.old; departures = W.contents departures.old }) (record { report = V.contents report.new; departures = W.contents departures.new })
+        (record { report = answer_lines (Answered.Start start); departures = start_record start.at (first_kept sending.old.store start.class) }) }
     ensures fault { IfErr result (λ fault. fault ≡ Stops.Write) }
 {
     put_noted_start(&mut sending.summary, now, &start, report)?;
-    put_record(sending, start, capture)
+    put_record(sending, start, departures)
 }
 
 /// Writes the starts before `until`, as they come.
 fn put_starts<A: Allocator, W: Write, V: Write>(
     sending: &mut Sending<A>,
     until: u128,
-    capture: &mut W,
+    departures: &mut W,
     report: &mut V,
 ) -> Result<(), Stop>
     requires later { sending.old.port.port.now ≤ until }
     requires within { until ≤ CAPTURE_END }
-    requires together { IsTogether (state sending.old (V.contents report.old) (W.contents capture.old)) }
-    ensures together { OnOk result (IsTogether (state sending.new (V.contents report.new) (W.contents capture.new))) }
-    ensures starts { (entries : List Entry) → Keeps entries (state sending.old (V.contents report.old) (W.contents capture.old)) →
-        AnswersStarts entries result until (state sending.old (V.contents report.old) (W.contents capture.old)) (state sending.new (V.contents report.new) (W.contents capture.new)) }
+    requires together { IsTogether (state sending.old (V.contents report.old) (W.contents departures.old)) }
+    ensures together { OnOk result (IsTogether (state sending.new (V.contents report.new) (W.contents departures.new))) }
+    ensures starts { (entries : List Entry) → Keeps entries (state sending.old (V.contents report.old) (W.contents departures.old)) →
+        AnswersStarts entries result until (state sending.old (V.contents report.old) (W.contents departures.old)) (state sending.new (V.contents report.new) (W.contents departures.new)) }
     ensures fault { IfErr result (λ fault. fault ≡ Stops.Write) }
 {
     let now = sending.port.now();
     loop {
         match sending.port.step(until) {
-            Some(start) => put_start(sending, now, start, capture, report)?,
+            Some(start) => put_start(sending, now, start, departures, report)?,
             None => return Ok(()),
         }
     }
 }
 
 /// Takes a clock event, and writes what is reported of it.
-pub fn put_clock<A: Allocator, W: Write, V: Write>(
+pub(crate) fn put_clock<A: Allocator, W: Write, V: Write>(
     sending: &mut Sending<A>,
     moment: u128,
-    capture: &mut W,
+    departures: &mut W,
     report: &mut V,
 ) -> Result<(), Stop>
     requires within { moment ≤ CAPTURE_END }
-    requires together { IsTogether (state sending.old (V.contents report.old) (W.contents capture.old)) }
-    ensures together { OnOk result (IsTogether (state sending.new (V.contents report.new) (W.contents capture.new))) }
-    ensures answers { (entries : List Entry) → Keeps entries (state sending.old (V.contents report.old) (W.contents capture.old)) →
-        Answers entries result (Asks (Events.Clock moment) ∷ []) (state sending.old (V.contents report.old) (W.contents capture.old)) (state sending.new (V.contents report.new) (W.contents capture.new)) }
+    requires together { IsTogether (state sending.old (V.contents report.old) (W.contents departures.old)) }
+    ensures together { OnOk result (IsTogether (state sending.new (V.contents report.new) (W.contents departures.new))) }
+    ensures answers { (entries : List Entry) → Keeps entries (state sending.old (V.contents report.old) (W.contents departures.old)) →
+        Answers entries result (Asks (Events.Clock moment) ∷ []) (state sending.old (V.contents report.old) (W.contents departures.old)) (state sending.new (V.contents report.new) (W.contents departures.new)) }
     ensures fault { IfErr result (λ fault. fault ≡ Stops.Write) }
 {
     let now = sending.port.now();
@@ -178,12 +168,12 @@ pub fn put_clock<A: Allocator, W: Write, V: Write>(
         put_noted(&mut sending.summary, now, &Answer::Backward, report)?;
         return Ok(());
     }
-    put_starts(sending, moment, capture, report)
+    put_starts(sending, moment, departures, report)
 }
 
 /// A frame arrives, and where it is queued its octets are kept.
 #[inline(always)]
-pub fn put_arrival<A: Allocator + Clone, V: Write>(
+pub(crate) fn put_arrival<A: Allocator + Clone, V: Write>(
     sending: &mut Sending<A>,
     frame: Frame,
     original: u32,

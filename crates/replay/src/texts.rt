@@ -1,9 +1,7 @@
 //! The texts of faults.
 
 ghost use Rattle.std.specs.Prelude.{◌≡◌};
-ghost use Rattle.octet_writer.specs.Writes.{Writes};
-ghost use Rattle.job.specs.Texts.{IsTold};
-ghost use Rattle.replay.specs.Texts.{capture_fault_name, capture_status, capture_text, header_text, record_text, open_text, replay_telling};
+ghost use Rattle.replay.specs.Words.{Writes, IsTold, capture_fault_name, capture_status, capture_text, header_text, record_text, open_text, replay_telling};
 
 use crate::faults::ReplayInput;
 use answer_text::{Part, WriteFault, put, put_parts};

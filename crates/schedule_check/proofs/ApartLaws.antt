@@ -1,7 +1,6 @@
 -- The classes that are kept apart, class by class.
 use Rattle.std.proofs.Common.{◌≡◌, ◌<◌, ◌≤◌, ◌+◌, ◌-◌, ℕ, suc, List, ◌++◌, sym, ap, ◌∙◌, arith, append_assoc, append-nil}
-use Rattle.gate_list.specs.declared.Entry.{Entry}
-use Rattle.schedule_check.specs.Apart.{classes_apart, itself_apart}
+use Rattle.schedule_check.specs.Words.{Entry, classes_apart, itself_apart}
 
 -- one class more
 pub found_more : (count class : ℕ) (entries : List Entry) (found next all : List ℕ) → class < count

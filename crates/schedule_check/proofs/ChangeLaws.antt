@@ -1,13 +1,9 @@
 -- What is reported of an accepted schedule.
 use Rattle.std.proofs.Common.{◌≡◌, ◌++◌, Option, Some, None, Ok, refl, sym, ap}
-use Rattle.gate_list.specs.declared.PlanFault.{PlanFault}
-use Rattle.gate_list.specs.Gate.{Plan, ok_unless, plan_fault}
-use Rattle.abstract_port.specs.AbstractPort.{plan_asked}
+use Rattle.schedule_check.specs.Words.{PlanFault, Plan, ok_unless, plan_fault, plan_asked, apart_line, change_lines, class_count, classes_apart, asked_lines, Teller}
 use Rattle.abstract_port.specs.declared.Change.{Change}
-use Rattle.schedule_check.specs.Apart.{apart_line, change_lines, class_count, classes_apart, schedule_lines}
-use Rattle.schedule_check.specs.WindowLines.{asked_lines}
+use Rattle.schedule_check.specs.Apart.{schedule_lines}
 use Rattle.schedule_check.specs.declared.settings.CheckSettings.{CheckSettings}
-use Rattle.schedule_check.specs.Windows.{Teller}
 
 -- what is made has no fault, and is what was asked
 pub made_without_fault : (fault : Option PlanFault) (asked made : Plan) → ok_unless fault asked ≡ Ok made → (fault ≡ None) × (made ≡ asked)

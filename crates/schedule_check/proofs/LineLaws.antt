@@ -1,15 +1,12 @@
 -- One line of schedule commands before the rest.
 use Rattle.std.proofs.Common.{◌≡◌, ℕ, List, Result, Ok, Err, true, false, ap}
-use Rattle.words.specs.Words.{words_of}
-use Rattle.abstract_port.specs.declared.Command.{Command}
-use Rattle.tc_reader.specs.declared.fault.TcFault.{TcFault}
+use Rattle.schedule_check.specs.Words.{words_of, Command, TcFault, bad_line, checked_in, is_command}
 use Rattle.line_reader.specs.Script.{Script, Line}
 use Rattle.job.specs.Outcome.{Outcome}
 use Rattle.job.proofs.LineLaws.{behind, faulty}
-use Rattle.script.specs.Outcome.{bad_line}
 use Rattle.script.specs.declared.faults.BadLine.{BadLine}
 use Rattle.script.specs.declared.faults.ScriptFault.{ScriptFault}
-use Rattle.schedule_check.specs.Checked.{checked_in, is_command, with_verdict}
+use Rattle.schedule_check.specs.Checked.{with_verdict}
 
 module _ (read : List (List ℕ) → Result Command TcFault) (told : Result Command TcFault → List ℕ) where
   -- what is reported of lines; nothing is kept from one to the next

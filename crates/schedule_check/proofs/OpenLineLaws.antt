@@ -1,12 +1,8 @@
 -- Which classes are reported on, and their lines one after another.
 use Rattle.std.proofs.Common.{◌≡◌, ◌<◌, ◌≤◌, ℕ, zero, suc, ◌+◌, ◌-◌, ◌%◌, true, false, cond, List, [], ◌++◌, Option, inl, inr, sym, ap, ◌∙◌, subst, arith, mod-lt, mod-eq_of_lt}
 use Rattle.std.proofs.lemmas.Bool.{cases_Bool, cases_lt}
-use Rattle.gate_list.specs.Gate.{Plan, in_ps, mask_at, opens}
-use Rattle.octet_writer.specs.Writes.{Sent}
+use Rattle.schedule_check.specs.Words.{Plan, in_ps, mask_at, opens, Sent, Window, alone, open_total, open_line, open_lines}
 use Rattle.octet_writer.proofs.Fronts.{sent_none}
-use Rattle.schedule_check.specs.declared.windows.Window.{Window}
-use Rattle.schedule_check.specs.Windows.{alone, open_total}
-use Rattle.schedule_check.specs.WindowLines.{open_line, open_lines}
 
 -- ---- lines
 

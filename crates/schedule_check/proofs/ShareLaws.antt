@@ -2,11 +2,9 @@
 use Rattle.std.proofs.Common.{◌≡◌, ◌<◌, ◌≤◌, ℕ, zero, suc, ◌+◌, ◌-◌, ◌%◌, ◌==◌, min, Bool, true, false, cond, length, slice_get, Some, inl, inr, refl, sym, ap, ◌∙◌, arith, mod-eq_of_lt}
 use Rattle.std.proofs.lemmas.Bool.{cases_lt, eq-eqb, ne_eqb}
 use Rattle.std.proofs.lemmas.Option.{slice_get_within}
-use Rattle.gate_list.specs.declared.Entry.{Entry}
-use Rattle.gate_list.specs.Gate.{Plan, IsShownAt, in_ps, prefix, mask_at, opens}
+use Rattle.schedule_check.specs.Words.{Entry, Plan, IsShownAt, in_ps, prefix, mask_at, opens, alone, open_total}
 use Rattle.gate_list.proofs.PhaseLaws.{phase_is}
 use Rattle.gate_list.proofs.RowLaws.{prefix_next}
-use Rattle.schedule_check.specs.Windows.{alone, open_total}
 
 -- a class is open at no more picoseconds than there are
 pub total_le : (mask : ℕ → ℕ) (class n : ℕ) → open_total mask class n ≤ n

@@ -5,16 +5,11 @@ use Rattle.std.proofs.lemmas.Bool.{agree_below, agree_below_at, ne_eqb}
 use Rattle.std.proofs.lemmas.List.{length-map}
 use Rattle.std.proofs.lemmas.List.Elements.{All-head, All-tail}
 use Rattle.std.proofs.lemmas.List.Sums.{sum_by-cons}
-use Rattle.gate_list.specs.declared.Entry.{Entry}
-use Rattle.gate_list.specs.declared.PlanFault.{PlanFault}
+use Rattle.schedule_check.specs.Words.{Entry, PlanFault, Stay, Lasts, Always, Plan, in_ps, mask_at, opens, plan_with, plan_fault, ok_unless, open_while, alone, turned, turned_mask, turned_entry, turned_plan, IsOpenStay}
 use Rattle.gate_list.specs.declared.PlanFault.TheVariants.{IntervalTooShort}
-use Rattle.gate_list.specs.declared.Stay.{Stay}
-use Rattle.gate_list.specs.declared.Stay.TheVariants.{Lasts, Always}
-use Rattle.gate_list.specs.Gate.{Plan, IsGateList, in_ps, mask_at, opens, plan_with, first_shorter, least_interval, limits_fault, plan_fault, gate_fault, ok_unless}
-use Rattle.gate_list.specs.Open.{open_while}
+use Rattle.gate_list.specs.Gate.{IsGateList, first_shorter, least_interval, limits_fault, gate_fault}
 use Rattle.gate_list.proofs.GateLaws.{no_gate_fault}
 use Rattle.gate_list.proofs.OpenLaws.{same_while}
-use Rattle.schedule_check.specs.Windows.{alone, turned, turned_mask, turned_entry, turned_plan, IsOpenStay}
 
 -- ---- the same times
 

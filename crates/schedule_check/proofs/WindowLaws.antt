@@ -4,17 +4,12 @@ use Rattle.std.proofs.Math.Nat.{div-add-mod, add-mod_left, le-div_iff_mul-le}
 use Rattle.std.proofs.lemmas.Bool.{cases_lt, leb-true, le-leb}
 use Rattle.std.proofs.lemmas.Option.{same_Some, slice_get_within, get_or_from_slice_get}
 use Rattle.std.proofs.lemmas.List.Elements.{All-get_or}
-use Rattle.wire_time.specs.Wire.{occupancy_of}
-use Rattle.gate_list.specs.declared.Entry.{Entry}
-use Rattle.gate_list.specs.declared.Stay.{Stay}
-use Rattle.gate_list.specs.declared.Stay.TheVariants.{Lasts, Always}
-use Rattle.gate_list.specs.Gate.{Plan, IsShownAt, in_ps, prefix, mask_at}
-use Rattle.gate_list.specs.Open.{open_while}
-use Rattle.gate_list.specs.Stay.{AreClosed, TellOpenTime, stay_lasts}
+use Rattle.schedule_check.specs.Words.{occupancy_of, Entry, Stay, Lasts, Always, Plan, IsShownAt, in_ps, prefix, mask_at, open_while, stay_lasts, alone, IsLongestOpen, IsOpenStay}
+use Rattle.gate_list.specs.Stay.{AreClosed, TellOpenTime}
 use Rattle.gate_list.proofs.OpenLaws.{open_within, shift_while}
 use Rattle.gate_list.proofs.PhaseLaws.{phase_is}
 use Rattle.gate_list.proofs.RowLaws.{prefix_next}
-use Rattle.schedule_check.specs.Windows.{alone, IsLongestOpen, IsOpenStay, CanStart}
+use Rattle.schedule_check.specs.Windows.{CanStart}
 
 -- from some moment on a class is open for as long as a stay
 abbrev pub Reaches : (ℕ → ℕ) → ℕ → Stay → Type 0

@@ -2,3 +2,4 @@ pub mod Apart
 pub mod Checked
 pub mod Windows
 pub mod WindowLines
+pub mod Words

@@ -1,5 +1,5 @@
 -- The lines of what a schedule gives each class.
-use Rattle.std.specs.Prelude.{◌+◌, ◌==◌, List, ℕ, zero, suc, [], ◌∷◌, ◌++◌, Bool, true, false, decimal, codes, if◌then◌else◌}
+use Rattle.std.specs.Prelude.{◌+◌, ◌^◌, nat_lt, ◌==◌, List, ℕ, zero, suc, [], ◌∷◌, ◌++◌, Bool, true, false, decimal, codes, if◌then◌else◌}
 use Rattle.std.specs.List.{concat}
 use Rattle.gate_list.specs.declared.Stay.{Stay}
 use Rattle.gate_list.specs.declared.Stay.TheVariants.{Lasts, Always}
@@ -12,10 +12,10 @@ abbrev pub time_text : Stay → List ℕ
 time_text (Lasts t) = decimal t
 time_text Always = codes "always"
 
--- the longest frame in octets, or a word where there is none, or none is too long
+-- the longest frame in octets, or a word where there is none, or none is too long: a frame has less than 2^32 octets
 abbrev pub frame_text : Longest → List ℕ
 frame_text NoFrame = codes "none"
-frame_text (Octets n) = decimal n
+frame_text (Octets n) = if nat_lt n (2 ^ 32) then decimal n else codes "any"
 frame_text AnyFrame = codes "any"
 
 -- the line of a class

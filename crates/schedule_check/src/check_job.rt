@@ -1,11 +1,8 @@
 //! The program's second job: schedules are checked by the values of options.
 
-ghost use Rattle.std.specs.Prelude.{◌≡◌, ℕ, IfErr};
+ghost use Rattle.std.specs.Prelude.{◌≡◌, IfErr};
 ghost use Rattle.std.specs.Io.Buffered.{writer_contents};
-ghost use Rattle.schedule_check.specs.Checked.{whole_check};
-ghost use Rattle.schedule_check.specs.Windows.{IsTeller, Teller};
-ghost use Rattle.script.specs.Ending.{IsEnding, rate_given};
-ghost use Rattle.script.specs.Given.{octets_of};
+ghost use Rattle.schedule_check.specs.Words.{whole_check, IsTeller, Teller, IsEnding, rate_given, octets_of};
 
 use crate::checking::check;
 use crate::settings::CheckSettings;

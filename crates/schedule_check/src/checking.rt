@@ -1,17 +1,8 @@
 //! The lines of schedule commands, one after another.
 
 ghost use Rattle.std.specs.Prelude.{◌≡◌, ℕ, List, Result, IfSome};
-ghost use Rattle.abstract_port.specs.declared.Command.{Command};
-ghost use Rattle.schedule_check.specs.Apart.{verdict_lines};
-ghost use Rattle.schedule_check.specs.Checked.{checked_in, checked_of, is_command};
-ghost use Rattle.schedule_check.specs.Windows.{IsTeller, Teller};
-ghost use Rattle.line_reader.specs.LineReader.{current_number, script_left};
-ghost use Rattle.job.specs.Outcome.{Runs};
+ghost use Rattle.schedule_check.specs.Words.{Command, verdict_lines, checked_in, checked_of, is_command, IsTeller, Teller, current_number, script_left, Runs, bad_line, IsReader, TcFault, words_of};
 ghost use Rattle.job.specs.declared.fault.Fault.TheVariants as Faults;
-ghost use Rattle.script.specs.Outcome.{bad_line};
-ghost use Rattle.tc_reader.specs.Reader.{IsReader};
-ghost use Rattle.tc_reader.specs.declared.fault.TcFault.{TcFault};
-ghost use Rattle.words.specs.Words.{words_of};
 
 use crate::settings::CheckSettings;
 use crate::telling::put_line;

@@ -1,9 +1,7 @@
 //! Laws of what a schedule gives a class. The functions run nothing: the contract of each is its law.
 
 ghost use Rattle.std.specs.Prelude.{◌≡◌, ◌<◌, ◌^◌, ◌↔◌, ℕ, not, true};
-ghost use Rattle.gate_list.specs.Gate.{Plan, in_ps, opens};
-ghost use Rattle.schedule_check.specs.Windows.{IsTeller, Teller, alone, open_total, turned_mask};
-ghost use Rattle.wire_time.specs.declared.TheConstants.{CLASSES};
+ghost use Rattle.schedule_check.specs.Words.{Plan, in_ps, opens, IsTeller, Teller, alone, open_total, turned_mask, CLASSES};
 
 /// A turned mask opens just the classes that the mask closes, of the eight of a mask of eight bits.
 pub fn turned_masks()

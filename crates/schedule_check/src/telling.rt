@@ -1,18 +1,8 @@
 //! What is reported of a schedule command.
 
 ghost use Rattle.std.specs.Prelude.{◌≡◌, ◌<◌, ◌≤◌, ◌+◌, ◌++◌, ℕ, List, None, Result};
-ghost use Rattle.arrayvec.specs.ArrayVec.{array_vec_len};
+ghost use Rattle.schedule_check.specs.Words.{array_vec_len, apart_line, change_lines, class_count, class_word, classes_apart, itself_apart, some_line, verdict_lines, IsTeller, Teller, Writes, plan_asked, Command, plan_fault, IsReader, TcFault, CLASSES, words_of};
 ghost use Rattle.std.specs.List.{flat_map};
-ghost use Rattle.schedule_check.specs.Apart.{apart_line, change_lines, class_count, class_word, classes_apart, itself_apart, some_line, verdict_lines};
-ghost use Rattle.schedule_check.specs.Windows.{IsTeller, Teller};
-ghost use Rattle.octet_writer.specs.Writes.{Writes};
-ghost use Rattle.abstract_port.specs.AbstractPort.{plan_asked};
-ghost use Rattle.abstract_port.specs.declared.Command.{Command};
-ghost use Rattle.gate_list.specs.Gate.{plan_fault};
-ghost use Rattle.tc_reader.specs.Reader.{IsReader};
-ghost use Rattle.tc_reader.specs.declared.fault.TcFault.{TcFault};
-ghost use Rattle.wire_time.specs.declared.TheConstants.{CLASSES};
-ghost use Rattle.words.specs.Words.{words_of};
 
 use crate::settings::CheckSettings;
 use crate::window_lines::put_asked;
@@ -153,7 +143,7 @@ fn put_verdict<W: Write>(
 }
 
 /// Writes what is reported of a line that begins with `tc`, by settings. At a fault a prefix of that is written.
-pub fn put_line<W: Write>(
+pub(crate) fn put_line<W: Write>(
     writer: &mut W,
     settings: CheckSettings,
     line: &[u8],

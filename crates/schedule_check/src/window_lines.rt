@@ -1,13 +1,7 @@
 //! The lines of what a schedule gives each class.
 
-ghost use Rattle.std.specs.Prelude.{◌≡◌, ◌≤◌, ℕ, None};
-ghost use Rattle.abstract_port.specs.AbstractPort.{plan_asked};
-ghost use Rattle.answer_text.specs.Part.{text_of};
-ghost use Rattle.gate_list.specs.Gate.{plan_fault};
-ghost use Rattle.octet_writer.specs.Writes.{Writes};
-ghost use Rattle.schedule_check.specs.Windows.{IsTeller, Teller};
-ghost use Rattle.schedule_check.specs.WindowLines.{asked_lines, frame_text, open_line, open_lines, time_text, window_line};
-ghost use Rattle.wire_time.specs.declared.TheConstants.{CLASSES};
+ghost use Rattle.std.specs.Prelude.{◌≡◌, ◌≤◌, None};
+ghost use Rattle.schedule_check.specs.Words.{plan_asked, text_of, plan_fault, Writes, IsTeller, Teller, asked_lines, frame_text, open_line, open_lines, time_text, window_line, CLASSES};
 
 use crate::settings::CheckSettings;
 use crate::windows::{Longest, Window, Windows};
@@ -16,6 +10,9 @@ use answer_text::{Part, WriteFault, put_parts};
 use gate_list::Stay;
 use std::io::Write;
 use wire_time::Rate;
+
+/// How many lengths a frame may have: 0 to 2^32 - 1 octets.
+const LENGTHS: u128 = 1 << 32;
 
 /// A time, as a part of a line.
 fn time_part(time: Stay) -> Part<'static>
@@ -33,8 +30,8 @@ fn frame_part(frame: Longest) -> Part<'static>
 {
     match frame {
         Longest::NoFrame => Part::Text(b"none"),
-        Longest::Octets(octets) => Part::Number(octets),
-        Longest::AnyFrame => Part::Text(b"any"),
+        Longest::Octets(octets) if octets < LENGTHS => Part::Number(octets),
+        Longest::Octets(_) | Longest::AnyFrame => Part::Text(b"any"),
     }
 }
 
@@ -91,7 +88,7 @@ fn put_windows<W: Write>(
 
 /// Writes, where windows are asked for, a line for each class below a number that is ever open, of what the schedule of a change gives it.
 /// At a fault a prefix of them is written.
-pub fn put_asked<W: Write>(
+pub(crate) fn put_asked<W: Write>(
     writer: &mut W,
     settings: CheckSettings,
     change: &Change,

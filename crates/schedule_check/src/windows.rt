@@ -1,10 +1,7 @@
 //! What a schedule gives each class: how long it stays open and closed, its share of a cycle, and the longest frame that can start.
 
 ghost use Rattle.std.specs.Prelude.{◌≡◌, ◌<◌, ◌≤◌, ◌⊎◌, ◌*◌, ◌^◌, ◌+◌, ℕ, Some, if◌then◌else◌, length, map, min, slice_get, true};
-ghost use Rattle.gate_list.specs.Gate.{in_ps, ok_unless, opens, plan_fault, plan_with};
-ghost use Rattle.gate_list.specs.Stay.{stay_lasts};
-ghost use Rattle.schedule_check.specs.Windows.{IsLongestFrame, IsOpenStay, IsWindow, alone, open_total, turned, turned_entry};
-ghost use Rattle.wire_time.specs.declared.TheConstants.{CLASSES};
+ghost use Rattle.schedule_check.specs.Words.{in_ps, ok_unless, opens, plan_fault, plan_with, stay_lasts, IsLongestFrame, IsOpenStay, IsWindow, alone, open_total, turned, turned_entry, CLASSES};
 
 use arrayvec::ArrayVec;
 use gate_list::{Entry, GateList, MAX_ENTRIES, PlanFault, Row, Schedule, Stay, Visits, is_open};

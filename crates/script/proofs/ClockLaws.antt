@@ -1,13 +1,10 @@
 -- One start more of a clock event, or its last.
 use Rattle.std.proofs.Common.{◌≡◌, ◌≤◌, ◌<◌, ℕ, [], Option, Some, None, false, ◌||◌, ltb, refl, sym, ◌∙◌, subst}
 use Rattle.std.proofs.lemmas.Bool.{le-ltb}
-use Rattle.wire_time.specs.Moment.{greatest_moment}
-use Rattle.abstract_port.specs.AbstractPort.{AbstractPort, next_start, settled}
-use Rattle.abstract_port.specs.Answers.{answers_to}
+use Rattle.script.specs.Words.{greatest_moment, AbstractPort, settled, answers_to, IsSoundPort, Clock}
+use Rattle.abstract_port.specs.AbstractPort.{next_start}
 use Rattle.abstract_port.specs.Asked.{Gives}
-use Rattle.abstract_port.specs.Sound.{IsSoundPort}
 use Rattle.abstract_port.specs.declared.Answer.TheVariants as Answered
-use Rattle.abstract_port.specs.declared.Event.TheVariants.{Clock}
 use Rattle.abstract_port.specs.declared.Start.{Start}
 use Rattle.abstract_port.proofs.AskedLaws.{gives_start, gives_end, given_fewer, given_last, left_count}
 use Rattle.abstract_port.proofs.StartsLaws.{next_start-within}

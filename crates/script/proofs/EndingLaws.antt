@@ -1,17 +1,11 @@
 -- The end of a run whose whole output is known, from what its parts leave.
 use Rattle.std.proofs.Common.{List, ℕ, Option, Result}
 use Rattle.std.specs.Prelude.{IfSome}
-use Rattle.abstract_port.specs.declared.Command.{Command}
+use Rattle.script.specs.Words.{Command, Runs, Fault, IsReader, TcFault, script_telling, BadLine}
 use Rattle.job.specs.Ending.{IsEndOf}
-use Rattle.job.specs.Outcome.{Runs}
-use Rattle.job.specs.declared.fault.Fault.{Fault}
 use Rattle.job.specs.declared.telling.Ended.{Ended}
 use Rattle.job.proofs.EndingLaws.{ended, out_of_input}
-use Rattle.tc_reader.specs.Reader.{IsReader}
-use Rattle.tc_reader.specs.declared.fault.TcFault.{TcFault}
 use Rattle.script.specs.Ending.{IsWholeEnding, Whole}
-use Rattle.script.specs.Texts.{script_telling}
-use Rattle.script.specs.declared.faults.BadLine.{BadLine}
 
 pub whole_ending : (whole : Whole) (input old mid got errors_old errors_new : Option (List ℕ)) (end : Ended) (before : Result (Unit {0}) (Fault BadLine))
     → ((read : List (List ℕ) → Result Command TcFault) → IsReader read → IfSome input (λ octets. Runs before old mid (whole read octets)))

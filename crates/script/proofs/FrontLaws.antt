@@ -4,18 +4,15 @@ use Rattle.std.specs.Prelude.{not, ◌&&◌, ◌||◌, ◌==◌}
 use Rattle.std.specs.List.{list_all}
 use Rattle.std.proofs.lemmas.List.{append-nil}
 use Rattle.std.proofs.Math.Seq.{get_or-append_seam}
-use Rattle.wire_time.specs.Moment.{greatest_moment}
-use Rattle.abstract_port.specs.declared.Event.{Event}
-use Rattle.abstract_port.specs.declared.Event.TheVariants.{Arrive, Clock}
+use Rattle.script.specs.Words.{greatest_moment, Event, Arrive, Clock, words_of, said_in, clock_event, frame_event, tag_in, BeginsWithEvent, BeginsWithLine, tag_text, ScriptFault}
 use Rattle.words.specs.Numbers.{BeginsWithNumber, IsNumber, is_digit}
-use Rattle.words.specs.Words.{words_of, starts_blank, starts_with_break}
+use Rattle.words.specs.Words.{starts_blank, starts_with_break}
 use Rattle.words.proofs.FrontLaws.{number_before}
 use Rattle.line_reader.specs.Script.{joins}
 use Rattle.line_reader.specs.Spelling.{is_unbroken}
 use Rattle.line_reader.specs.LineReader.{EndsLine}
-use Rattle.script.specs.Requests.{said, said_in, clock_event, frame_event, tag_in}
-use Rattle.script.specs.Plain.{BeginsWithEvent, BeginsWithLine, is_plain, tag_text}
-use Rattle.script.specs.declared.faults.ScriptFault.{ScriptFault}
+use Rattle.script.specs.Requests.{said}
+use Rattle.script.specs.Plain.{is_plain}
 use Rattle.script.proofs.PlainLaws.{plain_clock, plain_frame}
 
 both : (t u : Bool) → t ≡ true → u ≡ true → (t && u) ≡ true

@@ -1,22 +1,14 @@
 -- What is written and seen of one answer.
 use Rattle.std.proofs.Common.{◌≡◌, ℕ, List, [], ◌∷◌, Option, Some, None, Result, Ok, Err, OnOk, refl, sym, ap, ◌∙◌, subst, append-nil}
 use denote.Bor.{Bor}
-use Rattle.abstract_port.specs.AbstractPort.{AbstractPort, installs}
-use Rattle.abstract_port.specs.Answers.{answers_to, command_answer}
-use Rattle.abstract_port.specs.declared.Answer.{Answer}
-use Rattle.abstract_port.specs.declared.Command.{Command}
-use Rattle.abstract_port.specs.declared.Event.{Event}
+use Rattle.script.specs.Words.{AbstractPort, answers_to, command_answer, Answer, Command, Event, answer_lines, Writes, IsAnswered, Request, NoCommand, lines_of, responses_to, TcFault, Observed, seen_all, noted_at}
+use Rattle.abstract_port.specs.AbstractPort.{installs}
 use Rattle.abstract_port.specs.declared.Event.TheVariants.{Install}
 use Rattle.abstract_port.specs.declared.Refused.{Refused}
-use Rattle.answer_text.specs.Lines.{answer_lines, tc_fault_line}
-use Rattle.octet_writer.specs.Writes.{Writes}
+use Rattle.answer_text.specs.Lines.{tc_fault_line}
 use Rattle.script.proofs.OutputLaws.{lines_of_answers}
-use Rattle.script.specs.Answered.{IsAnswered}
-use Rattle.script.specs.Requests.{Request, NoCommand}
-use Rattle.script.specs.Responses.{lines_of, responses_to}
-use Rattle.tc_reader.specs.declared.fault.TcFault.{TcFault}
-use Rattle.summary.specs.Observed.{Observed, seen, seen_all}
-use Rattle.summary.specs.Wanted.{noted, noted_at}
+use Rattle.summary.specs.Observed.{seen}
+use Rattle.summary.specs.Wanted.{noted}
 
 pub always : {T E P : Type 0} (r : Result T E) → P → OnOk r P
 always (Ok x) p = p

@@ -3,35 +3,20 @@ use Rattle.std.proofs.Common.{◌≡◌, ◌≤◌, ℕ, List, [], ◌∷◌, �
 use Rattle.std.specs.Prelude.{IfSome}
 use Rattle.std.proofs.lemmas.List.{append-nil}
 use Rattle.std.specs.Io.KnownBytes.{Appends}
-use Rattle.abstract_port.specs.AbstractPort.{AbstractPort, settled}
-use Rattle.abstract_port.specs.Answers.{answers_to}
-use Rattle.abstract_port.specs.Sound.{IsSoundPort}
-use Rattle.abstract_port.specs.declared.Event.{Event}
-use Rattle.abstract_port.specs.declared.Event.TheVariants.{Clock}
-use Rattle.abstract_port.specs.declared.Command.{Command}
-use Rattle.tc_reader.specs.declared.fault.TcFault.{TcFault}
+use Rattle.script.specs.Words.{AbstractPort, settled, answers_to, IsSoundPort, Event, Clock, Command, TcFault, Script, Advances, Runs, Fault, IsAnswered, Request, Asks, NoCommand, request_of, Gave, end_lines, lines_of, noted_by, responses_to, bad_line, ending_text, long_line, outcome_after, outcome_from, reading_of, ScriptFault, BadLine, Observed, seen_all, noted_after, noted_at}
 use Rattle.separation.specs.Settling.{IsPossible, IsSettling}
 use Rattle.octet_writer.specs.Writes.{FallsShort}
-use Rattle.line_reader.specs.Script.{Script, Line}
-use Rattle.line_reader.specs.LineReader.{Advances}
+use Rattle.line_reader.specs.Script.{Line}
 use Rattle.line_reader.specs.declared.lines.LineFault.{LineFault}
 use Rattle.job.specs.Lines.{fault_of_line}
-use Rattle.job.specs.Outcome.{Outcome, Runs}
-use Rattle.job.specs.declared.fault.Fault.{Fault}
+use Rattle.job.specs.Outcome.{Outcome}
 use Rattle.job.specs.declared.fault.Fault.TheVariants as Faults
 use Rattle.job.proofs.LineLaws as Lines
 use Rattle.job.proofs.LineLaws.{behind}
-use Rattle.script.specs.Answered.{IsAnswered}
-use Rattle.script.specs.Requests.{Request, Asks, NoCommand, request_of}
-use Rattle.script.specs.Responses.{Gave, end_lines, lines_of, noted_by, responses_to}
-use Rattle.script.specs.Outcome.{bad_line, ending_text, long_line, outcome_after, outcome_from, reading_of, with_line}
-use Rattle.script.specs.declared.faults.ScriptFault.{ScriptFault}
-use Rattle.script.specs.declared.faults.BadLine.{BadLine}
+use Rattle.script.specs.Outcome.{with_line}
 use Rattle.script.proofs.OutputLaws.{outcome-more}
 use Rattle.script.proofs.StartsLaws.{settled-sound}
 use Rattle.script.proofs.LeftLaws.{end-settled}
-use Rattle.summary.specs.Observed.{Observed, seen_all}
-use Rattle.summary.specs.Wanted.{noted_after, noted_at}
 use Rattle.summary.proofs.WantedLaws.{noted_after-one}
 
 -- A port that runs in the place of an abstract one: it keeps of the history what counts.

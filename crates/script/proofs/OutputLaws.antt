@@ -1,20 +1,11 @@
 -- What is written for a script, request by request, and the answers that it reports.
 use Rattle.std.proofs.Common.{◌≡◌, ◌≤◌, ℕ, List, [], ◌∷◌, ◌++◌, map, Option, Some, None, Result, refl, sym, ap, ◌∙◌, append_assoc}
-use Rattle.abstract_port.specs.AbstractPort.{AbstractPort}
-use Rattle.abstract_port.specs.Answers.{answers_to, answers_of, port_after}
-use Rattle.abstract_port.specs.declared.Answer.{Answer}
-use Rattle.abstract_port.specs.declared.Command.{Command}
-use Rattle.tc_reader.specs.declared.fault.TcFault.{TcFault}
+use Rattle.script.specs.Words.{AbstractPort, answers_to, Answer, Command, TcFault, script_of, Request, Asks, NoCommand, Gave, events_of, lines_of, noted_by, responses_to, BadLine, IsFaithfulTo, asked_in, outcome_after, reading_of, Setup, Observed, noted_after}
+use Rattle.abstract_port.specs.Answers.{answers_of, port_after}
 use Rattle.separation.specs.Promises.{IsKeepingPromises}
-use Rattle.line_reader.specs.Script.{script_of}
-use Rattle.script.specs.Requests.{Request, Asks, NoCommand}
-use Rattle.script.specs.Responses.{Response, Gave, answers_in, events_of, lines_of, noted_by, response_lines, responses_of, responses_to}
+use Rattle.script.specs.Responses.{Response, answers_in, response_lines, responses_of}
 use Rattle.job.proofs.LineLaws.{behind}
-use Rattle.script.specs.declared.faults.BadLine.{BadLine}
-use Rattle.script.specs.Outcome.{IsFaithfulTo, Reading, asked_in, asked_with, end_unless, outcome_after, reading_of}
-use Rattle.script.specs.Setup.{Setup}
-use Rattle.summary.specs.Observed.{Observed}
-use Rattle.summary.specs.Wanted.{noted_after}
+use Rattle.script.specs.Outcome.{Reading, asked_with, end_unless}
 use Rattle.summary.proofs.WantedLaws.{noted_after-cons}
 
 pub lines_of-append : (xs ys : List Response) → lines_of (xs ++ ys) ≡ lines_of xs ++ lines_of ys

@@ -2,14 +2,10 @@
 use Rattle.std.proofs.Common.{◌≡◌, ◌≤◌, ◌^◌, ◌-◌, ℕ, Bool, true, false, cond, List, [], ◌∷◌, None, Some, Option, Ok, Err, Result, codes, length, refl, ap, ◌∙◌, arith}
 use Rattle.std.specs.Str.{bytes_eq}
 use Rattle.std.proofs.lemmas.Bool.{le-leb, le-ltb}
-use Rattle.abstract_port.specs.declared.Event.{Event}
-use Rattle.abstract_port.specs.declared.Event.TheVariants.{Arrive, Clock}
-use Rattle.wire_time.specs.Moment.{greatest_moment}
-use Rattle.words.specs.Words.{words_of}
-use Rattle.words.specs.Numbers.{at_most, behind_first, first_number, number_in}
-use Rattle.script.specs.declared.faults.ScriptFault.{ScriptFault}
+use Rattle.script.specs.Words.{Event, Arrive, Clock, greatest_moment, words_of, behind_first, ScriptFault, clock_event, frame_event, frame_with, tag_in}
+use Rattle.words.specs.Numbers.{at_most, first_number, number_in}
 use Rattle.script.specs.declared.faults.ScriptFault.TheVariants.{ClockTooLate, WordCount}
-use Rattle.script.specs.Requests.{clock_event, clock_with, frame_event, frame_in_words, frame_with, tag_in}
+use Rattle.script.specs.Requests.{clock_with, frame_in_words}
 
 -- the first of the words is this number, whatever the greatest one is
 abbrev pub Says : List (List ℕ) → ℕ → Type 0

@@ -1,13 +1,8 @@
 -- What concerns a class that is kept apart, as it is written.
 use Rattle.std.proofs.Common.{◌≡◌, ◌≤◌, ℕ, List, [], ◌∷◌, Bool, true, false, cond, refl, sym, ap, ◌∙◌}
 use Rattle.std.specs.List.{flat_map}
-use Rattle.abstract_port.specs.AbstractPort.{AbstractPort, new_port}
-use Rattle.abstract_port.specs.Answers.{answers_to}
-use Rattle.abstract_port.specs.declared.Event.{Event}
-use Rattle.answer_text.specs.Lines.{answer_lines}
+use Rattle.script.specs.Words.{AbstractPort, new_port, answers_to, Event, answer_lines, Request, Asks, NoCommand, events_of}
 use Rattle.separation.specs.Separation.{IsSeparation, Noted, is_other, only}
-use Rattle.script.specs.Requests.{Request, Asks, NoCommand}
-use Rattle.script.specs.Responses.{events_of}
 use Rattle.script.specs.Separated.{IsSeparatedBy, lines_concerning, only_asked}
 
 one_more : (event : Event) (other : Bool) (requests : List Request) (events : List Event) → events_of requests ≡ events

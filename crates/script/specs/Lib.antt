@@ -9,3 +9,4 @@ pub mod Separated
 pub mod Texts
 pub mod Given
 pub mod Ending
+pub mod Words

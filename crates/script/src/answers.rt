@@ -1,18 +1,8 @@
 //! What a port answers to the lines of a script, written as it comes.
 
 ghost use Rattle.std.specs.Prelude.{ℕ, List, Result, ◌<◌, ◌≤◌, length, OnOk};
-ghost use Rattle.abstract_port.specs.AbstractPort.{queue_of};
-ghost use Rattle.abstract_port.specs.Sound.{IsSoundPort};
-ghost use Rattle.abstract_port.specs.declared.Command.{Command};
+ghost use Rattle.script.specs.Words.{queue_of, IsSoundPort, Command, Writes, IsAnswered, Asks, tc_request, left_lines, left_text, IsReader, TcFault, greatest_moment, words_of};
 ghost use Rattle.abstract_port.specs.declared.Event.TheVariants as Events;
-ghost use Rattle.octet_writer.specs.Writes.{Writes};
-ghost use Rattle.script.specs.Answered.{IsAnswered};
-ghost use Rattle.script.specs.Requests.{Asks, tc_request};
-ghost use Rattle.script.specs.Responses.{left_lines, left_text};
-ghost use Rattle.tc_reader.specs.Reader.{IsReader};
-ghost use Rattle.tc_reader.specs.declared.fault.TcFault.{TcFault};
-ghost use Rattle.wire_time.specs.Moment.{greatest_moment};
-ghost use Rattle.words.specs.Words.{words_of};
 
 use crate::script_line::read_tc_into;
 use abstract_port::{Command, Event};

@@ -1,11 +1,7 @@
 //! What is written at the end of a run.
 
 ghost use Rattle.std.specs.Prelude.{◌<◌};
-ghost use Rattle.abstract_port.specs.AbstractPort.{counters_of};
-ghost use Rattle.octet_writer.specs.Writes.{Writes};
-ghost use Rattle.script.specs.Responses.{end_lines};
-ghost use Rattle.summary.specs.Lines.{class_text, summary_lines};
-ghost use Rattle.summary.specs.Observed.{class_at};
+ghost use Rattle.script.specs.Words.{counters_of, Writes, end_lines, class_text, summary_lines, class_at};
 
 use crate::answers::{RunningPort, put_all_left};
 use answer_text::WriteFault;

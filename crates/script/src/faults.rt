@@ -1,10 +1,7 @@
 //! Why a run ends early, and the texts that say so.
 
 ghost use Rattle.std.specs.Prelude.{◌≡◌};
-ghost use Rattle.job.specs.Texts.{IsTold};
-ghost use Rattle.octet_writer.specs.Writes.{Writes};
-ghost use Rattle.script.specs.Texts.{line_text, option_name, script_fault_name, script_telling, value_text};
-ghost use Rattle.script.specs.Outcome.{bad_line, limit_fault, long_line};
+ghost use Rattle.script.specs.Words.{IsTold, Writes, line_text, option_name, script_fault_name, script_telling, value_text, bad_line, limit_fault, long_line};
 
 use crate::settings::BadValue;
 use answer_text::{Part, WriteFault, put_parts};

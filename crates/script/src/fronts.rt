@@ -1,7 +1,7 @@
 //! Texts that lines begin with, compared by a word of the machine in place of octet by octet.
 
 ghost use Rattle.std.specs.Prelude.{◌≡◌, ◌++◌, IfSome, codes, true};
-ghost use Rattle.script.specs.Plain.{tag_text};
+ghost use Rattle.script.specs.Words.{tag_text};
 
 /// Whether four octets are those of a text.
 #[inline(always)]

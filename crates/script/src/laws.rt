@@ -1,12 +1,7 @@
 //! Laws of scripts. The functions run nothing: the contract of each is its law.
 
 ghost use Rattle.std.specs.Prelude.{◌≤◌, ℕ, List, Result};
-ghost use Rattle.abstract_port.specs.declared.Command.{Command};
-ghost use Rattle.tc_reader.specs.declared.fault.TcFault.{TcFault};
-ghost use Rattle.script.specs.Outcome.{IsFaithfulTo};
-ghost use Rattle.script.specs.Separated.{IsSeparatedIn};
-ghost use Rattle.script.specs.Setup.{Setup};
-ghost use Rattle.wire_time.specs.declared.TheConstants.{MIN_MTU, MIN_PS_PER_OCTET};
+ghost use Rattle.script.specs.Words.{Command, TcFault, IsFaithfulTo, IsSeparatedIn, Setup, MIN_MTU, MIN_PS_PER_OCTET};
 
 use separation::separation;
 

@@ -1,10 +1,7 @@
 //! Lines as most are written, read where they stand in hand.
 
-ghost use Rattle.std.specs.Prelude.{◌≡◌, ◌<◌, ◌∷◌, ◌++◌, ℕ, List, IfSome, MatchOption, Ok};
-ghost use Rattle.abstract_port.specs.declared.Event.TheVariants.{Arrive, Clock};
-ghost use Rattle.line_reader.specs.LineReader.{most_lines};
-ghost use Rattle.script.specs.Plain.{BeginsWithEvent, BeginsWithLine, GoesPast};
-ghost use Rattle.script.specs.Requests.{clock_event, frame_event};
+ghost use Rattle.std.specs.Prelude.{◌≡◌, ◌<◌, ◌∷◌, IfSome, MatchOption};
+ghost use Rattle.script.specs.Words.{Arrive, Clock, most_lines, BeginsWithEvent, BeginsWithLine, GoesPast, clock_event, frame_event};
 
 use crate::fronts::{behind_clock, behind_frame, behind_tag};
 use abstract_port::Event;
@@ -87,7 +84,7 @@ fn front_event(octets: &[u8]) -> Option<(Event<'static>, &[u8])>
 /// Goes past the next line, where it is a frame or a moment as most are written and stands whole in hand, and answers the event
 /// that it asks. Else nothing changes.
 #[inline(always)]
-pub fn pass_plain<R: Read + Drop, B: Allocator>(
+pub(crate) fn pass_plain<R: Read + Drop, B: Allocator>(
     lines: &mut LineReader<R, B>,
 ) -> Option<Event<'static>>
     ensures event { MatchOption result (lines.new ≡ lines.old) (λ event. GoesPast R.remaining lines.old event lines.new) }

@@ -2,9 +2,7 @@
 
 ghost use Rattle.std.specs.Prelude.{◌≡◌, ◌≤◌, IfErr};
 ghost use Rattle.std.specs.Io.Buffered.{writer_contents};
-ghost use Rattle.wire_time.specs.Moment.{greatest_moment};
-ghost use Rattle.script.specs.Given.{octets_of, words_of_values};
-ghost use Rattle.script.specs.Ending.{IsEnding, IsRefusal, rate_given, settings_given, settings_or_usual, whole_script};
+ghost use Rattle.script.specs.Words.{greatest_moment, octets_of, words_of_values, IsEnding, IsRefusal, rate_given, settings_given, settings_or_usual, whole_script};
 
 use crate::faults::say_value;
 use crate::script_run::run_script;

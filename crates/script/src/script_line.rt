@@ -1,13 +1,7 @@
 //! What the lines of a script say.
 
-ghost use Rattle.std.specs.Prelude.{◌≡◌, ◌≤◌, ◌<◌, ◌^◌, ◌-◌, ◌++◌, ℕ, List, Result, Some, Ok, IfSome, codes};
-ghost use Rattle.abstract_port.specs.declared.Command.{Command};
-ghost use Rattle.abstract_port.specs.declared.Event.TheVariants.{Arrive, Clock};
-ghost use Rattle.tc_reader.specs.declared.fault.TcFault.{TcFault};
-ghost use Rattle.words.specs.Words.{words_of};
-ghost use Rattle.words.specs.WordsLeft.{words_left};
-ghost use Rattle.script.specs.Requests.{clock_event, count_event, frame_event, frame_with, query_event, said_in, tag_in};
-ghost use Rattle.tc_reader.specs.Reader.{IsReader};
+ghost use Rattle.std.specs.Prelude.{◌≡◌, ◌<◌, ◌^◌, ◌-◌, ℕ, List, Result, Some, Ok, IfSome};
+ghost use Rattle.script.specs.Words.{Command, Arrive, Clock, TcFault, words_of, words_left, clock_event, count_event, frame_event, frame_with, query_event, said_in, tag_in, IsReader};
 
 use crate::faults::ScriptFault;
 use crate::fronts::{behind_clock, behind_frame};

@@ -1,14 +1,7 @@
 //! Runs a script.
 
-ghost use Rattle.std.specs.Prelude.{◌≡◌, ◌++◌, ℕ, List, Result, IfSome};
-ghost use Rattle.abstract_port.specs.AbstractPort.{new_port};
-ghost use Rattle.abstract_port.specs.declared.Command.{Command};
-ghost use Rattle.octet_writer.specs.Writes.{Writes};
-ghost use Rattle.line_reader.specs.LineReader.{script_left};
-ghost use Rattle.tc_reader.specs.declared.fault.TcFault.{TcFault};
-ghost use Rattle.job.specs.Outcome.{Runs};
-ghost use Rattle.script.specs.Outcome.{IsFaithfulTo, ending_text, outcome_from, outcome_of};
-ghost use Rattle.tc_reader.specs.Reader.{IsReader};
+ghost use Rattle.std.specs.Prelude.{ℕ, List, Result, IfSome};
+ghost use Rattle.script.specs.Words.{Command, Writes, script_left, TcFault, Runs, IsFaithfulTo, ending_text, outcome_from, outcome_of, IsReader};
 
 use crate::answers::{RunningPort, put_answers, put_tc};
 use crate::ending::put_end;

@@ -2,10 +2,7 @@
 
 ghost use Rattle.std.specs.Prelude.{◌≡◌, ◌≤◌};
 ghost use Rattle.std.specs.Option.{ForSome};
-ghost use Rattle.abstract_port.specs.Sound.{IsMtu};
-ghost use Rattle.class_queue.specs.Queue.{IsRoom};
-ghost use Rattle.script.specs.Given.{octets_of};
-ghost use Rattle.script.specs.Settings.{is_until, mtu_in, rate_in, room_in, settings_of, settings_with, with_summary};
+ghost use Rattle.script.specs.Words.{IsMtu, IsRoom, octets_of, is_until, mtu_in, rate_in, room_in, settings_of, settings_with, with_summary};
 
 use port::{is_mtu, is_room};
 use std::marker::Model;
@@ -57,7 +54,7 @@ pub enum BadValue {
 }
 
 /// The rate of a decimal number of Mb/s, if there is one.
-pub fn read_rate(text: &str) -> Option<Rate>
+pub(crate) fn read_rate(text: &str) -> Option<Rate>
     ensures { result ≡ rate_in text.now }
 {
     let mbps = number(text.as_bytes(), u128::from(u32::MAX))?;

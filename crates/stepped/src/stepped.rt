@@ -1,13 +1,14 @@
 //! The gates, which go from boundary to boundary.
-ghost use Rattle.std.specs.Prelude.{◌≡◌, ℕ, ◌+◌, ◌<◌, ◌≤◌, Some, None, false, option_map, IfSome};
-ghost use Rattle.wire_time.specs.Moment.{greatest_moment, greatest_lead};
+ghost use Rattle.std.specs.Prelude.{◌≡◌, ◌<◌, ◌≤◌, Some, None, false};
+ghost use Rattle.wire_time.specs.Moment.{greatest_moment};
 ghost use Rattle.list_config.specs.History.{gates, kept};
 ghost use Rattle.list_config.specs.Current.{IsCurrent};
-ghost use Rattle.list_position.specs.Position.{IsFlat};
-ghost use Rattle.accepted_commands.specs.Commands.{AreCommands, accepted_in, command_of, history_of};
-ghost use Rattle.accepted_commands.specs.Standing.{Stands, earlier, edge_at};
+ghost use Rattle.accepted_commands.specs.Commands.{AreCommands};
+ghost use Rattle.accepted_commands.specs.Standing.{Stands};
 
-use accepted_commands::{Slots, edge_of, installed, lead_moment, legs_ahead, mask_under, resumed};
+use accepted_commands::{
+    CommandSlots, edge_of, installed, lead_moment, legs_ahead, mask_under, resumed,
+};
 use gate_list::{Schedule, Visits};
 use list_config::{Gates, Installed, NotNow};
 use list_position::Need;
@@ -19,7 +20,7 @@ use wire_time::CLASSES;
 /// A move takes a step for each boundary that it passes, so the time of a far move grows with its cycles and entries.
 #[derive(Drop)]
 pub struct Stepped {
-    slots: Slots,
+    slots: CommandSlots,
 }
 
 /// A contract sees the history that the commands make, and the moment.
@@ -69,7 +70,7 @@ impl Gates for Stepped {
     #[tactic(auto, using(accepted_commands::proofs::CommandLaws::current_of))]
     fn begin() -> Stepped {
         Stepped {
-            slots: Slots::begin(),
+            slots: CommandSlots::begin(),
         }
     }
 

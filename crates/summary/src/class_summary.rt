@@ -11,7 +11,7 @@ use std::marker::Model;
 ///
 /// The arrival moments of the frames that wait are kept in a ring, whose memory is taken once.
 #[derive(Drop)]
-pub struct ClassSummary<A: Allocator = Global> {
+pub(crate) struct ClassSummary<A: Allocator = Global> {
     arrivals: HeapCircularBuffer<u128, A>,
     most: u64,
     waits: Waits,

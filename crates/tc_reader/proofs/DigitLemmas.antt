@@ -5,10 +5,8 @@ use Rattle.std.specs.List.{list_all, before_first, after_first}
 use Rattle.std.specs.declared.option.Option.{Option}
 use Rattle.std.proofs.lemmas.Bool.{ne_eqb, lt-ltb, le-ltb}
 use Rattle.std.proofs.lemmas.Bool.Decides.{nat_tests}
-use Rattle.words.specs.Numbers.{number_in, is_digits, is_digit, value_behind, digit_in, at_most}
-use Rattle.tc_reader.specs.Cursor.{Word}
-use Rattle.tc_reader.specs.declared.values.TheConstants.{MAX_SDU_VALUES}
-use Rattle.tc_reader.specs.Values.{is_sign, is_range, range_of, limit_at}
+use Rattle.tc_reader.specs.Words.{number_in, is_digits, value_behind, digit_in, at_most, Word, MAX_SDU_VALUES, is_sign, is_range, range_of, limit_at}
+use Rattle.words.specs.Numbers.{is_digit}
 
 pub and_then_some : {X Y : Type 0} (f : X → Option Y) (o : Option X) (y : Y) → option_and_then f o ≡ Some y → (x : X) × (o ≡ Some x) × (f x ≡ Some y)
 and_then_some f None y e = absurd cc

@@ -10,16 +10,12 @@ use Rattle.class_map.specs.declared.MapFault.{MapFault}
 use Rattle.class_map.specs.declared.MapFault.TheVariants.{BadClassCount, TooManyPriorities}
 use Rattle.class_map.specs.declared.QueueFault.{QueueFault}
 use Rattle.class_map.specs.declared.QueueFault.TheVariants.{QueueCount}
-use Rattle.gate_list.specs.declared.Entry.{Entry}
+use Rattle.tc_reader.specs.Words.{Entry, TcFault, KEPT_PRIORITIES, KEPT_RANGES, KEPT_ENTRIES, CLASSES, Options, capped, ranges_of, classes_of, eight_limits, change_given}
 use Rattle.gate_list.specs.declared.GateFault.TheVariants.{TooManyEntries}
-use Rattle.tc_reader.specs.declared.fault.TcFault.{TcFault}
 use Rattle.tc_reader.specs.declared.fault.TcFault.TheVariants as faults
-use Rattle.tc_reader.specs.declared.capped.TheConstants.{KEPT_PRIORITIES, KEPT_RANGES, KEPT_ENTRIES}
-use Rattle.wire_time.specs.declared.TheConstants.{CLASSES, PRIORITIES}
+use Rattle.wire_time.specs.declared.TheConstants.{PRIORITIES}
 use Rattle.gate_list.specs.declared.TheConstants.{MAX_ENTRIES}
-use Rattle.tc_reader.specs.Options.{Options}
-use Rattle.tc_reader.specs.Capped.{capped}
-use Rattle.tc_reader.specs.Ends.{ranges_of, classes_of, list_given, eight_limits, change_given}
+use Rattle.tc_reader.specs.Ends.{list_given}
 
 -- what a list gives, of which more than a few elements all give the same
 by_cap : {X R : Type 0} (cap : ℕ) (f : List X → R) (xs : List X) (r : R) → ((ys : List X) → cap ≤ length ys → f ys ≡ r) → f (take cap xs) ≡ f xs

@@ -5,17 +5,11 @@ use Rattle.std.specs.Str.{bytes_eq}
 use Rattle.std.specs.declared.option.Option.{Option}
 use Rattle.std.proofs.lemmas.Bool.{eqb-true, eqb-false, ne_eqb, ltb-true, lt-ltb}
 use Rattle.std.proofs.lemmas.Slice.Eq.{bytes_eq-Decides}
-use Rattle.words.specs.Numbers.{number_in, is_digits}
-use Rattle.tc_reader.specs.declared.fault.Opt.{Opt}
-use Rattle.tc_reader.specs.declared.fault.Opt.TheVariants.{Dev, Parent, Handle, NumTc, Map, Queues, BaseTime, CycleTime, CycleTimeExtension, SchedEntry, Clockid, Flags, TxtimeDelay, MaxSdu, Fp}
-use Rattle.tc_reader.specs.declared.fault.TcFault.{TcFault}
+use Rattle.tc_reader.specs.Words.{number_in, is_digits, Opt, Dev, Parent, Handle, NumTc, Map, Queues, BaseTime, CycleTime, CycleTimeExtension, SchedEntry, Clockid, Flags, TxtimeDelay, MaxSdu, Fp, TcFault, Word, MAX_SDU_VALUES, word_of, option_named, is_unsupported, hex_in, is_range, range_of, is_clock, limit_at, ◌>>=◌, Item, num_tc, priorities, ranges, base_time, cycle_time, extension, sched_entry, clock, flags, limits, Options, with_item, is_given, allowed, value_or, value_at, run_at, begins, some_at, command_at, entry_at, flags_at, clock_item, values_at, item_at, Reads}
 use Rattle.tc_reader.specs.declared.fault.TcFault.TheVariants as faults
-use Rattle.tc_reader.specs.Cursor.{Word}
-use Rattle.tc_reader.specs.declared.values.TheConstants.{MAX_SDU_VALUES}
-use Rattle.tc_reader.specs.Names.{word_of, first_named, all_options, option_named, is_unsupported}
-use Rattle.tc_reader.specs.Values.{hex_in, is_range, range_of, is_clock, limit_at}
-use Rattle.tc_reader.specs.Options.{◌>>=◌, Item, num_tc, priorities, ranges, base_time, cycle_time, extension, sched_entry, clock, flags, limits, Options, with_item, is_given, allowed, value_or, value_at, run_at, begins, some_at, as_item, command_at, entry_at, flags_at, clock_item, values_at, item_at}
-use Rattle.tc_reader.specs.Reads.{OptionInFront, Ends, Reads}
+use Rattle.tc_reader.specs.Names.{first_named, all_options}
+use Rattle.tc_reader.specs.Options.{as_item}
+use Rattle.tc_reader.specs.Reads.{OptionInFront, Ends}
 use Rattle.tc_reader.specs.Grammar.{kind_of, AreNumbers, AreQueueRanges, AreValues, AreOptions, AreNew}
 use Rattle.tc_reader.proofs.DigitLemmas.{digits_of, range_form, limit_take}
 use Rattle.tc_reader.proofs.RunLemmas.{ok_is, value_or-ok}

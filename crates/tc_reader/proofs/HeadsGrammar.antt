@@ -5,13 +5,9 @@ use Rattle.std.specs.declared.option.Option.{Option}
 use Rattle.std.specs.List.{list_any}
 use Rattle.std.specs.Str.{bytes_eq}
 use Rattle.std.proofs.lemmas.Slice.Eq.{bytes_eq-Decides}
-use Rattle.tc_reader.specs.declared.fault.Opt.{Opt}
-use Rattle.tc_reader.specs.declared.fault.Opt.TheVariants.{Dev, Parent, Handle}
-use Rattle.tc_reader.specs.declared.fault.TcFault.{TcFault}
+use Rattle.tc_reader.specs.Words.{Opt, Dev, Parent, Handle, TcFault, Word, Head, dev, root, parent, handle, is_dev, is_parent, is_handle, named, head_at, ReadsHeads, head_words, heads_before, AreNewHeads}
 use Rattle.tc_reader.specs.declared.fault.TcFault.TheVariants as faults
-use Rattle.tc_reader.specs.Cursor.{Word}
-use Rattle.tc_reader.specs.Heads.{Head, dev, root, parent, handle, is_dev, is_parent, is_handle, named, head_at, ReadsHeads}
-use Rattle.tc_reader.specs.Grammar.{head_words, heads_before, has_kind, AreNewHeads}
+use Rattle.tc_reader.specs.Grammar.{has_kind}
 use Rattle.tc_reader.proofs.RunLemmas.{ok_is}
 use Rattle.tc_reader.proofs.GrammarLemmas.{guard_not}
 

@@ -6,13 +6,10 @@ use Rattle.std.proofs.lemmas.List.Folds.{list_any-append}
 use Rattle.std.proofs.Math.Bool.{or-true, or-false}
 use Rattle.std.specs.List.{list_any}
 use Rattle.std.specs.Str.{bytes_eq}
-use Rattle.tc_reader.specs.declared.fault.Opt.TheVariants.{Dev, Parent, Handle}
-use Rattle.tc_reader.specs.declared.fault.TcFault.{TcFault}
+use Rattle.tc_reader.specs.Words.{Dev, Parent, Handle, TcFault, Word, Head, dev, root, parent, handle, is_dev, is_parent, is_handle, named, head_at, ReadsHeads, seen_of}
 use Rattle.tc_reader.specs.declared.fault.TcFault.TheVariants as faults
 use Rattle.tc_reader.specs.declared.heads.Seen.{Seen}
-use Rattle.tc_reader.specs.Cursor.{Word}
-use Rattle.tc_reader.specs.Heads.{Head, dev, root, parent, handle, is_dev, is_parent, is_handle, named, head_at, ReadsHeads}
-use Rattle.tc_reader.specs.Seen.{seen_of, head_word, seen_at}
+use Rattle.tc_reader.specs.Seen.{head_word, seen_at}
 use Rattle.tc_reader.proofs.RunLemmas.{ok_is}
 
 abbrev seen_as : Bool → Bool → Bool → Seen

@@ -5,19 +5,11 @@ use Rattle.std.specs.declared.option.Option.{Option}
 use Rattle.std.specs.List.{list_any}
 use Rattle.std.specs.Str.{bytes_eq}
 use Rattle.abstract_port.specs.declared.Change.{Change}
-use Rattle.abstract_port.specs.declared.Command.{Command}
+use Rattle.tc_reader.specs.Words.{Command, Verb, Replace, Delete, TcFault, Word, ◌>>=◌, Item, Options, no_options, given_by, Head, is_dev, is_parent, ReadsHeads, change_given, heads_missing, verb_of, verb_at, replacement_of, ReadsOptions, deletion_before, ReadsRest, ReadsLine, HasFault, heads_before, AreNewHeads, IsCommand}
 use Rattle.abstract_port.specs.declared.Command.TheVariants as commands
-use Rattle.tc_reader.specs.declared.line.Verb.{Verb}
-use Rattle.tc_reader.specs.declared.line.Verb.TheVariants.{Replace, Delete}
-use Rattle.tc_reader.specs.declared.fault.TcFault.{TcFault}
 use Rattle.tc_reader.specs.declared.fault.TcFault.TheVariants as faults
-use Rattle.tc_reader.specs.Cursor.{Word}
-use Rattle.tc_reader.specs.Options.{◌>>=◌, Item, Options, no_options}
-use Rattle.tc_reader.specs.Reads.{given_by}
-use Rattle.tc_reader.specs.Heads.{Head, is_dev, is_parent, ReadsHeads}
-use Rattle.tc_reader.specs.Ends.{change_given, heads_missing}
-use Rattle.tc_reader.specs.Lines.{verb_of, verb_with_rest, verb_at, replacement_of, deletion_of, ReadsOptions, deletion_before, ReadsRest, ReadsLine, HasFault}
-use Rattle.tc_reader.specs.Grammar.{heads_before, AreNewHeads, ReplacesBy, IsReplacement, IsDeletion, IsCommand}
+use Rattle.tc_reader.specs.Lines.{verb_with_rest, deletion_of}
+use Rattle.tc_reader.specs.Grammar.{ReplacesBy, IsReplacement, IsDeletion}
 use Rattle.tc_reader.proofs.RunLemmas.{ok_is}
 use Rattle.tc_reader.proofs.GrammarLemmas.{bind_ok, Reads-take, Reads-again, Reads-one}
 use Rattle.tc_reader.proofs.HeadsGrammar.{End, is_word, heads_take, heads_again, heads_one}

@@ -4,11 +4,8 @@ use Rattle.std.proofs.lemmas.Bool.{le-leb}
 use Rattle.std.specs.Str.{bytes_eq}
 use Rattle.std.proofs.lemmas.Slice.Eq.{bytes_eq-Decides}
 use Rattle.std.specs.Prelude.{IfSome, codes, length}
-use Rattle.words.specs.Numbers.{at_most, behind_first, digit_in, first_number, number_in, value_behind}
-use Rattle.tc_reader.specs.Cursor.{Word}
-use Rattle.tc_reader.specs.Values.{after_0x, hex_in}
-use Rattle.tc_reader.specs.Options.{Options, sched_entry, value_at, value_or, command_at, entry_at, values_at, item_at}
-use Rattle.tc_reader.specs.declared.fault.Opt.TheVariants.{SchedEntry}
+use Rattle.tc_reader.specs.Words.{at_most, digit_in, number_in, value_behind, Word, after_0x, hex_in, Options, sched_entry, value_at, value_or, command_at, entry_at, values_at, item_at, SchedEntry}
+use Rattle.words.specs.Numbers.{behind_first, first_number}
 
 pub plain_entry : (place : ℕ) (behind after rest : List Word) (mask interval : ℕ)
     → value_at SchedEntry (hex_in 255) (place + 2) behind ≡ Ok (mask, after)

@@ -5,21 +5,11 @@ use Rattle.std.specs.declared.option.Option.{Option}
 use Rattle.std.specs.List.{list_any}
 use Rattle.std.specs.Str.{bytes_eq}
 use Rattle.std.proofs.lemmas.List.{length-append}
-use Rattle.abstract_port.specs.declared.Command.{Command}
-use Rattle.tc_reader.specs.declared.line.Verb.{Verb}
-use Rattle.tc_reader.specs.declared.line.Verb.TheVariants.{Replace, Delete}
-use Rattle.tc_reader.specs.declared.fault.TcFault.{TcFault}
+use Rattle.tc_reader.specs.Words.{Command, Verb, Replace, Delete, TcFault, Word, Item, Options, no_options, with_item, item_at, Reads, given_by, Head, dev, root, parent, handle, is_dev, is_parent, head_at, ReadsHeads, verb_at, replacement_of, ReadsOptions, deletion_before, ReadsRest, ReadsLine, HasFault, head_words, IsCommand, IsReader}
 use Rattle.tc_reader.specs.declared.fault.TcFault.TheVariants as faults
-use Rattle.tc_reader.specs.Cursor.{Word}
-use Rattle.tc_reader.specs.Options.{Item, Options, no_options, with_item, item_at}
-use Rattle.tc_reader.specs.Reads.{Reads, given_by}
-use Rattle.tc_reader.specs.Heads.{Head, dev, root, parent, handle, is_dev, is_parent, head_at, ReadsHeads}
-use Rattle.tc_reader.specs.Lines.{verb_at, replacement_of, ReadsOptions, deletion_before, ReadsRest, ReadsLine, HasFault}
-use Rattle.tc_reader.specs.Grammar.{head_words, IsCommand}
 use Rattle.tc_reader.proofs.HeadsLemmas.{ends_fault, ends_taprio}
 use Rattle.tc_reader.proofs.GrammarLemmas.{item_take}
 use Rattle.tc_reader.proofs.HeadsGrammar.{End, head_take}
-use Rattle.tc_reader.specs.Reader.{IsReader}
 use Rattle.tc_reader.proofs.LineLaws.{line_take, one_command, one_fault, not_both}
 
 -- ---- options

@@ -2,18 +2,9 @@
 use Rattle.std.proofs.Common.{◌≡◌, ℕ, ◌+◌, ◌-◌, Bool, cond, List, [], ◌∷◌, ◌++◌, length, take, None, Some, Result, Ok, Err, refl, sym, ap, subst, ◌∙◌, append_assoc, append-nil}
 use Rattle.std.specs.Prelude.{fold, is_some, option_map}
 use Rattle.std.specs.declared.option.Option.{Option}
-use Rattle.gate_list.specs.declared.Entry.{Entry}
-use Rattle.tc_reader.specs.declared.fault.Opt.{Opt}
-use Rattle.tc_reader.specs.declared.fault.Opt.TheVariants.{Dev, Parent, Handle, NumTc, Map, Queues, BaseTime, CycleTime, CycleTimeExtension, SchedEntry, Clockid, Flags, TxtimeDelay, MaxSdu, Fp}
-use Rattle.tc_reader.specs.declared.fault.TcFault.{TcFault}
+use Rattle.tc_reader.specs.Words.{Entry, Opt, Dev, Parent, Handle, NumTc, Map, Queues, BaseTime, CycleTime, CycleTimeExtension, SchedEntry, Clockid, Flags, TxtimeDelay, MaxSdu, Fp, TcFault, KEPT_PRIORITIES, KEPT_RANGES, KEPT_ENTRIES, CLASSES, Word, ◌>>=◌, Item, num_tc, priorities, ranges, base_time, cycle_time, extension, sched_entry, clock, flags, limits, Options, no_options, with_item, is_given, allowed, values_at, item_at, is_unsupported, option_named, capped, Reads, given_by}
 use Rattle.tc_reader.specs.declared.fault.TcFault.TheVariants as faults
-use Rattle.tc_reader.specs.declared.capped.TheConstants.{KEPT_PRIORITIES, KEPT_RANGES, KEPT_ENTRIES}
-use Rattle.wire_time.specs.declared.TheConstants.{CLASSES}
-use Rattle.tc_reader.specs.Cursor.{Word}
-use Rattle.tc_reader.specs.Options.{◌>>=◌, Item, num_tc, priorities, ranges, base_time, cycle_time, extension, sched_entry, clock, flags, limits, Options, no_options, with_item, is_given, allowed, values_at, item_at}
-use Rattle.tc_reader.specs.Names.{is_unsupported, option_named}
-use Rattle.tc_reader.specs.Capped.{capped_with, with_read, capped}
-use Rattle.tc_reader.specs.Reads.{Reads, given_by}
+use Rattle.tc_reader.specs.Capped.{capped_with, with_read}
 use Rattle.tc_reader.proofs.RunLemmas.{take-push, ok_is}
 
 -- ---- what is capped says what was given

@@ -3,13 +3,9 @@ use Rattle.std.proofs.Common.{◌≡◌, ℕ, ◌<◌, ◌+◌, ◌≤◌, Bool,
 use Rattle.std.specs.declared.option.Option.{Option}
 use Rattle.std.proofs.lemmas.List.{take_all, take-take, take-append-le, length-take}
 use Rattle.std.proofs.lemmas.Bool.{cases_lt}
-use Rattle.tc_reader.specs.declared.fault.Opt.{Opt}
-use Rattle.tc_reader.specs.declared.fault.TcFault.{TcFault}
+use Rattle.tc_reader.specs.Words.{Opt, TcFault, Word, first_ones, ◌>>=◌, value_or, value_at, run_at, begins}
 use Rattle.tc_reader.specs.declared.fault.TcFault.TheVariants as faults
-use Rattle.tc_reader.specs.Cursor.{Word}
-use Rattle.tc_reader.specs.Capped.{first_ones}
 use Rattle.std.specs.Prelude.{◌==◌, if◌then◌else◌}
-use Rattle.tc_reader.specs.Options.{◌>>=◌, value_or, value_at, run_at, begins}
 
 abbrev pub with_front : {X : Type 0} → List X → Result (List X × List Word) TcFault → Result (List X × List Word) TcFault
 with_front front read = read >>= λ x. Ok (front ++ x.0, x.1)

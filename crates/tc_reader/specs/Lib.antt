@@ -10,3 +10,4 @@ pub mod Ends
 pub mod Lines
 pub mod Grammar
 pub mod Reader
+pub mod Words

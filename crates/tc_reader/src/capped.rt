@@ -1,7 +1,7 @@
 //! The options of a line, as they are read.
 
 ghost use Rattle.std.specs.Prelude.{◌≡◌};
-ghost use Rattle.tc_reader.specs.Options.{no_options, is_given};
+ghost use Rattle.tc_reader.specs.Words.{no_options, is_given};
 
 use crate::fault::Opt;
 use arrayvec::ArrayVec;

@@ -1,8 +1,7 @@
 //! What is looked at in the end.
 
 ghost use Rattle.std.specs.Prelude.{◌≡◌, Err, MatchResult, Ok, option_map};
-ghost use Rattle.tc_reader.specs.Capped.{view};
-ghost use Rattle.tc_reader.specs.Ends.{ranges_of, classes_of, closed_change, eight_limits, command_given, heads_missing};
+ghost use Rattle.tc_reader.specs.Words.{view, ranges_of, classes_of, closed_change, eight_limits, command_given, heads_missing};
 
 use crate::capped::CappedOptions;
 use crate::fault::{Opt, TcFault};
@@ -103,7 +102,7 @@ pub fn closed_command() -> Command
 }
 
 /// The change that the options give, with their map and ranges, takes the place of another one.
-fn put_change(
+fn give_change(
     given: &CappedOptions,
     map: Option<ClassMap>,
     queues: Option<Queues>,
@@ -140,7 +139,7 @@ fn put_command(
     ensures { answer.new ≡ command_given (view given.now) }
 {
     let mut change = closed_change();
-    *answer = match put_change(given, map, queues, &mut change) {
+    *answer = match give_change(given, map, queues, &mut change) {
         Ok(()) => Ok(Command::Replace(change)),
         Err(fault) => Err(fault),
     };
@@ -167,7 +166,7 @@ pub(crate) fn give_command(given: &CappedOptions, answer: &mut Result<Command, T
         }
     };
     match answer {
-        Ok(Command::Replace(change)) => match put_change(given, map, queues, change) {
+        Ok(Command::Replace(change)) => match give_change(given, map, queues, change) {
             Ok(()) => {}
             Err(fault) => put_fault(fault, answer),
         },

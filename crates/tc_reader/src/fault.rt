@@ -1,7 +1,7 @@
 //! Why a line is no command.
 
 ghost use Rattle.std.specs.Prelude.{◌≡◌};
-ghost use Rattle.tc_reader.specs.Names.{word_of};
+ghost use Rattle.tc_reader.specs.Words.{word_of};
 
 use class_map::{MapFault, QueueFault};
 use gate_list::GateFault;

@@ -1,10 +1,7 @@
 //! What stands between the verb and `taprio`.
 
-ghost use Rattle.std.specs.Prelude.{◌≡◌, List, [], Option, Some, None, Ok, Err, MatchResult};
-ghost use Rattle.words.specs.WordsLeft.{words_left};
-ghost use Rattle.tc_reader.specs.Cursor.{Moves};
-ghost use Rattle.tc_reader.specs.Heads.{Head, ReadsHeads};
-ghost use Rattle.tc_reader.specs.Seen.{HeadTakes, seen_of, behind_heads};
+ghost use Rattle.std.specs.Prelude.{◌≡◌, List, [], Some, Ok, Err, MatchResult};
+ghost use Rattle.tc_reader.specs.Words.{words_left, Moves, Head, ReadsHeads, HeadTakes, seen_of, behind_heads};
 
 use crate::fault::{Opt, TcFault};
 use words::Words;

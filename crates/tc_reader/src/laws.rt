@@ -2,12 +2,7 @@
 //! its law.
 
 ghost use Rattle.std.specs.Prelude.{◌≡◌, ◌⊎◌, List, Result};
-ghost use Rattle.abstract_port.specs.declared.Command.{Command};
-ghost use Rattle.tc_reader.specs.Cursor.{Word};
-ghost use Rattle.tc_reader.specs.declared.fault.TcFault.{TcFault};
-ghost use Rattle.tc_reader.specs.Grammar.{IsCommand};
-ghost use Rattle.tc_reader.specs.Lines.{HasFault};
-ghost use Rattle.tc_reader.specs.Reader.{IsReader};
+ghost use Rattle.tc_reader.specs.Words.{Command, Word, TcFault, IsCommand, HasFault, IsReader};
 
 /// Every list of words says a command or has a first fault, never both, and never two of either.
 pub fn one_reading()

@@ -1,12 +1,7 @@
 //! A whole line.
 
 ghost use Rattle.std.specs.Prelude.{◌≡◌, ◌↔◌, Option, Some, None, Ok, MatchOption, IfErr};
-ghost use Rattle.words.specs.Words.{words_of};
-ghost use Rattle.words.specs.WordsLeft.{words_left};
-ghost use Rattle.tc_reader.specs.Cursor.{total, Moves};
-ghost use Rattle.tc_reader.specs.Seen.{behind_heads};
-ghost use Rattle.tc_reader.specs.Lines.{verb_of, verb_at, ReadsOptions, deletion_before, ReadsLine, HasFault};
-ghost use Rattle.tc_reader.specs.Grammar.{IsCommand};
+ghost use Rattle.tc_reader.specs.Words.{words_of, words_left, total, Moves, behind_heads, verb_of, verb_at, ReadsOptions, deletion_before, ReadsLine, HasFault, IsCommand};
 
 use crate::capped::CappedOptions;
 use crate::end::{check_heads, give_command, put_fault};

@@ -1,6 +1,6 @@
 //! Options with a list of values: the longest run of words of their form.
 
-ghost use Rattle.std.specs.Prelude.{◌≡◌, ◌≤◌, ◌<◌, ◌+◌, ◌-◌, ◌^◌, ℕ, Bool, List, Option, Ok, Err, [], ◌∷◌, ◌++◌, take, IfOk, MatchResult};
+ghost use Rattle.std.specs.Prelude.{◌≡◌, ◌≤◌, ◌<◌, ◌+◌, ◌-◌, ℕ, Bool, List, Option, Ok, Err, [], ◌∷◌, ◌++◌, take, IfOk, MatchResult};
 ghost use Rattle.words.specs.Numbers.{number_in, is_digits};
 ghost use Rattle.words.specs.WordsLeft.{words_left, words_taken};
 ghost use Rattle.tc_reader.specs.Cursor.{Moves};

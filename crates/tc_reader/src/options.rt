@@ -1,11 +1,7 @@
 //! An option with its values.
 
 ghost use Rattle.std.specs.Prelude.{◌≡◌};
-ghost use Rattle.words.specs.WordsLeft.{words_left, words_taken};
-ghost use Rattle.tc_reader.specs.Cursor.{Moves};
-ghost use Rattle.tc_reader.specs.Names.{option_named};
-ghost use Rattle.tc_reader.specs.Options.{values_at};
-ghost use Rattle.tc_reader.specs.Capped.{view, Takes};
+ghost use Rattle.tc_reader.specs.Words.{words_left, words_taken, Moves, option_named, values_at, view, Takes};
 
 use crate::capped::CappedOptions;
 use crate::fault::{Opt, TcFault};

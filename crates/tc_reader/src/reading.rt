@@ -1,11 +1,7 @@
 //! All options of a line.
 
 ghost use Rattle.std.specs.Prelude.{◌≡◌, ◌+◌, ◌<◌, List, [], Some, None, true, IfOk, MatchBool, MatchResult};
-ghost use Rattle.words.specs.WordsLeft.{words_left, words_taken};
-ghost use Rattle.tc_reader.specs.Cursor.{total, Moves};
-ghost use Rattle.tc_reader.specs.Options.{Item, no_options, item_at, allowed};
-ghost use Rattle.tc_reader.specs.Capped.{view, capped, FailsOne, Takes, TakesOne};
-ghost use Rattle.tc_reader.specs.Reads.{Reads, given_by};
+ghost use Rattle.tc_reader.specs.Words.{words_left, words_taken, total, Moves, Item, no_options, item_at, allowed, view, capped, FailsOne, Takes, TakesOne, Reads, given_by};
 
 use crate::capped::CappedOptions;
 use crate::fault::{Opt, TcFault};

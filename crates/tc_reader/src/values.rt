@@ -2,12 +2,7 @@
 
 ghost use Rattle.std.specs.Prelude.{◌≡◌, ◌≤◌, ◌<◌, ◌+◌, ◌^◌, ◌-◌, ◌∷◌, [], Ok, Err, Some, MatchResult, MatchOption, IfOk, IfSome};
 ghost use Rattle.std.specs.List.{position, before_first, after_first};
-ghost use Rattle.words.specs.Numbers.{digit_in, number_in};
-ghost use Rattle.words.specs.WordsLeft.{words_left, words_taken};
-ghost use Rattle.tc_reader.specs.Cursor.{Moves};
-ghost use Rattle.tc_reader.specs.Values.{after_0x, hex_in, is_sign, is_range, range_of, is_clock, limit_in};
-ghost use Rattle.tc_reader.specs.Capped.{StandsPlainly};
-ghost use Rattle.tc_reader.specs.Options.{value_at, command_at, entry_at, flags_at, clock_item, sched_entry, clock, flags};
+ghost use Rattle.tc_reader.specs.Words.{digit_in, number_in, words_left, words_taken, Moves, after_0x, hex_in, is_sign, is_range, range_of, is_clock, limit_in, StandsPlainly, value_at, command_at, entry_at, flags_at, clock_item, sched_entry, clock, flags};
 
 use crate::fault::{Opt, TcFault};
 use gate_list::Entry;

@@ -1,6 +1,6 @@
 //! Readers and writers that do something else at one of their calls.
 
-ghost use Rattle.std.specs.Prelude.{◌≡◌, ◌/◌, ◌%◌, [], true};
+ghost use Rattle.std.specs.Prelude.{◌≡◌, ◌/◌, ◌%◌, []};
 ghost use Rattle.test_streams.specs.Turns.{turn_of};
 
 use std::alloc::Global;

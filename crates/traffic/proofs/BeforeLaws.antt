@@ -2,11 +2,7 @@
 use Rattle.std.proofs.Common.{◌≡◌, ◌<◌, ◌≤◌, ℕ, List, [], ◌∷◌, cond, Option, Some, None, refl, sym, ap, ◌∙◌, arith, get_or}
 use Rattle.std.specs.Prelude.{slice_set, MatchOption}
 use Rattle.std.proofs.lemmas.Bool.{lt-ltb, le-ltb}
-use Rattle.traffic.specs.Frames.{by_moment}
-use Rattle.traffic.specs.Merge.{frames_before, frames_from}
-use Rattle.traffic.specs.Turns.{first_place, left_of, left_of_all}
-use Rattle.traffic.specs.declared.turn.Turn.{Turn}
-use Rattle.traffic.specs.declared.turn.Coming.{Coming}
+use Rattle.traffic.specs.Words.{by_moment, frames_before, frames_from, first_place, left_of, left_of_all, Turn, Coming}
 use Rattle.traffic.proofs.FirstLaws.{first_comes, first_found, some_next, takes}
 
 none_before : (m : ℕ) → frames_before m [] ≡ []

@@ -4,10 +4,8 @@ use Rattle.std.specs.Prelude.{slice_set, nat_lt, IfSome, MatchOption}
 use Rattle.std.proofs.lemmas.List.{at_drop_more}
 use Rattle.std.specs.List.{flat_map}
 use Rattle.std.proofs.lemmas.Bool.{ltb-true, ltb-false}
-use Rattle.traffic.specs.Frames.{by_moment, first_of}
-use Rattle.traffic.specs.Turns.{earlier, first_place, left_of, left_of_all, next_of}
-use Rattle.traffic.specs.declared.turn.Turn.{Turn}
-use Rattle.traffic.specs.declared.turn.Coming.{Coming}
+use Rattle.traffic.specs.Words.{by_moment, first_of, earlier, first_place, left_of, left_of_all, Turn, Coming}
+use Rattle.traffic.specs.Turns.{next_of}
 use Rattle.traffic.proofs.OrderLaws.{FromOn, from_append, from_earlier, rising, first_is, none_first, sorted_first, sorted_behind, sorted_none}
 
 -- of streams the one at this place has the first frame, which comes at this moment

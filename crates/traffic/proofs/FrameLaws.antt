@@ -1,7 +1,6 @@
 -- The frames of a stream, one after another.
 use Rattle.std.proofs.Common.{◌≡◌, ◌<◌, ◌+◌, ℕ, zero, suc, [], ◌∷◌, Some, None, refl, ap, ◌∙◌, arith}
-use Rattle.traffic.specs.Frames.{first_of, frame_after, frames_after}
-use Rattle.traffic.specs.declared.table.Stream.{Stream}
+use Rattle.traffic.specs.Words.{first_of, frame_after, frames_after, Stream}
 
 pub none_left : (s : Stream) (k n : ℕ) → n ≡ 0 → first_of (frames_after s k n) ≡ None
 unfolding frames_after

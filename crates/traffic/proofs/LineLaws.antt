@@ -1,7 +1,6 @@
 -- The lines of frames, one after another.
 use Rattle.std.proofs.Common.{◌≡◌, ℕ, List, [], ◌∷◌, ◌++◌, Option, Some, refl, ap, ◌∙◌}
-use Rattle.traffic.specs.Written.{clock_to, frame_line, lines_of}
-use Rattle.traffic.specs.declared.turn.Coming.{Coming}
+use Rattle.traffic.specs.Words.{clock_to, frame_line, lines_of, Coming}
 
 no_line : (written : Option ℕ) → lines_of written [] ≡ []
 unfolding lines_of

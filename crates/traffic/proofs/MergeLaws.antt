@@ -2,24 +2,14 @@
 use Rattle.std.proofs.Common.{◌≡◌, ℕ, List, [], ◌++◌, Option, Some, None, Result, Ok, Err, true, false, refl, sym, ap, ◌∙◌, subst, append-nil}
 use Rattle.std.specs.Prelude.{IfSome}
 use Rattle.std.specs.Io.KnownBytes.{Appends}
-use Rattle.octet_writer.specs.Writes.{FallsShort, Sent}
+use Rattle.traffic.specs.Words.{Sent, Script, End, Broken, Line, Advances, Limit, LineFault, limit_fault, script_fault, clock_after, frames_before, frames_from, line_text, Runs, merging, lines_of, Fault, StreamsInput, Coming}
+use Rattle.octet_writer.specs.Writes.{FallsShort}
 use Rattle.octet_writer.proofs.Fronts.{sent_all, sent_more, sent_none, sent_short}
-use Rattle.line_reader.specs.Script.{Script, End, Broken, Line}
-use Rattle.line_reader.specs.LineReader.{Advances}
-use Rattle.line_reader.specs.declared.lines.Limit.{Limit}
-use Rattle.line_reader.specs.declared.lines.LineFault.{LineFault}
 use Rattle.line_reader.specs.declared.lines.LineFault.TheVariants as LineFaults
-use Rattle.script.specs.Outcome.{limit_fault}
-use Rattle.traffic.specs.Faults.{script_fault}
-use Rattle.traffic.specs.Merge.{clock_after, frames_before, frames_from, line_text, merged, moment_of}
-use Rattle.job.specs.Outcome.{Runs}
-use Rattle.traffic.specs.Outcome.{fault_in, merging}
-use Rattle.traffic.specs.Written.{lines_of}
-use Rattle.job.specs.declared.fault.Fault.{Fault}
+use Rattle.traffic.specs.Merge.{merged, moment_of}
+use Rattle.traffic.specs.Outcome.{fault_in}
 use Rattle.job.specs.declared.fault.Fault.TheVariants as Faults
-use Rattle.traffic.specs.declared.faults.StreamsInput.{StreamsInput}
 use Rattle.traffic.specs.declared.faults.StreamsInput.TheVariants as Inputs
-use Rattle.traffic.specs.declared.turn.Coming.{Coming}
 
 -- a line, and the frames before it
 abbrev pub text_at : Option ℕ → Option ℕ → List ℕ → List Coming → List ℕ

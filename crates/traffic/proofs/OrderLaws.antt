@@ -1,9 +1,8 @@
 -- Frames by rising moment.
 use Rattle.std.proofs.Common.{◌≡◌, ◌<◌, ◌≤◌, ◌+◌, ◌*◌, ◌-◌, ℕ, zero, suc, List, [], ◌∷◌, ◌++◌, Bool, true, false, cond, Some, None, refl, ap, ◌∙◌, arith, le_refl, le_trans, mul-le-mul_left}
 use Rattle.std.proofs.lemmas.Bool.{le-leb, lt-leb}
-use Rattle.traffic.specs.Frames.{by_moment, first_of, frame_after, frames_after, insert}
-use Rattle.traffic.specs.declared.table.Stream.{Stream}
-use Rattle.traffic.specs.declared.turn.Coming.{Coming}
+use Rattle.traffic.specs.Words.{by_moment, first_of, frame_after, frames_after, Stream, Coming}
+use Rattle.traffic.specs.Frames.{insert}
 
 -- no frame comes before a moment
 abbrev pub FromOn : ℕ → List Coming → Type 0

@@ -2,18 +2,12 @@
 use Rattle.std.proofs.Common.{◌≡◌, ℕ, List, [], Option, Some, None, Result, Ok, Err, refl, sym, ap, ◌∙◌, subst}
 use Rattle.std.specs.Prelude.{IfSome, option_map}
 use Rattle.octet_writer.proofs.Fronts.{Appends-nil, sent_none}
-use Rattle.line_reader.specs.Script.{Script, script_of}
-use Rattle.traffic.specs.Frames.{by_moment}
-use Rattle.job.specs.Outcome.{Outcome, Runs}
-use Rattle.traffic.specs.Outcome.{merging, outcome_in, outcome_of, outcome_unless}
-use Rattle.traffic.specs.Reading.{ReadsTable}
-use Rattle.traffic.specs.Table.{Table, table_of}
-use Rattle.traffic.specs.Turns.{left_of_all}
-use Rattle.job.specs.declared.fault.Fault.{Fault}
+use Rattle.traffic.specs.Words.{Script, by_moment, Runs, merging, outcome_in, outcome_of, ReadsTable, Table, table_of, left_of_all, Fault, StreamsInput, Turn}
+use Rattle.line_reader.specs.Script.{script_of}
+use Rattle.job.specs.Outcome.{Outcome}
+use Rattle.traffic.specs.Outcome.{outcome_unless}
 use Rattle.job.specs.declared.fault.Fault.TheVariants as Faults
-use Rattle.traffic.specs.declared.faults.StreamsInput.{StreamsInput}
 use Rattle.traffic.specs.declared.faults.StreamsInput.TheVariants as Inputs
-use Rattle.traffic.specs.declared.turn.Turn.{Turn}
 
 module _ (from : ℕ) where
   -- a table without a fault

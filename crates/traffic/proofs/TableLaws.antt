@@ -3,26 +3,12 @@ use Rattle.std.proofs.Common.{◌≡◌, ℕ, List, [], ◌∷◌, ◌++◌, Opt
 use Rattle.std.proofs.lemmas.Grind.{flat_map-append}
 use Rattle.std.specs.Prelude.{IfSome}
 use Rattle.std.specs.List.{flat_map}
-use Rattle.words.specs.Words.{words_of}
-use Rattle.line_reader.specs.Script.{Script, End, Broken, Line}
-use Rattle.line_reader.specs.LineReader.{Advances}
-use Rattle.line_reader.specs.declared.lines.Limit.{Limit}
-use Rattle.line_reader.specs.declared.lines.LineFault.{LineFault}
+use Rattle.traffic.specs.Words.{words_of, Script, End, Broken, Line, Advances, Limit, LineFault, limit_fault, table_fault, frames_of, ReadsTable, Table, judged, line_judged, table_of, left_of, Fault, StreamsInput, Stream, Coming, Turn}
 use Rattle.line_reader.specs.declared.lines.LineFault.TheVariants as LineFaults
-use Rattle.script.specs.Outcome.{limit_fault}
 use Rattle.script.specs.declared.faults.ScriptFault.{ScriptFault}
-use Rattle.traffic.specs.Faults.{table_fault}
-use Rattle.traffic.specs.Frames.{frames_of}
-use Rattle.traffic.specs.Reading.{ReadsTable}
-use Rattle.traffic.specs.Table.{Table, judged, line_judged, table_by, table_of, with_line}
-use Rattle.traffic.specs.Turns.{left_of}
-use Rattle.job.specs.declared.fault.Fault.{Fault}
+use Rattle.traffic.specs.Table.{table_by, with_line}
 use Rattle.job.specs.declared.fault.Fault.TheVariants as Faults
-use Rattle.traffic.specs.declared.faults.StreamsInput.{StreamsInput}
 use Rattle.traffic.specs.declared.faults.StreamsInput.TheVariants as Inputs
-use Rattle.traffic.specs.declared.table.Stream.{Stream}
-use Rattle.traffic.specs.declared.turn.Coming.{Coming}
-use Rattle.traffic.specs.declared.turn.Turn.{Turn}
 
 -- By what is judged of a stream, and what is kept of one.
 module _ {X : Type 0} (judge : Stream → Result Stream ScriptFault) (of : Stream → List X) where

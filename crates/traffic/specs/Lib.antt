@@ -7,3 +7,4 @@ pub mod Written
 pub mod Merge
 pub mod Outcome
 pub mod Ending
+pub mod Words

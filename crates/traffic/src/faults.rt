@@ -1,7 +1,7 @@
 //! What is wrong with a table of streams or a script, and the texts that say so.
 
 ghost use Rattle.std.specs.Prelude.{◌≡◌};
-ghost use Rattle.traffic.specs.Faults.{script_fault, streams_telling, table_fault};
+ghost use Rattle.traffic.specs.Words.{script_fault, streams_telling, table_fault};
 
 use answer_text::WriteFault;
 use job::{Fault, InputFault};
@@ -25,7 +25,7 @@ pub enum StreamsInput {
 pub type StreamsFault = Fault<StreamsInput>;
 
 /// The fault of a table whose line can't be read.
-pub fn table_fault(fault: LineFault) -> StreamsFault
+pub(crate) fn table_fault(fault: LineFault) -> StreamsFault
     ensures { result ≡ table_fault fault }
 {
     match fault {
@@ -38,7 +38,7 @@ pub fn table_fault(fault: LineFault) -> StreamsFault
 }
 
 /// The fault of a script whose line can't be read.
-pub fn script_fault(fault: LineFault) -> StreamsFault
+pub(crate) fn script_fault(fault: LineFault) -> StreamsFault
     ensures { result ≡ script_fault fault }
 {
     match fault {

@@ -1,13 +1,7 @@
 //! The lines of a script among the frames of streams, each at its moment.
 
 ghost use Rattle.std.specs.Prelude.{◌≡◌, ◌++◌, IfSome, OnOk, None};
-ghost use Rattle.octet_writer.specs.Writes.{Writes};
-ghost use Rattle.line_reader.specs.LineReader.{script_left};
-ghost use Rattle.traffic.specs.Merge.{clock_after, clock_in, clock_said, frames_before, frames_from, latest, line_end, line_text, moment_of};
-ghost use Rattle.job.specs.Outcome.{Runs};
-ghost use Rattle.traffic.specs.Outcome.{merging};
-ghost use Rattle.traffic.specs.Turns.{left_of_all};
-ghost use Rattle.traffic.specs.Written.{lines_of};
+ghost use Rattle.traffic.specs.Words.{Writes, script_left, clock_in, clock_said, frames_before, frames_from, latest, line_end, line_text, Runs, merging, left_of_all, lines_of};
 
 use crate::faults::{StreamsFault, script_fault};
 use crate::turn::Turn;
@@ -89,7 +83,7 @@ fn put_at<W: Write>(
 /// moment, which is the greatest number of the clock lines up to it, its own included, and 0 before the first. No line is kept.
 ///
 /// A line that passes a limit is the fault, once what comes before it is written.
-pub fn write_merged<A: Allocator, R: Read + Drop, W: Write>(
+pub(crate) fn write_merged<A: Allocator, R: Read + Drop, W: Write>(
     lines: &mut LineReader<R, A>,
     turns: &mut [Turn],
     writer: &mut W,

@@ -1,16 +1,9 @@
 //! A table of streams becomes a script.
 
 ghost use Rattle.std.specs.Prelude.{◌≡◌, ◌≤◌, ◌++◌, IfErr, IfSome, OnOk};
-ghost use Rattle.wire_time.specs.Moment.{greatest_moment};
+ghost use Rattle.traffic.specs.Words.{greatest_moment, script_left, Runs, outcome_in, outcome_of, ReadsTable, IsStream, table_of, frames_of, left_of};
 ghost use Rattle.std.specs.List.{flat_map};
-ghost use Rattle.line_reader.specs.LineReader.{script_left};
-ghost use Rattle.job.specs.Outcome.{Runs};
 ghost use Rattle.job.specs.declared.fault.Fault.TheVariants as Faults;
-ghost use Rattle.traffic.specs.Outcome.{outcome_in, outcome_of};
-ghost use Rattle.traffic.specs.Reading.{ReadsTable};
-ghost use Rattle.traffic.specs.Table.{IsStream, table_of};
-ghost use Rattle.traffic.specs.Frames.{frames_of};
-ghost use Rattle.traffic.specs.Turns.{left_of};
 
 use crate::faults::{StreamsFault, StreamsInput, table_fault};
 use crate::merging::write_merged;

@@ -2,9 +2,7 @@
 
 ghost use Rattle.std.specs.Prelude.{◌≡◌, ◌≤◌, IfErr, IfOk};
 ghost use Rattle.std.specs.Io.Buffered.{writer_contents};
-ghost use Rattle.script.specs.Given.{octets_of};
-ghost use Rattle.traffic.specs.Ending.{IsStreamsEnding, from_given};
-ghost use Rattle.wire_time.specs.Moment.{greatest_moment};
+ghost use Rattle.traffic.specs.Words.{octets_of, IsStreamsEnding, from_given, greatest_moment};
 
 use crate::streaming::write_streams;
 use job::{Ended, end_run};

@@ -1,10 +1,7 @@
 //! What the lines of a table of streams say.
 
-ghost use Rattle.std.specs.Prelude.{◌≡◌, ◌≤◌, ◌^◌, ◌∷◌, IfSome, IfOk, OnOk, true, take, drop};
-ghost use Rattle.wire_time.specs.Moment.{greatest_moment};
-ghost use Rattle.words.specs.Words.{words_of};
-ghost use Rattle.words.specs.WordsLeft.{words_left};
-ghost use Rattle.traffic.specs.Table.{deadline_in, ends_in, ends_in_time, has_ids, judged, leading_digits, line_judged, line_said, moved, starts_with_digit, stream_in_words, stream_said, time_in, unit_of, HasTimes, IsStream};
+ghost use Rattle.std.specs.Prelude.{◌≡◌, ◌≤◌, ◌∷◌, IfSome, IfOk, true, take, drop};
+ghost use Rattle.traffic.specs.Words.{greatest_moment, words_of, words_left, deadline_in, ends_in, judged, leading_digits, line_judged, line_said, moved, starts_with_digit, stream_in_words, stream_said, time_in, unit_of, HasTimes, IsStream};
 
 use script::ScriptFault;
 use wire_time::MAX_MOMENT;
@@ -96,7 +93,7 @@ fn moved(stream: Stream, from: u128) -> Stream
 }
 
 /// A stream whose frames can be frames of a script, each so much later, in picoseconds; or its fault.
-pub fn judged(stream: Stream, from: u128) -> Result<Stream, ScriptFault>
+pub(crate) fn judged(stream: Stream, from: u128) -> Result<Stream, ScriptFault>
     requires from { from ≤ greatest_moment }
     requires times { HasTimes stream }
     ensures judged { result ≡ judged from stream }
@@ -126,7 +123,7 @@ struct StreamWords<'a> {
 
 /// What a stream's line says at its end: whether the frames are tagged, and their deadline, in picoseconds, where there is one.
 #[derive(Clone, Copy, Debug, PartialEq, Eq)]
-pub struct Ends {
+pub(crate) struct Ends {
     pub tagged: bool,
     pub deadline: Option<u128>,
 }
@@ -264,7 +261,7 @@ pub fn read_stream_line(line: &[u8]) -> Result<Option<Stream>, ScriptFault>
 }
 
 /// What a line of a table says whose frames come so much later, in picoseconds, or None where it is skipped.
-pub fn read_line(line: &[u8], from: u128) -> Result<Option<Stream>, ScriptFault>
+pub(crate) fn read_line(line: &[u8], from: u128) -> Result<Option<Stream>, ScriptFault>
     requires from { from ≤ greatest_moment }
     ensures said { result ≡ line_judged (judged from) (words_of line.now) }
     ensures fits { IfOk result (λ said. IfSome said IsStream) }

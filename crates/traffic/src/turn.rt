@@ -9,7 +9,7 @@ use wire_time::Frame;
 
 /// A frame that is to come.
 #[derive(Clone, Copy, Debug, PartialEq, Eq)]
-pub struct Coming {
+pub(crate) struct Coming {
     /// When it comes, in picoseconds.
     pub moment: u128,
     /// The frame.
@@ -38,7 +38,7 @@ fn frame_after(stream: &Stream, come: u32) -> Option<Coming>
 
 /// A stream, how many of its frames have come, and the one that comes next.
 #[derive(Clone, Copy, Debug)]
-pub struct Turn {
+pub(crate) struct Turn {
     stream: Stream,
     come: u32,
     next: Option<Coming>,

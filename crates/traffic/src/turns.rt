@@ -1,8 +1,7 @@
 //! The frames of all streams, one after another by moment.
 
 ghost use Rattle.std.specs.Prelude.{◌≡◌, ◌<◌, ◌∷◌, [], length, IfSome, MatchOption};
-ghost use Rattle.traffic.specs.Merge.{frames_before, frames_from};
-ghost use Rattle.traffic.specs.Turns.{earlier, first_place, left_of_all};
+ghost use Rattle.traffic.specs.Words.{frames_before, frames_from, earlier, first_place, left_of_all};
 
 use crate::turn::{Coming, Turn};
 
@@ -36,7 +35,7 @@ fn first_place(turns: &[Turn]) -> Option<(usize, u128)>
 }
 
 /// Takes the frame that comes next of all streams, if there is one; at one moment that of the first stream in the table.
-pub fn next_frame(turns: &mut [Turn]) -> Option<Coming>
+pub(crate) fn next_frame(turns: &mut [Turn]) -> Option<Coming>
     ensures { MatchOption result (left_of_all turns.old ≡ []) (λ f. left_of_all turns.old ≡ f ∷ left_of_all turns.new) }
 {
     let (place, _) = first_place(turns)?;
@@ -44,7 +43,7 @@ pub fn next_frame(turns: &mut [Turn]) -> Option<Coming>
 }
 
 /// Takes the frame that `next_frame` would take, if it comes before a moment.
-pub fn next_before(turns: &mut [Turn], end: u128) -> Option<Coming>
+pub(crate) fn next_before(turns: &mut [Turn], end: u128) -> Option<Coming>
     ensures before { MatchOption result (frames_before end (left_of_all turns.old) ≡ []) (λ f. frames_before end (left_of_all turns.old) ≡ f ∷ frames_before end (left_of_all turns.new)) }
     ensures others { MatchOption result (frames_from end (left_of_all turns.old) ≡ left_of_all turns.new) (λ f. frames_from end (left_of_all turns.old) ≡ frames_from end (left_of_all turns.new)) }
 {

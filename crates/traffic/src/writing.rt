@@ -1,10 +1,7 @@
 //! The lines of a script that has the frames of streams.
 
 ghost use Rattle.std.specs.Prelude.{◌≡◌, ◌++◌, OnOk};
-ghost use Rattle.octet_writer.specs.Writes.{Writes};
-ghost use Rattle.traffic.specs.Written.{clock_line, clock_to, frame_end, frame_line, lines_of};
-ghost use Rattle.traffic.specs.Merge.{frames_before, frames_from};
-ghost use Rattle.traffic.specs.Turns.{left_of_all};
+ghost use Rattle.traffic.specs.Words.{Writes, clock_to, frame_end, frame_line, lines_of, frames_before, frames_from, left_of_all};
 
 use crate::turn::{Coming, Turn};
 use crate::turns::{next_before, next_frame};
@@ -71,7 +68,7 @@ fn put_coming<W: Write>(
 }
 
 /// Writes the frames of streams that are to come before a moment, as `write_frames` does.
-pub fn write_frames_before<W: Write>(
+pub(crate) fn write_frames_before<W: Write>(
     writer: &mut W,
     turns: &mut [Turn],
     mut written: Option<u128>,
@@ -89,7 +86,7 @@ pub fn write_frames_before<W: Write>(
 
 /// Writes the frames of streams that are to come, by moment, each as a line of a script, with a clock line before the first of each
 /// moment, unless it is the moment whose clock line is written already. At a fault a prefix of it is written.
-pub fn write_frames<W: Write>(
+pub(crate) fn write_frames<W: Write>(
     writer: &mut W,
     turns: &mut [Turn],
     mut written: Option<u128>,

@@ -1,6 +1,6 @@
 //! The delays of streams, from memory.
 
-use crate::memory::lent::{DOTS, USUAL, done, has, room_for};
+use crate::memory::lent::{DOTS, USUAL, done, has, has_told, room_for};
 use in_memory::{PortValues, Ran, bounds_octets};
 use std::alloc::Global;
 
@@ -35,18 +35,7 @@ fn is_told(alloc: Global, lacking: u8) -> bool {
         &mut output[..room_for(ANSWERS, lacking == 0)],
         &mut fault[..room_for(UNKNOWN, lacking == 1)],
     );
-    let lacks = lacking < 2;
-    let wanted = Ran {
-        output: ANSWERS.len(),
-        fault: UNKNOWN.len(),
-        status: if lacks { 5 } else { 3 },
-    };
-    let (answers, text): (&[u8], &[u8]) = if lacks {
-        (b"", b"")
-    } else {
-        (ANSWERS, UNKNOWN)
-    };
-    ran == wanted && has(&output, answers) && has(&fault, text)
+    has_told(ran, lacking < 2, [ANSWERS, UNKNOWN], &output, &fault)
 }
 
 /// With too little room for the answers by one octet, and for the text of the fault, and then with just enough.

@@ -36,6 +36,20 @@ pub fn has(slice: &[u8], text: &[u8]) -> bool {
     }
 }
 
+/// Whether a job whose input has a fault gave these answers and told this text; or nothing, where one of the two slices lacks an octet.
+pub fn has_told(ran: Ran, is_short: bool, whole: [&[u8]; 2], output: &[u8], fault: &[u8]) -> bool {
+    let [answers, text] = whole;
+    let wanted = Ran {
+        output: answers.len(),
+        fault: text.len(),
+        status: if is_short { 5 } else { 3 },
+    };
+    if is_short {
+        return ran == wanted && has(output, b"") && has(fault, b"");
+    }
+    ran == wanted && has(output, answers) && has(fault, text)
+}
+
 /// As much room as a text takes, or one octet less; at most as much as there is.
 pub fn room_for(text: &[u8], is_short: bool) -> usize
     ensures { result ≤ ROOM }

@@ -1,8 +1,6 @@
 use Rattle.std.proofs.Common.{Option, sym, subst}
 use Rattle.std.specs.Option.{ForSome}
-use Rattle.list_config.specs.History.{Accepted}
-use Rattle.accepted_commands.specs.Commands.{IsUsable, command_of}
-use Rattle.accepted_commands.specs.Standing.{IsListOf, position_lent}
+use Rattle.accepted_commands.specs.Words.{Accepted, IsUsable, command_of, IsListOf, position_lent}
 use Rattle.accepted_commands.proofs.UnderLaws.{list_sound}
 use Rattle.accepted_commands.proofs.ahead.resumed.Goals as goal
 

@@ -1,9 +1,5 @@
 use Rattle.std.proofs.Common.{ℕ, Option, ap, sym, ◌∙◌, subst, option_map}
-use Rattle.list_config.specs.History.{Accepted, gates}
-use Rattle.accepted_commands.specs.Commands.{history_of, command_of}
-use Rattle.list_position.specs.declared.Position.{Position}
-use Rattle.list_position.specs.Position.{IsFlat}
-use Rattle.accepted_commands.specs.Standing.{Stands, boundary_in_force, earlier, position_lent, shows_under}
+use Rattle.accepted_commands.specs.Words.{Accepted, gates, history_of, command_of, Position, IsFlat, Stands, boundary_in_force, earlier, position_lent, shows_under}
 use Rattle.accepted_commands.proofs.CommandLaws.{edge_events, flat_now}
 use Rattle.accepted_commands.proofs.edge.edge_of.Goals as goal
 

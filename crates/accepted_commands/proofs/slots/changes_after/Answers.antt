@@ -1,6 +1,5 @@
 use Rattle.std.proofs.Common.{ap}
-use Rattle.list_config.specs.History.{Accepted}
-use Rattle.accepted_commands.specs.Commands.{accepted_in, command_of}
+use Rattle.accepted_commands.specs.Words.{Accepted, accepted_in, command_of}
 use Rattle.accepted_commands.proofs.UnderLaws.{is_after}
 use Rattle.accepted_commands.proofs.slots.changes_after.Goals as goal
 

@@ -1,7 +1,5 @@
 use Rattle.std.proofs.Common.{[], sym, ap, ◌∙◌}
-use Rattle.gate_list.specs.Open.{open_while}
-use Rattle.list_config.specs.History.{cons_some}
-use Rattle.list_config.specs.Stretch.{mask_in, stretches_from}
+use Rattle.accepted_commands.specs.Words.{open_while, cons_some, mask_in, stretches_from}
 use Rattle.accepted_commands.proofs.CommandLaws.{shut_ahead}
 use Rattle.accepted_commands.proofs.staying.stays_open.Goals as goal
 

@@ -1,10 +1,6 @@
 use Rattle.std.proofs.Common.{None, sym, ap, ◌∙◌, subst}
-use Rattle.gate_list.specs.Gate.{mask_since}
-use Rattle.gate_list.specs.Open.{open_while}
-use Rattle.list_config.specs.History.{start_of}
+use Rattle.accepted_commands.specs.Words.{mask_since, open_while, start_of, command_of, IsListOf, hold_for, position_lent}
 use Rattle.list_config.proofs.StretchLaws.{no_plan_while}
-use Rattle.accepted_commands.specs.Commands.{command_of}
-use Rattle.accepted_commands.specs.Standing.{IsListOf, hold_for, position_lent}
 use Rattle.accepted_commands.proofs.UnderLaws.{list_sound, list_usable}
 use Rattle.accepted_commands.proofs.staying.stays_open_alone.Goals as goal
 

@@ -1,6 +1,5 @@
 use Rattle.std.proofs.Common.{subst}
-use Rattle.accepted_commands.specs.Commands.{command_of}
-use Rattle.accepted_commands.specs.Standing.{IsListOf, position_lent}
+use Rattle.accepted_commands.specs.Words.{command_of, IsListOf, position_lent}
 use Rattle.accepted_commands.proofs.UnderLaws.{list_sound, list_usable}
 use Rattle.accepted_commands.proofs.under.until_under.Goals as goal
 

@@ -1,9 +1,8 @@
 use Rattle.std.proofs.Common.{Err, ap, ◌∙◌}
 use Rattle.std.proofs.lemmas.Result.{err_from_is_err_and}
-use Rattle.drawing.specs.Ending.{IsDrawn, fault_in}
+use Rattle.drawing.specs.Words.{IsDrawn, fault_in, reading_of}
 use Rattle.drawing.proofs.EndLaws.{without_memory}
 use Rattle.script.proofs.ReaderLaws.{of_input}
-use Rattle.script.specs.Outcome.{reading_of}
 use Rattle.drawing.proofs.draw_run.draw.Goals as goal
 
 pub returns-in_err-lines : goal.returns-in_err-lines

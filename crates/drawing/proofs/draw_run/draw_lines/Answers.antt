@@ -1,6 +1,6 @@
 use Rattle.std.proofs.Common.{Err, refl, ap, ◌∙◌}
 use Rattle.std.proofs.lemmas.Result.{err_from_is_err_and}
-use Rattle.script.specs.Outcome.{reading_of}
+use Rattle.drawing.specs.Words.{reading_of}
 use Rattle.drawing.proofs.EndLaws.{stopped, not_written, written}
 use Rattle.drawing.proofs.draw_run.draw_lines.Goals as goal
 

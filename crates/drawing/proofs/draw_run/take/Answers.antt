@@ -1,7 +1,7 @@
 use Rattle.std.proofs.Common.{refl, sym, ap, ◌∙◌, arith}
 use Rattle.abstract_port.proofs.AskedLaws.{given_fewer}
-use Rattle.abstract_port.specs.Asked.{with_answer, answers_left}
-use Rattle.drawing.specs.Course.{seen_all}
+use Rattle.drawing.specs.Words.{answers_left, seen_all}
+use Rattle.abstract_port.specs.Asked.{with_answer}
 use Rattle.drawing.proofs.draw_run.take.Goals as goal
 
 pub loop-answer-smaller : goal.loop-answer-smaller

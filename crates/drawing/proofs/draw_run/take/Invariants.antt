@@ -1,9 +1,6 @@
 use Rattle.std.proofs.Common.{◌≡◌}
-use Rattle.abstract_port.specs.AbstractPort.{settled}
-use Rattle.abstract_port.specs.Answers.{answers_to}
-use Rattle.abstract_port.specs.Asked.{answers_left}
+use Rattle.drawing.specs.Words.{settled, answers_to, answers_left, seen_all}
 use Rattle.abstract_port.proofs.AskedLaws.{left_count}
-use Rattle.drawing.specs.Course.{seen_all}
 use Rattle.drawing.proofs.draw_run.take.Given as goal
 
 -- What is drawn, and then the answers to come, are what all of them draw.

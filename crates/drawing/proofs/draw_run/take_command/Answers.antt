@@ -1,4 +1,4 @@
-use Rattle.std.proofs.Common.{arith, rules}
+use Rattle.std.proofs.Common.{arith}
 use Rattle.drawing.proofs.draw_run.take_command.Goals as goal
 
 pub overflow_add-lead : goal.overflow_add-lead

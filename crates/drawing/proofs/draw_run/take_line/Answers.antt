@@ -1,11 +1,9 @@
 use Rattle.std.proofs.Common.{◌≡◌, Option, Some, None, Result, Ok, refl, sym, ap, ◌∙◌, subst}
-use Rattle.abstract_port.specs.AbstractPort.{settled}
+use Rattle.drawing.specs.Words.{settled, Request, Asks, request_of, tc_request, ScriptFault, TakesLine}
 use Rattle.words.specs.Words.{words_of}
-use Rattle.script.specs.Requests.{Request, Asks, request_of, request_said, said_in, tc_request}
+use Rattle.script.specs.Requests.{request_said, said_in}
 use Rattle.script.specs.declared.script_line.Said.TheVariants as Says
-use Rattle.script.specs.declared.faults.ScriptFault.{ScriptFault}
 use Rattle.script.proofs.StartsLaws.{settled-sound}
-use Rattle.drawing.specs.Taken.{TakesLine}
 use Rattle.drawing.proofs.draw_run.take_line.Goals as goal
 
 pub returns-in-Ok-clause-taken : goal.returns-in-Ok-clause-taken

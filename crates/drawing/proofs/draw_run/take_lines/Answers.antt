@@ -1,9 +1,7 @@
 use Rattle.std.proofs.Common.{◌≡◌, Ok, Err, refl, ap, ◌∙◌, subst}
 use Rattle.std.proofs.lemmas.Result.{err_from_is_err_and}
-use Rattle.script.specs.Requests.{request_of}
+use Rattle.drawing.specs.Words.{request_of, bad_line, TakesLine}
 use Rattle.job.specs.declared.fault.Fault.TheVariants as Faults
-use Rattle.script.specs.Outcome.{bad_line}
-use Rattle.drawing.specs.Taken.{TakesLine}
 use Rattle.drawing.proofs.Taking.{is_begun, taken_on, goes_wrong, ends_well, stops}
 use Rattle.drawing.proofs.draw_run.take_lines.Goals as goal
 

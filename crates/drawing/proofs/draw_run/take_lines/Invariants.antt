@@ -1,8 +1,6 @@
 use Rattle.std.proofs.Common.{ℕ, List, Result}
-use Rattle.abstract_port.specs.declared.Command.{Command}
-use Rattle.tc_reader.specs.declared.fault.TcFault.{TcFault}
-use Rattle.tc_reader.specs.Reader.{IsReader}
-use Rattle.line_reader.specs.LineReader.{script_left, most_lines}
+use Rattle.drawing.specs.Words.{Command, TcFault, IsReader, script_left}
+use Rattle.line_reader.specs.LineReader.{most_lines}
 use Rattle.drawing.proofs.Taking.{IsTaking}
 use Rattle.drawing.proofs.draw_run.take_lines.Given as goal
 

@@ -1,5 +1,5 @@
-use Rattle.std.proofs.Common.{◌≡◌, length, ap, sym, ◌∙◌, arith, rules, le_refl}
-use Rattle.drawing.specs.Shapes.{bands_to}
+use Rattle.std.proofs.Common.{◌≡◌, length, ap, sym, ◌∙◌, arith, le_refl}
+use Rattle.drawing.specs.Words.{bands_to}
 use Rattle.drawing.proofs.CountLaws.{next_bands, no_bands_yet}
 use Rattle.drawing.proofs.fitting.count_bands.Goals as goal
 
@@ -10,14 +10,14 @@ pub loop-class-preserved : goal.loop-class-preserved
 loop-class-preserved g c =
     let i = c.loop-class.invariant in
     let more = next_bands c.loop-class.class c.args.bands.now.classes in
-    let here = ap length c.row.ensures.value in
-    record { value = omega (arith, i.value, more, here); within = omega (arith, i.within, c.row.ensures.few) }
+    let here = ap length c.lane.ensures.value in
+    record { value = omega (arith, i.value, more, here); within = omega (arith, i.within, c.lane.ensures.few) }
 
-pub row-requires : goal.row-requires
-row-requires g c = (search, c.loop-class-test.true)
+pub lane-requires : goal.lane-requires
+lane-requires g c = (search, c.loop-class-test.true)
 
 pub overflow_add-count : goal.overflow_add-count
-overflow_add-count g c = omega (arith, c.loop-class.invariant.within, c.row.ensures.few, c.loop-class-test.true)
+overflow_add-count g c = omega (arith, c.loop-class.invariant.within, c.lane.ensures.few, c.loop-class-test.true)
 
 pub returns-clause-value : goal.returns-clause-value
 returns-clause-value g c =

@@ -1,6 +1,5 @@
 use Rattle.std.proofs.Common.{◌≡◌, ◌≤◌, ◌*◌}
-use Rattle.picture.specs.declared.TheConstants.{MOST_SHAPES}
-use Rattle.drawing.specs.Shapes.{bands_to}
+use Rattle.drawing.specs.Words.{MOST_SHAPES, bands_to}
 use Rattle.drawing.proofs.fitting.count_bands.Given as goal
 
 abbrev pub invariant-loop-class : goal.invariant-loop-class

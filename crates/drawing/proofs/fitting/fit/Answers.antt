@@ -1,6 +1,6 @@
 use Rattle.std.proofs.Common.{refl, ap, ◌∙◌, arith, rules, subst}
-use Rattle.picture.specs.Drawn.{bands_joined, class_at}
-use Rattle.drawing.specs.Shapes.{IsJoined, shape_count}
+use Rattle.drawing.specs.Words.{bands_joined, IsJoined, shape_count}
+use Rattle.picture.specs.Drawn.{class_at}
 use Rattle.drawing.proofs.fitting.fit.Goals as goal
 
 pub overflow_add-count : goal.overflow_add-count

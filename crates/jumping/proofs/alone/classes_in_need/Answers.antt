@@ -1,6 +1,6 @@
 use Rattle.std.proofs.Common.{◌≡◌, ◌<◌, ◌^◌, Some, None, true, sym, ap, ◌∙◌, subst, arith, bit_or}
 use Rattle.std.proofs.lemmas.Option.{get_or_from_slice_get, same_Some, slice_get-get_or}
-use Rattle.gate_list.specs.Gate.{opens}
+use Rattle.jumping.specs.Words.{opens}
 use Rattle.gate_list.proofs.OpenLaws.{open_from}
 use Rattle.jumping.proofs.AloneLaws.{needs_more, need_inside, opens_more, opens_new, one_bit}
 use Rattle.jumping.proofs.alone.classes_in_need.Goals as goal

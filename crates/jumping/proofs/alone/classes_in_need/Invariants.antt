@@ -1,5 +1,5 @@
 use Rattle.std.proofs.Common.{◌≡◌, ◌<◌, ℕ, Some, true, slice_get}
-use Rattle.gate_list.specs.Gate.{opens}
+use Rattle.jumping.specs.Words.{opens}
 use Rattle.jumping.proofs.alone.classes_in_need.Given as goal
 
 abbrev pub invariant-loop-class : goal.invariant-loop-class

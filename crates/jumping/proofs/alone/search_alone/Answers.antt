@@ -1,6 +1,5 @@
 use Rattle.std.proofs.Common.{ℕ, ◌-◌, subst, arith}
-use Rattle.jumping.specs.Alone.{shows_alone}
-use Rattle.jumping.specs.Search.{Searched}
+use Rattle.jumping.specs.Words.{shows_alone, Searched}
 use Rattle.jumping.proofs.ListedLaws.{placed_after}
 use Rattle.jumping.proofs.AloneLaws.{searched_round}
 use Rattle.jumping.proofs.alone.search_alone.Goals as goal

@@ -1,9 +1,7 @@
 use Rattle.std.proofs.Common.{None, sym, ap, ◌∙◌, arith}
-use Rattle.gate_list.specs.Gate.{opens}
-use Rattle.gate_list.specs.Open.{open_while}
+use Rattle.jumping.specs.Words.{opens, open_while, shows_alone}
 use Rattle.gate_list.proofs.OpenLaws.{open_from}
 use Rattle.list_position.proofs.PositionLaws.{placed_mask, shut_now}
-use Rattle.jumping.specs.Alone.{shows_alone}
 use Rattle.jumping.proofs.alone.stays_open_alone.Goals as goal
 
 pub returns-then-length-eq0 : goal.returns-then-length-eq0

@@ -1,6 +1,5 @@
 use Rattle.std.proofs.Common.{subst}
-use Rattle.jumping.specs.Search.{Searched}
-use Rattle.jumping.specs.Alone.{shows_alone}
+use Rattle.jumping.specs.Words.{Searched, shows_alone}
 use Rattle.jumping.proofs.AloneLaws.{searched_lone}
 use Rattle.jumping.proofs.jumping.search_from_now.Goals as goal
 

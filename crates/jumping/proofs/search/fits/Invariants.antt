@@ -1,7 +1,5 @@
 use Rattle.std.proofs.Common.{◌≡◌, ℕ, ◌<◌, Some, false, slice_get}
-use Rattle.gate_list.specs.Open.{open_while}
-use Rattle.list_config.specs.Stretch.{mask_in}
-use Rattle.accepted_commands.specs.Leg.{from_of, stretches_ahead}
+use Rattle.jumping.specs.Words.{open_while, mask_in, from_of, stretches_ahead}
 use Rattle.jumping.proofs.search.fits.Given as goal
 
 abbrev pub invariant-loop-class : goal.invariant-loop-class

@@ -1,6 +1,5 @@
 use Rattle.std.proofs.Common.{◌≡◌, ℕ, ◌<◌, Some, false, slice_get}
-use Rattle.gate_list.specs.Gate.{mask_since}
-use Rattle.gate_list.specs.Open.{open_while}
+use Rattle.jumping.specs.Words.{mask_since, open_while}
 use Rattle.jumping.proofs.search.fits_alone.Given as goal
 
 abbrev pub invariant-loop-class : goal.invariant-loop-class

@@ -1,5 +1,5 @@
 use Rattle.std.proofs.Common.{◌≡◌, ℕ, ◌<◌, Some, false, slice_get}
-use Rattle.gate_list.specs.Gate.{opens}
+use Rattle.jumping.specs.Words.{opens}
 use Rattle.jumping.proofs.search.opens_some.Given as goal
 
 abbrev pub invariant-loop-class : goal.invariant-loop-class

@@ -1,7 +1,5 @@
 use Rattle.std.proofs.Common.{ℕ, ◌∷◌, Option, Some, sym, subst}
-use Rattle.list_config.specs.Stretch.{mask_in}
-use Rattle.accepted_commands.specs.Leg.{DoFollow, from_of, until_of, stretch_of, stretch_in, stretches_in}
-use Rattle.jumping.specs.Search.{NoneFits, Searched, up_to}
+use Rattle.jumping.specs.Words.{mask_in, DoFollow, from_of, until_of, stretch_of, stretch_in, stretches_in, NoneFits, Searched, up_to}
 use Rattle.jumping.proofs.LegLaws.{searched_then}
 use Rattle.jumping.proofs.SearchLaws.{searched_none}
 use Rattle.jumping.proofs.search.search.Goals as goal

@@ -1,5 +1,4 @@
-use Rattle.list_config.specs.Stretch.{mask_in}
-use Rattle.accepted_commands.specs.Leg.{from_of, stretches_ahead}
+use Rattle.jumping.specs.Words.{mask_in, from_of, stretches_ahead}
 use Rattle.jumping.proofs.LegLaws.{flat_leg}
 use Rattle.jumping.proofs.SearchLaws.{fits_flat}
 use Rattle.jumping.proofs.search.search_flat.Goals as goal

@@ -1,7 +1,5 @@
 use Rattle.std.proofs.Common.{None, sym, subst}
-use Rattle.list_config.specs.Stretch.{mask_of}
-use Rattle.list_position.specs.Position.{IsFlat}
-use Rattle.accepted_commands.specs.Leg.{from_of, stretch_of}
+use Rattle.jumping.specs.Words.{mask_of, IsFlat, from_of, stretch_of}
 use Rattle.jumping.proofs.LegLaws.{flat_open}
 use Rattle.jumping.proofs.search.search_leg.Goals as goal
 

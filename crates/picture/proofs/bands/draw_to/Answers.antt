@@ -1,7 +1,5 @@
 use Rattle.std.proofs.Common.{◌≡◌, ◌<◌, ◌≤◌, ◌-◌, max, ap, sym, ◌∙◌, subst, rules, arith}
-use Rattle.list_config.specs.History.{gates, kept}
-use Rattle.list_config.specs.Current.{IsSteady}
-use Rattle.picture.specs.Drawn.{class_at, drawn}
+use Rattle.picture.specs.Words.{gates, kept, IsSteady, class_at, drawn}
 use Rattle.picture.proofs.BandLaws.{drawn_none}
 use Rattle.picture.proofs.DrawLaws.{drawn_to, kept_on, later_to, steady_to, within_to}
 use Rattle.picture.proofs.bands.draw_to.Goals as goal

@@ -1,8 +1,6 @@
 use Rattle.std.proofs.Common.{◌≡◌, ◌<◌, ◌≤◌, ◌-◌, max, ℕ}
 use Rattle.wire_time.specs.declared.TheConstants.{CLASSES}
-use Rattle.list_config.specs.History.{gates, kept}
-use Rattle.list_config.specs.Current.{IsCurrent}
-use Rattle.picture.specs.Drawn.{class_at, drawn}
+use Rattle.picture.specs.Words.{gates, kept, IsCurrent, class_at, drawn}
 use Rattle.picture.proofs.bands.draw_to.Given as goal
 
 abbrev pub invariant-loop-now : goal.invariant-loop-now

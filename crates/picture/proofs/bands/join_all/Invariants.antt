@@ -1,5 +1,5 @@
 use Rattle.std.proofs.Common.{◌≡◌, ◌<◌, ◌≤◌, ℕ, length}
-use Rattle.picture.specs.Drawn.{bands_joined, class_at}
+use Rattle.picture.specs.Words.{bands_joined, class_at}
 use Rattle.picture.proofs.bands.join_all.Given as goal
 
 abbrev pub invariant-loop-class : goal.invariant-loop-class

@@ -1,6 +1,5 @@
 use Rattle.std.proofs.Common.{◌≡◌, ◌<◌, ◌≤◌, ℕ, length}
-use Rattle.gate_list.specs.Gate.{opens}
-use Rattle.picture.specs.Drawn.{class_at, stepped}
+use Rattle.picture.specs.Words.{opens, class_at, stepped}
 use Rattle.picture.proofs.bands.step_all.Given as goal
 
 abbrev pub invariant-loop-class : goal.invariant-loop-class

@@ -1,5 +1,5 @@
 use Rattle.std.proofs.Common.{◌≡◌, ◌+◌, ◌*◌, ◌<◌, ◌≤◌, ◌^◌, subst, arith}
-use Rattle.wire_time.specs.Moment.{greatest_moment}
+use Rattle.picture.specs.Words.{greatest_moment}
 use Rattle.picture.proofs.TickLaws.{Stepped, first_steps, next_steps, steps_fit}
 use Rattle.picture.proofs.ticks.tick_step.Goals as goal
 

@@ -1,5 +1,5 @@
 use Rattle.std.proofs.Common.{Err, refl, sym, ap, ◌∙◌, subst}
-use Rattle.port.specs.View.{IsKept}
+use Rattle.port.specs.Words.{IsKept}
 use Rattle.port.proofs.RefusalLaws.{delete_taken, delete_busy}
 use Rattle.port.proofs.SoundLaws.{sound_by}
 use Rattle.port.proofs.Port.delete.Goals as goal

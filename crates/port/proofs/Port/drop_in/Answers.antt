@@ -2,7 +2,7 @@ use native.Mathlib.Omega.{arith}
 use Rattle.std.proofs.Common.{refl, ap}
 use Rattle.std.specs.Prelude.{slice_set}
 use Rattle.std.proofs.Common.{◌<◌}
-use Rattle.abstract_port.specs.Counting.{AreCounted, no_counts}
+use Rattle.port.specs.Words.{AreCounted, no_counts}
 use Rattle.port.proofs.SoundLaws.{sound_by, counted_set, counted_unclassed, capped_dropped, counts_capped}
 use Rattle.port.proofs.Port.drop_in.Goals as goal
 

@@ -1,5 +1,5 @@
 use Rattle.std.proofs.Common.{◌≡◌, ◌+◌, refl, arith, rules}
-use Rattle.wire_time.specs.Wire.{lead_of}
+use Rattle.port.specs.Words.{lead_of}
 use Rattle.port.proofs.Port.install.Goals as goal
 
 pub returns-in-Delete-clause-answer : goal.returns-in-Delete-clause-answer

@@ -1,9 +1,6 @@
 use Rattle.std.proofs.Common.{◌≤◌, map, refl, sym, ap, ◌∙◌, arith}
 use Rattle.std.proofs.lemmas.Bool.{iff_false}
-use Rattle.abstract_port.specs.Counting.{AreCapped}
-use Rattle.abstract_port.specs.AbstractPort.{head_need}
-use Rattle.abstract_port.specs.Sound.{IsMtu}
-use Rattle.class_queue.specs.Queue.{IsRoom}
+use Rattle.port.specs.Words.{AreCapped, head_need, IsMtu, IsRoom}
 use Rattle.port.proofs.SoundLaws.{kept_new, counted_new}
 use Rattle.port.proofs.Port.new.Goals as goal
 

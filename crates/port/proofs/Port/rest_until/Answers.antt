@@ -1,5 +1,5 @@
 use Rattle.std.proofs.Common.{refl, ◌∙◌, rules}
-use Rattle.abstract_port.specs.AbstractPort.{AbstractPort}
+use Rattle.port.specs.Words.{AbstractPort}
 use Rattle.abstract_port.proofs.ScanLaws.{moved_port, step_none, step_rest}
 use Rattle.port.proofs.MoveLaws.{moved_idle}
 use Rattle.port.proofs.SoundLaws.{sound_by, kept_later}

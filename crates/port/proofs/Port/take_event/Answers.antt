@@ -1,5 +1,5 @@
 use Rattle.std.proofs.Common.{◌++◌, ◌∷◌, [], List, arith, sym, ap, refl, ◌∙◌, subst, rules}
-use Rattle.abstract_port.specs.declared.Answer.{Answer}
+use Rattle.port.specs.Words.{Answer}
 use Rattle.abstract_port.specs.Answers.{IsBegun}
 use Rattle.abstract_port.proofs.RunLaws.{timely-sound}
 use Rattle.abstract_port.specs.Asked.{IsStopped}

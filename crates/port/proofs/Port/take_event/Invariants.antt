@@ -1,4 +1,4 @@
-use Rattle.abstract_port.specs.Sound.{IsSoundPort}
+use Rattle.port.specs.Words.{IsSoundPort}
 use Rattle.abstract_port.proofs.AskedLaws.{Going, left_count}
 use Rattle.port.proofs.StepLaws.{HasStayed}
 use Rattle.port.proofs.Port.take_event.Given as goal

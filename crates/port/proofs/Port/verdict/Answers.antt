@@ -1,8 +1,6 @@
 use Rattle.std.proofs.Common.{get_or, ◌≡◌, ◌<◌, ◌≤◌, length, sym, ap, ◌∙◌, subst, arith, rules}
-use Rattle.wire_time.specs.Wire.{sdu_of}
-use Rattle.abstract_port.specs.AbstractPort.{judged, queue_of}
+use Rattle.port.specs.Words.{sdu_of, judged, queue_of, no_queue}
 use Rattle.abstract_port.proofs.ArrivalLaws.{verdict_is, fits_on}
-use Rattle.port.specs.View.{no_queue}
 use Rattle.port.proofs.HeadLaws.{frames_of-at, ok_along, on_ok, on_ok_of}
 use Rattle.port.proofs.Port.verdict.Goals as goal
 

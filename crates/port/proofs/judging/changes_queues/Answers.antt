@@ -1,5 +1,5 @@
 use Rattle.std.proofs.Common.{not, ap, ◌∙◌, sym}
-use Rattle.abstract_port.specs.AbstractPort.{changes_queues}
+use Rattle.port.specs.Words.{changes_queues}
 use Rattle.port.proofs.SameLaws.{same_padded}
 use Rattle.port.proofs.judging.changes_queues.Goals as goal
 

@@ -1,5 +1,5 @@
 use Rattle.std.proofs.Common.{◌≡◌, drop}
-use Rattle.abstract_port.specs.AbstractPort.{first_over}
+use Rattle.port.specs.Words.{first_over}
 use Rattle.port.proofs.judging.first_over.Given as goal
 
 abbrev pub invariant-loop-class : goal.invariant-loop-class

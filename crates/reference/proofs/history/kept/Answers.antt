@@ -1,5 +1,4 @@
-use Rattle.std.proofs.Common.{◌≡◌, ◌≤◌, ◌+◌, length, map, sym, ap, ◌∙◌, subst, arith}
-use Rattle.list_config.specs.History.{Accepted}
+use Rattle.std.proofs.Common.{length, map, sym, ap, ◌∙◌, subst, arith}
 use Rattle.std.proofs.Common.{List}
 use Rattle.reference.specs.declared.accepted.RecordedCommand.{RecordedCommand}
 use Rattle.reference.specs.Plain.{AreSound, accepted_in, counts}

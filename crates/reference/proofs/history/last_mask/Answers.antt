@@ -1,4 +1,4 @@
-use Rattle.std.proofs.Common.{◌-◌, sym, ap, ◌∙◌, arith}
+use Rattle.std.proofs.Common.{◌-◌, sym, arith}
 use Rattle.gate_list.proofs.PhaseLaws.{last_mask_at_end}
 use Rattle.reference.proofs.history.last_mask.Goals as goal
 

@@ -1,8 +1,6 @@
-use Rattle.std.proofs.Common.{◌≡◌, ◌++◌, ◌∷◌, [], List, ap, ◌∙◌}
+use Rattle.std.proofs.Common.{◌++◌, ◌∷◌, [], List, ap, ◌∙◌}
 use Rattle.std.proofs.lemmas.List.{map-append}
-use Rattle.script.specs.Requests.{Request}
-use Rattle.replay.specs.KeptScript.{kept_request, kept_requests}
-use Rattle.replay.specs.declared.kept_script.KeptLine.{KeptLine}
+use Rattle.replay.specs.Words.{Request, kept_request, kept_requests, KeptLine}
 use Rattle.replay.proofs.keeping.keep.Goals as goal
 
 pub returns : goal.returns

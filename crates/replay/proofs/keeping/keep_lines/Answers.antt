@@ -1,10 +1,8 @@
-use Rattle.std.proofs.Common.{◌≡◌, Ok, Err, None, Some, refl, sym, ap, ◌∙◌, subst}
+use Rattle.std.proofs.Common.{◌≡◌, Ok, Err, Some, ap, ◌∙◌}
 use Rattle.std.proofs.lemmas.Result.{err_from_is_err_and}
-use Rattle.words.specs.Words.{words_of}
-use Rattle.replay.specs.Lines.{line_in, line_request, request_if, request_in}
-use Rattle.replay.specs.KeptScript.{kept_requests}
+use Rattle.replay.specs.Words.{words_of, line_in, line_request, request_in, kept_requests, bad_line}
+use Rattle.replay.specs.Lines.{request_if}
 use Rattle.job.specs.declared.fault.Fault.TheVariants as Faults
-use Rattle.script.specs.Outcome.{bad_line}
 use Rattle.replay.specs.declared.faults.ReplayInput.TheVariants as Inputs
 use Rattle.replay.proofs.KeepLaws.{begins, ends, goes_on, goes_wrong, stops}
 use Rattle.replay.proofs.keeping.keep_lines.Goals as goal

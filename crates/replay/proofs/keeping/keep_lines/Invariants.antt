@@ -1,10 +1,7 @@
 -- What is kept, and what the lines to come ask, are all that is asked.
 use Rattle.std.proofs.Common.{ℕ, List, Result}
-use Rattle.abstract_port.specs.declared.Command.{Command}
-use Rattle.line_reader.specs.LineReader.{most_lines, script_left}
-use Rattle.tc_reader.specs.Reader.{IsReader}
-use Rattle.tc_reader.specs.declared.fault.TcFault.{TcFault}
-use Rattle.replay.specs.KeptScript.{kept_requests}
+use Rattle.replay.specs.Words.{Command, script_left, IsReader, TcFault, kept_requests}
+use Rattle.line_reader.specs.LineReader.{most_lines}
 use Rattle.replay.proofs.KeepLaws.{Goes}
 use Rattle.replay.proofs.keeping.keep_lines.Given as goal
 

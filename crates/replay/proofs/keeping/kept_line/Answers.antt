@@ -1,6 +1,6 @@
 use Rattle.std.specs.Prelude.{OnOk}
-use Rattle.std.proofs.Common.{◌≡◌, ℕ, List, Result, Ok, Err, ap, ◌∙◌}
-use Rattle.replay.specs.KeptScript.{kept_requests}
+use Rattle.std.proofs.Common.{ℕ, List, Result, Ok, Err, ap, ◌∙◌}
+use Rattle.replay.specs.Words.{kept_requests}
 use Rattle.replay.proofs.KeepLaws.{same-requests}
 use Rattle.replay.proofs.keeping.kept_line.Goals as goal
 

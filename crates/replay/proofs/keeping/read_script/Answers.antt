@@ -1,7 +1,6 @@
-use Rattle.std.proofs.Common.{◌≡◌, Ok, Err, List, refl, sym, ap, ◌∙◌}
+use Rattle.std.proofs.Common.{Err, List, ap, ◌∙◌}
 use Rattle.std.proofs.lemmas.Result.{err_from_is_err_and}
-use Rattle.replay.specs.KeptScript.{kept_requests}
-use Rattle.replay.specs.declared.kept_script.KeptLine.{KeptLine}
+use Rattle.replay.specs.Words.{kept_requests, KeptLine}
 use Rattle.replay.proofs.KeepLaws.{given_fault, given_script}
 use Rattle.replay.proofs.keeping.read_script.Goals as goal
 

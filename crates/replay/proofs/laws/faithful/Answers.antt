@@ -1,8 +1,6 @@
 use Rattle.separation.proofs.Keeping.{keeping}
-use Rattle.script.specs.Responses.{events_of}
+use Rattle.replay.specs.Words.{events_of, new_port, all_requests}
 use Rattle.script.proofs.OutputLaws.{answers-told}
-use Rattle.abstract_port.specs.AbstractPort.{new_port}
-use Rattle.replay.specs.Merge.{all_requests}
 use Rattle.replay.proofs.laws.faithful.Goals as goal
 
 pub returns : goal.returns

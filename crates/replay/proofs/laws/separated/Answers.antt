@@ -1,4 +1,4 @@
-use Rattle.replay.specs.Merge.{all_requests}
+use Rattle.replay.specs.Words.{all_requests}
 use Rattle.replay.proofs.SeparatedLaws.{is_separated}
 use Rattle.replay.proofs.laws.separated.Goals as goal
 

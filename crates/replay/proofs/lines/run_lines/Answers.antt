@@ -1,12 +1,7 @@
-use Rattle.std.proofs.Common.{◌≡◌, Err, ◌≤◌, ◌+◌, rules, Ok, ℕ, List, [], ◌∷◌, refl, sym, ap, ◌∙◌, subst, drop, length, map}
+use Rattle.std.proofs.Common.{Err, ◌≤◌, ◌+◌, ℕ, List, [], ◌∷◌, refl, sym, ap, ◌∙◌, subst, drop}
 use Rattle.std.proofs.lemmas.Result.{err_from_is_err_and}
 use Rattle.std.proofs.Math.ListN.{get_or}
-use Rattle.capture.specs.declared.writer.TheConstants.{CAPTURE_END}
-use Rattle.script.specs.Requests.{Request}
-use Rattle.replay.specs.KeptScript.{IsKept, kept_request, kept_requests}
-use Rattle.replay.specs.declared.kept_script.KeptLine.{KeptLine}
-use Rattle.replay.specs.Merge.{Timed, lines_by, lines_past, requests_of, timed_from}
-use Rattle.replay.specs.Running.{State, state}
+use Rattle.replay.specs.Words.{CAPTURE_END, IsKept, kept_request, kept_requests, KeptLine, Timed, lines_by, lines_past, requests_of, timed_from, state}
 use Rattle.replay.specs.declared.kept_script.KeptLine.TheVariants.{Clock}
 use Rattle.replay.proofs.LineLaws.{by-more, by-over, clock-early, line-at, no-lines, past-more, past-over}
 use Rattle.replay.proofs.RunLaws.{done_exit, done_more, done_none, done_whole}
@@ -41,7 +36,7 @@ loop-cursor-preserved g c =
       run = λ read is es k.
           let d = i.run read is es k in
           let line = line-at read script.octets.items script.lines.items cursor.at cursor.clock m (Clock 0) (rw c.as_slice-lines.ensures.value at c.loop-cursor-test.true) (rw c.as_slice-lines.ensures.value at c.kept_clock-clock.ensures) in
-          let t = state c.put_line.new.sending (g.V.Write.contents c.put_line.new.report) (g.W.Write.contents c.put_line.new.capture) in
+          let t = state c.put_line.new.sending (g.V.Write.contents c.put_line.new.report) (g.W.Write.contents c.put_line.new.departures) in
           let request = kept_request read script.octets.items (get_or script.lines.items cursor.at (Clock 0)) in
           let rest = requests_of (lines_by upto (timed_from m (drop (cursor.at + 1) (kept_requests read script.octets.items script.lines.items)))) in
           done_more c.requires.together.sound t (request ∷ []) rest d (by-more upto _ _ _ line c.if-clock-upto.false) (rw c.as_slice-lines.ensures.value at (c.in_ok-put_line.ensures.answers read is es d.answers.keeps));
@@ -54,7 +49,7 @@ returns-in_err-put_line-clause-answers g c = λ read is es k.
     let script = c.args.script.now in
     let cursor = c.loop-cursor.cursor in
     let line = line-at read script.octets.items script.lines.items cursor.at cursor.clock c.kept_clock-clock.result (Clock 0) (rw c.as_slice-lines.ensures.value at c.loop-cursor-test.true) (rw c.as_slice-lines.ensures.value at c.kept_clock-clock.ensures) in
-    let t = state c.put_line.new.sending (g.V.Write.contents c.put_line.new.report) (g.W.Write.contents c.put_line.new.capture) in
+    let t = state c.put_line.new.sending (g.V.Write.contents c.put_line.new.report) (g.W.Write.contents c.put_line.new.departures) in
     let request = kept_request read script.octets.items (get_or script.lines.items cursor.at (Clock 0)) in
     let rest = requests_of (lines_by c.args.upto (timed_from c.kept_clock-clock.result (drop (cursor.at + 1) (kept_requests read script.octets.items script.lines.items)))) in
     done_exit c.requires.together.sound c.from_residual.result t (request ∷ []) rest (p.1 ∙ ap Err p.2) d (by-more c.args.upto _ _ _ line c.if-clock-upto.false) (rw c.as_slice-lines.ensures.value at (c.in_err-put_line.ensures.answers read is es d.answers.keeps))

@@ -1,14 +1,9 @@
-use Rattle.std.proofs.Common.{◌≡◌, ◌<◌, ◌≤◌, ◌+◌, ◌-◌, Ok, Err, Some, None, ℕ, List, Option, Result, [], ◌∷◌, ◌++◌, refl, sym, ap, ◌∙◌, subst, arith, rules}
-use Rattle.std.specs.Prelude.{OnOk, IfOk}
+use Rattle.std.proofs.Common.{◌+◌, ◌-◌, Ok, Err, ℕ, Option, Result, [], refl, sym, ap, ◌∙◌, subst, arith}
 use Rattle.std.proofs.lemmas.Result.{IfOk-from_err, err_from_is_err_and}
-use Rattle.capture.specs.CaptureReader.{Next, answer, left}
-use Rattle.capture.specs.Record.{entry}
-use Rattle.capture.specs.declared.fault.CapFault.{CapFault}
+use Rattle.replay.specs.Words.{Next, left, entry, CapFault, lines_left, RunsRecords, state, Stop}
+use Rattle.capture.specs.CaptureReader.{answer}
 use Rattle.capture.specs.declared.record.Record.{Record}
-use Rattle.replay.specs.LinesLeft.{lines_left}
-use Rattle.replay.specs.Running.{state}
-use Rattle.replay.specs.declared.faults.Stop.{Stop}
-use Rattle.replay.proofs.RecordLaws.{Over, lines_fail, over, over_well, record_fails, stands_next, step_ended, step_few, step_number, step_within}
+use Rattle.replay.proofs.RecordLaws.{lines_fail, over, over_well, record_fails, stands_next, step_ended, step_few, step_number, step_within}
 use Rattle.replay.proofs.RunLaws.{done_none}
 use Rattle.replay.proofs.Sends.{always, never}
 use Rattle.replay.proofs.records.run_records.Goals as goal
@@ -61,18 +56,18 @@ records-preserved g c =
       numbered = step_number g.R.Read.remaining now after e i.going p ∙ ap (λ (n : ℕ). n + 1) i.numbered;
       early = omega (arith, c.max-latest.ensures, w.early, i.early);
       stands = λ read is es last comes. (
-          let s = state c.args.sending.now (g.V.Write.contents c.args.report.now) (g.W.Write.contents c.args.capture.now) in
-          let t = state c.records.sending (g.V.Write.contents c.records.report) (g.W.Write.contents c.records.capture) in
+          let s = state c.args.sending.now (g.V.Write.contents c.args.report.now) (g.W.Write.contents c.args.departures.now) in
+          let t = state c.records.sending (g.V.Write.contents c.records.report) (g.W.Write.contents c.records.departures) in
           let all = lines_left read c.args.script.now c.args.cursor.now in
           let lines = lines_left read c.args.script.now c.records.cursor in
-          let u = state c.run_lines.new.sending (g.V.Write.contents c.run_lines.new.report) (g.W.Write.contents c.run_lines.new.capture) in
-          let v = state c.take_record.new.sending (g.V.Write.contents c.take_record.new.report) (g.W.Write.contents c.take_record.new.capture) in
+          let u = state c.run_lines.new.sending (g.V.Write.contents c.run_lines.new.report) (g.W.Write.contents c.run_lines.new.departures) in
+          let v = state c.take_record.new.sending (g.V.Write.contents c.take_record.new.report) (g.W.Write.contents c.take_record.new.departures) in
           stands_next g.R.Read.remaining es last now after c.records.latest c.records.number all lines s t c.requires.together.sound (i.stands read is es last comes) i.going e p c.max-latest.result c.max-latest.ensures u v
           (lines_left read c.args.script.now c.run_lines.new.cursor) (c.in_ok-run_lines.ensures.left read is) (c.in_ok-run_lines.ensures.answers read is es) (c.in_ok-take_record.ensures.answers es));
     }
 
-pub returns-in_err-run_lines-clause-answers : goal.returns-in_err-run_lines-clause-answers
-returns-in_err-run_lines-clause-answers g c = λ read is es last comes.
+pub returns-in_err-run_lines-clause-records : goal.returns-in_err-run_lines-clause-records
+returns-in_err-run_lines-clause-records g c = λ read is es last comes.
     let failed = err_from_is_err_and c.from_residual.result c.from_residual.ensures.1 in
     let i = c.records.invariant in
     let now = left c.records.records in
@@ -80,15 +75,19 @@ returns-in_err-run_lines-clause-answers g c = λ read is es last comes.
     let e = entry c.in-Ok-Some.record in
     let P : Result (Option Record) CapFault → Type 0 = λ r. Next g.R.Read.remaining now (answer r) after in
     let p = subst P (c.in-Ok-Some.is ∙ ap Ok c.in-Ok-Some.field-0-is) c.next.follows.holds-at-none in
-    let s = state c.args.sending.now (g.V.Write.contents c.args.report.now) (g.W.Write.contents c.args.capture.now) in
-    let t = state c.records.sending (g.V.Write.contents c.records.report) (g.W.Write.contents c.records.capture) in
+    let s = state c.args.sending.now (g.V.Write.contents c.args.report.now) (g.W.Write.contents c.args.departures.now) in
+    let t = state c.records.sending (g.V.Write.contents c.records.report) (g.W.Write.contents c.records.departures) in
     let all = lines_left read c.args.script.now c.args.cursor.now in
     let lines = lines_left read c.args.script.now c.records.cursor in
-    let u = state c.run_lines.new.sending (g.V.Write.contents c.run_lines.new.report) (g.W.Write.contents c.run_lines.new.capture) in
-    lines_fail g.R.Read.remaining es last now after c.records.latest c.records.number all lines s t c.requires.together.sound (i.stands read is es last comes) i.going e p c.max-latest.result c.max-latest.ensures c.from_residual.result u (failed.1 ∙ ap Err failed.2) (c.in_err-run_lines.ensures.answers read is es)
+    let u = state c.run_lines.new.sending (g.V.Write.contents c.run_lines.new.report) (g.W.Write.contents c.run_lines.new.departures) in
+    record {
+      ending = IfOk-from_err c.from_residual.result _ c.from_residual.ensures.0;
+      left = never _ failed.1;
+      answers = lines_fail g.R.Read.remaining es last now after c.records.latest c.records.number all lines s t c.requires.together.sound (i.stands read is es last comes) i.going e p c.max-latest.result c.max-latest.ensures c.from_residual.result u (failed.1 ∙ ap Err failed.2) (c.in_err-run_lines.ensures.answers read is es);
+    }
 
-pub returns-in_err-take_record-clause-answers : goal.returns-in_err-take_record-clause-answers
-returns-in_err-take_record-clause-answers g c = λ read is es last comes.
+pub returns-in_err-take_record-clause-records : goal.returns-in_err-take_record-clause-records
+returns-in_err-take_record-clause-records g c = λ read is es last comes.
     let r = c.from_residual-in_err-take_record.result in
     let failed = err_from_is_err_and r c.from_residual-in_err-take_record.ensures.1 in
     let i = c.records.invariant in
@@ -97,94 +96,44 @@ returns-in_err-take_record-clause-answers g c = λ read is es last comes.
     let e = entry c.in-Ok-Some.record in
     let P : Result (Option Record) CapFault → Type 0 = λ r. Next g.R.Read.remaining now (answer r) after in
     let p = subst P (c.in-Ok-Some.is ∙ ap Ok c.in-Ok-Some.field-0-is) c.next.follows.holds-at-none in
-    let s = state c.args.sending.now (g.V.Write.contents c.args.report.now) (g.W.Write.contents c.args.capture.now) in
-    let t = state c.records.sending (g.V.Write.contents c.records.report) (g.W.Write.contents c.records.capture) in
+    let s = state c.args.sending.now (g.V.Write.contents c.args.report.now) (g.W.Write.contents c.args.departures.now) in
+    let t = state c.records.sending (g.V.Write.contents c.records.report) (g.W.Write.contents c.records.departures) in
     let all = lines_left read c.args.script.now c.args.cursor.now in
     let lines = lines_left read c.args.script.now c.records.cursor in
-    let u = state c.run_lines.new.sending (g.V.Write.contents c.run_lines.new.report) (g.W.Write.contents c.run_lines.new.capture) in
-    let v = state c.take_record.new.sending (g.V.Write.contents c.take_record.new.report) (g.W.Write.contents c.take_record.new.capture) in
-    record_fails g.R.Read.remaining es last now after c.records.latest c.records.number all lines s t c.requires.together.sound (i.stands read is es last comes) i.going e p c.max-latest.result c.max-latest.ensures r u v (failed.1 ∙ ap Err failed.2) (c.in_ok-run_lines.ensures.answers read is es) (c.in_err-take_record.ensures.answers es)
+    let u = state c.run_lines.new.sending (g.V.Write.contents c.run_lines.new.report) (g.W.Write.contents c.run_lines.new.departures) in
+    let v = state c.take_record.new.sending (g.V.Write.contents c.take_record.new.report) (g.W.Write.contents c.take_record.new.departures) in
+    record {
+      ending = IfOk-from_err r _ c.from_residual-in_err-take_record.ensures.0;
+      left = never _ failed.1;
+      answers = record_fails g.R.Read.remaining es last now after c.records.latest c.records.number all lines s t c.requires.together.sound (i.stands read is es last comes) i.going e p c.max-latest.result c.max-latest.ensures r u v (failed.1 ∙ ap Err failed.2) (c.in_ok-run_lines.ensures.answers read is es) (c.in_err-take_record.ensures.answers es);
+    }
 
-pub returns-in-Ok-None-clause-ending : goal.returns-in-Ok-None-clause-ending
-returns-in-Ok-None-clause-ending g c = λ read is es last comes.
+pub returns-in-Ok-None-clause-records : goal.returns-in-Ok-None-clause-records
+returns-in-Ok-None-clause-records g c = λ read is es last comes.
     let i = c.records.invariant in
     let now = left c.records.records in
     let after = left c.next.follows.lender-at-none in
     let P : Result (Option Record) CapFault → Type 0 = λ r. Next g.R.Read.remaining now (answer r) after in
     let p = subst P (c.in-Ok-None.is ∙ ap Ok c.in-Ok-None.field-0-is) c.next.follows.holds-at-none in
-    let s = state c.args.sending.now (g.V.Write.contents c.args.report.now) (g.W.Write.contents c.args.capture.now) in
-    let t = state c.records.sending (g.V.Write.contents c.records.report) (g.W.Write.contents c.records.capture) in
+    let s = state c.args.sending.now (g.V.Write.contents c.args.report.now) (g.W.Write.contents c.args.departures.now) in
+    let t = state c.records.sending (g.V.Write.contents c.records.report) (g.W.Write.contents c.records.departures) in
     let all = lines_left read c.args.script.now c.args.cursor.now in
     let lines = lines_left read c.args.script.now c.records.cursor in
-    (over_well g.R.Read.remaining es last now after c.records.latest c.records.number all lines s t c.requires.together.sound (i.stands read is es last comes) i.going p).ending
+    over_well g.R.Read.remaining es last now after c.records.latest c.records.number all lines s t c.requires.together.sound (i.stands read is es last comes) i.going p
 
-pub returns-in-Ok-None-clause-left : goal.returns-in-Ok-None-clause-left
-returns-in-Ok-None-clause-left g c = λ read is es last comes.
-    let i = c.records.invariant in
-    let now = left c.records.records in
-    let after = left c.next.follows.lender-at-none in
-    let P : Result (Option Record) CapFault → Type 0 = λ r. Next g.R.Read.remaining now (answer r) after in
-    let p = subst P (c.in-Ok-None.is ∙ ap Ok c.in-Ok-None.field-0-is) c.next.follows.holds-at-none in
-    let s = state c.args.sending.now (g.V.Write.contents c.args.report.now) (g.W.Write.contents c.args.capture.now) in
-    let t = state c.records.sending (g.V.Write.contents c.records.report) (g.W.Write.contents c.records.capture) in
-    let all = lines_left read c.args.script.now c.args.cursor.now in
-    let lines = lines_left read c.args.script.now c.records.cursor in
-    (over_well g.R.Read.remaining es last now after c.records.latest c.records.number all lines s t c.requires.together.sound (i.stands read is es last comes) i.going p).left
-
-pub returns-in-Ok-None-clause-answers : goal.returns-in-Ok-None-clause-answers
-returns-in-Ok-None-clause-answers g c = λ read is es last comes.
-    let i = c.records.invariant in
-    let now = left c.records.records in
-    let after = left c.next.follows.lender-at-none in
-    let P : Result (Option Record) CapFault → Type 0 = λ r. Next g.R.Read.remaining now (answer r) after in
-    let p = subst P (c.in-Ok-None.is ∙ ap Ok c.in-Ok-None.field-0-is) c.next.follows.holds-at-none in
-    let s = state c.args.sending.now (g.V.Write.contents c.args.report.now) (g.W.Write.contents c.args.capture.now) in
-    let t = state c.records.sending (g.V.Write.contents c.records.report) (g.W.Write.contents c.records.capture) in
-    let all = lines_left read c.args.script.now c.args.cursor.now in
-    let lines = lines_left read c.args.script.now c.records.cursor in
-    (over_well g.R.Read.remaining es last now after c.records.latest c.records.number all lines s t c.requires.together.sound (i.stands read is es last comes) i.going p).answers
-
-pub returns-in-Err-clause-ending : goal.returns-in-Err-clause-ending
-returns-in-Err-clause-ending g c = λ read is es last comes.
+pub returns-in-Err-clause-records : goal.returns-in-Err-clause-records
+returns-in-Err-clause-records g c = λ read is es last comes.
     let i = c.records.invariant in
     let now = left c.records.records in
     let after = left c.next.follows.lender-at-none in
     let P : Result (Option Record) CapFault → Type 0 = λ r. Next g.R.Read.remaining now (answer r) after in
     let p = subst P c.in-Err.is c.next.follows.holds-at-none in
-    let s = state c.args.sending.now (g.V.Write.contents c.args.report.now) (g.W.Write.contents c.args.capture.now) in
-    let t = state c.records.sending (g.V.Write.contents c.records.report) (g.W.Write.contents c.records.capture) in
+    let s = state c.args.sending.now (g.V.Write.contents c.args.report.now) (g.W.Write.contents c.args.departures.now) in
+    let t = state c.records.sending (g.V.Write.contents c.records.report) (g.W.Write.contents c.records.departures) in
     let all = lines_left read c.args.script.now c.args.cursor.now in
     let lines = lines_left read c.args.script.now c.records.cursor in
-    let Q : Result (Option (ℕ × CapFault)) Stop → Type 0 = λ r. Over es last all lines s t r in
-    (subst Q (sym c.found.ensures) (over g.R.Read.remaining es last now after c.records.latest c.records.number all lines s t c.requires.together.sound (i.stands read is es last comes) i.going c.in-Err.fault p)).ending
-
-pub returns-in-Err-clause-left : goal.returns-in-Err-clause-left
-returns-in-Err-clause-left g c = λ read is es last comes.
-    let i = c.records.invariant in
-    let now = left c.records.records in
-    let after = left c.next.follows.lender-at-none in
-    let P : Result (Option Record) CapFault → Type 0 = λ r. Next g.R.Read.remaining now (answer r) after in
-    let p = subst P c.in-Err.is c.next.follows.holds-at-none in
-    let s = state c.args.sending.now (g.V.Write.contents c.args.report.now) (g.W.Write.contents c.args.capture.now) in
-    let t = state c.records.sending (g.V.Write.contents c.records.report) (g.W.Write.contents c.records.capture) in
-    let all = lines_left read c.args.script.now c.args.cursor.now in
-    let lines = lines_left read c.args.script.now c.records.cursor in
-    let Q : Result (Option (ℕ × CapFault)) Stop → Type 0 = λ r. Over es last all lines s t r in
-    (subst Q (sym c.found.ensures) (over g.R.Read.remaining es last now after c.records.latest c.records.number all lines s t c.requires.together.sound (i.stands read is es last comes) i.going c.in-Err.fault p)).left
-
-pub returns-in-Err-clause-answers : goal.returns-in-Err-clause-answers
-returns-in-Err-clause-answers g c = λ read is es last comes.
-    let i = c.records.invariant in
-    let now = left c.records.records in
-    let after = left c.next.follows.lender-at-none in
-    let P : Result (Option Record) CapFault → Type 0 = λ r. Next g.R.Read.remaining now (answer r) after in
-    let p = subst P c.in-Err.is c.next.follows.holds-at-none in
-    let s = state c.args.sending.now (g.V.Write.contents c.args.report.now) (g.W.Write.contents c.args.capture.now) in
-    let t = state c.records.sending (g.V.Write.contents c.records.report) (g.W.Write.contents c.records.capture) in
-    let all = lines_left read c.args.script.now c.args.cursor.now in
-    let lines = lines_left read c.args.script.now c.records.cursor in
-    let Q : Result (Option (ℕ × CapFault)) Stop → Type 0 = λ r. Over es last all lines s t r in
-    (subst Q (sym c.found.ensures) (over g.R.Read.remaining es last now after c.records.latest c.records.number all lines s t c.requires.together.sound (i.stands read is es last comes) i.going c.in-Err.fault p)).answers
+    let Q : Result (Option (ℕ × CapFault)) Stop → Type 0 = λ r. RunsRecords es last all lines s t r in
+    subst Q (sym c.found.ensures) (over g.R.Read.remaining es last now after c.records.latest c.records.number all lines s t c.requires.together.sound (i.stands read is es last comes) i.going c.in-Err.fault p)
 
 pub returns-in-Err-clause-together : goal.returns-in-Err-clause-together
 returns-in-Err-clause-together g c = always c.found.result c.records.invariant.together
@@ -192,20 +141,8 @@ returns-in-Err-clause-together g c = always c.found.result c.records.invariant.t
 pub returns-in_err-run_lines-clause-together : goal.returns-in_err-run_lines-clause-together
 returns-in_err-run_lines-clause-together g c = never _ (err_from_is_err_and c.from_residual.result c.from_residual.ensures.1).1
 
-pub returns-in_err-run_lines-clause-ending : goal.returns-in_err-run_lines-clause-ending
-returns-in_err-run_lines-clause-ending g c = λ read is es last comes. IfOk-from_err c.from_residual.result _ c.from_residual.ensures.0
-
-pub returns-in_err-run_lines-clause-left : goal.returns-in_err-run_lines-clause-left
-returns-in_err-run_lines-clause-left g c = λ read is es last comes. never _ (err_from_is_err_and c.from_residual.result c.from_residual.ensures.1).1
-
 pub returns-in_err-take_record-clause-together : goal.returns-in_err-take_record-clause-together
 returns-in_err-take_record-clause-together g c = never _ (err_from_is_err_and c.from_residual-in_err-take_record.result c.from_residual-in_err-take_record.ensures.1).1
-
-pub returns-in_err-take_record-clause-ending : goal.returns-in_err-take_record-clause-ending
-returns-in_err-take_record-clause-ending g c = λ read is es last comes. IfOk-from_err c.from_residual-in_err-take_record.result _ c.from_residual-in_err-take_record.ensures.0
-
-pub returns-in_err-take_record-clause-left : goal.returns-in_err-take_record-clause-left
-returns-in_err-take_record-clause-left g c = λ read is es last comes. never _ (err_from_is_err_and c.from_residual-in_err-take_record.result c.from_residual-in_err-take_record.ensures.1).1
 
 pub returns-in-Ok-None-clause-together : goal.returns-in-Ok-None-clause-together
 returns-in-Ok-None-clause-together g c = c.records.invariant.together

@@ -1,28 +1,18 @@
 -- The records before a number are taken, each after the lines up to its moment.
 use Rattle.std.proofs.Common.{◌≡◌, ◌≤◌, ◌-◌, ℕ, List, None, Result}
-use Rattle.abstract_port.specs.declared.Command.{Command}
-use Rattle.capture.specs.CaptureReader.{left}
-use Rattle.capture.specs.Records.{Entry}
-use Rattle.capture.specs.declared.format.TheConstants.{MAX_RECORDS}
-use Rattle.capture.specs.declared.reader.End.{End}
-use Rattle.capture.specs.declared.writer.TheConstants.{CAPTURE_END}
-use Rattle.tc_reader.specs.Reader.{IsReader}
-use Rattle.tc_reader.specs.declared.fault.TcFault.{TcFault}
-use Rattle.replay.specs.LinesLeft.{lines_left}
-use Rattle.replay.specs.RecordsLeft.{Comes}
-use Rattle.replay.specs.Running.{IsTogether, state}
+use Rattle.replay.specs.Words.{Command, left, Entry, MAX_RECORDS, End, CAPTURE_END, IsReader, TcFault, lines_left, Comes, IsTogether, state}
 use Rattle.replay.proofs.RecordLaws.{Stands}
 use Rattle.replay.proofs.records.run_records.Given as goal
 
 abbrev pub invariant-records : goal.invariant-records
 invariant-records g l = record {
-  together : IsTogether (state l.sending (g.V.Write.contents l.report) (g.W.Write.contents l.capture));
+  together : IsTogether (state l.sending (g.V.Write.contents l.report) (g.W.Write.contents l.departures));
   going : (left l.records).ended ≡ None;
   numbered : (left l.records).number ≡ l.number;
   early : l.latest ≤ CAPTURE_END;
   stands : (read : List (List ℕ) → Result Command TcFault) → IsReader read → (es : List Entry) (last : End) → Comes g.R.Read.remaining (left l.fn.records) es last →
       Stands g.R.Read.remaining es last (left l.records) l.latest l.number (lines_left read l.script l.fn.cursor) (lines_left read l.script l.cursor)
-      (state l.fn.sending (g.V.Write.contents l.fn.report) (g.W.Write.contents l.fn.capture)) (state l.sending (g.V.Write.contents l.report) (g.W.Write.contents l.capture));
+      (state l.fn.sending (g.V.Write.contents l.fn.report) (g.W.Write.contents l.fn.departures)) (state l.sending (g.V.Write.contents l.report) (g.W.Write.contents l.departures));
 }
 
 abbrev pub decreases-records : goal.decreases-records

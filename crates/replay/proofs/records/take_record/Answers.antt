@@ -1,8 +1,7 @@
-use Rattle.std.proofs.Common.{◌≡◌, Err, [], ◌∷◌, refl, sym, ap, ◌∙◌, subst}
+use Rattle.std.proofs.Common.{Err, [], ◌∷◌, ap, ◌∙◌}
 use Rattle.std.proofs.lemmas.Result.{err_from_is_err_and}
 use Rattle.abstract_port.specs.declared.Event.TheVariants as Events
-use Rattle.script.specs.Requests.{Asks}
-use Rattle.replay.specs.Running.{state}
+use Rattle.replay.specs.Words.{Asks}
 use Rattle.replay.proofs.Sends.{on_ok_map}
 use Rattle.replay.proofs.RunLaws.{answers_exit, answers_then}
 use Rattle.replay.proofs.records.take_record.Goals as goal

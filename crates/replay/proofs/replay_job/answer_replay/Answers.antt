@@ -1,7 +1,7 @@
 use Rattle.std.proofs.Common.{sym, ap}
 use Rattle.std.specs.Io.Buffered.{writer_buffer, writer_contents}
 use Rattle.std.specs.Io.KnownBytes.{append_known}
-use Rattle.replay.specs.Outputs.{Output, got}
+use Rattle.replay.specs.Words.{Output, got}
 use Rattle.replay.proofs.EndingLaws.{both_same, out_both, replay_ending}
 use Rattle.replay.proofs.replay_job.answer_replay.Goals as goal
 
@@ -11,10 +11,10 @@ returns g c =
     let v = g.V.Write.contents in
     let report = c.let_out-run.new.report in
     let departures = c.let_out-run.new.departures in
-    let unwritten : Output = record { report = writer_buffer report; capture = writer_buffer departures } in
+    let unwritten : Output = record { report = writer_buffer report; departures = writer_buffer departures } in
     replay_ending c.args.settings c.say_run-ended.result
     (got (writer_contents w c.args.outputs.report) (writer_contents v c.args.outputs.departures))
-    (got (writer_contents w c.replay-run.new.out_report) (writer_contents v c.replay-run.new.out_capture))
+    (got (writer_contents w c.replay-run.new.report) (writer_contents v c.replay-run.new.departures))
     (got (writer_contents w report) (writer_contents v departures))
     (got (w c.into_parts-report.result.0) (v c.into_parts-departures.result.0))
     _ _ unwritten c.replay-run.result c.let_out-run.result

@@ -1,6 +1,6 @@
-use Rattle.std.proofs.Common.{◌≡◌, Ok, Err, refl, sym, ap, ◌∙◌}
+use Rattle.std.proofs.Common.{◌≡◌, Err, refl, sym, ap, ◌∙◌}
 use Rattle.std.proofs.lemmas.Result.{IfOk-from_err, err_from_is_err_and}
-use Rattle.abstract_port.specs.AbstractPort.{PortState}
+use Rattle.replay.specs.Words.{PortState}
 use Rattle.replay.specs.declared.faults.Stop.TheVariants as Stops
 use Rattle.replay.proofs.Sends.{both_none, both_stop, capture_short, capture_whole}
 use Rattle.replay.proofs.replay_run.begin.Goals as goal

@@ -1,9 +1,6 @@
 use Rattle.std.proofs.Common.{◌++◌, [], List, Ok, Err, refl, rules, ap, ◌∙◌, subst}
 use Rattle.std.proofs.lemmas.Result.{err_from_is_err_and}
-use Rattle.script.specs.Outcome.{clock_after}
-use Rattle.replay.specs.LinesLeft.{lines_left}
-use Rattle.replay.specs.Merge.{Timed, requests_of}
-use Rattle.replay.specs.Running.{Answers, state}
+use Rattle.replay.specs.Words.{clock_after, lines_left, Timed, requests_of, Answers, state}
 use Rattle.replay.proofs.EndLaws.{told_exit, told_whole}
 use Rattle.replay.proofs.LineLaws.{all_lines}
 use Rattle.replay.proofs.RunLaws.{answers_exit, answers_then}
@@ -15,8 +12,8 @@ returns-in_err-run_lines g c = λ read is es k.
     let r = c.from_residual.result in
     let p = err_from_is_err_and r c.from_residual.ensures.1 in
     let y = c.in_err-run_lines.field-0.0 in
-    let s = state c.args.sending.now (g.V.Write.contents c.args.report.now) (g.W.Write.contents c.args.capture.now) in
-    let t = state c.run_lines.new.sending (g.V.Write.contents c.run_lines.new.report) (g.W.Write.contents c.run_lines.new.capture) in
+    let s = state c.args.sending.now (g.V.Write.contents c.args.report.now) (g.W.Write.contents c.args.departures.now) in
+    let t = state c.run_lines.new.sending (g.V.Write.contents c.run_lines.new.report) (g.W.Write.contents c.run_lines.new.departures) in
     let script = c.args.script.now in
     let cursor = c.args.cursor.now in
     let xs = requests_of (lines_left read script cursor) in
@@ -31,9 +28,9 @@ returns-in_err-run_to g c = λ read is es k.
     let r = c.from_residual-in_err-run_to.result in
     let p = err_from_is_err_and r c.from_residual-in_err-run_to.ensures.1 in
     let y = c.in_err-run_to.field-0.0 in
-    let s = state c.args.sending.now (g.V.Write.contents c.args.report.now) (g.W.Write.contents c.args.capture.now) in
-    let t = state c.run_lines.new.sending (g.V.Write.contents c.run_lines.new.report) (g.W.Write.contents c.run_lines.new.capture) in
-    let u = state c.run_to.new.sending (g.V.Write.contents c.run_to.new.report) (g.W.Write.contents c.run_to.new.capture) in
+    let s = state c.args.sending.now (g.V.Write.contents c.args.report.now) (g.W.Write.contents c.args.departures.now) in
+    let t = state c.run_lines.new.sending (g.V.Write.contents c.run_lines.new.report) (g.W.Write.contents c.run_lines.new.departures) in
+    let u = state c.run_to.new.sending (g.V.Write.contents c.run_to.new.report) (g.W.Write.contents c.run_to.new.departures) in
     let script = c.args.script.now in
     let cursor = c.args.cursor.now in
     let xs = requests_of (lines_left read script cursor) in
@@ -47,9 +44,9 @@ pub returns-in_err-put_end : goal.returns-in_err-put_end
 returns-in_err-put_end g c = λ read is es k.
     let r = c.from_residual-in_err-put_end.result in
     let p = err_from_is_err_and r c.from_residual-in_err-put_end.ensures.1 in
-    let s = state c.args.sending.now (g.V.Write.contents c.args.report.now) (g.W.Write.contents c.args.capture.now) in
-    let t = state c.run_lines.new.sending (g.V.Write.contents c.run_lines.new.report) (g.W.Write.contents c.run_lines.new.capture) in
-    let u = state c.run_to.new.sending (g.V.Write.contents c.run_to.new.report) (g.W.Write.contents c.run_to.new.capture) in
+    let s = state c.args.sending.now (g.V.Write.contents c.args.report.now) (g.W.Write.contents c.args.departures.now) in
+    let t = state c.run_lines.new.sending (g.V.Write.contents c.run_lines.new.report) (g.W.Write.contents c.run_lines.new.departures) in
+    let u = state c.run_to.new.sending (g.V.Write.contents c.run_to.new.report) (g.W.Write.contents c.run_to.new.departures) in
     let script = c.args.script.now in
     let cursor = c.args.cursor.now in
     let xs = requests_of (lines_left read script cursor) in
@@ -58,13 +55,13 @@ returns-in_err-put_end g c = λ read is es k.
     let P : List Timed → Type 0 = λ ls. Answers {T = Unit {0}} es (Ok tt) (requests_of ls) s t in
     let a = subst P all (c.in_ok-run_lines.ensures.answers read is es k) in
     let b = answers_then {U = Unit {0}} {y = tt} (Ok tt) es xs ys s t u c.requires.together.sound a (c.in_ok-run_to.ensures.answers es a.keeps) in
-    told_whole r es (xs ++ ys) s u _ b (report_short r (g.W.Write.contents c.run_to.new.capture) [] p.1 c.in_err-put_end.ensures)
+    told_whole r es (xs ++ ys) s u _ b (report_short r (g.W.Write.contents c.run_to.new.departures) [] p.1 c.in_err-put_end.ensures)
 
 pub returns : goal.returns
 returns g c = λ read is es k.
-    let s = state c.args.sending.now (g.V.Write.contents c.args.report.now) (g.W.Write.contents c.args.capture.now) in
-    let t = state c.run_lines.new.sending (g.V.Write.contents c.run_lines.new.report) (g.W.Write.contents c.run_lines.new.capture) in
-    let u = state c.run_to.new.sending (g.V.Write.contents c.run_to.new.report) (g.W.Write.contents c.run_to.new.capture) in
+    let s = state c.args.sending.now (g.V.Write.contents c.args.report.now) (g.W.Write.contents c.args.departures.now) in
+    let t = state c.run_lines.new.sending (g.V.Write.contents c.run_lines.new.report) (g.W.Write.contents c.run_lines.new.departures) in
+    let u = state c.run_to.new.sending (g.V.Write.contents c.run_to.new.report) (g.W.Write.contents c.run_to.new.departures) in
     let script = c.args.script.now in
     let cursor = c.args.cursor.now in
     let xs = requests_of (lines_left read script cursor) in
@@ -73,7 +70,7 @@ returns g c = λ read is es k.
     let P : List Timed → Type 0 = λ ls. Answers {T = Unit {0}} es (Ok tt) (requests_of ls) s t in
     let a = subst P all (c.in_ok-run_lines.ensures.answers read is es k) in
     let b = answers_then {U = Unit {0}} {y = tt} (Ok tt) es xs ys s t u c.requires.together.sound a (c.in_ok-run_to.ensures.answers es a.keeps) in
-    told_whole {T = Unit {0}} (Ok tt) es (xs ++ ys) s u _ b (report_whole tt (g.W.Write.contents c.run_to.new.capture) c.in_ok-put_end.ensures)
+    told_whole {T = Unit {0}} (Ok tt) es (xs ++ ys) s u _ b (report_whole tt (g.W.Write.contents c.run_to.new.departures) c.in_ok-put_end.ensures)
 
 pub run_lines-requires : goal.run_lines-requires
 run_lines-requires g c = (search, c.requires.together)

@@ -1,17 +1,6 @@
 use Rattle.std.proofs.Common.{◌≡◌, List, false, Err, Result, refl, sym, ap, ◌∙◌, subst}
 use Rattle.std.proofs.lemmas.Result.{err_from_is_err_and}
-use Rattle.line_reader.specs.Script.{script_of}
-use Rattle.capture.specs.CaptureReader.{left}
-use Rattle.capture.specs.Records.{Entry}
-use Rattle.capture.specs.declared.fault.CapFault.{CapFault}
-use Rattle.capture.specs.declared.reader.End.{End}
-use Rattle.replay.specs.KeptScript.{kept_requests}
-use Rattle.replay.specs.Lines.{reading_of}
-use Rattle.replay.specs.Outcome.{Ends, Outcome, ReadsAs, is_too_late, outcome_of}
-use Rattle.replay.specs.Outputs.{got}
-use Rattle.replay.specs.Running.{state}
-use Rattle.summary.specs.Wanted.{watched}
-use Rattle.abstract_port.specs.AbstractPort.{new_port}
+use Rattle.replay.specs.Words.{script_of, left, Entry, CapFault, End, kept_requests, reading_of, Ends, Outcome, ReadsAs, is_too_late, outcome_of, got, state, watched, new_port}
 use Rattle.replay.proofs.EndLaws.{behind_header, header_exit}
 use Rattle.replay.proofs.ReplayLaws.{comes_new, header_refused, keeps_none, memory_wanting, opened, outcome_all, outcome_good, script_refused, when_known}
 use Rattle.replay.proofs.replay_run.replay.Goals as goal
@@ -21,7 +10,7 @@ returns-in_err-summary-clause-replay g c = λ read is. (
     let r = c.from_residual.result in
     let p = err_from_is_err_and r c.from_residual.ensures.1 in
     let s = c.args.settings in
-    let old = got (g.V.Write.contents c.args.out_report.now) (g.W.Write.contents c.args.out_capture.now) in
+    let old = got (g.V.Write.contents c.args.report.now) (g.W.Write.contents c.args.departures.now) in
     when_known (g.R.Read.remaining c.args.script) _ (λ lines known. when_known (g.S.Read.remaining c.args.capture) _ (λ octets known'. λ records reads.
     memory_wanting (Unit {0}) r old (outcome_of read s lines records) (p.1 ∙ ap Err p.2))))
 
@@ -30,7 +19,7 @@ returns-in_err-script-clause-replay g c = λ read is. (
     let r = c.from_residual-in_err-script.result in
     let p = err_from_is_err_and r c.from_residual-in_err-script.ensures.1 in
     let s = c.args.settings in
-    let old = got (g.V.Write.contents c.args.out_report.now) (g.W.Write.contents c.args.out_capture.now) in
+    let old = got (g.V.Write.contents c.args.report.now) (g.W.Write.contents c.args.departures.now) in
     let late : is_too_late s.until ≡ false = sym (ap is_too_late c.until-until.ensures.value) ∙ sym c.is_too_late.ensures ∙ c.if-is_too_late.false in
     when_known (g.R.Read.remaining c.args.script) _ (λ lines known. when_known (g.S.Read.remaining c.args.capture) _ (λ octets known'. λ records reads.
     script_refused read s lines records late (Unit {0}) c.in_err-script.field-0.0 r old (p.1 ∙ ap Err p.2) (rw known at c.in_err-script.ensures read is))))
@@ -40,7 +29,7 @@ returns-in_err-records-clause-replay g c = λ read is. (
     let r = c.from_residual-in_err-records.result in
     let p = err_from_is_err_and r c.from_residual-in_err-records.ensures.1 in
     let s = c.args.settings in
-    let old = got (g.V.Write.contents c.args.out_report.now) (g.W.Write.contents c.args.out_capture.now) in
+    let old = got (g.V.Write.contents c.args.report.now) (g.W.Write.contents c.args.departures.now) in
     let late : is_too_late s.until ≡ false = sym (ap is_too_late c.until-until.ensures.value) ∙ sym c.is_too_late.ensures ∙ c.if-is_too_late.false in
     when_known (g.R.Read.remaining c.args.script) _ (λ lines known. when_known (g.S.Read.remaining c.args.capture) _ (λ octets known'. λ records reads.
     let given = rw known at c.in_ok-script.ensures read is in
@@ -52,9 +41,9 @@ returns-in_err-sending-clause-replay g c = λ read is. (
     let r = c.from_residual-in_err-sending.result in
     let p = err_from_is_err_and r c.from_residual-in_err-sending.ensures.1 in
     let s = c.args.settings in
-    let report = g.V.Write.contents c.args.out_report.now in
-    let old = got report (g.W.Write.contents c.args.out_capture.now) in
-    let mid = got report (g.W.Write.contents c.begin.new.capture) in
+    let report = g.V.Write.contents c.args.report.now in
+    let old = got report (g.W.Write.contents c.args.departures.now) in
+    let mid = got report (g.W.Write.contents c.begin.new.departures) in
     let late : is_too_late s.until ≡ false = sym (ap is_too_late c.until-until.ensures.value) ∙ sym c.is_too_late.ensures ∙ c.if-is_too_late.false in
     when_known (g.R.Read.remaining c.args.script) _ (λ lines known. when_known (g.S.Read.remaining c.args.capture) _ (λ octets known'. λ records reads.
     let given = rw known at c.in_ok-script.ensures read is in
@@ -67,10 +56,10 @@ pub returns-clause-replay : goal.returns-clause-replay
 returns-clause-replay g c = λ read is. (
     let r = c.run.result in
     let s = c.args.settings in
-    let report = g.V.Write.contents c.args.out_report.now in
-    let old = got report (g.W.Write.contents c.args.out_capture.now) in
-    let mid = got report (g.W.Write.contents c.begin.new.capture) in
-    let new = got (g.V.Write.contents c.run.new.report) (g.W.Write.contents c.run.new.capture) in
+    let report = g.V.Write.contents c.args.report.now in
+    let old = got report (g.W.Write.contents c.args.departures.now) in
+    let mid = got report (g.W.Write.contents c.begin.new.departures) in
+    let new = got (g.V.Write.contents c.run.new.report) (g.W.Write.contents c.run.new.departures) in
     let late : is_too_late s.until ≡ false = sym (ap is_too_late c.until-until.ensures.value) ∙ sym c.is_too_late.ensures ∙ c.if-is_too_late.false in
     when_known (g.R.Read.remaining c.args.script) _ (λ lines known. when_known (g.S.Read.remaining c.args.capture) _ (λ octets known'. λ records reads.
     let given = rw known at c.in_ok-script.ensures read is in
@@ -81,7 +70,7 @@ returns-clause-replay g c = λ read is. (
     let sending = c.in_ok-sending.sending in
     let seen = c.in_ok-summary.ensures ∙ (ap (λ wanted. watched wanted c.room.result) c.summary.ensures ∙ ap (λ room. watched s.summary room) c.room.ensures.value) in
     let comes = comes_new g.S.Read.remaining (g.S.Read.remaining c.args.capture) (left c.in_ok-records.records) octets es last c.in_ok-records.ensures.ok known' (subst (λ (x : Result (List Entry × End) CapFault). ReadsAs octets x) found.2 reads) in
-    let keeps = keeps_none es (state sending report (g.W.Write.contents c.begin.new.capture)) s.rate s.mtu s.room c.in_ok-sending.ensures.port c.in_ok-sending.ensures.store in
+    let keeps = keeps_none es (state sending report (g.W.Write.contents c.begin.new.departures)) s.rate s.mtu s.room c.in_ok-sending.ensures.port c.in_ok-sending.ensures.store in
     let all = outcome_all read s lines records late given.0 es last found.2 (kept_requests read script.octets.items script.lines.items) c.until-until.result sending.port.port sending.summary given.1 c.until-until.ensures.value c.in_ok-sending.ensures.port (c.in_ok-sending.ensures.seen ∙ seen) in
     let P : Outcome → Type 0 = λ o. Ends r old new o in
     subst P all (behind_header r old mid new _ (c.in_ok-sending.ensures.out report) (c.run.ensures read is es last comes keeps)))))

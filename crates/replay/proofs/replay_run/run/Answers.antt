@@ -1,15 +1,6 @@
 use Rattle.std.proofs.Common.{◌++◌, ℕ, List, length, Ok, Err, Option, refl, ap, ◌∙◌, subst}
 use Rattle.std.proofs.lemmas.Result.{err_from_is_err_and}
-use Rattle.capture.specs.declared.fault.CapFault.{CapFault}
-use Rattle.script.specs.Outcome.{clock_after}
-use Rattle.script.specs.Requests.{Request}
-use Rattle.replay.specs.KeptScript.{kept_requests}
-use Rattle.replay.specs.LinesLeft.{lines_left}
-use Rattle.replay.specs.Merge.{all_requests, before_end, came_from, lines_after, requests_of, timed_from}
-use Rattle.replay.specs.Outcome.{Outcome, end_fault, told_to_end}
-use Rattle.replay.specs.Outputs.{PutsBoth, got}
-use Rattle.replay.specs.RecordsLeft.{EndsSo}
-use Rattle.replay.specs.Running.{state}
+use Rattle.replay.specs.Words.{CapFault, clock_after, Request, kept_requests, lines_left, all_requests, before_end, came_from, lines_after, requests_of, timed_from, Outcome, end_fault, told_to_end, PutsBoth, got, EndsSo, state}
 use Rattle.job.specs.declared.fault.Fault.TheVariants as Faults
 use Rattle.replay.specs.declared.faults.ReplayInput.TheVariants as Inputs
 use Rattle.replay.proofs.EndLaws.{asked_split, ends_capture, ends_ok, ends_stop, no_fault, some_fault, told_exit, told_then}
@@ -21,13 +12,13 @@ returns-in_err-broken g c = λ read is es last comes k.
     let r = c.from_residual.result in
     let p = err_from_is_err_and r c.from_residual.ensures.1 in
     let y = c.in_err-broken.field-0.0 in
-    let s = state c.args.sending.now (g.V.Write.contents c.args.report.now) (g.W.Write.contents c.args.capture.now) in
-    let t = state c.run_records.new.sending (g.V.Write.contents c.run_records.new.report) (g.W.Write.contents c.run_records.new.capture) in
+    let s = state c.args.sending.now (g.V.Write.contents c.args.report.now) (g.W.Write.contents c.args.departures.now) in
+    let t = state c.run_records.new.sending (g.V.Write.contents c.run_records.new.report) (g.W.Write.contents c.run_records.new.departures) in
     let script = kept_requests read c.args.script.now.octets.items c.args.script.now.lines.items in
     let xs = before_end (timed_from 0 script) (came_from 0 0 es) in
     let o : Outcome = record { output = told_to_end es (all_requests script es c.args.until) s.port s.seen; fault = end_fault (length es) last } in
     let ys = requests_of (lines_after (timed_from 0 script) (came_from 0 0 es)) ++ clock_after c.args.until in
-    let a = c.in_err-broken.ensures.answers read is es last comes k in
+    let a = (c.in_err-broken.ensures.records read is es last comes).answers k in
     let P : List Request → Type 0 = λ rs. PutsBoth {T = Unit {0}} (Err y) s.got t.got (told_to_end es rs s.port s.seen) in
     ends_stop {U = Unit {0}} r y s.got t.got o (p.1 ∙ ap Err p.2) (subst P (asked_split script es c.args.until _ refl) (told_exit {T = Unit {0}} (Err y) es (xs ++ ys) s t refl (answers_exit {T = Unit {0}} (Err y) es xs ys s t refl a)))
 
@@ -36,14 +27,14 @@ returns-in_err-finish g c = λ read is es last comes k.
     let r = c.from_residual-in_err-finish.result in
     let p = err_from_is_err_and r c.from_residual-in_err-finish.ensures.1 in
     let y = c.in_err-finish.field-0.0 in
-    let s = state c.args.sending.now (g.V.Write.contents c.args.report.now) (g.W.Write.contents c.args.capture.now) in
-    let t = state c.run_records.new.sending (g.V.Write.contents c.run_records.new.report) (g.W.Write.contents c.run_records.new.capture) in
+    let s = state c.args.sending.now (g.V.Write.contents c.args.report.now) (g.W.Write.contents c.args.departures.now) in
+    let t = state c.run_records.new.sending (g.V.Write.contents c.run_records.new.report) (g.W.Write.contents c.run_records.new.departures) in
     let script = kept_requests read c.args.script.now.octets.items c.args.script.now.lines.items in
     let xs = before_end (timed_from 0 script) (came_from 0 0 es) in
     let o : Outcome = record { output = told_to_end es (all_requests script es c.args.until) s.port s.seen; fault = end_fault (length es) last } in
-    let v = got (g.V.Write.contents c.finish.new.report) (g.W.Write.contents c.finish.new.capture) in
-    let a = c.in_ok-broken.ensures.answers read is es last comes k in
-    let left = c.in_ok-broken.ensures.left read is es last comes in
+    let v = got (g.V.Write.contents c.finish.new.report) (g.W.Write.contents c.finish.new.departures) in
+    let a = (c.in_ok-broken.ensures.records read is es last comes).answers k in
+    let left = (c.in_ok-broken.ensures.records read is es last comes).left in
     let ls = lines_left read c.args.script.now c.run_records.new.cursor in
     let ys = requests_of ls ++ clock_after c.args.until in
     let P : List Request → Type 0 = λ rs. PutsBoth {T = Unit {0}} (Err y) s.got v (told_to_end es rs s.port s.seen) in
@@ -51,34 +42,34 @@ returns-in_err-finish g c = λ read is es last comes k.
 
 pub returns-in-None : goal.returns-in-None
 returns-in-None g c = λ read is es last comes k.
-    let s = state c.args.sending.now (g.V.Write.contents c.args.report.now) (g.W.Write.contents c.args.capture.now) in
-    let t = state c.run_records.new.sending (g.V.Write.contents c.run_records.new.report) (g.W.Write.contents c.run_records.new.capture) in
+    let s = state c.args.sending.now (g.V.Write.contents c.args.report.now) (g.W.Write.contents c.args.departures.now) in
+    let t = state c.run_records.new.sending (g.V.Write.contents c.run_records.new.report) (g.W.Write.contents c.run_records.new.departures) in
     let script = kept_requests read c.args.script.now.octets.items c.args.script.now.lines.items in
     let xs = before_end (timed_from 0 script) (came_from 0 0 es) in
     let o : Outcome = record { output = told_to_end es (all_requests script es c.args.until) s.port s.seen; fault = end_fault (length es) last } in
-    let v = got (g.V.Write.contents c.finish.new.report) (g.W.Write.contents c.finish.new.capture) in
-    let a = c.in_ok-broken.ensures.answers read is es last comes k in
-    let left = c.in_ok-broken.ensures.left read is es last comes in
+    let v = got (g.V.Write.contents c.finish.new.report) (g.W.Write.contents c.finish.new.departures) in
+    let a = (c.in_ok-broken.ensures.records read is es last comes).answers k in
+    let left = (c.in_ok-broken.ensures.records read is es last comes).left in
     let ls = lines_left read c.args.script.now c.run_records.new.cursor in
     let ys = requests_of ls ++ clock_after c.args.until in
     let P : List Request → Type 0 = λ rs. PutsBoth {T = Unit {0}} (Ok tt) s.got v (told_to_end es rs s.port s.seen) in
     let Q : Option (ℕ × CapFault) → Type 0 = λ b. EndsSo es last b in
     ends_ok {T = Unit {0}} {U = Unit {0}} tt s.got v o (subst P (asked_split script es c.args.until ls left) (told_then {T = Unit {0}} (Ok tt) es xs ys s t v c.requires.together.sound a (c.in_ok-finish.ensures read is es a.keeps)))
-    (no_fault es last (length es) (subst Q c.in-None.is (c.in_ok-broken.ensures.ending read is es last comes)))
+    (no_fault es last (length es) (subst Q c.in-None.is (c.in_ok-broken.ensures.records read is es last comes).ending))
 
 pub returns-in-Some : goal.returns-in-Some
 returns-in-Some g c = λ read is es last comes k.
-    let s = state c.args.sending.now (g.V.Write.contents c.args.report.now) (g.W.Write.contents c.args.capture.now) in
-    let t = state c.run_records.new.sending (g.V.Write.contents c.run_records.new.report) (g.W.Write.contents c.run_records.new.capture) in
+    let s = state c.args.sending.now (g.V.Write.contents c.args.report.now) (g.W.Write.contents c.args.departures.now) in
+    let t = state c.run_records.new.sending (g.V.Write.contents c.run_records.new.report) (g.W.Write.contents c.run_records.new.departures) in
     let script = kept_requests read c.args.script.now.octets.items c.args.script.now.lines.items in
     let xs = before_end (timed_from 0 script) (came_from 0 0 es) in
     let o : Outcome = record { output = told_to_end es (all_requests script es c.args.until) s.port s.seen; fault = end_fault (length es) last } in
-    let v = got (g.V.Write.contents c.finish.new.report) (g.W.Write.contents c.finish.new.capture) in
-    let a = c.in_ok-broken.ensures.answers read is es last comes k in
-    let left = c.in_ok-broken.ensures.left read is es last comes in
+    let v = got (g.V.Write.contents c.finish.new.report) (g.W.Write.contents c.finish.new.departures) in
+    let a = (c.in_ok-broken.ensures.records read is es last comes).answers k in
+    let left = (c.in_ok-broken.ensures.records read is es last comes).left in
     let ls = lines_left read c.args.script.now c.run_records.new.cursor in
     let ys = requests_of ls ++ clock_after c.args.until in
     let P : List Request → Type 0 = λ rs. PutsBoth {T = Unit {0}} (Ok tt) s.got v (told_to_end es rs s.port s.seen) in
     let Q : Option (ℕ × CapFault) → Type 0 = λ b. EndsSo es last b in
     ends_capture {T = Unit {0}} {U = Unit {0}} (Err (Faults.Input (Inputs.Capture c.in-Some.number c.in-Some.fault))) c.in-Some.number c.in-Some.fault s.got v o (subst P (asked_split script es c.args.until ls left) (told_then {T = Unit {0}} (Ok tt) es xs ys s t v c.requires.together.sound a (c.in_ok-finish.ensures read is es a.keeps)))
-    (some_fault es last c.in-Some.number c.in-Some.fault (subst Q c.in-Some.is (c.in_ok-broken.ensures.ending read is es last comes))) refl
+    (some_fault es last c.in-Some.number c.in-Some.fault (subst Q c.in-Some.is (c.in_ok-broken.ensures.records read is es last comes).ending)) refl

@@ -1,11 +1,9 @@
-use Rattle.std.proofs.Common.{◌≡◌, ◌<◌, ◌≤◌, ◌∷◌, [], Ok, Err, ℕ, map, refl, rules, sym, ap, ◌∙◌, subst}
+use Rattle.std.proofs.Common.{◌≡◌, ◌<◌, ◌≤◌, ◌∷◌, [], Ok, Err, ℕ, map, refl, sym, ap, ◌∙◌, subst}
 use Rattle.std.proofs.lemmas.Result.{err_from_is_err_and}
-use Rattle.abstract_port.specs.AbstractPort.{starts_until}
+use Rattle.replay.specs.Words.{starts_until, noted, State, state}
 use Rattle.abstract_port.specs.declared.Answer.TheVariants as Answered
 use Rattle.abstract_port.specs.declared.Event.TheVariants as Events
 use Rattle.abstract_port.proofs.RunLaws.{settled-current}
-use Rattle.summary.specs.Wanted.{noted}
-use Rattle.replay.specs.Running.{State, state}
 use Rattle.replay.specs.declared.faults.Stop.TheVariants as Stops
 use Rattle.replay.proofs.ArrivalLaws.{one_answer}
 use Rattle.replay.proofs.SeenLaws.{noted-one}
@@ -16,28 +14,28 @@ use Rattle.replay.proofs.sending.put_clock.Goals as goal
 pub returns-in_err-put_noted-clause-answers : goal.returns-in_err-put_noted-clause-answers
 returns-in_err-put_noted-clause-answers g c = λ es k.
     let p = err_from_is_err_and c.from_residual.result c.from_residual.ensures.1 in
-    let s = state c.args.sending.now (g.V.Write.contents c.args.report.now) (g.W.Write.contents c.args.capture.now) in
-    let t : State = record { port = s.port; store = s.store; seen = c.put_noted.new.summary; got = record { report = g.V.Write.contents c.put_noted.new.report; capture = g.W.Write.contents c.args.capture.now } } in
+    let s = state c.args.sending.now (g.V.Write.contents c.args.report.now) (g.W.Write.contents c.args.departures.now) in
+    let t : State = record { port = s.port; store = s.store; seen = c.put_noted.new.summary; got = record { report = g.V.Write.contents c.put_noted.new.report; departures = g.W.Write.contents c.args.departures.now } } in
     let P : ℕ → Type 0 = λ n. c.args.moment < n in
     let back = clock_back c.args.moment s.port (subst P c.now-now.ensures.now c.if-moment-now.true) in
-    let out = report_short c.from_residual.result (g.W.Write.contents c.args.capture.now) [] p.1 c.in_err-put_noted.ensures.text in
+    let out = report_short c.from_residual.result (g.W.Write.contents c.args.departures.now) [] p.1 c.in_err-put_noted.ensures.text in
     answers_one c.from_residual.result es (Events.Clock c.args.moment) s t (Answered.Backward ∷ []) s.port back (never _ p.1) (never _ p.1) (never _ p.1)
     (rw (one_answer es Answered.Backward refl) out)
 
 pub returns-then-moment-now-clause-answers : goal.returns-then-moment-now-clause-answers
 returns-then-moment-now-clause-answers g c = λ es k.
-    let s = state c.args.sending.now (g.V.Write.contents c.args.report.now) (g.W.Write.contents c.args.capture.now) in
-    let t : State = record { port = s.port; store = s.store; seen = c.put_noted.new.summary; got = record { report = g.V.Write.contents c.put_noted.new.report; capture = g.W.Write.contents c.args.capture.now } } in
+    let s = state c.args.sending.now (g.V.Write.contents c.args.report.now) (g.W.Write.contents c.args.departures.now) in
+    let t : State = record { port = s.port; store = s.store; seen = c.put_noted.new.summary; got = record { report = g.V.Write.contents c.put_noted.new.report; departures = g.W.Write.contents c.args.departures.now } } in
     let P : ℕ → Type 0 = λ n. c.args.moment < n in
     let back = clock_back c.args.moment s.port (subst P c.now-now.ensures.now c.if-moment-now.true) in
     answers_one (Ok tt) es (Events.Clock c.args.moment) s t (Answered.Backward ∷ []) s.port back (sym (settled-current s.port c.requires.together.sound.current)) k
     (c.in_ok-put_noted.ensures.seen ∙ ap (λ n. noted n Answered.Backward s.seen) c.now-now.ensures.now ∙ noted-one s.port.now Answered.Backward s.seen)
-    (rw (one_answer es Answered.Backward refl) (report_whole tt (g.W.Write.contents c.args.capture.now) c.in_ok-put_noted.ensures.text))
+    (rw (one_answer es Answered.Backward refl) (report_whole tt (g.W.Write.contents c.args.departures.now) c.in_ok-put_noted.ensures.text))
 
 pub returns-clause-answers : goal.returns-clause-answers
 returns-clause-answers g c = λ es k.
-    let s = state c.args.sending.now (g.V.Write.contents c.args.report.now) (g.W.Write.contents c.args.capture.now) in
-    let t = state c.put_starts.new.sending (g.V.Write.contents c.put_starts.new.report) (g.W.Write.contents c.put_starts.new.capture) in
+    let s = state c.args.sending.now (g.V.Write.contents c.args.report.now) (g.W.Write.contents c.args.departures.now) in
+    let t = state c.put_starts.new.sending (g.V.Write.contents c.put_starts.new.report) (g.W.Write.contents c.put_starts.new.departures) in
     let P : ℕ → Type 0 = λ n. n ≤ c.args.moment in
     let on = clock_on c.args.moment s.port (subst P c.now-now.ensures.now c.if-moment-now.false) c.requires.within in
     let a = c.put_starts.ensures.starts es k in

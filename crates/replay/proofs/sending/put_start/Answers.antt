@@ -1,4 +1,4 @@
-use Rattle.std.proofs.Common.{◌≡◌, Err, refl, rules, ap, ◌∙◌}
+use Rattle.std.proofs.Common.{◌≡◌, Err, refl, ap, ◌∙◌}
 use Rattle.std.proofs.lemmas.Result.{err_from_is_err_and}
 use Rattle.replay.specs.declared.faults.Stop.TheVariants as Stops
 use Rattle.replay.proofs.Sends.{always, never, of_error, report_and_record, report_short}

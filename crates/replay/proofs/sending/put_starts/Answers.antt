@@ -1,10 +1,7 @@
 use Rattle.std.proofs.Common.{◌≡◌, Err, map, refl, rules, sym, ap, ◌∙◌, subst}
 use Rattle.std.proofs.lemmas.Result.{err_from_is_err_and}
-use Rattle.abstract_port.specs.AbstractPort.{AbstractPort, PortState, starts_until}
+use Rattle.replay.specs.Words.{AbstractPort, PortState, starts_until, noted_all, IsSoundPort, State, state}
 use Rattle.abstract_port.specs.declared.Answer.TheVariants as Answered
-use Rattle.summary.specs.Wanted.{noted_all}
-use Rattle.abstract_port.specs.Sound.{IsSoundPort}
-use Rattle.replay.specs.Running.{State, state}
 use Rattle.replay.specs.declared.faults.Stop.TheVariants as Stops
 use Rattle.replay.proofs.Sends.{both_all, both_exit, both_more, both_none, never, of_error}
 use Rattle.replay.proofs.StartLaws.{early, fewer, has_first, idle_queues, idle_room, keeps-after, leaves, no-starts-end, no-starts-out, no-starts-seen, onward, same-end, starts-kept, starts-seen, still_keeps, still_together, together-after}
@@ -16,7 +13,7 @@ loop-start-init g c = record { later = c.requires.later; together = c.requires.t
 pub put_start-requires : goal.put_start-requires
 put_start-requires g c =
     let i = c.loop-start.invariant in
-    let s = state c.loop-start.sending (g.V.Write.contents c.loop-start.report) (g.W.Write.contents c.loop-start.capture) in
+    let s = state c.loop-start.sending (g.V.Write.contents c.loop-start.report) (g.W.Write.contents c.loop-start.departures) in
     let q = c.step.new.self.port in
     let x = c.in-Some.start in
     let e = sym c.step.ensures.start ∙ c.in-Some.is in
@@ -35,8 +32,8 @@ loop-start-smaller g c =
 pub loop-start-preserved : goal.loop-start-preserved
 loop-start-preserved g c =
     let i = c.loop-start.invariant in
-    let s = state c.loop-start.sending (g.V.Write.contents c.loop-start.report) (g.W.Write.contents c.loop-start.capture) in
-    let t = state c.put_start.new.sending (g.V.Write.contents c.put_start.new.report) (g.W.Write.contents c.put_start.new.capture) in
+    let s = state c.loop-start.sending (g.V.Write.contents c.loop-start.report) (g.W.Write.contents c.loop-start.departures) in
+    let t = state c.put_start.new.sending (g.V.Write.contents c.put_start.new.report) (g.W.Write.contents c.put_start.new.departures) in
     let x = c.in-Some.start in
     let upto = c.args.until in
     let e = sym c.step.ensures.start ∙ c.in-Some.is in
@@ -61,8 +58,8 @@ pub returns-in_err-put_start-in-Some-clause-starts : goal.returns-in_err-put_sta
 returns-in_err-put_start-in-Some-clause-starts g c = λ es k.
     let r = err_from_is_err_and c.from_residual.result c.from_residual.ensures.1 in
     let i = c.loop-start.invariant in
-    let s = state c.loop-start.sending (g.V.Write.contents c.loop-start.report) (g.W.Write.contents c.loop-start.capture) in
-    let t = state c.put_start.new.sending (g.V.Write.contents c.put_start.new.report) (g.W.Write.contents c.put_start.new.capture) in
+    let s = state c.loop-start.sending (g.V.Write.contents c.loop-start.report) (g.W.Write.contents c.loop-start.departures) in
+    let t = state c.put_start.new.sending (g.V.Write.contents c.put_start.new.report) (g.W.Write.contents c.put_start.new.departures) in
     let x = c.in-Some.start in
     let e = sym c.step.ensures.start ∙ c.in-Some.is in
     record {
@@ -76,7 +73,7 @@ returns-in_err-put_start-in-Some-clause-starts g c = λ es k.
 pub returns-in-None-clause-together : goal.returns-in-None-clause-together
 returns-in-None-clause-together g c =
     let i = c.loop-start.invariant in
-    let s = state c.loop-start.sending (g.V.Write.contents c.loop-start.report) (g.W.Write.contents c.loop-start.capture) in
+    let s = state c.loop-start.sending (g.V.Write.contents c.loop-start.report) (g.W.Write.contents c.loop-start.departures) in
     let t : State = record { port = c.step.new.self.port; store = s.store; seen = s.seen; got = s.got } in
     let e = sym c.step.ensures.start ∙ c.in-None.is in
     still_together s t (idle_queues s.port t.port c.args.until i.later c.step.ensures.port i.together.sound e) (idle_room s.port t.port c.args.until i.later c.step.ensures.port i.together.sound e) refl c.step.ensures.sound i.together
@@ -84,7 +81,7 @@ returns-in-None-clause-together g c =
 pub returns-in-None-clause-starts : goal.returns-in-None-clause-starts
 returns-in-None-clause-starts g c = λ es k.
     let i = c.loop-start.invariant in
-    let s = state c.loop-start.sending (g.V.Write.contents c.loop-start.report) (g.W.Write.contents c.loop-start.capture) in
+    let s = state c.loop-start.sending (g.V.Write.contents c.loop-start.report) (g.W.Write.contents c.loop-start.departures) in
     let t : State = record { port = c.step.new.self.port; store = s.store; seen = s.seen; got = s.got } in
     let e = sym c.step.ensures.start ∙ c.in-None.is in
     record {

@@ -1,4 +1,4 @@
-use Rattle.schedule_check.specs.Checked.{whole_check}
+use Rattle.schedule_check.specs.Words.{whole_check}
 use Rattle.script.proofs.EndingLaws.{whole_ending}
 use Rattle.schedule_check.proofs.check_job.answer_check.Goals as goal
 

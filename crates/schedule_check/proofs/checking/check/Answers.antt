@@ -1,9 +1,7 @@
 use Rattle.std.proofs.Common.{Err, ap, ◌∙◌}
 use Rattle.std.proofs.lemmas.Result.{err_from_is_err_and}
 use Rattle.job.proofs.LineLaws.{memory_exit, of_input}
-use Rattle.script.specs.Outcome.{long_line}
-use Rattle.schedule_check.specs.Apart.{verdict_lines}
-use Rattle.schedule_check.specs.Checked.{checked_of}
+use Rattle.schedule_check.specs.Words.{long_line, verdict_lines, checked_of}
 use Rattle.schedule_check.proofs.LineLaws.{checked}
 use Rattle.schedule_check.proofs.checking.check.Goals as goal
 

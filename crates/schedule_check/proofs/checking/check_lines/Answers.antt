@@ -1,12 +1,8 @@
 use Rattle.std.proofs.Common.{◌≡◌, Ok, Err, true, false, refl, ap, ◌∙◌}
 use Rattle.std.proofs.lemmas.Result.{err_from_is_err_and}
 use Rattle.octet_writer.proofs.Fronts.{Appends-nil}
-use Rattle.words.specs.Words.{words_of}
-use Rattle.line_reader.specs.LineReader.{current_number}
+use Rattle.schedule_check.specs.Words.{words_of, current_number, bad_line, long_line, verdict_lines, is_command}
 use Rattle.job.proofs.LineLaws.{begun, ends, goes_no_further, goes_on, goes_past, goes_wrong, stops}
-use Rattle.script.specs.Outcome.{bad_line, long_line}
-use Rattle.schedule_check.specs.Apart.{verdict_lines}
-use Rattle.schedule_check.specs.Checked.{is_command}
 use Rattle.schedule_check.proofs.LineLaws.{checked, judged, skipped, wrong}
 use Rattle.schedule_check.proofs.checking.check_lines.Goals as goal
 

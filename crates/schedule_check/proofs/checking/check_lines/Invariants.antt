@@ -1,12 +1,7 @@
 use Rattle.std.proofs.Common.{ℕ, List, Result}
-use Rattle.abstract_port.specs.declared.Command.{Command}
-use Rattle.tc_reader.specs.declared.fault.TcFault.{TcFault}
-use Rattle.tc_reader.specs.Reader.{IsReader}
-use Rattle.line_reader.specs.LineReader.{script_left, most_lines}
+use Rattle.schedule_check.specs.Words.{Command, TcFault, IsReader, script_left, long_line, verdict_lines, Teller, IsTeller}
+use Rattle.line_reader.specs.LineReader.{most_lines}
 use Rattle.job.proofs.LineLaws.{Goes}
-use Rattle.script.specs.Outcome.{long_line}
-use Rattle.schedule_check.specs.Apart.{verdict_lines}
-use Rattle.schedule_check.specs.Windows.{Teller, IsTeller}
 use Rattle.schedule_check.proofs.LineLaws.{checked}
 use Rattle.schedule_check.proofs.checking.check_lines.Given as goal
 

@@ -1,6 +1,5 @@
 use Rattle.std.proofs.Common.{◌≡◌, ◌≤◌, ◌++◌, ◌-◌}
-use Rattle.arrayvec.specs.ArrayVec.{array_vec_len}
-use Rattle.schedule_check.specs.Apart.{classes_apart}
+use Rattle.schedule_check.specs.Words.{array_vec_len, classes_apart}
 use Rattle.schedule_check.proofs.telling.classes_apart.Given as goal
 
 -- what is found and what is to come

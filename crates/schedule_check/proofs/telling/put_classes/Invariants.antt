@@ -1,7 +1,6 @@
 use Rattle.std.proofs.Common.{drop}
 use Rattle.std.specs.List.{flat_map}
-use Rattle.schedule_check.specs.Apart.{class_word}
-use Rattle.octet_writer.specs.Writes.{Sent}
+use Rattle.schedule_check.specs.Words.{class_word, Sent}
 use Rattle.schedule_check.proofs.telling.put_classes.Given as goal
 
 abbrev pub invariant-loop-class : goal.invariant-loop-class

@@ -1,9 +1,7 @@
 use Rattle.std.proofs.Common.{◌≡◌, ap}
 use Rattle.std.proofs.lemmas.Result.{err_from_is_err_and}
 use Rattle.octet_writer.proofs.Fronts.{sent_none, sent_more, sent_exit, sent_last}
-use Rattle.abstract_port.specs.AbstractPort.{plan_asked}
-use Rattle.gate_list.specs.Gate.{Plan}
-use Rattle.schedule_check.specs.Apart.{class_count, classes_apart}
+use Rattle.schedule_check.specs.Words.{plan_asked, Plan, class_count, classes_apart}
 use Rattle.schedule_check.proofs.ChangeLaws.{told_parts}
 use Rattle.schedule_check.proofs.telling.put_schedule.Goals as goal
 

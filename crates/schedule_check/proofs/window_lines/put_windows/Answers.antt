@@ -1,6 +1,6 @@
 use Rattle.std.proofs.lemmas.Result.{err_from_is_err_and}
 use Rattle.octet_writer.proofs.Fronts.{sent_more, sent_exit, sent_all}
-use Rattle.schedule_check.specs.WindowLines.{open_line}
+use Rattle.schedule_check.specs.Words.{open_line}
 use Rattle.schedule_check.proofs.OpenLineLaws.{lines_first, lines_more, lines_end}
 use Rattle.schedule_check.proofs.TellLaws.{same_window}
 use Rattle.schedule_check.proofs.window_lines.put_windows.Goals as goal

@@ -1,7 +1,5 @@
 use Rattle.std.proofs.Common.{◌-◌}
-use Rattle.octet_writer.specs.Writes.{Sent}
-use Rattle.schedule_check.specs.Windows.{Teller, IsTeller}
-use Rattle.schedule_check.specs.WindowLines.{open_lines}
+use Rattle.schedule_check.specs.Words.{Sent, Teller, IsTeller, open_lines}
 use Rattle.schedule_check.proofs.window_lines.put_windows.Given as goal
 
 -- what is written and what is to come

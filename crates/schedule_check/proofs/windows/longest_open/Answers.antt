@@ -1,6 +1,5 @@
 use Rattle.std.proofs.Common.{arith}
-use Rattle.gate_list.specs.declared.Stay.TheVariants.{Lasts}
-use Rattle.schedule_check.specs.Windows.{alone}
+use Rattle.schedule_check.specs.Words.{Lasts, alone}
 use Rattle.schedule_check.proofs.WindowLaws.{reaches_none, bounds_none, reaches_either, bounds_more, row_reaches, open_stay}
 use Rattle.schedule_check.proofs.windows.longest_open.Goals as goal
 

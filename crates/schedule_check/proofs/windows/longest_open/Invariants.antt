@@ -1,4 +1,4 @@
-use Rattle.schedule_check.specs.Windows.{alone}
+use Rattle.schedule_check.specs.Words.{alone}
 use Rattle.schedule_check.proofs.WindowLaws.{Reaches, Bounds}
 use Rattle.schedule_check.proofs.windows.longest_open.Given as goal
 

@@ -1,6 +1,5 @@
 use Rattle.std.proofs.Common.{◌<◌, ◌≤◌, ◌/◌, ap, subst, arith}
-use Rattle.gate_list.specs.declared.Stay.{Stay}
-use Rattle.schedule_check.specs.Windows.{IsOpenStay}
+use Rattle.schedule_check.specs.Words.{Stay, IsOpenStay}
 use Rattle.schedule_check.proofs.WindowLaws.{frame_fits, fits_few, can_start}
 use Rattle.schedule_check.proofs.windows.longest_within.Goals as goal
 

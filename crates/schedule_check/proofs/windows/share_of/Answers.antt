@@ -1,5 +1,5 @@
 use Rattle.std.proofs.Common.{◌+◌, ap, ◌∙◌, arith}
-use Rattle.schedule_check.specs.Windows.{alone}
+use Rattle.schedule_check.specs.Words.{alone}
 use Rattle.schedule_check.proofs.ShareLaws.{total_none, total_le, share_more, next_begins}
 use Rattle.schedule_check.proofs.windows.share_of.Goals as goal
 

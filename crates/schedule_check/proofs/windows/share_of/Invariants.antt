@@ -1,6 +1,5 @@
 use Rattle.std.proofs.Common.{◌≡◌, ◌<◌, ◌≤◌, length, min}
-use Rattle.gate_list.specs.Gate.{in_ps, prefix}
-use Rattle.schedule_check.specs.Windows.{alone, open_total}
+use Rattle.schedule_check.specs.Words.{in_ps, prefix, alone, open_total}
 use Rattle.schedule_check.proofs.windows.share_of.Given as goal
 
 -- what the entries so far give, up to where the next begins in the cycle

@@ -1,5 +1,5 @@
 use Rattle.std.proofs.Common.{◌≡◌, take, map}
-use Rattle.schedule_check.specs.Windows.{turned_entry}
+use Rattle.schedule_check.specs.Words.{turned_entry}
 use Rattle.schedule_check.proofs.windows.turned_entries.Given as goal
 
 abbrev pub invariant-loop-entry : goal.invariant-loop-entry

@@ -1,6 +1,5 @@
 use Rattle.std.proofs.Common.{◌-◌}
-use Rattle.octet_writer.specs.Writes.{Sent}
-use Rattle.script.specs.Responses.{left_lines, left_from}
+use Rattle.script.specs.Words.{Sent, left_lines, left_from}
 use Rattle.script.proofs.answers.put_all_left.Given as goal
 
 abbrev pub invariant-loop-class : goal.invariant-loop-class

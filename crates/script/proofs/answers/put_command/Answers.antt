@@ -1,10 +1,7 @@
 use Rattle.std.proofs.Common.{Result, refl, sym, subst}
-use Rattle.abstract_port.specs.declared.Command.{Command}
+use Rattle.script.specs.Words.{Command, IsAnswered, tc_request, TcFault}
 use Rattle.script.proofs.GivenLaws.{always, fault_written}
 use Rattle.script.proofs.StartsLaws.{settled-sound}
-use Rattle.script.specs.Answered.{IsAnswered}
-use Rattle.script.specs.Requests.{tc_request}
-use Rattle.tc_reader.specs.declared.fault.TcFault.{TcFault}
 use Rattle.script.proofs.answers.put_command.Goals as goal
 
 pub returns-in-Ok : goal.returns-in-Ok

@@ -2,11 +2,11 @@ use Rattle.std.proofs.Common.{refl, sym, ap, ◌∙◌, arith}
 use Rattle.std.proofs.lemmas.Result.{err_from_is_err_and}
 use Rattle.octet_writer.proofs.Fronts.{sent_none, sent_more, sent_exit, sent_all}
 use Rattle.abstract_port.proofs.AskedLaws.{given_fewer, given_last}
-use Rattle.abstract_port.specs.Asked.{with_answer, answers_left}
+use Rattle.script.specs.Words.{answers_left, noted_all}
+use Rattle.abstract_port.specs.Asked.{with_answer}
 use Rattle.script.proofs.GivenLaws.{fails}
 use Rattle.script.proofs.OutputLaws.{lines_of_answers}
 use Rattle.summary.proofs.WantedLaws.{noted_all-cons, noted_all-event, noted_all-nil}
-use Rattle.summary.specs.Wanted.{noted_all}
 use Rattle.script.proofs.answers.put_each.Goals as goal
 
 pub loop-answer-smaller : goal.loop-answer-smaller

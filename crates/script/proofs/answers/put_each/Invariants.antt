@@ -1,11 +1,7 @@
 use Rattle.std.proofs.Common.{◌≡◌}
-use Rattle.abstract_port.specs.AbstractPort.{settled}
-use Rattle.abstract_port.specs.Answers.{answers_to}
-use Rattle.abstract_port.specs.Asked.{answers_left}
+use Rattle.script.specs.Words.{settled, answers_to, answers_left, Sent, noted_all, noted_at}
 use Rattle.abstract_port.proofs.AskedLaws.{left_count}
-use Rattle.octet_writer.specs.Writes.{Sent}
 use Rattle.script.proofs.OutputLaws.{lines_of_answers}
-use Rattle.summary.specs.Wanted.{noted_all, noted_at}
 use Rattle.script.proofs.answers.put_each.Given as goal
 
 -- What is written and the lines of the answers to come are those of all, and so is what is seen of them.

@@ -1,14 +1,12 @@
 use Rattle.std.proofs.Common.{refl, sym, ap, ◌∙◌}
 use Rattle.std.proofs.lemmas.Result.{err_from_is_err_and}
-use Rattle.abstract_port.specs.Answers.{answers_to}
+use Rattle.script.specs.Words.{answers_to, Clock, noted_all}
 use Rattle.abstract_port.specs.declared.Answer.TheVariants as Answered
-use Rattle.abstract_port.specs.declared.Event.TheVariants.{Clock}
 use Rattle.octet_writer.proofs.Fronts.{sent_none, sent_more, sent_exit, sent_all}
 use Rattle.script.proofs.GivenLaws.{fails}
 use Rattle.script.proofs.OutputLaws.{lines_of_answers}
 use Rattle.script.proofs.ClockLaws.{given_start, start_fewer, start_none, later_still}
 use Rattle.summary.proofs.WantedLaws.{noted_all-cons, noted_all-event, noted_all-nil}
-use Rattle.summary.specs.Wanted.{noted_all}
 use Rattle.script.proofs.answers.put_each_start.Goals as goal
 
 pub loop-start-init : goal.loop-start-init

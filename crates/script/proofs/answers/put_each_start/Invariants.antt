@@ -1,12 +1,7 @@
 use Rattle.std.proofs.Common.{◌≡◌, ◌≤◌, Some}
-use Rattle.abstract_port.specs.AbstractPort.{settled}
-use Rattle.abstract_port.specs.Answers.{answers_to}
-use Rattle.abstract_port.specs.Sound.{IsSoundPort}
-use Rattle.abstract_port.specs.declared.Event.TheVariants.{Clock}
+use Rattle.script.specs.Words.{settled, answers_to, IsSoundPort, Clock, Sent, noted_all, noted_at}
 use Rattle.abstract_port.proofs.AskedLaws.{left_count}
-use Rattle.octet_writer.specs.Writes.{Sent}
 use Rattle.script.proofs.OutputLaws.{lines_of_answers}
-use Rattle.summary.specs.Wanted.{noted_all, noted_at}
 use Rattle.script.proofs.answers.put_each_start.Given as goal
 
 -- What is written and the lines of the starts to come are those of all, and so is what is seen of them.

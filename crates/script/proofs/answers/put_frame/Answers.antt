@@ -1,7 +1,7 @@
 use Rattle.std.proofs.Common.{[], ◌∷◌, sym, ap, ◌∙◌}
-use Rattle.abstract_port.specs.AbstractPort.{after_arrival, settled}
+use Rattle.script.specs.Words.{settled, Arrive}
+use Rattle.abstract_port.specs.AbstractPort.{after_arrival}
 use Rattle.abstract_port.specs.Answers.{arrival_answer}
-use Rattle.abstract_port.specs.declared.Event.TheVariants.{Arrive}
 use Rattle.script.proofs.GivenLaws.{always, one_noted, one_written}
 use Rattle.script.proofs.StartsLaws.{settled-sound}
 use Rattle.script.proofs.answers.put_frame.Goals as goal

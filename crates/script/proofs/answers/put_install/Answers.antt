@@ -1,6 +1,5 @@
 use Rattle.std.proofs.Common.{sym, ap, ◌∙◌}
-use Rattle.abstract_port.specs.AbstractPort.{settled}
-use Rattle.abstract_port.specs.Answers.{command_answer}
+use Rattle.script.specs.Words.{settled, command_answer}
 use Rattle.script.proofs.GivenLaws.{always, command_unseen, one_written}
 use Rattle.script.proofs.StartsLaws.{settled-sound}
 use Rattle.script.proofs.answers.put_install.Goals as goal

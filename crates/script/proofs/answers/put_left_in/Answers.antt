@@ -1,6 +1,6 @@
 use Rattle.std.proofs.Common.{List, ℕ, ap, subst}
 use Rattle.std.specs.Io.KnownBytes.{Appends}
-use Rattle.octet_writer.specs.Writes.{Writes}
+use Rattle.script.specs.Words.{Writes}
 use Rattle.octet_writer.proofs.Fronts.{Appends-nil}
 use Rattle.script.proofs.LeftLaws.{none_left, some_left}
 use Rattle.script.proofs.answers.put_left_in.Goals as goal

@@ -1,13 +1,9 @@
 use Rattle.std.proofs.Common.{◌≤◌, None, refl, sym, ap, subst, rules, ◌∙◌}
-use Rattle.abstract_port.specs.AbstractPort.{PortState}
-use Rattle.abstract_port.specs.declared.Event.TheVariants.{Clock}
+use Rattle.script.specs.Words.{PortState, Clock, IsAnswered, Asks, noted_all}
 use Rattle.octet_writer.proofs.Fronts.{sent_none, sent_all}
-use Rattle.script.specs.Answered.{IsAnswered}
-use Rattle.script.specs.Requests.{Asks}
 use Rattle.script.proofs.OutputLaws.{lines_of_answers}
 use Rattle.script.proofs.ClockLaws.{start_none}
 use Rattle.summary.proofs.WantedLaws.{noted_all-event, noted_all-nil}
-use Rattle.summary.specs.Wanted.{noted_all}
 use Rattle.script.proofs.answers.put_starts.Goals as goal
 
 pub returns-then-rest_until : goal.returns-then-rest_until

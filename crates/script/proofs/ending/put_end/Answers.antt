@@ -1,8 +1,7 @@
 use Rattle.std.proofs.Common.{◌≡◌, ◌++◌, ap}
 use Rattle.std.proofs.lemmas.Result.{err_from_is_err_and}
 use Rattle.octet_writer.proofs.Fronts.{sent_none, sent_more, sent_exit, sent_last}
-use Rattle.script.specs.Responses.{end_lines, left_lines}
-use Rattle.summary.specs.Lines.{summary_lines}
+use Rattle.script.specs.Words.{end_lines, left_lines, summary_lines}
 use Rattle.script.proofs.ending.put_end.Goals as goal
 
 pub returns-in_err-put_all_left-in-Some : goal.returns-in_err-put_all_left-in-Some

@@ -1,8 +1,7 @@
 use Rattle.std.proofs.Common.{rules, ℕ, List, subst}
 use Rattle.std.proofs.lemmas.Result.{err_from_is_err_and}
 use Rattle.octet_writer.proofs.Fronts.{sent_none, sent_more, sent_exit, sent_last}
-use Rattle.octet_writer.specs.Writes.{Sent, Writes}
-use Rattle.summary.specs.Lines.{summary_lines, wire_text}
+use Rattle.script.specs.Words.{Sent, Writes, summary_lines, wire_text}
 use Rattle.script.proofs.LeftLaws.{summary-class, summary-over}
 use Rattle.script.proofs.ending.put_summary.Goals as goal
 

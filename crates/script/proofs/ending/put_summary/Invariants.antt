@@ -1,6 +1,5 @@
 use Rattle.std.proofs.Common.{◌-◌, ◌++◌}
-use Rattle.octet_writer.specs.Writes.{Sent}
-use Rattle.summary.specs.Lines.{classes_from, summary_lines, wire_text}
+use Rattle.script.specs.Words.{Sent, classes_from, summary_lines, wire_text}
 use Rattle.script.proofs.ending.put_summary.Given as goal
 
 abbrev pub invariant-loop-class : goal.invariant-loop-class

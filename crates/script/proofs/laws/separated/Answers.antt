@@ -1,5 +1,4 @@
-use Rattle.line_reader.specs.Script.{script_of}
-use Rattle.script.specs.Outcome.{asked_in, reading_of}
+use Rattle.script.specs.Words.{script_of, asked_in, reading_of}
 use Rattle.script.proofs.SeparatedLaws.{is_separated}
 use Rattle.script.proofs.laws.separated.Goals as goal
 

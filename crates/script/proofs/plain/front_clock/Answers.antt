@@ -1,5 +1,5 @@
 use Rattle.std.proofs.Common.{◌≤◌, rules, arith}
-use Rattle.wire_time.specs.Moment.{greatest_moment}
+use Rattle.script.specs.Words.{greatest_moment}
 use Rattle.script.proofs.FrontLaws.{clock_front}
 use Rattle.script.proofs.plain.front_clock.Goals as goal
 

@@ -1,7 +1,7 @@
 use Rattle.std.proofs.Common.{◌≡◌, ℕ, List, Option, Some, None, refl, ap, ◌∙◌}
 use Rattle.std.specs.Prelude.{unwrap_or, option_map}
 use denote.Bor.{Bor}
-use Rattle.script.specs.Settings.{settings_of}
+use Rattle.script.specs.Words.{settings_of}
 use Rattle.script.proofs.script_job.read_given.Goals as goal
 
 -- what a text that is given or another shows

@@ -1,7 +1,5 @@
 use Rattle.std.proofs.Common.{◌≡◌, ◌≤◌, [], sym, ◌∙◌, rules, arith}
-use Rattle.wire_time.specs.Moment.{greatest_moment}
-use Rattle.words.specs.Numbers.{behind_first}
-use Rattle.words.specs.WordsLeft.{words_left}
+use Rattle.script.specs.Words.{greatest_moment, behind_first, words_left}
 use Rattle.script.proofs.PlainLaws.{no_words, plain_clock}
 use Rattle.script.proofs.script_line.plain_clock.Goals as goal
 

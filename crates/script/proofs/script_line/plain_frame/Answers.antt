@@ -1,7 +1,5 @@
 use Rattle.std.proofs.Common.{◌≡◌, ◌≤◌, ◌^◌, ◌-◌, Some, sym, ap, ◌∙◌, rules, arith}
-use Rattle.words.specs.Numbers.{behind_first}
-use Rattle.words.specs.WordsLeft.{words_left}
-use Rattle.script.specs.Requests.{tag_in}
+use Rattle.script.specs.Words.{behind_first, words_left, tag_in}
 use Rattle.script.proofs.PlainLaws.{Says, plain_frame}
 use Rattle.script.proofs.script_line.plain_frame.Goals as goal
 

@@ -1,4 +1,4 @@
-use Rattle.words.specs.Words.{words_of}
+use Rattle.script.specs.Words.{words_of}
 use Rattle.script.proofs.ReaderLaws.{says_read}
 use Rattle.script.proofs.script_line.read_tc_into.Goals as goal
 

@@ -1,14 +1,8 @@
 use Rattle.std.proofs.Common.{◌≡◌, sym, ap, ◌∙◌, ◌++◌, [], ◌∷◌, ℕ, Option, Some, map, append-nil}
 use Rattle.std.proofs.lemmas.Result.{err_from_is_err_and}
 use Rattle.octet_writer.proofs.Fronts.{sent_none, sent_more, sent_exit, sent_last}
-use Rattle.abstract_port.specs.AbstractPort.{AbstractPort}
-use Rattle.abstract_port.specs.Answers.{answers_to}
-use Rattle.abstract_port.specs.declared.Event.TheVariants.{Clock}
-use Rattle.script.specs.Outcome.{ending_text}
-use Rattle.script.specs.Responses.{Gave, end_lines, lines_of}
+use Rattle.script.specs.Words.{AbstractPort, answers_to, Clock, ending_text, Gave, end_lines, lines_of, Observed, noted_after, noted_at}
 use Rattle.script.proofs.LeftLaws.{end-settled}
-use Rattle.summary.specs.Observed.{Observed}
-use Rattle.summary.specs.Wanted.{noted_after, noted_at}
 use Rattle.summary.proofs.WantedLaws.{noted_after-one}
 use Rattle.script.proofs.script_run.end.Goals as goal
 

@@ -1,13 +1,10 @@
 use Rattle.std.proofs.Common.{◌≡◌, ℕ, Bool, List, Option, Ok, Err, None, Some, refl, rules, sym, ap, ◌∙◌, subst₂}
-use Rattle.line_reader.specs.LineReader.{Advances, script_left}
-use Rattle.line_reader.specs.Script.{Script}
+use Rattle.script.specs.Words.{Advances, script_left, Script, words_of, Asks, request_of, said_in, tc_request, bad_line}
 use Rattle.line_reader.specs.declared.lines.LineReader.{LineReader}
 use Rattle.std.proofs.lemmas.Result.{err_from_is_err_and}
-use Rattle.words.specs.Words.{words_of}
-use Rattle.script.specs.Requests.{Asks, request_of, request_said, said_in, tc_request}
+use Rattle.script.specs.Requests.{request_said}
 use Rattle.script.specs.declared.script_line.Said.TheVariants as Says
 use Rattle.job.specs.declared.fault.Fault.TheVariants as Faults
-use Rattle.script.specs.Outcome.{bad_line}
 use Rattle.script.proofs.Going.{is_begun, goes_on, goes_past, goes_no_further, goes_wrong, ends_early, ends_well, stops}
 use Rattle.script.proofs.script_run.run_lines.Goals as goal
 

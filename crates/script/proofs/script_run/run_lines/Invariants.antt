@@ -1,8 +1,5 @@
 use Rattle.std.proofs.Common.{ℕ, List, Result}
-use Rattle.abstract_port.specs.declared.Command.{Command}
-use Rattle.tc_reader.specs.declared.fault.TcFault.{TcFault}
-use Rattle.tc_reader.specs.Reader.{IsReader}
-use Rattle.line_reader.specs.LineReader.{script_left, most_lines}
+use Rattle.script.specs.Words.{Command, TcFault, IsReader, script_left, most_lines}
 use Rattle.script.proofs.Going.{IsRunning}
 use Rattle.script.proofs.script_run.run_lines.Given as goal
 

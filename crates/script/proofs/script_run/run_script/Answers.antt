@@ -1,14 +1,9 @@
 use Rattle.std.proofs.Common.{◌≡◌, ℕ, Option, Err, refl, ap, ◌∙◌, subst}
 use Rattle.std.specs.Prelude.{IfSome}
 use Rattle.std.proofs.lemmas.Result.{err_from_is_err_and}
-use Rattle.abstract_port.specs.AbstractPort.{AbstractPort, PortState, new_port}
-use Rattle.line_reader.specs.LineReader.{script_left}
-use Rattle.script.specs.Setup.{Setup}
-use Rattle.job.specs.Outcome.{Runs}
-use Rattle.script.specs.Outcome.{outcome_from, outcome_of}
+use Rattle.script.specs.Words.{AbstractPort, PortState, new_port, script_left, Setup, Runs, outcome_from, outcome_of, Observed}
 use Rattle.job.proofs.LineLaws.{memory_exit}
 use Rattle.script.proofs.ReaderLaws.{of_input}
-use Rattle.summary.specs.Observed.{Observed}
 use Rattle.summary.specs.Wanted.{watched}
 use Rattle.script.proofs.script_run.run_script.Goals as goal
 

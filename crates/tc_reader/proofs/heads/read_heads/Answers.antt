@@ -1,8 +1,7 @@
 use Rattle.std.proofs.Common.{◌≡◌, [], true, false, length, ap, codes, subst, ◌∙◌, rules, arith}
 use Rattle.std.specs.Str.{bytes_eq}
 use Rattle.std.proofs.lemmas.Result.{err_from_is_err_and}
-use Rattle.words.specs.WordsLeft.{words_left}
-use Rattle.tc_reader.specs.Cursor.{total}
+use Rattle.tc_reader.specs.Words.{words_left, total}
 use Rattle.tc_reader.proofs.HeadsLemmas.{HeadsSoFar, HeadsSoFar-more, HeadsSoFar-fault, HeadsSoFar-taprio, HeadsSoFar-end}
 use Rattle.tc_reader.proofs.heads.read_heads.Goals as goal
 

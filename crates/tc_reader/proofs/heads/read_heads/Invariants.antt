@@ -1,6 +1,5 @@
 use Rattle.std.proofs.Common.{length}
-use Rattle.words.specs.WordsLeft.{words_left}
-use Rattle.tc_reader.specs.Cursor.{Moves}
+use Rattle.tc_reader.specs.Words.{words_left, Moves}
 use Rattle.tc_reader.proofs.HeadsLemmas.{HeadsSoFar}
 use Rattle.tc_reader.proofs.heads.read_heads.Given as goal
 

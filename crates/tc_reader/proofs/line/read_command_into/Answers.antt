@@ -1,4 +1,4 @@
-use Rattle.words.specs.Words.{words_of}
+use Rattle.tc_reader.specs.Words.{words_of}
 use Rattle.tc_reader.proofs.LineLaws.{read_as, line_fault}
 use Rattle.tc_reader.proofs.line.read_command_into.Goals as goal
 

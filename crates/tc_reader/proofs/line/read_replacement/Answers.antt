@@ -1,8 +1,6 @@
 use Rattle.std.proofs.Common.{◌≡◌, Ok, None, sym, ap, ◌∙◌}
 use Rattle.abstract_port.specs.declared.Command.TheVariants as commands
-use Rattle.tc_reader.specs.Options.{◌>>=◌}
-use Rattle.tc_reader.specs.Reads.{given_by}
-use Rattle.tc_reader.specs.Ends.{command_given, heads_missing}
+use Rattle.tc_reader.specs.Words.{◌>>=◌, given_by, command_given, heads_missing}
 use Rattle.tc_reader.proofs.EndLemmas.{change_given-capped}
 use Rattle.tc_reader.proofs.line.read_replacement.Goals as goal
 

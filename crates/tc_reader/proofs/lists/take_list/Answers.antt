@@ -1,7 +1,6 @@
 use Rattle.std.proofs.Common.{◌≡◌, length, sym, ◌∙◌}
 use Rattle.std.proofs.lemmas.Bool.{eqb-true}
-use Rattle.words.specs.WordsLeft.{words_left}
-use Rattle.tc_reader.specs.Options.{some_at}
+use Rattle.tc_reader.specs.Words.{words_left, some_at}
 use Rattle.tc_reader.proofs.RunLemmas.{some_at-none}
 use Rattle.tc_reader.proofs.lists.take_list.Goals as goal
 

@@ -1,8 +1,6 @@
 use Rattle.std.proofs.Common.{◌≡◌, ◌-◌, ◌++◌, ◌∷◌, [], true, false, take, Ok, Err, sym, ap, subst, ◌∙◌, rules, arith}
 use Rattle.std.proofs.lemmas.Result.{err_from_is_err_and}
-use Rattle.words.specs.WordsLeft.{words_left, words_taken}
-use Rattle.tc_reader.specs.Options.{value_at, run_at, begins}
-use Rattle.tc_reader.specs.Capped.{first_ones}
+use Rattle.tc_reader.specs.Words.{words_left, words_taken, value_at, run_at, begins, first_ones}
 use Rattle.tc_reader.proofs.RunLemmas.{run_continues, run_continues_fails, run_stops, take-push}
 use Rattle.tc_reader.proofs.lists.take_run.Goals as goal
 

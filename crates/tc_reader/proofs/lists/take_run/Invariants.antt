@@ -1,7 +1,5 @@
 use Rattle.std.proofs.Common.{◌≡◌, ◌-◌, List, take, length}
-use Rattle.words.specs.WordsLeft.{words_left, words_taken}
-use Rattle.tc_reader.specs.Cursor.{Moves}
-use Rattle.tc_reader.specs.Options.{run_at}
+use Rattle.tc_reader.specs.Words.{words_left, words_taken, Moves, run_at}
 use Rattle.tc_reader.proofs.RunLemmas.{with_front}
 use Rattle.tc_reader.proofs.lists.take_run.Given as goal
 

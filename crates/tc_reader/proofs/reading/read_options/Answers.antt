@@ -1,8 +1,6 @@
 use Rattle.std.proofs.Common.{◌≡◌, ◌-◌, ◌∷◌, length, ap, subst, ◌∙◌, rules, arith}
 use Rattle.std.proofs.lemmas.Result.{err_from_is_err_and}
-use Rattle.words.specs.WordsLeft.{words_left, words_taken}
-use Rattle.tc_reader.specs.Cursor.{total}
-use Rattle.tc_reader.specs.Capped.{view}
+use Rattle.tc_reader.specs.Words.{words_left, words_taken, total, view}
 use Rattle.tc_reader.proofs.ReadsLemmas.{SoFar, SoFar-begin, SoFar-more, SoFar-fault, SoFar-end}
 use Rattle.tc_reader.proofs.reading.read_options.Goals as goal
 

@@ -1,7 +1,5 @@
 use Rattle.std.proofs.Common.{◌≡◌, length}
-use Rattle.words.specs.WordsLeft.{words_left}
-use Rattle.tc_reader.specs.Cursor.{total}
-use Rattle.tc_reader.specs.Capped.{view}
+use Rattle.tc_reader.specs.Words.{words_left, total, view}
 use Rattle.tc_reader.proofs.ReadsLemmas.{SoFar}
 use Rattle.tc_reader.proofs.reading.read_options.Given as goal
 

@@ -1,11 +1,6 @@
 use Rattle.std.proofs.Common.{◌≡◌, ◌+◌, ◌-◌, ◌^◌, List, ◌∷◌, true, Ok, sym, ap, subst, ◌∙◌, rules, arith}
 use Rattle.std.specs.Prelude.{codes}
-use Rattle.words.specs.Numbers.{number_in}
-use Rattle.words.specs.WordsLeft.{words_left, words_taken}
-use Rattle.tc_reader.specs.Cursor.{Word}
-use Rattle.tc_reader.specs.Values.{hex_in}
-use Rattle.tc_reader.specs.Options.{value_at}
-use Rattle.tc_reader.specs.declared.fault.Opt.TheVariants.{SchedEntry}
+use Rattle.tc_reader.specs.Words.{number_in, words_left, words_taken, Word, hex_in, value_at, SchedEntry}
 use Rattle.tc_reader.proofs.PlainLemmas.{plain_entry}
 use Rattle.tc_reader.proofs.values.take_plain_entry.Goals as goal
 

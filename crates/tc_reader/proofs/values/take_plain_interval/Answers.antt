@@ -1,5 +1,5 @@
 use Rattle.std.proofs.Common.{arith}
-use Rattle.words.specs.WordsLeft.{words_left, words_taken}
+use Rattle.tc_reader.specs.Words.{words_left, words_taken}
 use Rattle.tc_reader.proofs.PlainLemmas.{behind_one, told_at_once}
 use Rattle.tc_reader.proofs.values.take_plain_interval.Goals as goal
 

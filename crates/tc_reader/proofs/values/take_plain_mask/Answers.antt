@@ -1,5 +1,5 @@
 use Rattle.std.proofs.Common.{rules}
-use Rattle.words.specs.WordsLeft.{words_left, words_taken}
+use Rattle.tc_reader.specs.Words.{words_left, words_taken}
 use Rattle.tc_reader.proofs.PlainLemmas.{mask_told}
 use Rattle.tc_reader.proofs.values.take_plain_mask.Goals as goal
 

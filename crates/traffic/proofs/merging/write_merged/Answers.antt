@@ -1,6 +1,6 @@
 use Rattle.std.proofs.Common.{◌≡◌, Err, refl, ap, ◌∙◌}
 use Rattle.std.proofs.lemmas.Result.{err_from_is_err_and}
-use Rattle.traffic.specs.Merge.{clock_after}
+use Rattle.traffic.specs.Words.{clock_after}
 use Rattle.traffic.proofs.MergeLaws.{end_short, ends, goes_on, line_short, stops}
 use Rattle.traffic.proofs.merging.write_merged.Goals as goal
 

@@ -1,5 +1,4 @@
-use Rattle.line_reader.specs.LineReader.{script_left, most_lines}
-use Rattle.traffic.specs.Turns.{left_of_all}
+use Rattle.traffic.specs.Words.{script_left, most_lines, left_of_all}
 use Rattle.traffic.proofs.MergeLaws.{Reaches}
 use Rattle.traffic.proofs.merging.write_merged.Given as goal
 

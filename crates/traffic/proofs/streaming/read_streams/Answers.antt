@@ -1,12 +1,8 @@
 use Rattle.std.proofs.Common.{◌≡◌, Ok, Err, Some, None, refl, sym, ap, subst}
 use Rattle.std.specs.List.{flat_map}
-use Rattle.traffic.specs.Frames.{frames_of}
-use Rattle.words.specs.Words.{words_of}
-use Rattle.line_reader.specs.LineReader.{script_left}
-use Rattle.traffic.specs.Table.{judged, line_judged}
+use Rattle.traffic.specs.Words.{frames_of, words_of, script_left, judged, line_judged, left_of}
 use Rattle.job.specs.declared.fault.Fault.TheVariants as Faults
 use Rattle.traffic.specs.declared.faults.StreamsInput.TheVariants as Inputs
-use Rattle.traffic.specs.Turns.{left_of}
 use Rattle.traffic.proofs.TableLaws.{Goes, ends, goes_on, goes_past, goes_wrong, stops}
 use Rattle.traffic.proofs.streaming.read_streams.Goals as goal
 

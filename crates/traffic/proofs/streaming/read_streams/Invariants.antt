@@ -1,8 +1,5 @@
 use Rattle.std.specs.List.{flat_map}
-use Rattle.line_reader.specs.LineReader.{script_left, most_lines}
-use Rattle.traffic.specs.Frames.{frames_of}
-use Rattle.traffic.specs.Table.{judged}
-use Rattle.traffic.specs.Turns.{left_of}
+use Rattle.traffic.specs.Words.{script_left, most_lines, frames_of, judged, left_of}
 use Rattle.traffic.proofs.TableLaws.{Goes}
 use Rattle.traffic.proofs.streaming.read_streams.Given as goal
 

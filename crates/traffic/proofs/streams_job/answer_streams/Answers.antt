@@ -1,7 +1,5 @@
-use Rattle.std.specs.Io.Buffered.{writer_contents}
 use Rattle.job.proofs.EndingLaws.{ended, out_of_inputs}
-use Rattle.traffic.specs.Faults.{streams_telling}
-use Rattle.traffic.specs.Outcome.{outcome_of}
+use Rattle.traffic.specs.Words.{streams_telling, outcome_of}
 use Rattle.traffic.proofs.streams_job.answer_streams.Goals as goal
 
 pub returns-in-Ok-clause-ending : goal.returns-in-Ok-clause-ending

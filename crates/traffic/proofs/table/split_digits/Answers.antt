@@ -1,6 +1,6 @@
 use Rattle.std.proofs.Common.{◌≡◌, ◌+◌, true, drop, add-one, arith}
 use Rattle.std.proofs.lemmas.List.{take_rest}
-use Rattle.traffic.specs.Table.{leading_digits, starts_with_digit}
+use Rattle.traffic.specs.Words.{leading_digits, starts_with_digit}
 use Rattle.traffic.proofs.Digits.{within_digits, more_digits}
 use Rattle.traffic.proofs.table.split_digits.Goals as goal
 

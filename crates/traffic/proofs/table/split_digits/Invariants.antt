@@ -1,5 +1,5 @@
 use Rattle.std.proofs.Common.{◌≡◌, ◌≤◌, ◌-◌, ◌+◌, length, drop}
-use Rattle.traffic.specs.Table.{leading_digits}
+use Rattle.traffic.specs.Words.{leading_digits}
 use Rattle.traffic.proofs.table.split_digits.Given as goal
 
 abbrev pub invariant-loop-end : goal.invariant-loop-end

@@ -1,5 +1,5 @@
 use Rattle.std.proofs.Common.{◌≡◌, ◌<◌, ◌+◌, ◌-◌, sym, ap, ◌∙◌, refl, arith, length, le_refl, drop}
-use Rattle.traffic.specs.Turns.{earlier, first_place}
+use Rattle.traffic.specs.Words.{earlier, first_place}
 use Rattle.traffic.proofs.FirstLaws.{found_within, none_behind, one_place}
 use Rattle.traffic.proofs.turns.first_place.Goals as goal
 

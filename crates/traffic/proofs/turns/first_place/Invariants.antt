@@ -1,5 +1,5 @@
 use Rattle.std.proofs.Common.{◌≡◌, ◌≤◌, drop, length}
-use Rattle.traffic.specs.Turns.{first_place}
+use Rattle.traffic.specs.Words.{first_place}
 use Rattle.traffic.proofs.turns.first_place.Given as goal
 
 abbrev pub invariant-loop-place : goal.invariant-loop-place

@@ -1,7 +1,6 @@
 use Rattle.std.proofs.Common.{◌≡◌, ◌∷◌, [], sym, subst, ◌∙◌}
 use Rattle.std.specs.Prelude.{MatchOption}
-use Rattle.traffic.specs.Merge.{frames_before, frames_from}
-use Rattle.traffic.specs.Turns.{left_of_all}
+use Rattle.traffic.specs.Words.{frames_before, frames_from, left_of_all}
 use Rattle.traffic.proofs.BeforeLaws.{all_of_first, no_frames_before, no_frames_from, none_of_first, others_of_taken, taken_before}
 use Rattle.traffic.proofs.FirstLaws.{none_found}
 use Rattle.traffic.proofs.turns.next_before.Goals as goal

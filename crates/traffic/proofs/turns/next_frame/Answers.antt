@@ -1,6 +1,6 @@
 use Rattle.std.proofs.Common.{◌≡◌, ◌∷◌, [], sym, subst, ◌∙◌}
 use Rattle.std.specs.Prelude.{MatchOption}
-use Rattle.traffic.specs.Turns.{left_of_all}
+use Rattle.traffic.specs.Words.{left_of_all}
 use Rattle.traffic.proofs.FirstLaws.{next_of_all, none_found}
 use Rattle.traffic.proofs.turns.next_frame.Goals as goal
 

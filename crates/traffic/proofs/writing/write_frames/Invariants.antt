@@ -1,7 +1,5 @@
 use Rattle.std.proofs.Common.{length}
-use Rattle.octet_writer.specs.Writes.{Sent}
-use Rattle.traffic.specs.Turns.{left_of_all}
-use Rattle.traffic.specs.Written.{lines_of}
+use Rattle.traffic.specs.Words.{Sent, left_of_all, lines_of}
 use Rattle.traffic.proofs.writing.write_frames.Given as goal
 
 -- What is written and the lines of the frames to come are those of all.

@@ -1,8 +1,5 @@
 use Rattle.std.proofs.Common.{◌≡◌, length}
-use Rattle.octet_writer.specs.Writes.{Sent}
-use Rattle.traffic.specs.Merge.{frames_before, frames_from}
-use Rattle.traffic.specs.Turns.{left_of_all}
-use Rattle.traffic.specs.Written.{lines_of}
+use Rattle.traffic.specs.Words.{Sent, frames_before, frames_from, left_of_all, lines_of}
 use Rattle.traffic.proofs.writing.write_frames_before.Given as goal
 
 -- What is written and the lines of the frames to come before the moment are those of all before it.

@@ -1,8 +1,5 @@
 use Rattle.std.proofs.Common.{Some, subst}
-use Rattle.list_position.specs.Position.{BeginsAtMost}
-use Rattle.accepted_commands.specs.Commands.{accepted_in, command_of}
-use Rattle.accepted_commands.specs.Standing.{Stands, position_in}
-use Rattle.accepted_commands.specs.declared.command.AcceptedCommand.{AcceptedCommand}
+use Rattle.accepted_commands.specs.Words.{BeginsAtMost, accepted_in, command_of, Stands, position_in, AcceptedCommand}
 use Rattle.accepted_commands.proofs.command.AcceptedCommand.go_on.Goals as goal
 
 pub returns-in-Install-clause-next : goal.returns-in-Install-clause-next

@@ -1,6 +1,5 @@
 use Rattle.std.proofs.Common.{subst, refl}
-use Rattle.accepted_commands.specs.Commands.{IsUsable, accepted_in}
-use Rattle.accepted_commands.specs.declared.command.AcceptedCommand.{AcceptedCommand}
+use Rattle.accepted_commands.specs.Words.{IsUsable, accepted_in, AcceptedCommand}
 use Rattle.accepted_commands.proofs.command.AcceptedCommand.place_at.Goals as goal
 
 pub position_at-list-requires-clause-sound : goal.position_at-list-requires-clause-sound

@@ -1,5 +1,5 @@
 use Rattle.std.proofs.Common.{ap}
-use Rattle.accepted_commands.specs.Commands.{accepted_in, command_of}
+use Rattle.accepted_commands.specs.Words.{accepted_in, command_of}
 use Rattle.accepted_commands.proofs.command.AcceptedList.held_from.Goals as goal
 
 pub hold_moment-requires-clause-usable : goal.hold_moment-requires-clause-usable

@@ -1,9 +1,6 @@
 use Rattle.std.proofs.Common.{None, sym, ap, ◌∙◌, subst}
-use Rattle.gate_list.specs.Open.{open_while}
-use Rattle.list_config.specs.Stretch.{mask_of}
+use Rattle.accepted_commands.specs.Words.{open_while, mask_of, IsPlaced, IsStanding, from_of, stretch_of}
 use Rattle.list_config.proofs.StretchLaws.{no_plan_while}
-use Rattle.list_position.specs.Position.{IsPlaced}
-use Rattle.accepted_commands.specs.Leg.{IsStanding, from_of, stretch_of}
 use Rattle.accepted_commands.proofs.leg.Leg.stays_open.Goals as goal
 
 pub returns-in-Listed : goal.returns-in-Listed

@@ -1,7 +1,6 @@
 use Rattle.std.proofs.Common.{◌≤◌, ◌∷◌, sym, ap, ◌∙◌, subst}
-use Rattle.gate_list.specs.Open.{open_while}
-use Rattle.list_config.specs.Stretch.{mask_in}
-use Rattle.accepted_commands.specs.Leg.{DoFollow, from_of, stretch_of, stretch_in, stretches_in}
+use Rattle.accepted_commands.specs.Words.{open_while, mask_in, DoFollow, from_of, stretch_of, stretch_in}
+use Rattle.accepted_commands.specs.Leg.{stretches_in}
 use Rattle.accepted_commands.proofs.LegLaws.{open_through, shut_before}
 use Rattle.accepted_commands.proofs.leg.Leg.stays_open_ahead.Goals as goal
 

@@ -1,5 +1,5 @@
 use Rattle.std.proofs.Common.{ap, arith}
-use Rattle.accepted_commands.specs.declared.leg.ListedLeg.{ListedLeg}
+use Rattle.accepted_commands.specs.Words.{ListedLeg}
 use Rattle.accepted_commands.proofs.leg.ListedLeg.cycle_at.Goals as goal
 
 pub returns-clause-cycle : goal.returns-clause-cycle

@@ -2,8 +2,7 @@ use Rattle.std.proofs.Common.{[], refl, length, subst, sym}
 use Rattle.std.proofs.lemmas.List.{append-nil}
 use Rattle.std.proofs.lemmas.Result.{err_from_is_err_and}
 use Rattle.std.specs.Io.KnownBytes.{Appends}
-use Rattle.capture.specs.Spelling.{spelled_record_header}
-use Rattle.capture.specs.CaptureWriter.{written_format}
+use Rattle.capture.specs.Words.{spelled_record_header, written_format}
 use Rattle.octet_writer.proofs.Fronts.{sent_none, sent_more, sent_exit}
 use Rattle.capture.proofs.WriterLemmas.{none_written}
 use Rattle.capture.proofs.writer.CaptureWriter.put.Goals as goal

@@ -1,7 +1,6 @@
 use Rattle.std.proofs.Common.{◌≡◌, ℕ, Some, None, false, sym, ◌∙◌, subst}
 use Rattle.std.proofs.lemmas.Option.{get_or_from_slice_get, same_Some}
-use Rattle.gate_list.specs.Open.{open_while}
-use Rattle.jumping.specs.Alone.{shows_alone}
+use Rattle.jumping.specs.Words.{open_while, shows_alone}
 use Rattle.jumping.proofs.AloneLaws.{need_read}
 use Rattle.jumping.proofs.alone.LoneSearch.class_fits.Goals as goal
 

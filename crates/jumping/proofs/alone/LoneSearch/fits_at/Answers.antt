@@ -1,8 +1,7 @@
 use Rattle.std.proofs.Common.{None, inl, inr, sym, ap, ◌∙◌}
 use Rattle.std.proofs.lemmas.Bool.{cases_Bool}
-use Rattle.gate_list.specs.Gate.{opens}
+use Rattle.jumping.specs.Words.{opens, shows_alone}
 use Rattle.list_position.proofs.PositionLaws.{placed_mask, shut_now}
-use Rattle.jumping.specs.Alone.{shows_alone}
 use Rattle.jumping.proofs.AloneLaws.{none_both, opens_and}
 use Rattle.jumping.proofs.alone.LoneSearch.fits_at.Goals as goal
 

@@ -1,8 +1,5 @@
 use Rattle.std.proofs.Common.{ℕ, ◌<◌, min, None, refl, sym, ap, ◌∙◌, subst, arith}
-use Rattle.cycle_timer.specs.Cycle.{Cycle}
-use Rattle.list_execute.specs.Walk.{end_of}
-use Rattle.list_position.specs.Position.{IsPlaced, boundary_in}
-use Rattle.jumping.specs.Alone.{shows_alone}
+use Rattle.jumping.specs.Words.{Cycle, end_of, IsPlaced, boundary_in, shows_alone}
 use Rattle.jumping.proofs.SearchLaws.{fits_join}
 use Rattle.jumping.proofs.ListedLaws.{end_there, entry_listed}
 use Rattle.jumping.proofs.AloneLaws.{alone_ahead, none_alone}

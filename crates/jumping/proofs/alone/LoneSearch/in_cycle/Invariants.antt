@@ -1,7 +1,5 @@
 use Rattle.std.proofs.Common.{◌≡◌, ◌+◌, ◌-◌, ◌<◌, ◌≤◌, None, length}
-use Rattle.list_position.specs.Position.{IsPlaced}
-use Rattle.jumping.specs.Search.{NoneFits}
-use Rattle.jumping.specs.Alone.{shows_alone}
+use Rattle.jumping.specs.Words.{IsPlaced, NoneFits, shows_alone}
 use Rattle.jumping.proofs.alone.LoneSearch.in_cycle.Given as goal
 
 abbrev pub invariant-loop-position : goal.invariant-loop-position

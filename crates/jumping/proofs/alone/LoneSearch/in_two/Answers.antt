@@ -1,7 +1,5 @@
 use Rattle.std.proofs.Common.{◌≡◌, min, None, subst, arith}
-use Rattle.list_position.specs.Position.{IsPlaced}
-use Rattle.jumping.specs.Alone.{shows_alone}
-use Rattle.jumping.specs.Search.{NoneFits, Searched}
+use Rattle.jumping.specs.Words.{IsPlaced, shows_alone, NoneFits, Searched}
 use Rattle.jumping.proofs.SearchLaws.{searched_join, searched_none}
 use Rattle.jumping.proofs.alone.LoneSearch.in_two.Goals as goal
 

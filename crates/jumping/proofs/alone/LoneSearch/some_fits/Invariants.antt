@@ -1,7 +1,5 @@
 use Rattle.std.proofs.Common.{◌≡◌, ◌<◌, ℕ, Some, true, false, slice_get}
-use Rattle.gate_list.specs.Gate.{opens}
-use Rattle.gate_list.specs.Open.{open_while}
-use Rattle.jumping.specs.Alone.{shows_alone}
+use Rattle.jumping.specs.Words.{opens, open_while, shows_alone}
 use Rattle.jumping.proofs.alone.LoneSearch.some_fits.Given as goal
 
 abbrev pub invariant-loop-class : goal.invariant-loop-class

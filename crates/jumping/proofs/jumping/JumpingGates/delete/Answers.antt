@@ -1,6 +1,6 @@
 use Rattle.std.proofs.Common.{ap, sym, ◌∙◌, le_refl}
-use Rattle.list_config.specs.History.{gates}
-use Rattle.list_config.specs.Current.{Clocked, deletion_at, with_command}
+use Rattle.jumping.specs.Words.{gates, Clocked, with_command}
+use Rattle.list_config.specs.Current.{deletion_at}
 use Rattle.accepted_commands.proofs.CommandLaws.{announced_history, announced_later, lead_none}
 use Rattle.jumping.proofs.jumping.JumpingGates.delete.Goals as goal
 

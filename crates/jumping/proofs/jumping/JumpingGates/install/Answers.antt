@@ -1,6 +1,6 @@
 use Rattle.std.proofs.Common.{ap, sym, ◌∙◌}
-use Rattle.list_config.specs.History.{gates}
-use Rattle.list_config.specs.Current.{Clocked, accepted_at, with_command}
+use Rattle.jumping.specs.Words.{gates, Clocked, with_command}
+use Rattle.list_config.specs.Current.{accepted_at}
 use Rattle.accepted_commands.proofs.CommandLaws.{announced_history, announced_later, lead_none}
 use Rattle.jumping.proofs.jumping.JumpingGates.install.Goals as goal
 

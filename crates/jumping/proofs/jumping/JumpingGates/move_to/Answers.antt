@@ -1,14 +1,8 @@
 use Rattle.std.proofs.Common.{◌+◌, ◌<◌, ◌≤◌, ℕ, Option, IfSome, ap, sym, ◌∙◌, subst}
 use Rattle.std.proofs.lemmas.Bool.{false≢true}
 use Rattle.std.specs.Option.{ForSome}
-use Rattle.list_config.specs.History.{kept, plan_of}
-use Rattle.list_config.specs.Current.{Clocked, entry_count}
-use Rattle.list_config.specs.Event.{IsGateEvent}
-use Rattle.accepted_commands.specs.Commands.{Commands, history_of}
-use Rattle.accepted_commands.specs.Standing.{Stands, edge_at, shown_by}
+use Rattle.jumping.specs.Words.{kept, plan_of, Clocked, entry_count, IsGateEvent, Commands, history_of, Stands, edge_at, shown_by, Resumes, NothingComes, OneEntryComes}
 use Rattle.accepted_commands.proofs.CommandLaws.{current_of, same_commands, settled_history}
-use Rattle.accepted_commands.specs.Resume.{Resumes}
-use Rattle.jumping.specs.Edge.{NothingComes, OneEntryComes}
 use Rattle.jumping.proofs.QuietLaws.{few_placed}
 use Rattle.jumping.proofs.NearLaws.{alone_by, begins_at_most, edge_ahead, none_by, resumes_settled, still_stands}
 use Rattle.jumping.proofs.jumping.JumpingGates.move_to.Goals as goal

@@ -1,7 +1,5 @@
 use Rattle.std.proofs.Common.{ℕ, Option, IfSome, subst}
-use Rattle.list_config.specs.Current.{Clocked}
-use Rattle.list_config.specs.Event.{IsGateEvent}
-use Rattle.accepted_commands.specs.Commands.{history_of}
+use Rattle.jumping.specs.Words.{Clocked, IsGateEvent, history_of}
 use Rattle.jumping.proofs.jumping.JumpingGates.next_boundary.Goals as goal
 
 pub returns-then-edge-before-clause-event : goal.returns-then-edge-before-clause-event

@@ -1,7 +1,5 @@
 use Rattle.std.proofs.Common.{inl, subst, refl, []}
-use Rattle.list_config.specs.History.{cons_some, gates}
-use Rattle.list_config.specs.Stretch.{stretches_from}
-use Rattle.jumping.specs.Search.{Searched}
+use Rattle.jumping.specs.Words.{cons_some, gates, stretches_from, Searched}
 use Rattle.jumping.proofs.QuietLaws.{few_visits, no_choice, searched_gates, some_choice}
 use Rattle.jumping.proofs.jumping.JumpingGates.quiet.Goals as goal
 

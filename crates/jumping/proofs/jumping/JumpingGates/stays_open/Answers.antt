@@ -1,8 +1,6 @@
 use Rattle.std.proofs.Common.{[], ℕ, ◌+◌, ◌≤◌, Option, false, ap, refl, subst, sym, ◌∙◌}
 use Rattle.std.specs.Option.{ForSome}
-use Rattle.gate_list.specs.Gate.{opens}
-use Rattle.list_config.specs.History.{open_through, cons_some}
-use Rattle.list_config.specs.Current.{Clocked}
+use Rattle.jumping.specs.Words.{opens, open_through, cons_some, Clocked}
 use Rattle.accepted_commands.proofs.CommandLaws.{open_answer, shut_ahead}
 use Rattle.jumping.proofs.NearLaws.{open_still}
 use Rattle.jumping.proofs.jumping.JumpingGates.stays_open.Goals as goal

@@ -1,6 +1,5 @@
 use Rattle.std.proofs.Common.{ap, sym, ◌∙◌}
-use Rattle.gate_list.specs.Gate.{opens}
-use Rattle.accepted_commands.specs.declared.leg.ListedLeg.{ListedLeg}
+use Rattle.jumping.specs.Words.{opens, ListedLeg}
 use Rattle.jumping.proofs.ListedLaws.{alone_while, shut_here}
 use Rattle.jumping.proofs.search.ListSearch.fits_at.Goals as goal
 

@@ -1,10 +1,5 @@
 use Rattle.std.proofs.Common.{ℕ, ◌<◌, ◌≤◌, min, refl, sym, ap, ◌∙◌, subst, arith}
-use Rattle.cycle_timer.specs.Cycle.{Cycle}
-use Rattle.list_config.specs.Stretch.{mask_in}
-use Rattle.list_execute.specs.Walk.{end_of}
-use Rattle.list_position.specs.Position.{IsPlaced, boundary_in}
-use Rattle.accepted_commands.specs.declared.leg.Leg.TheVariants.{Listed}
-use Rattle.accepted_commands.specs.Leg.{stretches_ahead}
+use Rattle.jumping.specs.Words.{Cycle, mask_in, end_of, IsPlaced, boundary_in, Listed, stretches_ahead}
 use Rattle.jumping.proofs.SearchLaws.{fits_join}
 use Rattle.jumping.proofs.ListedLaws.{ahead_here, end_there, entry_listed, none_here, off_here}
 use Rattle.jumping.proofs.search.ListSearch.in_cycle.Goals as goal

@@ -1,9 +1,5 @@
 use Rattle.std.proofs.Common.{◌≡◌, ◌+◌, ◌-◌, ◌<◌, ◌≤◌, length}
-use Rattle.list_config.specs.Stretch.{mask_in}
-use Rattle.list_position.specs.Position.{IsPlaced}
-use Rattle.accepted_commands.specs.declared.leg.Leg.TheVariants.{Listed}
-use Rattle.accepted_commands.specs.Leg.{stretches_ahead}
-use Rattle.jumping.specs.Search.{NoneFits}
+use Rattle.jumping.specs.Words.{mask_in, IsPlaced, Listed, stretches_ahead, NoneFits}
 use Rattle.jumping.proofs.search.ListSearch.in_cycle.Given as goal
 
 abbrev pub invariant-loop-position : goal.invariant-loop-position

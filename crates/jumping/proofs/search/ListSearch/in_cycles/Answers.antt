@@ -1,9 +1,5 @@
 use Rattle.std.proofs.Common.{◌≡◌, ℕ, ◌+◌, min, List, ap, subst, arith}
-use Rattle.gate_list.specs.Gate.{in_ps}
-use Rattle.list_config.specs.Stretch.{Stretch, mask_in}
-use Rattle.accepted_commands.specs.declared.leg.Leg.TheVariants.{Listed}
-use Rattle.accepted_commands.specs.Leg.{stretches_ahead}
-use Rattle.jumping.specs.Search.{NoneFits, Searched}
+use Rattle.jumping.specs.Words.{in_ps, Stretch, mask_in, Listed, stretches_ahead, NoneFits, Searched}
 use Rattle.jumping.proofs.ListedLaws.{leg_repeats, search_later}
 use Rattle.jumping.proofs.SearchLaws.{none_jump, searched_join, searched_none}
 use Rattle.jumping.proofs.search.ListSearch.in_cycles.Goals as goal

@@ -1,12 +1,7 @@
 use Rattle.std.proofs.Common.{◌<◌, ◌≤◌, None, sym, ◌∙◌, subst}
-use Rattle.list_config.specs.Stretch.{mask_in, mask_of}
+use Rattle.jumping.specs.Words.{mask_in, mask_of, IsFlat, ListedLeg, Listed, stretch_of, stretches_ahead, Searched}
 use Rattle.std.specs.Option.{ForSome}
-use Rattle.list_position.specs.Position.{IsFlat}
 use Rattle.list_position.proofs.PositionLaws.{flat_held, placed_hold}
-use Rattle.accepted_commands.specs.declared.leg.ListedLeg.{ListedLeg}
-use Rattle.accepted_commands.specs.declared.leg.Leg.TheVariants.{Listed}
-use Rattle.accepted_commands.specs.Leg.{stretch_of, stretches_ahead}
-use Rattle.jumping.specs.Search.{Searched}
 use Rattle.jumping.proofs.search.ListSearch.in_hold.Goals as goal
 
 pub returns : goal.returns

@@ -1,5 +1,5 @@
 use Rattle.std.proofs.Common.{◌≡◌, false, refl, ◌∙◌, rules, arith}
-use Rattle.gate_list.specs.Gate.{opens}
+use Rattle.picture.specs.Words.{opens}
 use Rattle.picture.proofs.DrawLaws.{up_to_within}
 use Rattle.picture.proofs.bands.Bands.end.Goals as goal
 

@@ -1,6 +1,5 @@
 use Rattle.std.proofs.Common.{◌≡◌, ◌≤◌, max, min, ap, refl, sym, ◌∙◌, rules, arith}
-use Rattle.list_config.specs.History.{kept}
-use Rattle.picture.specs.Drawn.{Drawing}
+use Rattle.picture.specs.Words.{kept, Drawing}
 use Rattle.picture.proofs.DrawLaws.{drawn_gone, kept_on, up_to_within}
 use Rattle.picture.proofs.bands.Bands.go_to.Goals as goal
 
@@ -46,5 +45,5 @@ draw_to-requires g c =
 pub returns-clause-moment : goal.returns-clause-moment
 returns-clause-moment g c = c.move_to-2.ensures.moment
 
-pub returns-clause-window : goal.returns-clause-window
-returns-clause-window g c = rw (← c.self.view_is) (refl, refl)
+pub returns-clause-viewport : goal.returns-clause-viewport
+returns-clause-viewport g c = rw (← c.self.view_is) (refl, refl)

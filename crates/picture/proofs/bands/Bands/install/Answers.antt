@@ -1,6 +1,5 @@
 use Rattle.std.proofs.Common.{ap, sym, ◌∙◌}
-use Rattle.abstract_port.specs.declared.Command.{Command}
-use Rattle.picture.specs.Drawn.{Drawing, history_with}
+use Rattle.picture.specs.Words.{Command, Drawing, history_with}
 use Rattle.picture.proofs.CommandLaws.{taken}
 use Rattle.picture.proofs.bands.Bands.install.Goals as goal
 

@@ -1,6 +1,5 @@
 use Rattle.std.proofs.Common.{◌∙◌}
-use Rattle.gate_list.specs.Gate.{plan_fault}
-use Rattle.abstract_port.specs.AbstractPort.{plan_asked}
+use Rattle.picture.specs.Words.{plan_fault, plan_asked}
 use Rattle.picture.proofs.CommandLaws.{planned, same_drawing}
 use Rattle.picture.proofs.bands.Bands.replace.Goals as goal
 

@@ -1,4 +1,4 @@
-use Rattle.std.proofs.Common.{◌<◌, map, None, sym, ap, ◌∙◌, subst}
+use Rattle.std.proofs.Common.{◌<◌, map, sym, ap, ◌∙◌, subst}
 use Rattle.list_config.specs.History.{announced}
 use Rattle.list_config.specs.Current.{IsCurrent}
 use Rattle.list_config.specs.Current.{Clocked}

@@ -1,4 +1,4 @@
-use Rattle.std.proofs.Common.{None, Some, ap, ◌∙◌, le_refl}
+use Rattle.std.proofs.Common.{None, ap, ◌∙◌, le_refl}
 use Rattle.list_config.specs.History.{Accepted, gates}
 use Rattle.list_config.proofs.HistoryLaws.{push_gates}
 use Rattle.reference.proofs.plain.PlainGates.delete.Goals as goal

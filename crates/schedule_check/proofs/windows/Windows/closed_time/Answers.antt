@@ -1,6 +1,5 @@
 use Rattle.std.proofs.Common.{◌<◌, length, ap, ◌∙◌, subst}
-use Rattle.gate_list.specs.Gate.{Plan}
-use Rattle.schedule_check.specs.Windows.{IsOpenStay, alone, turned_plan}
+use Rattle.schedule_check.specs.Words.{Plan, IsOpenStay, alone, turned_plan}
 use Rattle.schedule_check.proofs.TurnLaws.{turned_some, turned_stay}
 use Rattle.schedule_check.proofs.windows.Windows.closed_time.Goals as goal
 

@@ -1,4 +1,4 @@
-use Rattle.schedule_check.specs.Windows.{alone}
+use Rattle.schedule_check.specs.Words.{alone}
 use Rattle.schedule_check.proofs.windows.Windows.longest_frame.Goals as goal
 
 pub returns : goal.returns

@@ -1,9 +1,6 @@
 use Rattle.std.proofs.Common.{◌≡◌, ◌<◌, ◌+◌, ◌-◌, ◌∷◌, [], Option, Some, None, arith, sym, subst, ◌∙◌}
 use Rattle.std.specs.Prelude.{MatchOption, IfNone}
-use Rattle.traffic.specs.Frames.{frame_after, frames_after}
-use Rattle.traffic.specs.Turns.{left_of}
-use Rattle.traffic.specs.declared.turn.Turn.{Turn}
-use Rattle.traffic.specs.declared.turn.Coming.{Coming}
+use Rattle.traffic.specs.Words.{frame_after, frames_after, left_of, Turn, Coming}
 use Rattle.traffic.proofs.FrameLaws.{first_left, nothing_left}
 use Rattle.traffic.proofs.OrderLaws.{taken}
 use Rattle.traffic.proofs.turn.Turn.take.Goals as goal

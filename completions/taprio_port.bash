@@ -1,0 +1,26 @@
+# made by completions/make from the help of taprio_port
+_taprio_port() {
+    local current=${COMP_WORDS[COMP_CWORD]} previous=${COMP_WORDS[COMP_CWORD-1]} words values
+    COMPREPLY=()
+    if [ "$COMP_CWORD" -eq 1 ]; then
+        COMPREPLY=($(compgen -W 'script replay check streams bounds draw help --help --version' -- "$current"))
+        return
+    fi
+    case ${COMP_WORDS[1]} in
+        script) words='--rate --mtu --room --until --summary --help' values='--rate --mtu --room --until' ;;
+        replay) words='--rate --mtu --room --until --summary --progress --help' values='--rate --mtu --room --until' ;;
+        check) words='--rate --windows --help' values='--rate' ;;
+        streams) words='--with --from --help' values='--with --from' ;;
+        bounds) words='--rate --mtu --room --frames --strict --help' values='--rate --mtu --room --frames' ;;
+        draw) words='--rate --mtu --room --from --to --width --help' values='--rate --mtu --room --from --to --width' ;;
+        *) return ;;
+    esac
+    case " $values " in
+        *" $previous "*) [ "$previous" != --with ] || compopt -o default; return ;;
+    esac
+    case $current in
+        -*) COMPREPLY=($(compgen -W "$words" -- "$current")) ;;
+        *) compopt -o default ;;
+    esac
+}
+complete -F _taprio_port taprio_port ./taprio_port

@@ -1,0 +1,32 @@
+-- The words of contracts and proofs, from one place.
+pub use Rattle.wire_time.specs.Moment.{greatest_moment}
+pub use Rattle.abstract_port.specs.AbstractPort.{AbstractPort, installs, settled}
+pub use Rattle.abstract_port.specs.Answers.{answers_to}
+pub use Rattle.abstract_port.specs.Asked.{answers_left}
+pub use Rattle.abstract_port.specs.Sound.{IsSoundPort}
+pub use Rattle.abstract_port.specs.declared.Command.{Command}
+pub use Rattle.line_reader.specs.LineReader.{script_left}
+pub use Rattle.line_reader.specs.Script.{Script}
+pub use Rattle.tc_reader.specs.Reader.{IsReader}
+pub use Rattle.tc_reader.specs.declared.fault.TcFault.{TcFault}
+pub use Rattle.job.specs.declared.fault.Fault.{Fault}
+pub use Rattle.picture.specs.Drawn.{bands_joined}
+pub use Rattle.picture.specs.Lanes.{Filled, joined_at, no_shapes}
+pub use Rattle.picture.specs.Viewports.{pixel_of, x_in}
+pub use Rattle.picture.specs.declared.TheConstants.{MOST_SHAPES}
+pub use Rattle.script.specs.Ending.{settings_given}
+pub use Rattle.script.specs.Given.{octets_of, words_of_values}
+pub use Rattle.script.specs.Outcome.{Reading, bad_line, reading_of}
+pub use Rattle.script.specs.Requests.{Asks, Request, request_of, tc_request}
+pub use Rattle.script.specs.declared.faults.BadLine.{BadLine}
+pub use Rattle.script.specs.declared.faults.ScriptFault.{ScriptFault}
+pub use Rattle.drawing.specs.Course.{Course, nothing_seen, seen_all, seen_at}
+pub use Rattle.drawing.specs.Ending.{IsDrawEnding, IsDrawn, fault_in}
+pub use Rattle.drawing.specs.Given.{words_of_draws}
+pub use Rattle.drawing.specs.Layout.{label_at, top_of}
+pub use Rattle.drawing.specs.Options.{end_in, number_or, options_of, viewport_shown, width_where}
+pub use Rattle.drawing.specs.Shapes.{IsJoined, drawn_in, empty_lanes, frame_drawn, is_drawn, lane_at, lane_of, nothing_shown, shape_count, shape_of, wait_drawn}
+unfoldable pub use Rattle.drawing.specs.Shapes.{bands_to, shapes_to}
+pub use Rattle.drawing.specs.Taken.{Takes, TakesLine, seen_by}
+pub use Rattle.drawing.specs.View.{shows}
+pub use Rattle.drawing.specs.Waiting.{none_wait, none_waits, waiting_in, with_arrival, without_first}

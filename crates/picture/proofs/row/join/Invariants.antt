@@ -1,5 +1,0 @@
-use Rattle.picture.proofs.RowLaws.{Joining}
-use Rattle.picture.proofs.row.join.Given as goal
-
-abbrev pub invariant-loop-next : goal.invariant-loop-next
-invariant-loop-next l = Joining l.gap l.initial.shapes l.shapes l.last l.next

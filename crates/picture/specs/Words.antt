@@ -1,0 +1,20 @@
+-- The words of contracts and proofs, from one place.
+pub use Rattle.wire_time.specs.Moment.{greatest_lead, greatest_moment}
+pub use Rattle.wire_time.specs.Wire.{lead_of}
+pub use Rattle.gate_list.specs.Gate.{opens, plan_fault}
+pub use Rattle.list_config.specs.Current.{IsCurrent, IsSteady, accepted_at, deletion_at, with_command}
+pub use Rattle.list_config.specs.History.{Accepted, gates, kept}
+pub use Rattle.abstract_port.specs.AbstractPort.{AbstractPort, installs, plan_asked}
+pub use Rattle.abstract_port.specs.declared.Command.{Command}
+pub use Rattle.picture.specs.Bands.{Going, after}
+unfoldable pub use Rattle.picture.specs.Bands.{bands_from}
+pub use Rattle.picture.specs.Drawn.{ClassLane, Drawing, bands_joined, begun, class_at, drawn, gone_on, history_with, new_drawing, no_bands, no_classes, stepped, up_to, with_bands, with_plan}
+pub use Rattle.picture.specs.Lanes.{AreEarly, Filled, distance, is_near, join, joined, joined_at, no_shapes, pushed, wider}
+unfoldable pub use Rattle.picture.specs.Lanes.{join_from, least_distance, put}
+pub use Rattle.picture.specs.Laws.{AreBands, IsLaneOf, Joins}
+unfoldable pub use Rattle.picture.specs.Laws.{push_shapes}
+pub use Rattle.picture.specs.Ticks.{IsTickStep, name_of, ps_of, unit_of}
+pub use Rattle.picture.specs.Viewports.{cut_to, pixel_of, viewport_of, x_in}
+pub use Rattle.picture.specs.declared.TheConstants.{MOST_SHAPES}
+pub use Rattle.picture.specs.declared.span.Shape.{Shape}
+pub use Rattle.picture.specs.declared.span.Span.{Span}

@@ -1,0 +1,31 @@
+-- The words of contracts and proofs, from one place.
+pub use Rattle.wire_time.specs.Wire.{occupancy_of}
+pub use Rattle.wire_time.specs.declared.TheConstants.{CLASSES}
+pub use Rattle.gate_list.specs.Gate.{IsShownAt, Plan, in_ps, mask_at, ok_unless, opens, plan_fault, plan_with, prefix}
+unfoldable pub use Rattle.gate_list.specs.Open.{open_while}
+pub use Rattle.gate_list.specs.Stay.{stay_lasts}
+pub use Rattle.gate_list.specs.declared.Entry.{Entry}
+pub use Rattle.gate_list.specs.declared.PlanFault.{PlanFault}
+pub use Rattle.gate_list.specs.declared.Stay.{Stay}
+pub use Rattle.gate_list.specs.declared.Stay.TheVariants.{Always, Lasts}
+pub use Rattle.abstract_port.specs.AbstractPort.{plan_asked}
+pub use Rattle.abstract_port.specs.declared.Command.{Command}
+pub use Rattle.words.specs.Words.{words_of}
+pub use Rattle.octet_writer.specs.Writes.{Sent, Writes}
+pub use Rattle.line_reader.specs.LineReader.{current_number, script_left}
+pub use Rattle.tc_reader.specs.Reader.{IsReader}
+pub use Rattle.tc_reader.specs.declared.fault.TcFault.{TcFault}
+pub use Rattle.answer_text.specs.Part.{text_of}
+pub use Rattle.job.specs.Outcome.{Runs}
+pub use Rattle.script.specs.Ending.{IsEnding, rate_given}
+pub use Rattle.script.specs.Given.{octets_of}
+pub use Rattle.script.specs.Outcome.{bad_line, long_line}
+pub use Rattle.schedule_check.specs.Apart.{apart_line, change_lines, class_count, class_word, itself_apart, some_line, verdict_lines}
+unfoldable pub use Rattle.schedule_check.specs.Apart.{classes_apart}
+pub use Rattle.schedule_check.specs.Checked.{checked_in, checked_of, is_command, whole_check}
+pub use Rattle.schedule_check.specs.WindowLines.{asked_lines, frame_text, open_line, time_text, window_line}
+unfoldable pub use Rattle.schedule_check.specs.WindowLines.{open_lines}
+pub use Rattle.schedule_check.specs.Windows.{IsLongestFrame, IsLongestOpen, IsOpenStay, IsTeller, IsWindow, Teller, alone, turned, turned_entry, turned_mask, turned_plan}
+unfoldable pub use Rattle.schedule_check.specs.Windows.{open_total}
+pub use Rattle.schedule_check.specs.declared.windows.Window.{Window}
+pub use Rattle.arrayvec.specs.ArrayVec.{array_vec_len}

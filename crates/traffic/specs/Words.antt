@@ -1,0 +1,30 @@
+-- The words of contracts and proofs, from one place.
+pub use Rattle.wire_time.specs.Moment.{greatest_moment}
+pub use Rattle.words.specs.Words.{words_of}
+pub use Rattle.words.specs.WordsLeft.{words_left}
+pub use Rattle.octet_writer.specs.Writes.{Sent, Writes}
+pub use Rattle.line_reader.specs.LineReader.{Advances, most_lines, script_left}
+pub use Rattle.line_reader.specs.Script.{Broken, End, Line, Script}
+pub use Rattle.line_reader.specs.declared.lines.Limit.{Limit}
+pub use Rattle.line_reader.specs.declared.lines.LineFault.{LineFault}
+pub use Rattle.job.specs.Outcome.{Runs}
+pub use Rattle.job.specs.declared.fault.Fault.{Fault}
+pub use Rattle.script.specs.Given.{octets_of}
+pub use Rattle.script.specs.Outcome.{limit_fault}
+pub use Rattle.traffic.specs.Ending.{IsStreamsEnding, from_given}
+pub use Rattle.traffic.specs.Faults.{script_fault, streams_telling, table_fault}
+pub use Rattle.traffic.specs.Frames.{first_of, frame_after, frames_of, next_of_stream}
+unfoldable pub use Rattle.traffic.specs.Frames.{by_moment, frames_after}
+pub use Rattle.traffic.specs.Merge.{clock_after, clock_in, clock_said, latest, line_end, line_text}
+unfoldable pub use Rattle.traffic.specs.Merge.{frames_before, frames_from}
+pub use Rattle.traffic.specs.Outcome.{merging, outcome_in, outcome_of}
+pub use Rattle.traffic.specs.Reading.{ReadsTable}
+pub use Rattle.traffic.specs.Table.{HasTimes, IsStream, Table, deadline_in, ends_in, judged, leading_digits, line_judged, line_said, moved, starts_with_digit, stream_in_words, stream_said, table_of, time_in, unit_of}
+pub use Rattle.traffic.specs.Turns.{earlier, left_of, left_of_all}
+unfoldable pub use Rattle.traffic.specs.Turns.{first_place}
+pub use Rattle.traffic.specs.Written.{clock_to, frame_end, frame_line}
+unfoldable pub use Rattle.traffic.specs.Written.{lines_of}
+pub use Rattle.traffic.specs.declared.faults.StreamsInput.{StreamsInput}
+pub use Rattle.traffic.specs.declared.table.Stream.{Stream}
+pub use Rattle.traffic.specs.declared.turn.Coming.{Coming}
+pub use Rattle.traffic.specs.declared.turn.Turn.{Turn}
