@@ -3,7 +3,7 @@ complete -c taprio_port -n __fish_use_subcommand -f -a script -d 'Answers the li
 complete -c taprio_port -n '__fish_seen_subcommand_from script' -l rate -x -d 'The line rate, in Mb/s [default: 1000]'
 complete -c taprio_port -n '__fish_seen_subcommand_from script' -l mtu -x -d 'The greatest service data unit, 68 to 9216 octets [default: 1500]'
 complete -c taprio_port -n '__fish_seen_subcommand_from script' -l room -x -d 'How many frames a class holds, 1 to 4096 [default: 128]'
-complete -c taprio_port -n '__fish_seen_subcommand_from script' -l until -x -d 'Run to this moment after the input, in picoseconds'
+complete -c taprio_port -n '__fish_seen_subcommand_from script' -l until -x -d 'Run to this moment after the input: picoseconds, or a number with its unit, such as 2ms'
 complete -c taprio_port -n '__fish_seen_subcommand_from script' -l summary -d 'Report at the end how long the frames of each class waited, and how long the wire was busy'
 complete -c taprio_port -n '__fish_seen_subcommand_from script' -l help -d 'Print help'
 complete -c taprio_port -n '__fish_seen_subcommand_from script' -f
@@ -11,7 +11,7 @@ complete -c taprio_port -n __fish_use_subcommand -f -a replay -d 'Runs a script 
 complete -c taprio_port -n '__fish_seen_subcommand_from replay' -l rate -x -d 'The line rate, in Mb/s [default: 1000]'
 complete -c taprio_port -n '__fish_seen_subcommand_from replay' -l mtu -x -d 'The greatest service data unit, 68 to 9216 octets [default: 1500]'
 complete -c taprio_port -n '__fish_seen_subcommand_from replay' -l room -x -d 'How many frames a class holds, 1 to 4096 [default: 128]'
-complete -c taprio_port -n '__fish_seen_subcommand_from replay' -l until -x -d 'Run to this moment after the input, in picoseconds'
+complete -c taprio_port -n '__fish_seen_subcommand_from replay' -l until -x -d 'Run to this moment after the input: picoseconds, or a number with its unit, such as 2ms'
 complete -c taprio_port -n '__fish_seen_subcommand_from replay' -l summary -d 'Report at the end how long the frames of each class waited, and how long the wire was busy'
 complete -c taprio_port -n '__fish_seen_subcommand_from replay' -l progress -d 'Report progress on standard error, also where that is no terminal'
 complete -c taprio_port -n '__fish_seen_subcommand_from replay' -l help -d 'Print help'
@@ -22,7 +22,7 @@ complete -c taprio_port -n '__fish_seen_subcommand_from check' -l help -d 'Print
 complete -c taprio_port -n '__fish_seen_subcommand_from check' -f
 complete -c taprio_port -n __fish_use_subcommand -f -a streams -d 'Writes a script with the frames of the streams in a table on standard input'
 complete -c taprio_port -n '__fish_seen_subcommand_from streams' -l with -r -F -d 'A file with a script whose lines are put among the frames, each at its moment'
-complete -c taprio_port -n '__fish_seen_subcommand_from streams' -l from -x -d 'A moment that is added to each offset, in picoseconds [default: 0]'
+complete -c taprio_port -n '__fish_seen_subcommand_from streams' -l from -x -d 'A moment that is added to each offset: picoseconds, or a number with its unit [default: 0]'
 complete -c taprio_port -n '__fish_seen_subcommand_from streams' -l help -d 'Print help'
 complete -c taprio_port -n '__fish_seen_subcommand_from streams' -f
 complete -c taprio_port -n __fish_use_subcommand -f -a bounds -d 'Reports how long the frames of the streams in a table can ever wait, by the schedule commands on standard input'
@@ -36,8 +36,8 @@ complete -c taprio_port -n __fish_use_subcommand -f -a draw -d 'Draws the run of
 complete -c taprio_port -n '__fish_seen_subcommand_from draw' -l rate -x -d 'The line rate, in Mb/s [default: 1000]'
 complete -c taprio_port -n '__fish_seen_subcommand_from draw' -l mtu -x -d 'The greatest service data unit, 68 to 9216 octets [default: 1500]'
 complete -c taprio_port -n '__fish_seen_subcommand_from draw' -l room -x -d 'How many frames a class holds, 1 to 4096 [default: 128]'
-complete -c taprio_port -n '__fish_seen_subcommand_from draw' -l from -x -d 'The moment that the picture begins at, in picoseconds [default: 0]'
-complete -c taprio_port -n '__fish_seen_subcommand_from draw' -l to -x -d 'The moment that it ends at, in picoseconds [default: the end of the run]'
+complete -c taprio_port -n '__fish_seen_subcommand_from draw' -l from -x -d 'The moment that the picture begins at: picoseconds, or a number with its unit [default: 0]'
+complete -c taprio_port -n '__fish_seen_subcommand_from draw' -l to -x -d 'The moment that it ends at: picoseconds, or a number with its unit [default: the end of the run]'
 complete -c taprio_port -n '__fish_seen_subcommand_from draw' -l width -x -d 'Its width, 400 to 2400 pixels [default: 1200]'
 complete -c taprio_port -n '__fish_seen_subcommand_from draw' -l help -d 'Print help'
 complete -c taprio_port -n '__fish_seen_subcommand_from draw' -f

@@ -2,6 +2,7 @@
 use Rattle.std.specs.Prelude.{ℕ, ◌+◌, ◌-◌, ◌^◌, min, nat_lt, nat_le, List, Option, Some, None, Result, Ok, Err, option_and_then, if◌then◌else◌}
 use Rattle.wire_time.specs.Moment.{greatest_moment}
 use Rattle.words.specs.Numbers.{number_in}
+use Rattle.times.specs.Times.{moment_in}
 use Rattle.script.specs.declared.settings.BadValue.{BadValue}
 use Rattle.script.specs.declared.settings.BadValue.TheVariants as Values
 use Rattle.drawing.specs.Given.{DrawWords}
@@ -11,15 +12,20 @@ use Rattle.drawing.specs.declared.page.TheConstants.{LEFT, MAX_WIDTH, MIN_WIDTH,
 use Rattle.picture.specs.Pane.{Pane}
 use Rattle.picture.specs.Viewports.{viewport_of}
 
--- the number of a word, at most the greatest; where there is no word, this one
-abbrev pub number_or : ℕ → ℕ → Option (List ℕ) → Option ℕ
-number_or greatest default None = Some default
-number_or greatest default (Some text) = number_in 10 greatest text
+-- the moment that a picture begins at, a microsecond or more before the greatest; where there is no word, moment 0
+abbrev pub beginning_in : Option (List ℕ) → Option ℕ
+beginning_in None = Some 0
+beginning_in (Some text) = moment_in (greatest_moment - SHORTEST) text
 
 -- the end of a picture, after its beginning, if one is given: the outer None is a bad value
 abbrev pub end_in : ℕ → Option (List ℕ) → Option (Option ℕ)
 end_in from None = Some None
-end_in from (Some text) = option_and_then (λ to. if nat_lt from to then Some (Some to) else None) (number_in 10 greatest_moment text)
+end_in from (Some text) = option_and_then (λ to. if nat_lt from to then Some (Some to) else None) (moment_in greatest_moment text)
+
+-- the number of a width, where there is no word the usual one
+abbrev pub width_in : Option (List ℕ) → Option ℕ
+width_in None = Some WIDTH
+width_in (Some text) = number_in 10 MAX_WIDTH text
 
 -- a number that is a width, in pixels
 abbrev pub width_where : Option ℕ → Option ℕ
@@ -33,7 +39,7 @@ with_width from to None = Err Values.Width
 
 -- with an end, or without a good one
 abbrev pub with_end : ℕ → Option (Option ℕ) → Option (List ℕ) → Result DrawOptions BadValue
-with_end from (Some to) width = with_width from to (width_where (number_or MAX_WIDTH WIDTH width))
+with_end from (Some to) width = with_width from to (width_where (width_in width))
 with_end from None width = Err Values.To
 
 -- with a beginning, or without a good one
@@ -43,7 +49,7 @@ with_beginning None to width = Err Values.From
 
 -- the options of three values, or the first that is bad
 abbrev pub options_of : DrawWords → Result DrawOptions BadValue
-options_of given = with_beginning (number_or (greatest_moment - SHORTEST) 0 given.from) given.to given.width
+options_of given = with_beginning (beginning_in given.from) given.to given.width
 
 -- where a picture ends that has no end of its own: at the run's last moment, or a microsecond after its beginning where the run ends before
 abbrev pub end_after : ℕ → ℕ → ℕ

@@ -24,7 +24,7 @@ pub use Rattle.drawing.specs.Course.{Course, nothing_seen, seen_all, seen_at}
 pub use Rattle.drawing.specs.Ending.{IsDrawEnding, IsDrawn, fault_in}
 pub use Rattle.drawing.specs.Given.{words_of_draws}
 pub use Rattle.drawing.specs.Layout.{label_at, top_of}
-pub use Rattle.drawing.specs.Options.{end_in, number_or, options_of, viewport_shown, width_where}
+pub use Rattle.drawing.specs.Options.{beginning_in, end_in, options_of, viewport_shown, width_in, width_where}
 pub use Rattle.drawing.specs.Shapes.{IsJoined, drawn_in, empty_lanes, frame_drawn, is_drawn, lane_at, lane_of, nothing_shown, shape_count, shape_of, wait_drawn}
 unfoldable pub use Rattle.drawing.specs.Shapes.{bands_to, shapes_to}
 pub use Rattle.drawing.specs.Taken.{Takes, TakesLine, seen_by}

@@ -1,12 +1,13 @@
 //! What a picture shows, by the values of options.
 
 ghost use Rattle.std.specs.Prelude.{◌≡◌, ◌≤◌, IfSome};
-ghost use Rattle.drawing.specs.Words.{octets_of, words_of_draws, end_in, number_or, options_of, width_where, viewport_shown};
+ghost use Rattle.drawing.specs.Words.{octets_of, words_of_draws, beginning_in, end_in, options_of, width_in, width_where, viewport_shown};
 
 use crate::page::{LEFT, MAX_WIDTH, MIN_WIDTH, RIGHT};
 use crate::view::View;
 use picture::Viewport;
 use script::BadValue;
+use times::moment;
 use wire_time::MAX_MOMENT;
 use words::number;
 
@@ -66,15 +67,24 @@ impl DrawOptions {
     }
 }
 
-/// The number of a word, at most `greatest`; where there is no word, this one.
-fn number_or(greatest: u128, default: u128, value: Option<&str>) -> Option<u128>
-    requires { default ≤ greatest }
-    ensures value { result ≡ number_or greatest default (octets_of value.entry) }
-    ensures within { IfSome result (λ n. n ≤ greatest) }
+/// The moment that a picture begins at, a microsecond or more before the greatest; where there is no word, moment 0.
+fn beginning_in(value: Option<&str>) -> Option<u128>
+    ensures { result ≡ beginning_in (octets_of value.entry) }
 {
     match value {
-        Some(text) => number(text.as_bytes(), greatest),
-        None => Some(default),
+        Some(text) => moment(text.as_bytes(), MAX_MOMENT - SHORTEST),
+        None => Some(0),
+    }
+}
+
+/// The number of a width; where there is no word, the usual one.
+fn width_in(value: Option<&str>) -> Option<u128>
+    ensures value { result ≡ width_in (octets_of value.entry) }
+    ensures within { IfSome result (λ n. n ≤ MAX_WIDTH) }
+{
+    match value {
+        Some(text) => number(text.as_bytes(), u128::from(MAX_WIDTH)),
+        None => Some(u128::from(WIDTH)),
     }
 }
 
@@ -85,7 +95,7 @@ fn end_in(from: u128, value: Option<&str>) -> Option<Option<u128>>
     match value {
         None => Some(None),
         Some(text) => {
-            let to = number(text.as_bytes(), MAX_MOMENT)?;
+            let to = moment(text.as_bytes(), MAX_MOMENT)?;
             if from < to { Some(Some(to)) } else { None }
         }
     }
@@ -109,14 +119,13 @@ fn width_where(number: Option<u128>) -> Option<u32>
 pub fn options_given(values: DrawValues<'_>) -> Result<DrawOptions, BadValue>
     ensures { result ≡ options_of (words_of_draws values.entry) }
 {
-    let Some(from) = number_or(MAX_MOMENT - SHORTEST, 0, values.from) else {
+    let Some(from) = beginning_in(values.from) else {
         return Err(BadValue::From);
     };
     let Some(to) = end_in(from, values.to) else {
         return Err(BadValue::To);
     };
-    let width = number_or(u128::from(MAX_WIDTH), u128::from(WIDTH), values.width);
-    let Some(width) = width_where(width) else {
+    let Some(width) = width_where(width_in(values.width)) else {
         return Err(BadValue::Width);
     };
     Ok(DrawOptions { from, to, width })

@@ -138,8 +138,8 @@ const ROOM: Word = Word {
 const UNTIL: Word = Word {
     given: Given::Value,
     name: "until",
-    value: "PS",
-    help: "Run to this moment after the input, in picoseconds",
+    value: "MOMENT",
+    help: "Run to this moment after the input: picoseconds, or a number with its unit, such as 2ms",
 };
 
 const UNTIL_NEEDED: Word = Word {
@@ -199,15 +199,15 @@ const LINES: Word = Word {
 const FROM: Word = Word {
     given: Given::Value,
     name: "from",
-    value: "PS",
-    help: "The moment that the picture begins at, in picoseconds [default: 0]",
+    value: "MOMENT",
+    help: "The moment that the picture begins at: picoseconds, or a number with its unit [default: 0]",
 };
 
 const OFFSETS_FROM: Word = Word {
     given: Given::Value,
     name: "from",
-    value: "PS",
-    help: "A moment that is added to each offset, in picoseconds [default: 0]",
+    value: "MOMENT",
+    help: "A moment that is added to each offset: picoseconds, or a number with its unit [default: 0]",
 };
 
 const FRAMES: Word = Word {
@@ -234,8 +234,8 @@ const TABLE: Word = Word {
 const TO: Word = Word {
     given: Given::Value,
     name: "to",
-    value: "PS",
-    help: "The moment that it ends at, in picoseconds [default: the end of the run]",
+    value: "MOMENT",
+    help: "The moment that it ends at: picoseconds, or a number with its unit [default: the end of the run]",
 };
 
 const WIDTH: Word = Word {

@@ -4,6 +4,7 @@ use Rattle.wire_time.specs.Moment.{greatest_moment}
 use Rattle.wire_time.specs.Wire.{rate_of}
 use Rattle.wire_time.specs.declared.RateFault.{RateFault}
 use Rattle.words.specs.Numbers.{number_in}
+use Rattle.times.specs.Times.{moment_in}
 use Rattle.port.specs.Limits.{is_mtu, is_room}
 use Rattle.script.specs.Setup.{Setup}
 use Rattle.script.specs.declared.settings.BadValue.{BadValue}
@@ -42,7 +43,7 @@ room_in text = option_and_then (λ n. if is_room n then Some n else None) (numbe
 -- a moment, if one is given: the outer None is a bad value
 abbrev pub until_in : ℕ → Option (List ℕ) → Option (Option ℕ)
 until_in greatest None = Some None
-until_in greatest (Some text) = option_and_then (λ m. Some (Some m)) (number_in 10 greatest text)
+until_in greatest (Some text) = option_and_then (λ m. Some (Some m)) (moment_in greatest text)
 
 -- the settings of four values, or the first that is bad; no summary is wanted
 abbrev pub settings_read : Option ℕ → Option ℕ → Option ℕ → Option (Option ℕ) → Result Setup BadValue

@@ -6,6 +6,7 @@ ghost use Rattle.script.specs.Words.{IsMtu, IsRoom, octets_of, is_until, mtu_in,
 
 use port::{is_mtu, is_room};
 use std::marker::Model;
+use times::moment;
 use wire_time::{MAX_MOMENT, Rate};
 use words::number;
 
@@ -109,8 +110,8 @@ impl Settings {
         })
     }
 
-    /// Reads a rate in Mb/s, an mtu in octets, a room in frames a class, and the moment in picoseconds up to which a port runs, at
-    /// most `greatest`, in this order. The first bad value is the fault. No summary is wanted.
+    /// Reads a rate in Mb/s, an mtu in octets, a room in frames a class, and the moment up to which a port runs, at
+    /// most `greatest` picoseconds, in this order. The first bad value is the fault. No summary is wanted.
     pub fn read(
         rate: &str,
         mtu: &str,
@@ -132,7 +133,7 @@ impl Settings {
         };
         let until = match until {
             None => None,
-            Some(text) => match number(text.as_bytes(), greatest) {
+            Some(text) => match moment(text.as_bytes(), greatest) {
                 None => return Err(BadValue::Until),
                 Some(moment) => Some(moment),
             },

@@ -1,5 +1,4 @@
 mod BeforeLaws
-mod Digits
 mod FirstLaws
 mod FrameLaws
 mod LineLaws

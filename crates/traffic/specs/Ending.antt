@@ -1,7 +1,7 @@
 -- What a run of the program on a table and a script leaves: its exit status, what the writer got, and the text of a fault.
 use Rattle.std.specs.Prelude.{List, ℕ, Option, Some, None, Result, Ok, Err, IfSome, unwrap_or, codes}
 use Rattle.wire_time.specs.Moment.{greatest_moment}
-use Rattle.words.specs.Numbers.{number_in}
+use Rattle.times.specs.Times.{moment_in}
 use Rattle.script.specs.Ending.{IsRefusal}
 use Rattle.script.specs.declared.settings.BadValue.{BadValue}
 use Rattle.script.specs.declared.settings.BadValue.TheVariants as Values
@@ -24,7 +24,7 @@ moment_where None = Err Values.From
 
 -- the moment that the offsets count from: 0 where none is given
 abbrev pub from_given : Option (List ℕ) → Result ℕ BadValue
-from_given from = moment_where (number_in 10 greatest_moment (unwrap_or from (codes "0")))
+from_given from = moment_where (moment_in greatest_moment (unwrap_or from (codes "0")))
 
 -- by the moment that is given
 abbrev pub IsStreamsEnding : Result ℕ BadValue → (table script : Option (List ℕ)) → Ended → (old got errors_old errors_new : Option (List ℕ)) → Type 0

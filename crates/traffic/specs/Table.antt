@@ -1,9 +1,10 @@
 -- What the lines of a table of streams say.
-use Rattle.std.specs.Prelude.{◌≤◌, ◌^◌, ◌-◌, ◌+◌, ◌*◌, nat_le, List, ℕ, suc, take, drop, Bool, true, false, [], ◌∷◌, Option, Some, None, option_and_then, Result, Ok, Err, codes, if◌then◌else◌}
+use Rattle.std.specs.Prelude.{◌≤◌, ◌^◌, ◌-◌, ◌+◌, ◌*◌, nat_le, List, ℕ, Bool, true, false, [], ◌∷◌, Option, Some, None, Result, Ok, Err, codes, if◌then◌else◌}
 use Rattle.std.specs.Str.{bytes_eq}
 use Rattle.wire_time.specs.Moment.{greatest_moment}
 use Rattle.words.specs.Words.{words_of}
-use Rattle.words.specs.Numbers.{at_most, is_digit, number_in}
+use Rattle.words.specs.Numbers.{number_in}
+use Rattle.times.specs.Times.{time_in}
 use Rattle.line_reader.specs.Script.{Script, End, Broken, Line}
 use Rattle.script.specs.Outcome.{limit_fault}
 use Rattle.script.specs.Requests.{is_comment}
@@ -12,37 +13,7 @@ use Rattle.script.specs.declared.faults.ScriptFault.TheVariants.{UnknownLine, Wo
 use Rattle.traffic.specs.declared.table.Stream.{Stream}
 use Rattle.traffic.specs.declared.table.Ends.{Ends}
 
--- 1. Times
-
--- how many picoseconds a unit has
-abbrev pub unit_of : List ℕ → Option ℕ
-unit_of word =
-    if bytes_eq word (codes "ps") then Some 1
-    else if bytes_eq word (codes "ns") then Some 1000
-    else if bytes_eq word (codes "us") then Some 1000000
-    else if bytes_eq word (codes "ms") then Some 1000000000
-    else if bytes_eq word (codes "s") then Some 1000000000000
-    else None
-
--- whether octets begin with a decimal digit
-abbrev pub starts_with_digit : List ℕ → Bool
-starts_with_digit [] = false
-starts_with_digit (b ∷ bs) = is_digit b
-
--- how many decimal digits a word begins with
-abbrev pub leading_digits : List ℕ → ℕ
-leading_digits [] = 0
-leading_digits (b ∷ bs) = if starts_with_digit (b ∷ bs) then suc (leading_digits bs) else 0
-
--- so many of a unit, in picoseconds
-abbrev pub time_with : Option ℕ → Option ℕ → Option ℕ
-time_with number unit = option_and_then (λ n. option_and_then (λ u. at_most greatest_moment (Some (n * u))) unit) number
-
--- a whole number with its unit directly after it, in picoseconds, at most the greatest moment
-abbrev pub time_in : List ℕ → Option ℕ
-time_in word = time_with (number_in 10 greatest_moment (take (leading_digits word) word)) (unit_of (drop (leading_digits word) word))
-
--- 2. Streams
+-- 1. Streams
 
 -- the times of a stream are at most the greatest moment
 pub record HasTimes (s : Stream) : Type 0 where
@@ -85,8 +56,8 @@ stream_in_words id priority len period offset count ends =
     by_number (number_in 10 (2 ^ 64 - 1) id) (λ id.
     by_number (number_in 10 (2 ^ 8 - 1) priority) (λ priority.
     by_number (number_in 10 (2 ^ 32 - 1) len) (λ len.
-    by_number (time_in period) (λ period.
-    by_number (time_in offset) (λ offset.
+    by_number (time_in greatest_moment period) (λ period.
+    by_number (time_in greatest_moment offset) (λ offset.
     by_number (number_in 10 (2 ^ 32 - 1) count) (λ count.
     Ok (record { first_id = id; priority = priority; len = len; period = period; offset = offset; count = count; tagged = ends.tagged; deadline = ends.deadline })))))))
 
@@ -104,7 +75,7 @@ with_deadline tagged None = Err BadNumber
 abbrev pub deadline_in : Bool → List (List ℕ) → Result Ends ScriptFault
 deadline_in tagged [] = Ok (record { tagged = tagged; deadline = None })
 deadline_in tagged (w ∷ []) = Err WordCount
-deadline_in tagged (w ∷ time ∷ []) = if bytes_eq w (codes "deadline") then with_deadline tagged (time_in time) else Err WordCount
+deadline_in tagged (w ∷ time ∷ []) = if bytes_eq w (codes "deadline") then with_deadline tagged (time_in greatest_moment time) else Err WordCount
 deadline_in tagged (w ∷ time ∷ more ∷ ws) = Err WordCount
 
 -- what the last words say: tagged or nothing, and then a deadline or nothing
@@ -137,7 +108,7 @@ line_said (w ∷ ws) =
     else if bytes_eq w (codes "stream") then in_line (stream_said ws)
     else Err UnknownLine
 
--- 3. The table
+-- 2. The table
 
 -- the streams of a table up to its first fault, and that fault with the number of its line
 pub record Table : Type 0 where

@@ -19,7 +19,7 @@ pub use Rattle.traffic.specs.Merge.{clock_after, clock_in, clock_said, latest, l
 unfoldable pub use Rattle.traffic.specs.Merge.{frames_before, frames_from}
 pub use Rattle.traffic.specs.Outcome.{merging, outcome_in, outcome_of}
 pub use Rattle.traffic.specs.Reading.{ReadsTable}
-pub use Rattle.traffic.specs.Table.{HasTimes, IsStream, Table, deadline_in, ends_in, judged, leading_digits, line_judged, line_said, moved, starts_with_digit, stream_in_words, stream_said, table_of, time_in, unit_of}
+pub use Rattle.traffic.specs.Table.{HasTimes, IsStream, Table, deadline_in, ends_in, judged, line_judged, line_said, moved, stream_in_words, stream_said, table_of}
 pub use Rattle.traffic.specs.Turns.{earlier, left_of, left_of_all}
 unfoldable pub use Rattle.traffic.specs.Turns.{first_place}
 pub use Rattle.traffic.specs.Written.{clock_to, frame_end, frame_line}

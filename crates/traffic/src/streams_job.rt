@@ -9,8 +9,8 @@ use job::{Ended, end_run};
 use script::{BadValue, end_with_value};
 use std::alloc::Allocator;
 use std::io::{BufWriter, Read, Write};
+use times::moment;
 use wire_time::MAX_MOMENT;
-use words::number;
 
 /// The moment that is given, in picoseconds, 0 where none is.
 fn from_given(from: Option<&str>) -> Result<u128, BadValue>
@@ -18,7 +18,7 @@ fn from_given(from: Option<&str>) -> Result<u128, BadValue>
     ensures within { IfOk result (λ moment. moment ≤ greatest_moment) }
 {
     let text = from.unwrap_or("0");
-    match number(text.as_bytes(), MAX_MOMENT) {
+    match moment(text.as_bytes(), MAX_MOMENT) {
         Some(moment) => Ok(moment),
         None => Err(BadValue::From),
     }

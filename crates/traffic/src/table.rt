@@ -1,9 +1,10 @@
 //! What the lines of a table of streams say.
 
-ghost use Rattle.std.specs.Prelude.{◌≡◌, ◌≤◌, ◌∷◌, IfSome, IfOk, true, take, drop};
-ghost use Rattle.traffic.specs.Words.{greatest_moment, words_of, words_left, deadline_in, ends_in, judged, leading_digits, line_judged, line_said, moved, starts_with_digit, stream_in_words, stream_said, time_in, unit_of, HasTimes, IsStream};
+ghost use Rattle.std.specs.Prelude.{◌≡◌, ◌≤◌, ◌∷◌, IfSome, IfOk, true};
+ghost use Rattle.traffic.specs.Words.{greatest_moment, words_of, words_left, deadline_in, ends_in, judged, line_judged, line_said, moved, stream_in_words, stream_said, HasTimes, IsStream};
 
 use script::ScriptFault;
+use times::time;
 use wire_time::MAX_MOMENT;
 use words::{Words, number};
 
@@ -26,58 +27,6 @@ pub struct Stream {
     pub tagged: bool,
     /// How long after its arrival a frame is to have left, in picoseconds, where that is said.
     pub deadline: Option<u128>,
-}
-
-/// How many picoseconds a unit has.
-fn unit_of(word: &[u8]) -> Option<u128>
-    ensures unit { result ≡ unit_of word.now }
-    ensures bound { IfSome result (λ n. n ≤ 1000000000000) }
-{
-    if word == b"ps".as_slice() {
-        Some(1)
-    } else if word == b"ns".as_slice() {
-        Some(1_000)
-    } else if word == b"us".as_slice() {
-        Some(1_000_000)
-    } else if word == b"ms".as_slice() {
-        Some(1_000_000_000)
-    } else if word == b"s".as_slice() {
-        Some(1_000_000_000_000)
-    } else {
-        None
-    }
-}
-
-fn starts_with_digit(octets: &[u8]) -> bool
-    ensures { result ≡ starts_with_digit octets.now }
-{
-    match octets {
-        [octet, ..] => b'0' <= *octet && *octet <= b'9',
-        [] => false,
-    }
-}
-
-/// The digits that a word begins with, and what comes after them.
-fn split_digits(word: &[u8]) -> (&[u8], &[u8])
-    ensures digits { result.0.now ≡ take (leading_digits word.now) word.now }
-    ensures behind { result.1.now ≡ drop (leading_digits word.now) word.now }
-{
-    let mut end = 0;
-    while starts_with_digit(&word[end..]) {
-        end += 1;
-    }
-    word.split_at(end)
-}
-
-/// A whole number with its unit directly after it, in picoseconds, at most the greatest moment.
-fn time_in(word: &[u8]) -> Option<u128>
-    ensures time { result ≡ time_in word.now }
-    ensures bound { IfSome result (λ n. n ≤ greatest_moment) }
-{
-    let (digits, unit) = split_digits(word);
-    let number = number(digits, MAX_MOMENT)?;
-    let time = number * unit_of(unit)?;
-    if time <= MAX_MOMENT { Some(time) } else { None }
 }
 
 /// A stream with each frame so much later, in picoseconds.
@@ -142,10 +91,10 @@ fn stream_in_words(words: &StreamWords<'_>, ends: Ends) -> Result<Stream, Script
     let Some(len) = number(words.len, u128::from(u32::MAX)) else {
         return Err(ScriptFault::BadNumber);
     };
-    let Some(period) = time_in(words.period) else {
+    let Some(period) = time(words.period, MAX_MOMENT) else {
         return Err(ScriptFault::BadNumber);
     };
-    let Some(offset) = time_in(words.offset) else {
+    let Some(offset) = time(words.offset, MAX_MOMENT) else {
         return Err(ScriptFault::BadNumber);
     };
     let Some(count) = number(words.count, u128::from(u32::MAX)) else {
@@ -167,13 +116,13 @@ fn stream_in_words(words: &StreamWords<'_>, ends: Ends) -> Result<Stream, Script
 fn deadline_in(tagged: bool, word: &[u8], mut words: Words<'_>) -> Result<Ends, ScriptFault>
     ensures { result ≡ deadline_in tagged (word.now ∷ words_left words.entry) }
 {
-    let Some(time) = words.next_word() else {
+    let Some(last) = words.next_word() else {
         return Err(ScriptFault::WordCount);
     };
     if words.next_word().is_some() || word != b"deadline".as_slice() {
         return Err(ScriptFault::WordCount);
     }
-    match time_in(time) {
+    match time(last, MAX_MOMENT) {
         Some(deadline) => Ok(Ends {
             tagged,
             deadline: Some(deadline),

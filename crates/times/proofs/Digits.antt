@@ -1,6 +1,6 @@
 -- How many digits octets begin with.
 use Rattle.std.proofs.Common.{◌≡◌, ◌<◌, ℕ, suc, List, [], ◌∷◌, true, false, cond, zero, refl, ap, length, drop, arith}
-use Rattle.traffic.specs.Words.{leading_digits, starts_with_digit}
+use Rattle.times.specs.Times.{leading_digits, starts_with_digit}
 
 true≢false : false ≡ true → ⊥
 true≢false e = cc

@@ -1,6 +1,6 @@
 use Rattle.std.proofs.Common.{◌≡◌, ◌≤◌, ◌-◌, ◌+◌, length, drop}
-use Rattle.traffic.specs.Words.{leading_digits}
-use Rattle.traffic.proofs.table.split_digits.Given as goal
+use Rattle.times.specs.Times.{leading_digits}
+use Rattle.times.proofs.split_digits.Given as goal
 
 abbrev pub invariant-loop-end : goal.invariant-loop-end
 invariant-loop-end l = record { within : l.end ≤ length l.word; digits : leading_digits l.word ≡ l.end + leading_digits (drop l.end l.word) }

@@ -1,8 +1,8 @@
 use Rattle.std.proofs.Common.{◌≡◌, ◌+◌, true, drop, add-one, arith}
 use Rattle.std.proofs.lemmas.List.{take_rest}
-use Rattle.traffic.specs.Words.{leading_digits, starts_with_digit}
-use Rattle.traffic.proofs.Digits.{within_digits, more_digits}
-use Rattle.traffic.proofs.table.split_digits.Goals as goal
+use Rattle.times.specs.Times.{leading_digits, starts_with_digit}
+use Rattle.times.proofs.Digits.{within_digits, more_digits}
+use Rattle.times.proofs.split_digits.Goals as goal
 
 pub loop-end-preserved : goal.loop-end-preserved
 loop-end-preserved c =
