@@ -227,6 +227,28 @@ def case_a_terminal_as_the_standard_input(program):
         assert ran.output.startswith(b"queued 1 class 0\n" if wanted else b""), ran
 
 
+def case_an_output_that_is_an_input(program):
+    """A replay refuses an OUT that is its script or its capture, by that name, another one or a link; and the inputs stay."""
+    with tempfile.TemporaryDirectory(prefix="taprio-case-") as folder:
+        at = lambda name: os.path.join(folder, name)
+        files = {"script": b"query\n", "capture": TWO_RECORDS}
+        for name, octets in files.items():
+            with open(at(name), "wb") as file:
+                file.write(octets)
+        os.symlink("capture", at("symbolic"))
+        os.link(at("capture"), at("hard"))
+        for capture in ("capture", "-"):
+            for out in ("script", "./script", "capture", "../" + os.path.basename(folder) + "/capture", "symbolic", "hard"):
+                with open(at("capture"), "rb") as given:
+                    words = [program, "replay", "--until", END, "script", capture, out]
+                    ran = subprocess.run(words, cwd=folder, stdin=given, capture_output=True, timeout=60)
+                wanted = b"taprio_port: OUT is one of the inputs: %s\n" % out.encode()
+                assert (ran.returncode, ran.stdout, ran.stderr) == (2, b"", wanted), (capture, out, ran)
+        for name, octets in files.items():
+            with open(at(name), "rb") as file:
+                assert file.read() == octets, name
+
+
 def case_too_little_memory(program):
     """It is told: the octets of the frames that wait are more than the process may have."""
     frames = captured([(0, PRIORITY_3 + bytes(8982))] * 4096)

@@ -1,5 +1,6 @@
 -- What the words of the program say of its settings.
-use Rattle.std.specs.Prelude.{◌⊎◌, List, ℕ, [], Bool, false, Option, Some, None, Result, codes}
+use Rattle.std.specs.Prelude.{◌⊎◌, List, ℕ, [], ◌∷◌, Bool, false, Option, Some, None, Result, codes}
+use Rattle.std.specs.List.{concat}
 use Rattle.std.specs.Option.{option_map_or}
 use Rattle.std.specs.Str.{bytes_eq}
 use Rattle.clap.specs.Matches.{first_value}
@@ -22,6 +23,10 @@ use Rattle.stream_bounds.specs.declared.settings.BoundsValue.{BoundsValue}
 -- whether a flag is given: it is then true
 abbrev pub flag_in : List ℕ → Found → Bool
 flag_in name found = option_map_or (λ text. bytes_eq text (codes "true")) (first_value found name) false
+
+-- the text of an output that is one of the inputs
+abbrev pub over_input_text : List ℕ → List ℕ
+over_input_text path = concat (codes "taprio_port: OUT is one of the inputs: " ∷ path ∷ codes "\n" ∷ [])
 
 -- what the words give to the options of a port
 abbrev pub words_in : Found → GivenWords

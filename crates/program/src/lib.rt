@@ -12,6 +12,7 @@ mod bounding;
 mod options;
 mod progress;
 mod replaying;
+mod same_file;
 mod streaming;
 
 pub use answering::{answer_given, answer_words, check_given, draw_given};

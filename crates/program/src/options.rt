@@ -300,7 +300,8 @@ fn arg_of<'a>(alloc: Global, word: &Word) -> Arg<'a> {
 }
 
 /// What the help says of the exit status.
-const STATUSES: &str = "Exit status: 0 done, 1 a strict run has found something, 2 a word or a value is refused,\n\
+const STATUSES: &str =
+    "Exit status: 0 done, 1 a strict run has found something, 2 a word or a value is refused,\n\
 3 an input is malformed, 4 a file can't be opened, a read or a write failed, or out of memory";
 
 /// A job with its words as `clap` has it.

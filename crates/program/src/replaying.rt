@@ -3,7 +3,7 @@
 ghost use Rattle.std.specs.Prelude.{◌≡◌, IfErr};
 ghost use Rattle.std.specs.Io.Buffered.{writer_contents};
 ghost use Rattle.clap.specs.Matches.{found_of};
-ghost use Rattle.program.specs.Given.{settings_in};
+ghost use Rattle.program.specs.Given.{over_input_text, settings_in};
 ghost use Rattle.capture.specs.declared.writer.TheConstants.{CAPTURE_END};
 ghost use Rattle.job.specs.Ending.{IsUnanswered};
 ghost use Rattle.script.specs.Ending.{IsRefusal};
@@ -11,6 +11,8 @@ ghost use Rattle.replay.specs.Texts.{open_text};
 
 use crate::end_without_memory;
 use crate::options::values_of;
+use crate::same_file::is_same_file;
+use answer_text::{Part, put_parts};
 use capture::CAPTURE_END;
 use clap::ArgMatches;
 use job::{Ended, end_told};
@@ -58,14 +60,49 @@ struct Opened<T: Drop> {
     out: T,
 }
 
-/// Opens the files in their order, or gives the first path back that can't be opened.
-fn open_all<'a, F: Files>(files: &F, matches: &ArgMatches<'a>) -> Result<Opened<F::File>, &'a str> {
-    let script = open(files, path_of(matches, "script"))?;
+/// Why the files of a replay are not opened.
+enum Unopened<'a> {
+    /// The file of this path can't be opened.
+    Path(&'a str),
+    /// The output of this path is one of the inputs.
+    Input(&'a str),
+}
+
+/// The standard input, as a path (proc(5)).
+const STANDARD_INPUT: &str = "/dev/stdin";
+
+/// Makes the output or empties it, unless it is one of the inputs, by whatever name.
+fn create_out<'a, F: Files>(files: &F, matches: &ArgMatches<'a>) -> Result<F::File, Unopened<'a>> {
+    let out = path_of(matches, "out");
+    let capture = match path_of(matches, "capture") {
+        "-" => STANDARD_INPUT,
+        path => path,
+    };
+    for input in [path_of(matches, "script"), capture] {
+        if is_same_file(files, out, input) {
+            return Err(Unopened::Input(out));
+        }
+    }
+    create(files, out).map_err(|path| Unopened::Path(path))
+}
+
+/// Opens the files in their order, or says why they are not opened.
+fn open_all<'a, F: Files>(
+    files: &F,
+    matches: &ArgMatches<'a>,
+) -> Result<Opened<F::File>, Unopened<'a>> {
+    let script = match open(files, path_of(matches, "script")) {
+        Ok(script) => script,
+        Err(path) => return Err(Unopened::Path(path)),
+    };
     let capture = match path_of(matches, "capture") {
         "-" => None,
-        path => Some(open(files, path)?),
+        path => match open(files, path) {
+            Ok(capture) => Some(capture),
+            Err(path) => return Err(Unopened::Path(path)),
+        },
     };
-    let out = create(files, path_of(matches, "out"))?;
+    let out = create_out(files, matches)?;
     Ok(Opened {
         script,
         capture,
@@ -82,6 +119,26 @@ pub(crate) fn end_unopened<B: Allocator, W: Write + Drop, E: Write>(
     ensures { IsUnanswered 4 (open_text path.now) result.0 (writer_contents W.contents answers) (W.contents result.1) (E.contents errors.old) (E.contents errors.new) }
 {
     end_told(say_unopened(path, errors), answers)
+}
+
+/// Reports an output that is one of the inputs, and gives the writer of the answers back. Nothing is answered.
+fn end_over_input<B: Allocator, W: Write + Drop, E: Write>(
+    path: &str,
+    answers: BufWriter<W, B>,
+    errors: &mut E,
+) -> (Ended, W)
+    ensures { IsUnanswered 2 (over_input_text path.now) result.0 (writer_contents W.contents answers) (W.contents result.1) (E.contents errors.old) (E.contents errors.new) }
+{
+    let told = put_parts(
+        errors,
+        &[
+            Part::Text(b"taprio_port: OUT is one of the inputs: "),
+            Part::Text(path.as_bytes()),
+            Part::Text(b"\n"),
+        ],
+    )
+    .is_ok();
+    end_told(Ended { status: 2, told }, answers)
 }
 
 /// Replays what is open, the capture from `reader` where that is the standard input.
@@ -131,7 +188,8 @@ fn replay_opened<
 
 /// Replays a script and a capture from files into a file, by the values that the words give to the options, with the report through
 /// `answers` and the text of a fault on `errors`; and gives the writer of the report back. The values are judged first; then the
-/// files are opened: the script, the capture, which is `reader` where its path is `-`, and the output, which is made or emptied.
+/// files are opened: the script, the capture, which is `reader` where its path is `-`, and the output, which is made or emptied, but
+/// not where it is one of the inputs.
 pub fn replay_given<F: Files, B: Allocator, R: Read, W: Write + Drop, E: Write, P: Watch>(
     files: &F,
     alloc: Global,
@@ -151,6 +209,7 @@ pub fn replay_given<F: Files, B: Allocator, R: Read, W: Write + Drop, E: Write, 
     };
     match open_all(files, matches) {
         Ok(opened) => replay_opened(alloc, settings, opened, reader, answers, errors, watch),
-        Err(path) => end_unopened(path, answers, errors),
+        Err(Unopened::Path(path)) => end_unopened(path, answers, errors),
+        Err(Unopened::Input(path)) => end_over_input(path, answers, errors),
     }
 }
