@@ -18,6 +18,7 @@ complete -c taprio_port -n '__fish_seen_subcommand_from replay' -l help -d 'Prin
 complete -c taprio_port -n __fish_use_subcommand -f -a check -d 'Reports which classes the schedule commands on standard input keep apart'
 complete -c taprio_port -n '__fish_seen_subcommand_from check' -l rate -x -d 'The line rate, in Mb/s [default: 1000]'
 complete -c taprio_port -n '__fish_seen_subcommand_from check' -l windows -d 'Report for how long each class is open and closed, and its longest frame'
+complete -c taprio_port -n '__fish_seen_subcommand_from check' -l script -d 'Read a script: lines that are no schedule commands are passed over'
 complete -c taprio_port -n '__fish_seen_subcommand_from check' -l help -d 'Print help'
 complete -c taprio_port -n '__fish_seen_subcommand_from check' -f
 complete -c taprio_port -n __fish_use_subcommand -f -a streams -d 'Writes a script with the frames of the streams in a table on standard input'

@@ -111,7 +111,11 @@ fn check_agrees<R: Files + AllocGlobal>(
     let Ok(rate) = Rate::from_mbps(1000) else {
         return Ok(false);
     };
-    let settings = CheckSettings { rate, windows };
+    let settings = CheckSettings {
+        rate,
+        windows,
+        script: false,
+    };
     let mut got = Vec::new(rt.alloc());
     let checked = check(rt.alloc(), schedules.as_bytes(), &mut got, settings);
     Ok(checked.is_ok() && got.as_slice() == answers.as_bytes())

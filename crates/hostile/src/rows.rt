@@ -108,6 +108,7 @@ impl Given {
             checked: CheckSettings {
                 rate,
                 windows: false,
+                script: false,
             },
         })
     }

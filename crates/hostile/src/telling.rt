@@ -4,7 +4,7 @@ use super::rows::{Given, Job, Runs};
 use job::Ended;
 use refusing_heap::RefusingHeap;
 use replay::{Inputs, Outputs, Unwatched, answer_replay};
-use schedule_check::answer_check;
+use schedule_check::{CheckWords, answer_check};
 use script::{Settings, Values, answer_script};
 use std::alloc::Global;
 use std::io::{self, BufWriter};
@@ -52,13 +52,20 @@ fn script_tells(alloc: Global) -> io::Result<bool> {
     Ok(is_told(ended, &errors, &written))
 }
 
+/// A check with windows.
+const WINDOWS: CheckWords<'static> = CheckWords {
+    rate: None,
+    windows: true,
+    script: false,
+};
+
 /// Whether a check reports it.
 fn check_tells(alloc: Global) -> io::Result<bool> {
     let answers = BufWriter::new(alloc, Vec::new(alloc))?;
     let heap = no_heap(alloc);
     let mut errors = Vec::new(alloc);
     let mut reader = Job::TwoSchedules.input();
-    let (ended, written) = answer_check(&heap, None, true, &mut reader, answers, &mut errors);
+    let (ended, written) = answer_check(&heap, WINDOWS, &mut reader, answers, &mut errors);
     Ok(is_told(ended, &errors, &written))
 }
 

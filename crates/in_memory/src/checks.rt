@@ -25,10 +25,14 @@ fn check_at<A: Allocator>(
     output: &mut [u8],
     fault: &mut [u8],
 ) -> Ran
-    ensures { (tell : Teller) → IsTeller tell → (read : List (List ℕ) → Result Command TcFault) → IsReader read → Answers (told_of script_telling (whole_check tell windows rate read schedules.now)) result (slices output.old fault.old) (slices output.new fault.new) }
+    ensures { (tell : Teller) → IsTeller tell → (read : List (List ℕ) → Result Command TcFault) → IsReader read → Answers (told_of script_telling (whole_check tell windows false rate read schedules.now)) result (slices output.old fault.old) (slices output.new fault.new) }
 {
     let mut written = Vec::new(alloc);
-    let settings = CheckSettings { rate, windows };
+    let settings = CheckSettings {
+        rate,
+        windows,
+        script: false,
+    };
     let run = check(alloc, schedules, &mut written, settings);
     end_in_memory(alloc, run, written.as_slice(), output, fault)
 }
@@ -47,7 +51,7 @@ pub fn check_octets<A: Allocator>(
     fault: &mut [u8],
 ) -> Ran
     ensures { (tell : Teller) → IsTeller tell → (read : List (List ℕ) → Result Command TcFault) → IsReader read →
-        Answers (told_by (λ ps. whole_check tell windows ps read schedules.now) (rate_at rate)) result (slices output.old fault.old) (slices output.new fault.new) }
+        Answers (told_by (λ ps. whole_check tell windows false ps read schedules.now) (rate_at rate)) result (slices output.old fault.old) (slices output.new fault.new) }
 {
     match rate_at(rate) {
         Ok(rate) => check_at(alloc, rate, windows, schedules, output, fault),

@@ -44,7 +44,16 @@ fn check_of<A: Allocator, R: Read + Drop, W: Write>(
     let Ok(rate) = Rate::from_mbps(1000) else {
         return Err(RunFault::Memory);
     };
-    check(alloc, reader, writer, CheckSettings { rate, windows })
+    check(
+        alloc,
+        reader,
+        writer,
+        CheckSettings {
+            rate,
+            windows,
+            script: false,
+        },
+    )
 }
 
 /// Whether a heap of so many octets is enough for the commands; none where what is reported is wrong.

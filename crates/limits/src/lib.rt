@@ -18,8 +18,7 @@ ghost use Rattle.stream_bounds.specs.declared.settings.TheConstants.{MAX_FRAMES}
 pub fn time_limits()
     ensures moment { MAX_MOMENT ≡ 1000 * (2 ^ 63 - 1) }
     ensures defined { greatest_moment ≡ MAX_MOMENT }
-{
-}
+{}
 
 /// The port: eight traffic classes (IEEE Std 802.1Q-2018, 8.6.6); sixteen priorities, as the map of tc-taprio(8) has them; an
 /// mtu of 68 octets (RFC 791, 3.2) to 9216; queues of 4096 frames; 10 Mb/s to 100 Gb/s.
@@ -31,8 +30,7 @@ pub fn port_limits()
     ensures room { MAX_ROOM ≡ 4096 }
     ensures slowest { MAX_PS_PER_OCTET ≡ 8 * 10 ^ 12 / (10 * 10 ^ 6) }
     ensures fastest { MIN_PS_PER_OCTET ≡ 8 * 10 ^ 12 / (100 * 10 ^ 9) }
-{
-}
+{}
 
 /// Schedules: 256 entries; cycles and extensions of 2^40 nanoseconds, some 18 minutes; base times of 63 bits; sixteen values of max-sdu.
 pub fn schedule_limits()
@@ -40,28 +38,24 @@ pub fn schedule_limits()
     ensures cycle { MAX_CYCLE_NS ≡ 2 ^ 40 }
     ensures base { MAX_BASE_NS ≡ 2 ^ 63 - 1 }
     ensures sizes { MAX_SDU_VALUES ≡ 16 }
-{
-}
+{}
 
 /// Text: 4,000,000 lines of 65,536 octets.
 pub fn text_limits()
     ensures lines { MAX_LINES ≡ 4000000 }
     ensures octets { MAX_LINE_OCTETS ≡ 65536 }
-{
-}
+{}
 
 /// Captures: 4,000,000 records of 262,144 octets, as libpcap has them; time stamps up to 2^32 seconds (pcap-savefile(5)).
 pub fn capture_limits()
     ensures records { MAX_RECORDS ≡ 4000000 }
     ensures octets { MAX_RECORD_OCTETS ≡ 262144 }
     ensures end { CAPTURE_END ≡ 2 ^ 32 * 10 ^ 12 }
-{
-}
+{}
 
 /// Pictures: 400 to 2400 pixels wide. Bounds: 1,000,000,000 frames of a class.
 pub fn answer_limits()
     ensures narrowest { Page.MIN_WIDTH ≡ 400 }
     ensures widest { Page.MAX_WIDTH ≡ 2400 }
     ensures frames { MAX_FRAMES ≡ 1000000000 }
-{
-}
+{}

@@ -49,10 +49,6 @@ rate_in found = rate_given (first_value found (codes "rate"))
 abbrev pub draws_in : Found → Result DrawOptions BadValue
 draws_in found = options_of (draw_words_in found)
 
--- whether windows are asked for
-abbrev pub windows_in : Found → Bool
-windows_in found = flag_in (codes "windows") found
-
 -- the moment that the offsets of a table count from
 abbrev pub from_in : Found → Result ℕ BadValue
 from_in found = from_given (first_value found (codes "from"))

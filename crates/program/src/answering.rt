@@ -6,13 +6,14 @@ ghost use Rattle.clap.specs.Matches.{found_of};
 ghost use Rattle.schedule_check.specs.Checked.{whole_check};
 ghost use Rattle.schedule_check.specs.Windows.{IsTeller, Teller};
 ghost use Rattle.drawing.specs.Ending.{IsDrawEnding};
-ghost use Rattle.program.specs.Given.{draws_in, rate_in, settings_in, windows_in};
+ghost use Rattle.std.specs.Prelude.{codes};
+ghost use Rattle.program.specs.Given.{draws_in, flag_in, rate_in, settings_in};
 ghost use Rattle.script.specs.Ending.{IsEnding, whole_script};
 ghost use Rattle.wire_time.specs.Moment.{greatest_moment};
 
 use crate::bounding::bounds_given;
 use crate::end_without_memory;
-use crate::options::{command, draws_of, rate_of, values_of, windows_of};
+use crate::options::{checks_of, command, draws_of, values_of};
 use crate::progress::Progress;
 use crate::replaying::replay_given;
 use crate::streaming::streams_given;
@@ -43,7 +44,8 @@ pub fn answer_given<B: Allocator, R: Read, W: Write + Drop, E: Write>(
     answer_script(alloc, values_of(matches), reader, answers, errors)
 }
 
-/// Checks the schedules that `reader` gives, by the value that the words give to the rate, and with windows where they ask for them,
+/// Checks the schedules that `reader` gives, by the value that the words give to the rate, with windows where they ask for them, and of a script
+/// where they say so,
 /// through `answers`, with the text of a fault on `errors`; and gives the writer of the answers back.
 pub fn check_given<B: Allocator, R: Read, W: Write + Drop, E: Write>(
     alloc: Global,
@@ -52,12 +54,11 @@ pub fn check_given<B: Allocator, R: Read, W: Write + Drop, E: Write>(
     answers: BufWriter<W, B>,
     errors: &mut E,
 ) -> (Ended, W)
-    ensures ending { (tell : Teller) → IsTeller tell → IsEnding (whole_check tell (windows_in (found_of matches.now))) (rate_in (found_of matches.now))
+    ensures ending { (tell : Teller) → IsTeller tell → IsEnding (whole_check tell (flag_in (codes "windows") (found_of matches.now)) (flag_in (codes "script") (found_of matches.now))) (rate_in (found_of matches.now))
         (R.remaining reader.old) result.0 (writer_contents W.contents answers) (W.contents result.1) (E.contents errors.old) (E.contents errors.new) }
     ensures unread { IfErr (rate_in (found_of matches.now)) (λ _. reader.new ≡ reader.old) }
 {
-    let windows = windows_of(matches);
-    answer_check(alloc, rate_of(matches), windows, reader, answers, errors)
+    answer_check(alloc, checks_of(matches), reader, answers, errors)
 }
 
 /// Draws the run of the script that `reader` gives, by the values that the words give to the options, through `answers`, with the text of

@@ -4,10 +4,11 @@ ghost use Rattle.std.specs.Prelude.{◌≡◌, codes};
 ghost use Rattle.clap.specs.Matches.{first_value, found_of};
 ghost use Rattle.drawing.specs.Given.{words_of_draws};
 ghost use Rattle.script.specs.Given.{octets_of, words_of_values};
-ghost use Rattle.program.specs.Given.{draw_words_in, flag_in, windows_in, words_in};
+ghost use Rattle.program.specs.Given.{draw_words_in, flag_in, words_in};
 
 use clap::{Arg, ArgAction, ArgMatches, Command};
 use drawing::DrawValues;
+use schedule_check::CheckWords;
 use script::Values;
 use std::alloc::{AllocError, Global};
 use stream_bounds::BoundsWords;
@@ -70,18 +71,17 @@ pub(crate) fn bounds_of<'a>(matches: &ArgMatches<'a>) -> BoundsWords<'a>
     }
 }
 
-/// The line rate that a subcommand is given.
-pub(crate) fn rate_of<'a>(matches: &ArgMatches<'a>) -> Option<&'a str>
-    ensures { octets_of result ≡ first_value (found_of matches.now) (codes "rate") }
+/// The rate that a check is given, and what it is asked for.
+pub(crate) fn checks_of<'a>(matches: &ArgMatches<'a>) -> CheckWords<'a>
+    ensures rate { octets_of result.rate ≡ first_value (found_of matches.now) (codes "rate") }
+    ensures windows { result.windows ≡ flag_in (codes "windows") (found_of matches.now) }
+    ensures script { result.script ≡ flag_in (codes "script") (found_of matches.now) }
 {
-    matches.get_str("rate")
-}
-
-/// Whether a subcommand is asked for windows.
-pub(crate) fn windows_of(matches: &ArgMatches<'_>) -> bool
-    ensures { result ≡ windows_in (found_of matches.now) }
-{
-    is_given(matches, "windows")
+    CheckWords {
+        rate: matches.get_str("rate"),
+        windows: is_given(matches, "windows"),
+        script: is_given(matches, "script"),
+    }
 }
 
 /// How a word is given.
@@ -189,6 +189,13 @@ const WINDOWS: Word = Word {
     help: "Report for how long each class is open and closed, and its longest frame",
 };
 
+const SCRIPT_LINES: Word = Word {
+    given: Given::Flag,
+    name: "script",
+    value: "",
+    help: "Read a script: lines that are no schedule commands are passed over",
+};
+
 const LINES: Word = Word {
     given: Given::Value,
     name: "with",
@@ -269,7 +276,7 @@ const JOBS: [Job; 6] = [
     Job {
         name: "check",
         about: "Reports which classes the schedule commands on standard input keep apart",
-        words: &[RATE, WINDOWS],
+        words: &[RATE, WINDOWS, SCRIPT_LINES],
     },
     Job {
         name: "streams",

@@ -15,10 +15,11 @@ use Rattle.script.specs.Ending.{Whole}
 use Rattle.schedule_check.specs.Apart.{verdict_lines}
 use Rattle.schedule_check.specs.Windows.{Teller}
 
--- whether the words of a line begin with tc; a line without words and a comment are skipped, and there are no other lines
-abbrev pub is_command : List (List ℕ) → Result Bool ScriptFault
-is_command [] = Ok false
-is_command (w ∷ ws) = if is_comment w then Ok false else if bytes_eq w (codes "tc") then Ok true else Err UnknownLine
+-- whether the words of a line begin with tc; a line without words and a comment are skipped; other lines are passed over where they are those
+-- of a script, and else there are none
+abbrev pub is_command : Bool → List (List ℕ) → Result Bool ScriptFault
+is_command script [] = Ok false
+is_command script (w ∷ ws) = if is_comment w then Ok false else if bytes_eq w (codes "tc") then Ok true else if script then Ok false else Err UnknownLine
 
 -- a line before what is reported of the rest
 abbrev pub with_verdict : ℕ → Result Bool ScriptFault → List ℕ → Outcome BadLine → Outcome BadLine
@@ -27,16 +28,16 @@ with_verdict number (Ok false) verdict rest = rest
 with_verdict number (Ok true) verdict rest = record { text = verdict ++ rest.text; fault = rest.fault }
 
 -- what is reported of lines, by what is reported of each that begins with tc
-abbrev pub checked_in : (List (List ℕ) → Result Command TcFault) → (Result Command TcFault → List ℕ) → Script → Outcome BadLine
-checked_in read told End = record { text = []; fault = None }
-checked_in read told (Broken number limit) = record { text = []; fault = Some (long_line number limit) }
-checked_in read told (Line number octets rest) =
-    with_verdict number (is_command (words_of octets)) (told (read (words_of octets))) (checked_in read told rest)
+abbrev pub checked_in : Bool → (List (List ℕ) → Result Command TcFault) → (Result Command TcFault → List ℕ) → Script → Outcome BadLine
+checked_in script read told End = record { text = []; fault = None }
+checked_in script read told (Broken number limit) = record { text = []; fault = Some (long_line number limit) }
+checked_in script read told (Line number octets rest) =
+    with_verdict number (is_command script (words_of octets)) (told (read (words_of octets))) (checked_in script read told rest)
 
 -- what is reported of the octets of an input
-abbrev pub checked_of : (List (List ℕ) → Result Command TcFault) → (Result Command TcFault → List ℕ) → List ℕ → Outcome BadLine
-checked_of read told input = checked_in read told (script_of input)
+abbrev pub checked_of : Bool → (List (List ℕ) → Result Command TcFault) → (Result Command TcFault → List ℕ) → List ℕ → Outcome BadLine
+checked_of script read told input = checked_in script read told (script_of input)
 
--- what is reported of the octets of an input at a rate, with windows or without, as what is to be written
-abbrev pub whole_check : Teller → Bool → ℕ → Whole
-whole_check tell windows ps read input = checked_of read (verdict_lines tell (record { rate = ps; windows = windows })) input
+-- what is reported of the octets of an input at a rate, those of a script or of commands alone, with windows or without, as what is to be written
+abbrev pub whole_check : Teller → (windows script : Bool) → ℕ → Whole
+whole_check tell windows script ps read input = checked_of script read (verdict_lines tell (record { rate = ps; windows = windows; script = script })) input

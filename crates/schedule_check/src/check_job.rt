@@ -11,24 +11,38 @@ use script::{end_with_value, rate_given};
 use std::alloc::Allocator;
 use std::io::{BufWriter, Read, Write};
 
-/// Checks the schedules that `reader` gives at the rate of this value in Mb/s, 1000 where none is given, with windows or without, through
+/// The value of the rate, in Mb/s, where it is given, and what is asked for.
+#[derive(Clone, Copy, Debug)]
+pub struct CheckWords<'a> {
+    /// The line rate, in Mb/s; 1000 where none is given.
+    pub rate: Option<&'a str>,
+    /// Whether windows are reported.
+    pub windows: bool,
+    /// Whether the lines are those of a script.
+    pub script: bool,
+}
+
+/// Checks the schedules that `reader` gives, at the rate of this value and as these words ask for it, through
 /// `answers`, with the text of a fault on `errors`; and gives the writer of the answers back. What was reported is let out before a fault is; after a failed
 /// write no other is tried. Where the value is bad nothing is read.
 pub fn answer_check<A: Allocator, B: Allocator, R: Read, W: Write + Drop, E: Write>(
     alloc: A,
-    rate: Option<&str>,
-    windows: bool,
+    words: CheckWords<'_>,
     reader: &mut R,
     mut answers: BufWriter<W, B>,
     errors: &mut E,
 ) -> (Ended, W)
-    ensures ending { (tell : Teller) → IsTeller tell → IsEnding (whole_check tell windows) (rate_given (octets_of rate.entry))
+    ensures ending { (tell : Teller) → IsTeller tell → IsEnding (whole_check tell words.windows words.script) (rate_given (octets_of words.rate.entry))
         (R.remaining reader.old) result.0 (writer_contents W.contents answers) (W.contents result.1) (E.contents errors.old) (E.contents errors.new) }
-    ensures unread { IfErr (rate_given (octets_of rate.entry)) (λ _. reader.new ≡ reader.old) }
+    ensures unread { IfErr (rate_given (octets_of words.rate.entry)) (λ _. reader.new ≡ reader.old) }
 {
-    match rate_given(rate) {
+    match rate_given(words.rate) {
         Ok(rate) => {
-            let settings = CheckSettings { rate, windows };
+            let settings = CheckSettings {
+                rate,
+                windows: words.windows,
+                script: words.script,
+            };
             let run = check(alloc, reader, &mut answers, settings);
             end_run(run, answers, errors)
         }

@@ -12,9 +12,10 @@ use std::alloc::Allocator;
 use std::io::{Read, Write};
 use words::Words;
 
-/// Whether a line is a schedule command. It is skipped where it has no words or is a comment.
-pub fn is_command(line: &[u8]) -> Result<bool, ScriptFault>
-    ensures { result ≡ is_command (words_of line.now) }
+/// Whether a line is a schedule command. It is skipped where it has no words or is a comment, and any other line where it is one of
+/// a script.
+pub fn is_command(line: &[u8], script: bool) -> Result<bool, ScriptFault>
+    ensures { result ≡ is_command script (words_of line.now) }
 {
     let mut words = Words::new(line);
     let Some(first) = words.next_word() else {
@@ -24,7 +25,10 @@ pub fn is_command(line: &[u8]) -> Result<bool, ScriptFault>
         return Ok(false);
     }
     if first == b"tc".as_slice() {
-        Ok(true)
+        return Ok(true);
+    }
+    if script {
+        Ok(false)
     } else {
         Err(ScriptFault::UnknownLine)
     }
@@ -48,11 +52,11 @@ fn check_lines<A: Allocator, R: Read + Drop, W: Write>(
 ) -> Result<(), RunFault>
     ensures { (tell : Teller) → IsTeller tell → (read : List (List ℕ) → Result Command TcFault) → IsReader read
         → IfSome (script_left R.remaining lines.old) (λ script.
-        Runs result (W.contents writer.old) (W.contents writer.new) (checked_in read (verdict_lines tell settings.now) script)) }
+        Runs result (W.contents writer.old) (W.contents writer.new) (checked_in settings.script read (verdict_lines tell settings.now) script)) }
 {
     'lines: while lines.advance()? {
         let line = lines.line();
-        match is_command(line) {
+        match is_command(line, settings.script) {
             Ok(false) => {}
             Ok(true) => put_line(writer, *settings, line)?,
             Err(fault) => return Err(fault_here(lines, fault)),
@@ -66,7 +70,7 @@ fn check_lines<A: Allocator, R: Read + Drop, W: Write>(
 /// command's map has, or of all eight where it gives no map; a deletion keeps none apart. Where windows are asked for, a line
 /// follows for each of these classes that the schedule ever opens, of what it gives the class.
 ///
-/// Lines without words and comments are skipped; any other line is an `UnknownLine`, which ends the call after what is reported of the
+/// Lines without words and comments are skipped, and other lines too where they are those of a script; else any other line is an `UnknownLine`, which ends the call after what is reported of the
 /// lines before it. A read or a write that fails, or takes nothing, isn't tried again.
 pub fn check<A: Allocator, R: Read + Drop, W: Write>(
     alloc: A,
@@ -76,7 +80,7 @@ pub fn check<A: Allocator, R: Read + Drop, W: Write>(
 ) -> Result<(), RunFault>
     ensures { (tell : Teller) → IsTeller tell → (read : List (List ℕ) → Result Command TcFault) → IsReader read
         → IfSome (R.remaining reader) (λ input.
-        Runs result (W.contents writer.old) (W.contents writer.new) (checked_of read (verdict_lines tell settings) input)) }
+        Runs result (W.contents writer.old) (W.contents writer.new) (checked_of settings.script read (verdict_lines tell settings) input)) }
 {
     let mut lines = LineReader::new(&alloc, reader)?;
     check_lines(&mut lines, writer, &settings)

@@ -13,7 +13,7 @@ mod telling;
 mod window_lines;
 mod windows;
 
-pub use check_job::answer_check;
+pub use check_job::{CheckWords, answer_check};
 pub use checking::{check, is_command};
 pub use laws::{ever_open, one_teller, turned_masks};
 pub use settings::CheckSettings;

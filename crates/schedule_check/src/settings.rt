@@ -9,4 +9,6 @@ pub struct CheckSettings {
     pub rate: Rate,
     /// Whether what a schedule gives each class is reported beside the classes that it keeps apart.
     pub windows: bool,
+    /// Whether the lines are those of a script: what is no command is passed over.
+    pub script: bool,
 }

@@ -50,18 +50,18 @@ module _ (read : List (List ℕ) → Result Command TcFault) (s : BoundsSettings
   bounded first script = bounds_in read s streams first script
 
   module _ (number : ℕ) (line : List ℕ) (first : Option Finding) where
-    by_command : (is : Result Bool ScriptFault) → is_command (words_of line) ≡ is → (rest : Script)
+    by_command : (is : Result Bool ScriptFault) → is_command false (words_of line) ≡ is → (rest : Script)
         → bounded first (Line number line rest) ≡ with_command number is (command_lines s streams (read (words_of line))) (bounded first rest) (bounded (first_of first (command_finding number s streams (read (words_of line)))) rest)
     by_command is e rest = ap (λ x. with_command number x (command_lines s streams (read (words_of line))) (bounded first rest) (bounded (first_of first (command_finding number s streams (read (words_of line)))) rest)) e
 
-    pub skipped : is_command (words_of line) ≡ Ok false → (rest : Script) → bounded first (Line number line rest) ≡ bounded first rest
+    pub skipped : is_command false (words_of line) ≡ Ok false → (rest : Script) → bounded first (Line number line rest) ≡ bounded first rest
     skipped = by_command (Ok false)
 
-    pub answered : is_command (words_of line) ≡ Ok true → (rest : Script)
+    pub answered : is_command false (words_of line) ≡ Ok true → (rest : Script)
         → bounded first (Line number line rest) ≡ behind (command_lines s streams (read (words_of line))) (bounded (first_of first (command_finding number s streams (read (words_of line)))) rest)
     answered = by_command (Ok true)
 
-    pub wrong : (fault : ScriptFault) → is_command (words_of line) ≡ Err fault → (rest : Script) → bounded first (Line number line rest) ≡ faulty (Inputs.Schedules number fault)
+    pub wrong : (fault : ScriptFault) → is_command false (words_of line) ≡ Err fault → (rest : Script) → bounded first (Line number line rest) ≡ faulty (Inputs.Schedules number fault)
     wrong fault = by_command (Err fault)
 
   -- a line can't be answered whole

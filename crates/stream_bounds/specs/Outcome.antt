@@ -38,7 +38,7 @@ abbrev pub bounds_in : (List (List ℕ) → Result Command TcFault) → BoundsSe
 bounds_in read s streams first End = record { text = []; fault = end_fault s.strict first }
 bounds_in read s streams first (Broken number limit) = record { text = []; fault = Some (schedules_limited number limit) }
 bounds_in read s streams first (Line number octets rest) =
-    with_command number (is_command (words_of octets)) (command_lines s streams (read (words_of octets)))
+    with_command number (is_command false (words_of octets)) (command_lines s streams (read (words_of octets)))
     (bounds_in read s streams first rest)
     (bounds_in read s streams (first_of first (command_finding number s streams (read (words_of octets)))) rest)
 

@@ -62,7 +62,7 @@ fn bound_lines<A: Allocator, R: Read + Drop, W: Write>(
     'lines: while lines.advance()? {
         let number = lines.line_number();
         let line = lines.line();
-        match is_command(line) {
+        match is_command(line, false) {
             Ok(false) => {}
             Ok(true) => match put_line(alloc, writer, settings, streams, number, line) {
                 Ok(found) => first = first_of(first, found),

@@ -62,7 +62,7 @@ pub extern "C" fn taprio_check(
     ran: &mut Ran,
 )
     ensures { (tell : Teller) → IsTeller tell → (read : List (List ℕ) → Result Command TcFault) → IsReader read →
-        Answers (told_by (λ ps. whole_check tell (is_wanted windows) ps read schedules.now) (rate_at rate)) ran.new (slices output.old fault.old) (slices output.new fault.new) }
+        Answers (told_by (λ ps. whole_check tell (is_wanted windows) false ps read schedules.now) (rate_at rate)) ran.new (slices output.old fault.old) (slices output.new fault.new) }
 {
     let windows = is_wanted(windows);
     *ran = check_octets(&alloc, rate, windows, schedules, output, fault);

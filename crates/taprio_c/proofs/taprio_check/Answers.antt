@@ -6,5 +6,5 @@ use Rattle.taprio_c.proofs.taprio_check.Goals as goal
 
 pub returns : goal.returns
 returns c = λ tell tells read reads.
-    let P : Bool → Type 0 = λ windows. Answers (told_by (λ ps. whole_check tell windows ps read c.args.schedules.now) (rate_at c.args.rate)) c.check_octets.result (slices c.args.output.now c.args.fault.now) (slices c.check_octets.new.output c.check_octets.new.fault) in
+    let P : Bool → Type 0 = λ windows. Answers (told_by (λ ps. whole_check tell windows false ps read c.args.schedules.now) (rate_at c.args.rate)) c.check_octets.result (slices c.args.output.now c.args.fault.now) (slices c.check_octets.new.output c.check_octets.new.fault) in
     subst P c.is_wanted-windows.ensures (c.check_octets.ensures tell tells read reads)

@@ -8,7 +8,7 @@ use Rattle.schedule_check.proofs.checking.check.Goals as goal
 pub returns-in_err-lines : goal.returns-in_err-lines
 returns-in_err-lines g c = λ tell tells read is.
     let p = err_from_is_err_and c.from_residual.result c.from_residual.ensures.1 in
-    memory_exit {T = Unit {0}} (checked_of read (verdict_lines tell c.args.settings)) _ _ (p.1 ∙ ap Err p.2)
+    memory_exit {T = Unit {0}} (checked_of c.args.settings.script read (verdict_lines tell c.args.settings)) _ _ (p.1 ∙ ap Err p.2)
 
 pub returns : goal.returns
-returns g c = λ tell tells read is. of_input long_line (checked read (verdict_lines tell c.args.settings)) _ tt _ _ (g.R.Read.remaining c.args.reader) _ c.in_ok-lines.ensures.left (c.check_lines.ensures tell tells read is)
+returns g c = λ tell tells read is. of_input long_line (checked c.args.settings.script read (verdict_lines tell c.args.settings)) _ tt _ _ (g.R.Read.remaining c.args.reader) _ c.in_ok-lines.ensures.left (c.check_lines.ensures tell tells read is)

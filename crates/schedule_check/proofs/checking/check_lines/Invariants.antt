@@ -6,7 +6,7 @@ use Rattle.schedule_check.proofs.LineLaws.{checked}
 use Rattle.schedule_check.proofs.checking.check_lines.Given as goal
 
 abbrev pub invariant-lines : goal.invariant-lines
-invariant-lines g l = (tell : Teller) → IsTeller tell → (read : List (List ℕ) → Result Command TcFault) → IsReader read → Goes long_line (checked read (verdict_lines tell l.settings)) tt (script_left g.R.Read.remaining l.fn.lines) (g.W.Write.contents l.fn.writer) (g.W.Write.contents l.writer) tt (script_left g.R.Read.remaining l.lines)
+invariant-lines g l = (tell : Teller) → IsTeller tell → (read : List (List ℕ) → Result Command TcFault) → IsReader read → Goes long_line (checked l.settings.script read (verdict_lines tell l.settings)) tt (script_left g.R.Read.remaining l.fn.lines) (g.W.Write.contents l.fn.writer) (g.W.Write.contents l.writer) tt (script_left g.R.Read.remaining l.lines)
 
 abbrev pub decreases-lines : goal.decreases-lines
 decreases-lines g l = most_lines l.lines

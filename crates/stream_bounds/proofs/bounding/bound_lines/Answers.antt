@@ -16,13 +16,13 @@ lines-init g c = λ read is. begun schedules_limited (bounded read c.args.settin
 
 pub lines-preserved : goal.lines-preserved
 lines-preserved g c = λ read is.
-    let e : is_command (words_of c.advance.new.self.line.items) ≡ Ok false = cc in
+    let e : is_command false (words_of c.advance.new.self.line.items) ≡ Ok false = cc in
     let a = rw c.if-branch.true at c.in_ok-advance.ensures.line in
     goes_past schedules_limited (bounded read c.args.settings.now c.args.streams.now) _ _ None c.lines.first _ _ c.lines.first _ _ _ (c.lines.invariant read is) a (skipped read c.args.settings.now c.args.streams.now (current_number c.advance.new.self) c.advance.new.self.line.items c.lines.first e)
 
 pub lines-preserved-in-Ok : goal.lines-preserved-in-Ok
 lines-preserved-in-Ok g c = λ read is.
-    let e : is_command (words_of c.advance.new.self.line.items) ≡ Ok true = cc in
+    let e : is_command false (words_of c.advance.new.self.line.items) ≡ Ok true = cc in
     let a = rw c.if-branch.true at c.in_ok-advance.ensures.line in
     let s = c.args.settings.now in
     let streams = c.args.streams.now in
@@ -35,7 +35,7 @@ lines-preserved-in-Ok g c = λ read is.
 
 pub returns-in-Err-put_line : goal.returns-in-Err-put_line
 returns-in-Err-put_line g c = λ read is.
-    let e : is_command (words_of c.advance.new.self.line.items) ≡ Ok true = cc in
+    let e : is_command false (words_of c.advance.new.self.line.items) ≡ Ok true = cc in
     let a = rw c.if-branch.true at c.in_ok-advance.ensures.line in
     let s = c.args.settings.now in
     let streams = c.args.streams.now in
@@ -51,7 +51,7 @@ returns-in_err-advance g c = λ read is.
 
 pub returns-in-Err : goal.returns-in-Err
 returns-in-Err g c = λ read is.
-    let e : is_command (words_of c.advance.new.self.line.items) ≡ Err c.in-Err.fault = cc in
+    let e : is_command false (words_of c.advance.new.self.line.items) ≡ Err c.in-Err.fault = cc in
     let a = rw c.if-branch.true at c.in_ok-advance.ensures.line in
     goes_wrong schedules_limited (bounded read c.args.settings.now c.args.streams.now) _ _ None c.lines.first _ _ {T = Unit {0}} (Inputs.Schedules _ c.in-Err.fault) _ _ _ (c.lines.invariant read is) a (wrong read c.args.settings.now c.args.streams.now (current_number c.advance.new.self) c.advance.new.self.line.items c.lines.first c.in-Err.fault e) (ap Err c.fault_here.ensures)
 
