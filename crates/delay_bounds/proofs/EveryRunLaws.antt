@@ -6,7 +6,8 @@ use Rattle.abstract_port.specs.declared.Start.{Start}
 use Rattle.separation.specs.Traffic.{Came}
 use Rattle.delay_bounds.proofs.DropLaws.{drops_law}
 use Rattle.delay_bounds.proofs.WaitLaws.{step_is, told_next, bounds_law}
-use Rattle.delay_bounds.specs.Bounds.{coming, AreComing, bound_at, IsWithin, AllWithin, EveryRunLaw, offsets_of, Track, earliest, flow_at, step, told}
+use Rattle.delay_bounds.specs.Claim.{coming, AreComing, bound_at, IsWithin, AllWithin, offsets_of, earliest, flow_at}
+use Rattle.delay_bounds.specs.Bounds.{EveryRunLaw, Track, step, told}
 use Rattle.delay_bounds.proofs.Words.{coming_on, told_first}
 use Rattle.delay_bounds.specs.Waits.{AreAllTold, HaveWaited}
 use Rattle.delay_bounds.specs.Walk.{may_by, begun}

@@ -15,7 +15,8 @@ use Rattle.separation.specs.Served.{IsFirst, AreServed}
 use Rattle.separation.specs.Traffic.{Came, queued_in, starts_of_class}
 use Rattle.delay_bounds.proofs.GateLaws.{may_since, same_gates}
 use Rattle.delay_bounds.proofs.WaitLaws.{step_is, has_step, told_next, first_is, first_since}
-use Rattle.delay_bounds.specs.Bounds.{coming, offsets_of, Track, earliest, flow_at, step, told}
+use Rattle.delay_bounds.specs.Claim.{coming, offsets_of, earliest, flow_at}
+use Rattle.delay_bounds.specs.Bounds.{Track, step, told}
 use Rattle.delay_bounds.proofs.Words.{coming_on}
 use Rattle.delay_bounds.specs.Less.{AreLess, AreInTime, LessLaw}
 use Rattle.delay_bounds.specs.Walk.{begun}
