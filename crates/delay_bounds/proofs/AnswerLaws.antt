@@ -13,9 +13,9 @@ use Rattle.delay_bounds.specs.declared.bounding.Look.{Look}
 use Rattle.delay_bounds.specs.declared.bounding.Look.TheVariants as Looks
 use Rattle.delay_bounds.specs.declared.line.Stop.{Stop}
 use Rattle.delay_bounds.specs.declared.line.Stop.TheVariants as Stops
-use Rattle.delay_bounds.specs.Bounded.{IsByPlan, IsUnbound, unbound_by}
+use Rattle.delay_bounds.specs.Bounded.{Answer, IsByPlan, IsUnbound, unbound_by}
 use Rattle.delay_bounds.specs.Bounds.{Track, arrives, first_fit}
-use Rattle.delay_bounds.specs.Claim.{Answer, IsFlow, earliest, flow_at, offsets_of}
+use Rattle.delay_bounds.specs.Claim.{IsFlow, earliest, flow_at, offsets_of}
 use Rattle.delay_bounds.specs.ForEver.{counting}
 use Rattle.delay_bounds.specs.Line.{Standing, before_any}
 use Rattle.delay_bounds.specs.Noted.{noted, unseen}

@@ -10,7 +10,7 @@ use Rattle.delay_bounds.specs.Walk.{after}
 use Rattle.delay_bounds.proofs.WaitLaws.{coming_first, has_step, step_is, told_next}
 use Rattle.delay_bounds.specs.ForEver.{counts_from, counting}
 use Rattle.delay_bounds.proofs.MomentLaws.{some_least}
-use Rattle.delay_bounds.proofs.Words.{after_on, coming_on, step_from}
+use Rattle.delay_bounds.proofs.Words.{after_on, coming_on, step_from, told_first}
 use Rattle.delay_bounds.specs.declared.Flow.{Flow}
 use Rattle.delay_bounds.specs.declared.Told.{Told}
 
@@ -60,6 +60,11 @@ module _ (may : ℕ → ℕ → Bool) (cycle room : ℕ) (flows : List Flow) whe
       let rest = goes_ever n first.0.1 (λ m. subst IsSome (told_next may cycle room flows s first.0 m first.1) (tells (suc m))) in
       (rest.0, ap (after_on (after may cycle room flows n)) first.1 ∙ rest.1, rest.2, rest.3)
 
+  -- what is told first is what the step tells
+  pub first_told : (s : Track) (r : Told × Track) → step may cycle room flows s ≡ Some r → told may cycle room flows 0 s ≡ Some r.0
+  unfolding told
+  first_told s r e = ap told_first e
+
 -- ---- when frames come
 
 -- the first of moments stands at its place
@@ -94,6 +99,24 @@ counting_nexts s = go (earliest s.nexts)
     go : (o : Option (ℕ × ℕ)) → (counts_from o s).nexts ≡ s.nexts
     go None = refl
     go (Some e) = refl
+
+-- what comes first of what comes
+pub record ComesFirst (flows : List Flow) (n : ℕ) (nexts : List ℕ) (e : ℕ × ℕ) (more : List (ℕ × ℕ)) : Type 0 where
+  pub count : ℕ
+  pub first : earliest nexts ≡ Some e
+  pub behind : more ≡ coming flows count (set nexts e.1 (e.0 + (flow_at flows e.1).period))
+
+pub next_is : (flows : List Flow) (n : ℕ) (nexts : List ℕ) (e : ℕ × ℕ) (more : List (ℕ × ℕ)) → e ∷ more ≡ coming flows n nexts → ComesFirst flows n nexts e more
+unfolding coming
+next_is flows zero nexts e more is = absurd (cc)
+next_is flows (suc n) nexts e more is = go (earliest nexts) refl is
+  where
+    go : (o : Option (ℕ × ℕ)) → earliest nexts ≡ o → e ∷ more ≡ coming_on (coming flows n) flows nexts o → ComesFirst flows (suc n) nexts e more
+    go None f z = absurd (cc)
+    go (Some d) f z =
+        let same : d ≡ e = cc in
+        let rest : more ≡ coming flows n (set nexts d.1 (d.0 + (flow_at flows d.1).period)) = cc in
+        record { count = n; first = f ∙ ap Some same; behind = rest ∙ ap (λ (x : ℕ × ℕ). coming flows n (set nexts x.1 (x.0 + (flow_at flows x.1).period))) same }
 
 -- when the next frame of each flow comes, behind one frame and behind so many
 abbrev pub next_behind : List Flow → List ℕ → ℕ × ℕ → List ℕ

@@ -3,9 +3,9 @@ use Rattle.std.proofs.Common.{◌≡◌, ◌<◌, ◌≤◌, ◌%◌, ℕ, zero,
 use Rattle.std.specs.Prelude.{nat_lt, nat_le}
 use Rattle.std.proofs.lemmas.List.Elements.{All-head, All-tail}
 use Rattle.gate_list.specs.Gate.{Plan, in_ps}
-use Rattle.delay_bounds.specs.Claim.{earliest, flow_at, offsets_of, Answer}
+use Rattle.delay_bounds.specs.Claim.{earliest, flow_at, offsets_of}
 use Rattle.delay_bounds.specs.Bounds.{Track, arrives}
-use Rattle.delay_bounds.specs.Bounded.{is_from_here, unbound_by}
+use Rattle.delay_bounds.specs.Bounded.{Answer, is_from_here, unbound_by}
 use Rattle.delay_bounds.specs.ForEver.{counting, later}
 use Rattle.delay_bounds.specs.Line.{Standing, before_any, when_come}
 use Rattle.wire_time.specs.Moment.{greatest_moment}

@@ -9,13 +9,14 @@ use Rattle.gate_list.specs.Open.{open_while}
 use Rattle.wire_time.specs.declared.TheConstants.{MIN_PS_PER_OCTET, MIN_MTU}
 use Rattle.gate_list.specs.Gate.{Plan, in_ps, mask_since}
 use Rattle.list_config.specs.History.{Accepted}
+use Rattle.abstract_port.specs.declared.Start.{Start}
 use Rattle.abstract_port.specs.declared.Event.{Event}
 use Rattle.abstract_port.specs.AbstractPort.{new_port}
 use Rattle.abstract_port.specs.Answers.{answers_of}
 use Rattle.abstract_port.specs.Laws.{starts_in}
 use Rattle.separation.specs.Separation.{IsKeptApart}
-use Rattle.separation.specs.Traffic.{IsOnly, queued_in, offered_in, starts_of_class}
-use Rattle.delay_bounds.specs.Claim.{offsets_of, earliest, flow_at, coming, AreComing, bound_at, IsWithin, AllWithin}
+use Rattle.separation.specs.Traffic.{Came, IsOnly, queued_in, offered_in, starts_of_class}
+use Rattle.delay_bounds.specs.Claim.{offsets_of, earliest, flow_at, coming, AreComing, bound_at}
 use Rattle.delay_bounds.specs.declared.Flow.{Flow}
 use Rattle.delay_bounds.specs.declared.Told.{Told}
 use Rattle.delay_bounds.specs.declared.Bound.{Bound}
@@ -58,11 +59,22 @@ told may cycle room flows (suc n) s = option_and_then (λ r. told may cycle room
 abbrev pub told_by : Plan → ℕ → ℕ → List Flow → ℕ → Option Told
 told_by plan class room flows n = told (open_while (mask_since (Some plan) 0 None) class) (in_ps plan.cycle) room flows n (record { nexts = offsets_of flows; free = 0; starts = [] })
 
+-- a wait lies within bounds
+pub record IsWithin (b : Bound) (wait : ℕ) : Type 0 where
+  pub least : b.least ≤ wait
+  pub greatest : wait ≤ b.greatest
+
 -- The bounds of flows, by a plan alone: for ever, every frame starts and waits within those of its flow, and each of them is reached.
 pub record AreBounds (plan : Plan) (class room : ℕ) (flows : List Flow) (bounds : List Bound) : Type 0 where
   pub always : (n : ℕ) → (t : Told) × (told_by plan class room flows n ≡ Some t) × IsWithin (bound_at bounds t.place) t.wait
   pub least : (place : ℕ) → place < length flows → (n : ℕ) × (t : Told) × (told_by plan class room flows n ≡ Some t) × (t.place ≡ place) × (t.wait ≡ (bound_at bounds place).least)
   pub greatest : (place : ℕ) → place < length flows → (n : ℕ) × (t : Told) × (told_by plan class room flows n ≡ Some t) × (t.place ≡ place) × (t.wait ≡ (bound_at bounds place).greatest)
+
+-- Frames that came, of these places, and started: each within the bounds of its flow.
+abbrev pub AllWithin : List Bound → List (ℕ × ℕ) → List Came → List Start → Type 0
+AllWithin bounds more came [] = Unit {0}
+AllWithin bounds (e ∷ more) (f ∷ came) (x ∷ starts) = ((wait : ℕ) × (x.at ≡ f.moment + wait) × IsWithin (bound_at bounds e.1) wait) × AllWithin bounds more came starts
+AllWithin bounds _ _ (x ∷ starts) = ⊥
 
 -- In a run: all frames that the queue of the class is offered it takes, and each that starts does so within the bounds of its flow.
 pub record IsBounded (ps mtu room class : ℕ) (events : List Event) (frames : List (ℕ × ℕ)) (bounds : List Bound) : Type 0 where

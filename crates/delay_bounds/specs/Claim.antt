@@ -76,66 +76,50 @@ pub record IsRun (ps mtu room class : ℕ) (plan : Plan) (flows : List Flow) (n 
   pub apart : IsKeptApart class events (new_port ps mtu room)
   pub come : AreComing ps command.change flows (coming flows n (offsets_of flows)) (offered_in class events (new_port ps mtu room))
 
--- In every run this holds of the number of frames, of those that the queue is offered and those that it takes, and of their starts.
-abbrev pub InEveryRun : Plan → ℕ → ℕ → List Flow → (ℕ → List Came → List Came → List Start → Type 0) → Type 0
-InEveryRun plan class room flows P =
-    (ps mtu n : ℕ) (events : List Event) → IsRun ps mtu room class plan flows n events
-    → P n (offered_in class events (new_port ps mtu room)) (queued_in class events (new_port ps mtu room)) (starts_of_class class (starts_in (answers_of events (new_port ps mtu room))))
-
--- 3. What an answer is worth
-
 -- the bounds of the flow at a place
 abbrev pub bound_at : List Bound → ℕ → Bound
 bound_at bounds place = slice_index_or bounds place (record { least = 0; greatest = 0 })
 
--- a wait lies within bounds
-pub record IsWithin (b : Bound) (wait : ℕ) : Type 0 where
-  pub least : b.least ≤ wait
-  pub greatest : wait ≤ b.greatest
+module _ (plan : Plan) (class room : ℕ) (flows : List Flow) where
+  -- In every run this holds of the number of frames, of those that the queue is offered and those that it takes, and of their starts.
+  abbrev pub InEveryRun : (ℕ → List Came → List Came → List Start → Type 0) → Type 0
+  InEveryRun P =
+      (ps mtu n : ℕ) (events : List Event) → IsRun ps mtu room class plan flows n events
+      → P n (offered_in class events (new_port ps mtu room)) (queued_in class events (new_port ps mtu room)) (starts_of_class class (starts_in (answers_of events (new_port ps mtu room))))
 
--- Frames that came, of these places, and started: each within the bounds of its flow.
-abbrev pub AllWithin : List Bound → List (ℕ × ℕ) → List Came → List Start → Type 0
-AllWithin bounds more came [] = Unit {0}
-AllWithin bounds (e ∷ more) (f ∷ came) (x ∷ starts) = ((wait : ℕ) × (x.at ≡ f.moment + wait) × IsWithin (bound_at bounds e.1) wait) × AllWithin bounds more came starts
-AllWithin bounds _ _ (x ∷ starts) = ⊥
+  -- 3. What an answer is worth
 
--- a frame of the flow at a place waits for so long, in every run in which it starts
-abbrev pub IsWait : Plan → ℕ → ℕ → List Flow → ℕ → ℕ → Type 0
-IsWait plan class room flows place wait =
-    (k moment : ℕ) × IsFrame flows k place moment
-    × InEveryRun plan class room flows (λ n offered queued starts. (f : Came) (x : Start) → slice_get queued k ≡ Some f → slice_get starts k ≡ Some x → x.at ≡ f.moment + wait)
+  -- in every run the frame that is taken behind so many others has waited for so long, if it has started
+  abbrev pub Waits : ℕ → ℕ → Type 0
+  Waits k wait = InEveryRun (λ n offered queued starts. (f : Came) (x : Start) → slice_get queued k ≡ Some f → slice_get starts k ≡ Some x → x.at ≡ f.moment + wait)
 
--- In every run no frame is dropped, and each that starts has waited within its flow's bounds, the least and the greatest of which are waits.
-pub record AreExact (plan : Plan) (class room : ℕ) (flows : List Flow) (bounds : List Bound) : Type 0 where
-  pub always : InEveryRun plan class room flows (λ n offered queued starts. (queued ≡ offered) × AllWithin bounds (coming flows n (offsets_of flows)) queued starts)
-  pub least : (place : ℕ) → place < length flows → IsWait plan class room flows place (bound_at bounds place).least
-  pub greatest : (place : ℕ) → place < length flows → IsWait plan class room flows place (bound_at bounds place).greatest
+  -- a frame of the flow at a place waits for so long
+  abbrev pub IsWait : ℕ → ℕ → Type 0
+  IsWait place wait = (k moment : ℕ) × IsFrame flows k place moment × Waits k wait
 
--- the frame behind so many others is this one; in every run up to it, it is dropped, and none before it
-abbrev pub IsFirstDropped : Plan → ℕ → ℕ → List Flow → ℕ → ℕ → ℕ → Type 0
-IsFirstDropped plan class room flows k place moment =
-    IsFrame flows k place moment × InEveryRun plan class room flows (λ n offered queued starts. length offered ≤ k + 1 → queued ≡ take k offered)
+  -- No frame is dropped; each waits within its flow's bounds, for as long in every run; and the least and the greatest of each flow are reached.
+  pub record AreExact (bounds : List Bound) : Type 0 where
+    pub taken : InEveryRun (λ n offered queued starts. (queued ≡ offered) × (length starts ≤ length queued))
+    pub within : (k place moment : ℕ) → IsFrame flows k place moment → (wait : ℕ) × ((bound_at bounds place).least ≤ wait) × (wait ≤ (bound_at bounds place).greatest) × Waits k wait
+    pub reached : (place : ℕ) → place < length flows → IsWait place (bound_at bounds place).least × IsWait place (bound_at bounds place).greatest
 
--- the frame behind so many others is this one; in no run it starts, nor does any behind it
-abbrev pub NeverStarts : Plan → ℕ → ℕ → List Flow → ℕ → ℕ → ℕ → Type 0
-NeverStarts plan class room flows k place moment = IsFrame flows k place moment × InEveryRun plan class room flows (λ n offered queued starts. length starts ≤ k)
+  -- the frame behind so many others is this one; in every run up to it, it is dropped, and none before it
+  abbrev pub IsFirstDropped : ℕ → ℕ → ℕ → Type 0
+  IsFirstDropped k place moment = IsFrame flows k place moment × InEveryRun (λ n offered queued starts. length offered ≤ k + 1 → queued ≡ take k offered)
 
--- the bounds of each flow, the greatest number of frames that wait at once, and how many frames come in how long
-pub record Answer : Type 0 where
-  pub bounds : List Bound
-  pub most : ℕ
-  pub frames : ℕ
-  pub every : ℕ
+  -- the frame behind so many others is this one; in no run does it start, nor any behind it
+  abbrev pub NeverStarts : ℕ → ℕ → ℕ → Type 0
+  NeverStarts k place moment = IsFrame flows k place moment × InEveryRun (λ n offered queued starts. length starts ≤ k)
 
-abbrev pub IsWorth : Plan → ℕ → ℕ → List Flow → Result Answer Unbound → Type 0
-IsWorth plan class room flows (Ok a) = AreExact plan class room flows a.bounds
-IsWorth plan class room flows (Err (Full f)) = IsFirstDropped plan class room flows f.earlier f.place f.moment
-IsWorth plan class room flows (Err (Never f refused)) =
-    NeverStarts plan class room flows f.earlier f.place f.moment × IfSome refused (λ r. (k : ℕ) × IsFirstDropped plan class room flows k r.place r.moment)
-IsWorth plan class room flows (Err why) = Unit {0}
+  -- bounds, or why there are none
+  abbrev pub IsWorth : Result (List Bound) Unbound → Type 0
+  IsWorth (Ok bounds) = AreExact bounds
+  IsWorth (Err (Full f)) = IsFirstDropped f.earlier f.place f.moment
+  IsWorth (Err (Never f refused)) = NeverStarts f.earlier f.place f.moment × IfSome refused (λ r. (k : ℕ) × IsFirstDropped k r.place r.moment)
+  IsWorth (Err why) = Unit {0}
 
 -- The law: what is answered about flows, by a walk over so many of their frames at most, is worth this.
-abbrev pub AnswerLaw : (Plan → ℕ → ℕ → List Flow → ℕ → Result Answer Unbound) → Type 0
+abbrev pub AnswerLaw : (Plan → ℕ → ℕ → List Flow → ℕ → Result (List Bound) Unbound) → Type 0
 AnswerLaw answer =
     (plan : Plan) (class room limit : ℕ) (flows : List Flow) → IsSchedule plan → class < 8 → 0 < length flows → All IsFlow flows
     → IsWorth plan class room flows (answer plan class room flows limit)

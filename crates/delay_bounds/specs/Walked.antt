@@ -3,9 +3,9 @@ use Rattle.std.specs.Prelude.{ℕ, ◌<◌, All, ◌+◌, ◌-◌, ◌%◌, ◌=
 use Rattle.std.specs.Option.{option_map_or}
 use Rattle.wire_time.specs.Moment.{greatest_moment}
 use Rattle.gate_list.specs.Gate.{Plan, IsSchedule, in_ps}
-use Rattle.delay_bounds.specs.Claim.{Answer, IsFlow, earliest, flow_at, offsets_of}
+use Rattle.delay_bounds.specs.Claim.{IsFlow, earliest, flow_at, offsets_of}
 use Rattle.delay_bounds.specs.Bounds.{Track, arrives, first_fit}
-use Rattle.delay_bounds.specs.Bounded.{IsByPlan, unbound_by}
+use Rattle.delay_bounds.specs.Bounded.{Answer, IsByPlan, told_bounds, unbound_by}
 use Rattle.delay_bounds.specs.ForEver.{counting}
 use Rattle.delay_bounds.specs.Noted.{noted, unseen}
 use Rattle.delay_bounds.specs.Stuck.{before_of, first_refused}
@@ -123,6 +123,10 @@ starting flows = record {
 -- the answer about the flows of a class in a plan, by a walk over so many frames at most: their bounds, or why they have none
 abbrev pub answer_of : Plan → ℕ → ℕ → List Flow → ℕ → Result Answer Unbound
 answer_of plan class room flows limit = walked plan class room flows limit (starting flows)
+
+-- the bounds that are answered, or why there are none
+abbrev pub bounds_answered : Plan → ℕ → ℕ → List Flow → ℕ → Result (List Bound) Unbound
+bounds_answered plan class room flows limit = told_bounds (answer_of plan class room flows limit)
 
 -- The law: what is answered says this of the plan alone.
 abbrev pub PlanLaw : Type 0

@@ -6,11 +6,11 @@ ghost use Rattle.delay_bounds.specs.Full.{FullLaw};
 ghost use Rattle.delay_bounds.specs.Less.{LessLaw};
 ghost use Rattle.delay_bounds.specs.Never.{NeverLaw, StuckLaw};
 ghost use Rattle.delay_bounds.specs.Waits.{BoundsLaw, DropsLaw};
-ghost use Rattle.delay_bounds.specs.Walked.{PlanLaw, answer_of};
+ghost use Rattle.delay_bounds.specs.Walked.{PlanLaw, bounds_answered};
 
 /// What `bound_flows` answers is worth this in every run, whatever the other classes send: the whole claim (specs/Claim.antt).
 pub fn answers()
-    ensures { AnswerLaw answer_of }
+    ensures { AnswerLaw bounds_answered }
 {}
 
 /// What `bound_flows` answers says this of the plan alone.

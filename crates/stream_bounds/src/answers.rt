@@ -5,7 +5,7 @@ ghost use Rattle.abstract_port.specs.AbstractPort.{plan_asked};
 ghost use Rattle.gate_list.specs.Gate.{plan_fault};
 ghost use Rattle.job.specs.declared.fault.Fault.TheVariants as Faults;
 ghost use Rattle.wire_time.specs.declared.TheConstants.{CLASSES};
-ghost use Rattle.delay_bounds.specs.Claim.{Answer};
+ghost use Rattle.delay_bounds.specs.Bounded.{Answer};
 ghost use Rattle.delay_bounds.specs.Walked.{answer_of};
 ghost use Rattle.stream_bounds.specs.Classes.{IsPeriodic, ids_of};
 ghost use Rattle.stream_bounds.specs.Reading.{IsAnswered};
