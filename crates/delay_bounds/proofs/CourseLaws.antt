@@ -8,20 +8,22 @@ use Rattle.delay_bounds.specs.declared.Bound.{Bound}
 use Rattle.delay_bounds.specs.declared.Flow.{Flow}
 use Rattle.delay_bounds.specs.declared.Refused.{Refused}
 use Rattle.delay_bounds.specs.declared.Told.{Told}
-use Rattle.delay_bounds.specs.Bounds.{earlier, Track, offsets_of, earliest, from_on, first_fit, flow_at, arrives, step, told}
+use Rattle.delay_bounds.specs.Claim.{offsets_of, earliest, flow_at}
+use Rattle.delay_bounds.specs.Bounds.{Track, from_on, first_fit, arrives, step, told}
 use Rattle.delay_bounds.specs.Walk.{may_by, begun, after}
 use Rattle.delay_bounds.proofs.Words.{starts_at, step_from, told_first, after_on}
 use Rattle.delay_bounds.specs.Line.{Standing, before_any, when_come}
 use Rattle.delay_bounds.specs.ForEver.{later, counts_from, counting}
 use Rattle.delay_bounds.specs.Noted.{unseen, noted}
+use Rattle.delay_bounds.specs.Stuck.{first_refused}
 use Rattle.delay_bounds.specs.Bounded.{unbound_by, ComesAt, IsNext, IsUnbound}
 use Rattle.delay_bounds.specs.declared.bounding.Mark.{Mark}
 use Rattle.delay_bounds.specs.declared.line.Stop.{Stop}
 use Rattle.delay_bounds.specs.declared.line.Stop.TheVariants as Stops
 use Rattle.delay_bounds.proofs.WalkLaws.{told_after}
 use Rattle.delay_bounds.proofs.WaitLaws.{step_is}
-use Rattle.delay_bounds.proofs.FullLaws.{after_step, after_none}
-use Rattle.delay_bounds.proofs.SeenLaws.{has_next, AreSeen, IsBack, none_seen, one_seen, length_kept, counting_nexts}
+use Rattle.delay_bounds.proofs.StepLaws.{after_step, after_none, counting_nexts, first_of, has_next}
+use Rattle.delay_bounds.proofs.SeenLaws.{AreSeen, IsBack, none_seen, one_seen, length_kept}
 
 -- where a walk stood when a frame came
 pub record IsMarked (plan : Plan) (class room : ℕ) (flows : List Flow) (first since : ℕ) (base : Standing) : Type 0 where
@@ -70,31 +72,6 @@ counted : (s : Track) (e : ℕ × ℕ) → earliest s.nexts ≡ Some e → count
 counted s e next = ap (λ o. counts_from o s) next
 
 -- ---- when frames come
-
--- the first of moments stands at its place
-first_of : (xs : List ℕ) (e : ℕ × ℕ) → earliest xs ≡ Some e → (e.1 < length xs) × (get_or xs e.1 0 ≡ e.0)
-unfolding earliest
-first_of [] e h = absurd (cc)
-first_of (x ∷ xs) e h = go (earliest xs) refl h (first_of xs)
-  where
-    here : (x, 0) ≡ e → (e.1 < suc (length xs)) × (get_or (x ∷ xs) e.1 0 ≡ e.0)
-    here is = subst (λ (y : ℕ × ℕ). (y.1 < suc (length xs)) × (get_or (x ∷ xs) y.1 0 ≡ y.0)) is ((let less : 0 < suc (length xs) = omega arith in less), refl)
-
-    behind : (u : ℕ × ℕ) → (u.1 < length xs) × (get_or xs u.1 0 ≡ u.0) → (u.0, u.1 + 1) ≡ e → (e.1 < suc (length xs)) × (get_or (x ∷ xs) e.1 0 ≡ e.0)
-    behind u rest same =
-        let less = rest.0 in
-        let at : suc u.1 ≡ u.1 + 1 = omega arith in
-        subst (λ (y : ℕ × ℕ). (y.1 < suc (length xs)) × (get_or (x ∷ xs) y.1 0 ≡ y.0)) same
-        ((let within : u.1 + 1 < suc (length xs) = omega arith in within), ap (λ i. get_or (x ∷ xs) i 0) (sym at) ∙ rest.1)
-
-    go : (o : Option (ℕ × ℕ)) → earliest xs ≡ o → Some (earlier x o) ≡ Some e → ((u : ℕ × ℕ) → earliest xs ≡ Some u → (u.1 < length xs) × (get_or xs u.1 0 ≡ u.0))
-        → (e.1 < suc (length xs)) × (get_or (x ∷ xs) e.1 0 ≡ e.0)
-    go None is same rest = here (same_Some (x, 0) e same)
-    go (Some u) is same rest = by (leb x u.0) (same_Some (earlier x (Some u)) e same)
-      where
-        by : (b : Bool) → cond b (x, 0) (u.0, u.1 + 1) ≡ e → (e.1 < suc (length xs)) × (get_or (x ∷ xs) e.1 0 ≡ e.0)
-        by true z = here z
-        by false z = behind u (rest u is) z
 
 -- at these moments frames of the flows come
 abbrev pub AreTurns : List Flow → List ℕ → Type 0
@@ -250,12 +227,12 @@ module _ (plan : Plan) (class room : ℕ) (flows : List Flow) where
         (step_is (may_by plan class) (in_ps plan.cycle) room flows line.track e (told, now) next stepped).place
 
     -- why it stops
-    pub stops : (t place before : ℕ) (stop : Stop) (refused : Option Refused) → earliest line.track.nexts ≡ Some (t, place) → t ≡ (flow_at flows place).offset + (flow_at flows place).period * before
+    pub stops : (t place before : ℕ) (stop : Stop) (refused : Option Refused) → refused ≡ first_refused room flows (counting line.track) → earliest line.track.nexts ≡ Some (t, place) → t ≡ (flow_at flows place).offset + (flow_at flows place).period * before
         → (stop ≡ Stops.Full → line.room ≤ length (counting line.track).starts) → (line.room ≤ length (counting line.track).starts → stop ≡ Stops.Full)
         → (stop ≡ Stops.Late → greatest_moment < max t (counting line.track).free)
         → (stop ≡ Stops.Never → first_fit (may_by plan class) (flow_at flows place).need (max t (counting line.track).free) (in_ps plan.cycle) ≡ None)
         → IsUnbound plan class room flows limit (unbound_by stop (record { place = place; before = before; earlier = frames; moment = t }) refused)
-    stops t place before stop refused next turn full not_full late never = go stop full not_full late never
+    stops t place before stop refused is_refused next turn full not_full late never = go stop full not_full late never
       where
         is_next : IsNext plan class room flows (record { place = place; before = before; earlier = frames; moment = t }) line.track
         is_next = record { there = h.there; next = next; before = turn }
@@ -279,7 +256,7 @@ module _ (plan : Plan) (class room : ℕ) (flows : List Flow) where
         go Stops.Full f b l n = (line.track, is_next, (let many = f refl in let same = ap length starts_are in let is = h.room_is in omega arith))
         go Stops.Never f b l n =
             let most : max t (counting line.track).free ≡ max t line.track.free = (let same = free_is in omega arith) in
-            (line.track, is_next, has_room Stops.Never (λ e. cc) b, ap (λ m. first_fit (may_by plan class) (flow_at flows place).need m (in_ps plan.cycle)) (sym most) ∙ n refl)
+            (line.track, is_next, has_room Stops.Never (λ e. cc) b, ap (λ m. first_fit (may_by plan class) (flow_at flows place).need m (in_ps plan.cycle)) (sym most) ∙ n refl, is_refused)
         go Stops.Late f b l n =
             let past = l refl in
             let same = free_is in
@@ -331,13 +308,14 @@ module _ (plan : Plan) (class room : ℕ) (flows : List Flow) where
         let m = marks b place old here mark come there mark_is there_is was_earlier was_since now_earlier (next ∙ ap (λ (k : ℕ). Some (k, place)) (sym now_since)) come_is in
         goes_on t place told now mark.earlier mark.since there more next (told_come t place f told now.track come come_is f_is is) small (same ∙ ap (λ (l : Standing). l.room) come_is) m.0 m.1 within
 
-    pub stops_come : (t place before : ℕ) (f : Flow) (stop : Stop) (refused : Option Refused) (come : Standing) → earliest line.track.nexts ≡ Some (t, place) → t ≡ f.offset + f.period * before → come ≡ when_come line → f ≡ flow_at flows place
+    pub stops_come : (t place before : ℕ) (f : Flow) (stop : Stop) (refused : Option Refused) (come : Standing) → refused ≡ first_refused come.room flows come.track → earliest line.track.nexts ≡ Some (t, place) → t ≡ f.offset + f.period * before → come ≡ when_come line → f ≡ flow_at flows place
         → (◌≡◌ {A = Result Told Stop} (Err stop) (Err Stops.Full) → come.room ≤ length come.track.starts) × (come.room ≤ length come.track.starts → ◌≡◌ {A = Result Told Stop} (Err stop) (Err Stops.Full))
         → (◌≡◌ {A = Result Told Stop} (Err stop) (Err Stops.Late) → greatest_moment < max t come.track.free)
         → (◌≡◌ {A = Result Told Stop} (Err stop) (Err Stops.Never) → first_fit (may_by plan class) f.need (max t come.track.free) (in_ps plan.cycle) ≡ None)
         → IsUnbound plan class room flows limit (unbound_by stop (record { place = place; before = before; earlier = frames; moment = t }) refused)
-    stops_come t place before f stop refused come next turn come_is f_is full late never =
-        stops t place before stop refused next (turn ∙ ap (λ (x : Flow). x.offset + x.period * before) f_is)
+    stops_come t place before f stop refused come is_refused next turn come_is f_is full late never =
+        stops t place before stop refused
+        (is_refused ∙ (ap (λ (l : Standing). first_refused l.room flows l.track) come_is ∙ ap (λ (r : ℕ). first_refused r flows (counting line.track)) h.room_is)) next (turn ∙ ap (λ (x : Flow). x.offset + x.period * before) f_is)
         (λ e. subst (λ (l : Standing). l.room ≤ length l.track.starts) come_is (full.0 (ap Err e)))
         (λ le. (let e = full.1 (subst (λ (l : Standing). l.room ≤ length l.track.starts) (sym come_is) le) in cc))
         (λ e. subst (λ (l : Standing). greatest_moment < max t l.track.free) come_is (late (ap Err e)))

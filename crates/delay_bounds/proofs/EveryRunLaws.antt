@@ -1,37 +1,19 @@
 -- Bounds of flows hold in every run.
-use Rattle.std.proofs.Common.{IsSome, ◌≡◌, ℕ, zero, suc, ◌+◌, Bool, List, [], ◌∷◌, set, Option, Some, None, refl, sym, ap, ◌∙◌, subst}
+use Rattle.std.proofs.Common.{IsSome, ◌≡◌, ℕ, suc, Bool, List, [], ◌∷◌, Some, refl, sym, ap, ◌∙◌, subst}
 use Rattle.std.proofs.lemmas.Option.{same_Some}
 use Rattle.gate_list.specs.Gate.{in_ps}
 use Rattle.abstract_port.specs.declared.Start.{Start}
 use Rattle.separation.specs.Traffic.{Came}
 use Rattle.delay_bounds.proofs.DropLaws.{drops_law}
+use Rattle.delay_bounds.proofs.StepLaws.{first_told, next_is}
 use Rattle.delay_bounds.proofs.WaitLaws.{step_is, told_next, bounds_law}
-use Rattle.delay_bounds.specs.Bounds.{coming, AreComing, bound_at, IsWithin, AllWithin, EveryRunLaw, offsets_of, Track, earliest, flow_at, step, told}
-use Rattle.delay_bounds.proofs.Words.{coming_on, told_first}
+use Rattle.delay_bounds.specs.Claim.{coming, AreComing, bound_at, offsets_of}
+use Rattle.delay_bounds.specs.Bounds.{IsWithin, AllWithin, EveryRunLaw, Track, step, told}
 use Rattle.delay_bounds.specs.Waits.{AreAllTold, HaveWaited}
 use Rattle.delay_bounds.specs.Walk.{may_by, begun}
 use Rattle.delay_bounds.specs.declared.Bound.{Bound}
 use Rattle.delay_bounds.specs.declared.Flow.{Flow}
 use Rattle.delay_bounds.specs.declared.Told.{Told}
-
--- what is told first is what the step tells
-first_told : (may : ℕ → ℕ → Bool) (cycle room : ℕ) (flows : List Flow) (s : Track) (r : Told × Track) → step may cycle room flows s ≡ Some r → told may cycle room flows 0 s ≡ Some r.0
-unfolding told
-first_told may cycle room flows s r e = ap told_first e
-
--- what comes first of what comes, and what is behind it
-coming_head : (flows : List Flow) (n : ℕ) (nexts : List ℕ) (e : ℕ × ℕ) (more : List (ℕ × ℕ)) → e ∷ more ≡ coming flows n nexts
-    → (k : ℕ) × (earliest nexts ≡ Some e) × (more ≡ coming flows k (set nexts e.1 (e.0 + (flow_at flows e.1).period)))
-unfolding coming
-coming_head flows zero nexts e more is = absurd (cc)
-coming_head flows (suc n) nexts e more is = go (earliest nexts) refl is
-  where
-    go : (o : Option (ℕ × ℕ)) → earliest nexts ≡ o → e ∷ more ≡ coming_on (coming flows n) flows nexts o → (k : ℕ) × (earliest nexts ≡ Some e) × (more ≡ coming flows k (set nexts e.1 (e.0 + (flow_at flows e.1).period)))
-    go None f z = absurd (cc)
-    go (Some d) f z =
-        let same : d ≡ e = cc in
-        let rest : more ≡ coming flows n (set nexts d.1 (d.0 + (flow_at flows d.1).period)) = cc in
-        (n, f ∙ ap Some same, rest ∙ ap (λ (x : ℕ × ℕ). coming flows n (set nexts x.1 (x.0 + (flow_at flows x.1).period))) same)
 
 -- frames that have waited so have waited within bounds
 all_within : (ps change : ℕ) (may : ℕ → ℕ → Bool) (cycle room : ℕ) (flows : List Flow) (bounds : List Bound) (starts : List Start) (came : List Came) (more : List (ℕ × ℕ)) (n : ℕ) (s : Track)
@@ -41,14 +23,14 @@ all_within ps change may cycle room flows bounds [] came more n s tells is c h =
 all_within ps change may cycle room flows bounds (x ∷ starts) [] more n s tells is c h = absurd h
 all_within ps change may cycle room flows bounds (x ∷ starts) (f ∷ came) [] n s tells is c h = c
 all_within ps change may cycle room flows bounds (x ∷ starts) (f ∷ came) (e ∷ more) n s tells is c h =
-    let next = coming_head flows n s.nexts e more is in
+    let next = next_is flows n s.nexts e more is in
     let r = h.0 in
-    let at = step_is may cycle room flows s e r next.1 h.1 in
+    let at = step_is may cycle room flows s e r next.first h.1 in
     let mine = subst (λ k. IsWithin (bound_at bounds k) (r.0).wait) at.place (tells 0 r.0 (first_told may cycle room flows s r h.1)) in (
       ((r.0).wait, h.2, mine),
-      all_within ps change may cycle room flows bounds starts came more next.0 r.1
+      all_within ps change may cycle room flows bounds starts came more next.count r.1
           (λ m t told_later. tells (suc m) t (told_next may cycle room flows s r m h.1 ∙ told_later))
-          (next.2 ∙ ap (coming flows next.0) (sym at.nexts)) c.2 h.3,
+          (next.behind ∙ ap (coming flows next.count) (sym at.nexts)) c.2 h.3,
     )
 
 pub every_run_law : EveryRunLaw

@@ -1,5 +1,5 @@
 -- Sending less starts no frame later.
-use Rattle.std.proofs.Common.{◌≡◌, ◌≤◌, ℕ, zero, suc, ◌+◌, max, List, [], ◌∷◌, set, Option, Some, None, IsSome, inl, inr, refl, sym, ap, ◌∙◌, subst, arith, le_refl}
+use Rattle.std.proofs.Common.{◌≡◌, ◌≤◌, ℕ, suc, ◌+◌, max, List, [], ◌∷◌, IsSome, inl, inr, refl, sym, ap, ◌∙◌, subst, arith, le_refl}
 use Rattle.std.proofs.lemmas.Bool.{cases_lt, both_ways}
 use Rattle.wire_time.specs.Wire.{occupancy_of}
 use Rattle.wire_time.specs.declared.Frame.{Frame}
@@ -14,9 +14,10 @@ use Rattle.separation.proofs.Serving.{served_law}
 use Rattle.separation.specs.Served.{IsFirst, AreServed}
 use Rattle.separation.specs.Traffic.{Came, queued_in, starts_of_class}
 use Rattle.delay_bounds.proofs.GateLaws.{may_since, same_gates}
+use Rattle.delay_bounds.proofs.StepLaws.{next_is}
 use Rattle.delay_bounds.proofs.WaitLaws.{step_is, has_step, told_next, first_is, first_since}
-use Rattle.delay_bounds.specs.Bounds.{coming, offsets_of, Track, earliest, flow_at, step, told}
-use Rattle.delay_bounds.proofs.Words.{coming_on}
+use Rattle.delay_bounds.specs.Claim.{coming, offsets_of, flow_at}
+use Rattle.delay_bounds.specs.Bounds.{Track, step, told}
 use Rattle.delay_bounds.specs.Less.{AreLess, AreInTime, LessLaw}
 use Rattle.delay_bounds.specs.Walk.{begun}
 use Rattle.delay_bounds.specs.declared.Flow.{Flow}
@@ -30,24 +31,6 @@ first_rises h class d e t u s v shorter sooner a b =
           absurd (both_ways _ (a.least v (omega arith) before) (open_within (gates h) class v e v d b.fits (le_refl v) (omega arith)))
       | inr after ↦ after
     ]
-
--- what comes first of what comes
-record IsNext (flows : List Flow) (n : ℕ) (nexts : List ℕ) (e : ℕ × ℕ) (more : List (ℕ × ℕ)) : Type 0 where
-  count : ℕ
-  first : earliest nexts ≡ Some e
-  behind : more ≡ coming flows count (set nexts e.1 (e.0 + (flow_at flows e.1).period))
-
-next_is : (flows : List Flow) (n : ℕ) (nexts : List ℕ) (e : ℕ × ℕ) (more : List (ℕ × ℕ)) → e ∷ more ≡ coming flows n nexts → IsNext flows n nexts e more
-unfolding coming
-next_is flows zero nexts e more is = absurd (cc)
-next_is flows (suc n) nexts e more is = go (earliest nexts) refl is
-  where
-    go : (o : Option (ℕ × ℕ)) → earliest nexts ≡ o → e ∷ more ≡ coming_on (coming flows n) flows nexts o → IsNext flows (suc n) nexts e more
-    go None f z = absurd (cc)
-    go (Some d) f z =
-        let same : d ≡ e = cc in
-        let rest : more ≡ coming flows n (set nexts d.1 (d.0 + (flow_at flows d.1).period)) = cc in
-        record { count = n; first = f ∙ ap Some same; behind = rest ∙ ap (λ (x : ℕ × ℕ). coming flows n (set nexts x.1 (x.0 + (flow_at flows x.1).period))) same }
 
 pub in_time : (ps class : ℕ) (a : Accepted) (cycle room : ℕ) (flows : List Flow) (more : List (ℕ × ℕ)) (starts : List Start) (came : List Came) (n : ℕ) (s : Track) (free now wire : ℕ) (waiting : List Frame)
     → free ≤ a.change + s.free

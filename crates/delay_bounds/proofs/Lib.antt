@@ -2,9 +2,12 @@ pub mod Words
 pub mod WalkLaws
 pub mod GateLaws
 pub mod WaitLaws
+pub mod StepLaws
+pub mod QueueLaws
 pub mod DropLaws
 pub mod FullLaws
 pub mod NeverLaws
+pub mod StuckLaws
 pub mod LessLaws
 pub mod EveryRunLaws
 pub mod FitLaws
@@ -12,3 +15,5 @@ pub mod MomentLaws
 pub mod SeenLaws
 pub mod CourseLaws
 pub mod WalkedLaws
+pub mod AnswerLaws
+pub mod ClaimLaws

@@ -2,7 +2,8 @@
 use Rattle.std.proofs.Common.{map, ◌≡◌, ◌<◌, ◌≤◌, ℕ, zero, suc, ◌+◌, Bool, true, false, cond, ltb, List, [], ◌∷◌, length, drop, Option, Some, None, option_map, inl, inr, refl, sym, ap, ◌∙◌, arith}
 use Rattle.std.proofs.lemmas.Bool.{false≢true, cases_lt, le-leb, lt-leb, lt-ltb, le-ltb}
 use Rattle.std.proofs.Common.{IsSome, IfSome, get_or, drop-cons, drop_of_length-le}
-use Rattle.delay_bounds.specs.Bounds.{earlier, earliest, from_on}
+use Rattle.delay_bounds.specs.Claim.{earlier, earliest}
+use Rattle.delay_bounds.specs.Bounds.{from_on}
 use Rattle.delay_bounds.specs.Walk.{begins_before, with_place}
 
 -- a moment and its place, so many places on

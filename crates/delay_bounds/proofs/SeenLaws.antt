@@ -6,16 +6,16 @@ use Rattle.gate_list.specs.Gate.{Plan, in_ps}
 use Rattle.delay_bounds.specs.declared.Bound.{Bound}
 use Rattle.delay_bounds.specs.declared.Flow.{Flow}
 use Rattle.delay_bounds.specs.declared.Told.{Told}
-use Rattle.delay_bounds.specs.Bounds.{Track, offsets_of, earliest, step, told, told_by, bound_at, IsWithin, AreBounds}
+use Rattle.delay_bounds.specs.Claim.{offsets_of, earliest, bound_at}
+use Rattle.delay_bounds.specs.Bounds.{IsWithin, Track, step, told, told_by, AreBounds}
 use Rattle.delay_bounds.specs.Walk.{may_by, begun, after, IsReached}
-use Rattle.delay_bounds.proofs.Words.{step_from, told_first}
 use Rattle.delay_bounds.specs.Bounded.{IsMost}
-use Rattle.delay_bounds.specs.ForEver.{later, counts_from, counting, Recurs}
+use Rattle.delay_bounds.specs.ForEver.{later, counting, Recurs}
 use Rattle.delay_bounds.specs.Noted.{unseen, widened, noted}
 use Rattle.delay_bounds.proofs.WalkLaws.{for_ever}
 use Rattle.delay_bounds.proofs.GateLaws.{by_repeats}
 use Rattle.delay_bounds.proofs.WaitLaws.{IsStep, step_is, told_next, told_until}
-use Rattle.delay_bounds.proofs.FullLaws.{after_step, after_none}
+use Rattle.delay_bounds.proofs.StepLaws.{after_step, after_none, counting_nexts, first_told, has_next}
 
 -- ---- what is seen of the first frames
 
@@ -135,19 +135,6 @@ pub data Moved (may : ℕ → ℕ → Bool) (cycle room : ℕ) (flows : List Flo
   still : get_or z.nexts place 0 ≡ get_or s.nexts place 0 → Moved may cycle room flows place n s z
 
 module _ (may : ℕ → ℕ → Bool) (cycle room : ℕ) (flows : List Flow) where
-  first_told : (s : Track) (r : Told × Track) → step may cycle room flows s ≡ Some r → told may cycle room flows 0 s ≡ Some r.0
-  unfolding told
-  first_told s r e = ap told_first e
-
-  -- where there is a step there is a next frame
-  pub has_next : (s : Track) (r : Told × Track) → step may cycle room flows s ≡ Some r → (e : ℕ × ℕ) × (earliest s.nexts ≡ Some e)
-  unfolding step
-  has_next s r is = go (earliest s.nexts) refl is
-    where
-      go : (o : Option (ℕ × ℕ)) → earliest s.nexts ≡ o → step_from may cycle room flows o s ≡ Some r → (e : ℕ × ℕ) × (earliest s.nexts ≡ Some e)
-      go None same h = absurd (cc)
-      go (Some e) same h = (e, same)
-
   pub moved : (place n : ℕ) (s z : Track) → after may cycle room flows n s ≡ Some z → Moved may cycle room flows place n s z
   moved place zero s z h = still (ap (λ (x : Track). get_or x.nexts place 0) (sym (after_none may cycle room flows s z h)))
   moved place (suc n) s z h = go (moved place n r.1 z stepped.2)
@@ -159,7 +146,7 @@ module _ (may : ℕ → ℕ → Bool) (cycle room : ℕ) (flows : List Flow) whe
       r = stepped.0
 
       next : (e : ℕ × ℕ) × (earliest s.nexts ≡ Some e)
-      next = has_next s r stepped.1
+      next = has_next may cycle room flows s r stepped.1
 
       is : IsStep may cycle room flows s next.0 r
       is = step_is may cycle room flows s next.0 r next.1 stepped.1
@@ -168,7 +155,7 @@ module _ (may : ℕ → ℕ → Bool) (cycle room : ℕ) (flows : List Flow) whe
       go (told_there k t less told at) = told_there (suc k) t (omega arith) (told_next may cycle room flows s r k stepped.1 ∙ told) at
       go (still same) =
           elim (cases_eq place next.0.1) [
-            | inl e ↦ told_there 0 r.0 (omega arith) (first_told s r stepped.1) (is.place ∙ sym e)
+            | inl e ↦ told_there 0 r.0 (omega arith) (first_told may cycle room flows s r stepped.1) (is.place ∙ sym e)
             | inr ne ↦ still (same ∙ (ap (λ xs. get_or xs place 0) is.nexts ∙ get_or-set_other s.nexts next.0.1 place _ 0 ne))
           ]
 
@@ -176,16 +163,9 @@ module _ (may : ℕ → ℕ → Bool) (cycle room : ℕ) (flows : List Flow) whe
   length_kept zero s z h = ap (λ (x : Track). length x.nexts) (sym (after_none may cycle room flows s z h))
   length_kept (suc n) s z h =
       let stepped = after_step may cycle room flows n s z h in
-      let next = has_next s stepped.0 stepped.1 in
+      let next = has_next may cycle room flows s stepped.0 stepped.1 in
       let is = step_is may cycle room flows s next.0 stepped.0 next.1 stepped.1 in
       length_kept n stepped.0.1 z stepped.2 ∙ (ap length is.nexts ∙ length-set s.nexts next.0.1 _)
-
-pub counting_nexts : (s : Track) → (counting s).nexts ≡ s.nexts
-counting_nexts s = go (earliest s.nexts)
-  where
-    go : (o : Option (ℕ × ℕ)) → (counts_from o s).nexts ≡ s.nexts
-    go None = refl
-    go (Some e) = refl
 
 get_map : (d : ℕ) (xs : List ℕ) (k : ℕ) → k < length xs → get_or (map (λ t. t + d) xs) k 0 ≡ get_or xs k 0 + d
 get_map d [] k less = absurd (omega arith)

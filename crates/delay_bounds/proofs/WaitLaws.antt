@@ -14,7 +14,8 @@ use Rattle.separation.proofs.Serving.{served_law}
 use Rattle.separation.specs.Served.{IsFirst, AreServed}
 use Rattle.separation.specs.Traffic.{Came, queued_in, starts_of_class}
 use Rattle.delay_bounds.proofs.GateLaws.{may_since, same_gates}
-use Rattle.delay_bounds.specs.Bounds.{coming, AreComing, offsets_of, Track, first_fit, earliest, from_on, flow_at, step, told}
+use Rattle.delay_bounds.specs.Claim.{coming, AreComing, offsets_of, earliest, flow_at}
+use Rattle.delay_bounds.specs.Bounds.{Track, first_fit, from_on, step, told}
 use Rattle.delay_bounds.proofs.Words.{coming_on, starts_at, step_from, told_on, told_first}
 use Rattle.delay_bounds.specs.Waits.{HaveWaited, BoundsLaw}
 use Rattle.delay_bounds.specs.Walk.{begun, after, begun}

@@ -3,7 +3,8 @@ use Rattle.std.proofs.Common.{◌≡◌, ◌<◌, ℕ, zero, suc, ◌+◌, ◌-�
 use Rattle.std.proofs.lemmas.Bool.{cases_lt, lt-ltb, le-ltb, le-leb, lt-leb}
 use Rattle.std.proofs.lemmas.List.{map-append}
 use Rattle.delay_bounds.specs.ForEver.{later, counts_from, counting, Repeats, IsToldBefore, ForEverLaw}
-use Rattle.delay_bounds.specs.Bounds.{Track, first_fit, earlier, earliest, from_on, flow_at, arrives, step, told}
+use Rattle.delay_bounds.specs.Claim.{earlier, earliest, flow_at}
+use Rattle.delay_bounds.specs.Bounds.{Track, first_fit, from_on, arrives, step, told}
 use Rattle.delay_bounds.specs.Walk.{after}
 use Rattle.delay_bounds.proofs.Words.{starts_at, step_from, told_on, told_first, after_on}
 use Rattle.delay_bounds.specs.declared.Flow.{Flow}

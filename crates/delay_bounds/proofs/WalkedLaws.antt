@@ -1,18 +1,20 @@
 -- The walk as it is defined, step by step.
 use Rattle.std.proofs.Common.{◌≡◌, ◌<◌, ◌≤◌, ◌%◌, ℕ, zero, suc, ◌+◌, ◌-◌, ◌*◌, ◌/◌, max, Bool, true, false, ◌&&◌, cond, List, [], ◌∷◌, length, map, drop, All, Option, Some, None, Result, Ok, Err, refl, sym, ap, ◌∙◌, subst, arith}
-use Rattle.std.specs.Prelude.{nat_lt, nat_le, ◌==◌}
+use Rattle.std.specs.Prelude.{nat_lt, nat_le}
 use Rattle.std.proofs.lemmas.List.Elements.{All-head, All-tail}
 use Rattle.gate_list.specs.Gate.{Plan, in_ps}
-use Rattle.delay_bounds.specs.Bounds.{Track, arrives, earliest, flow_at, offsets_of}
-use Rattle.delay_bounds.specs.Bounded.{is_from_here, unbound_by}
+use Rattle.delay_bounds.specs.Claim.{earliest, flow_at, offsets_of}
+use Rattle.delay_bounds.specs.Bounds.{Track, arrives}
+use Rattle.delay_bounds.specs.Bounded.{Answer, is_from_here, unbound_by}
 use Rattle.delay_bounds.specs.ForEver.{counting, later}
 use Rattle.delay_bounds.specs.Line.{Standing, before_any, when_come}
 use Rattle.wire_time.specs.Moment.{greatest_moment}
 use Rattle.std.specs.Option.{option_map_or}
 use Rattle.delay_bounds.specs.Noted.{noted, unseen}
 use Rattle.delay_bounds.specs.Walk.{begun, may_by}
-use Rattle.delay_bounds.specs.Walked.{Answer, Walking, answer_of, are_later, by_look, by_next, by_stop, comes_again, first_refused, frame_of, goes_on, is_later, last_offset, look, refused_at, refused_in, refused_of, starting, staying, stop_of, walked, with_told}
-use Rattle.delay_bounds.proofs.SeenLaws.{counting_nexts}
+use Rattle.delay_bounds.specs.Stuck.{first_refused, refused_at, refused_in, refused_of, staying}
+use Rattle.delay_bounds.specs.Walked.{Walking, answer_of, are_later, by_look, by_next, by_stop, comes_again, frame_of, goes_on, is_later, last_offset, look, stop_of, walked, with_told}
+use Rattle.delay_bounds.proofs.StepLaws.{counting_nexts}
 use Rattle.delay_bounds.specs.declared.Bound.{Bound}
 use Rattle.delay_bounds.specs.declared.Flow.{Flow}
 use Rattle.delay_bounds.specs.declared.FlowFrame.{FlowFrame}

@@ -3,7 +3,8 @@ use Rattle.std.proofs.Common.{ℕ, ◌+◌, ◌-◌, Bool, List, [], ◌∷◌, 
 use Rattle.std.specs.Option.{option_and_then, option_map_or}
 use Rattle.delay_bounds.specs.declared.Flow.{Flow}
 use Rattle.delay_bounds.specs.declared.Told.{Told}
-use Rattle.delay_bounds.specs.Bounds.{Track, flow_at, from_on, arrives}
+use Rattle.delay_bounds.specs.Claim.{flow_at}
+use Rattle.delay_bounds.specs.Bounds.{Track, from_on, arrives}
 
 -- the frame that comes at t starts, if it ever does
 abbrev pub starts_at : Option ℕ → ℕ → ℕ → Flow → List ℕ → List ℕ → Option (Told × Track)

@@ -1,13 +1,12 @@
--- The bounds of the flows of a class, and that they hold in every run, for ever: the whole claim.
+-- The bounds of the flows of a class by a plan alone, and that they hold in every run.
 --
 -- A class that is kept apart is served as if there were no other class: each frame is queued where there is room (IEEE Std 802.1Q-2018,
 -- 8.6.6), first in, first out, and starts at the first moment from which its gate stays open for as long as it takes (8.6.8.4). Moments and
 -- times are in picoseconds; but for those of a run, moments count from the schedule's change moment (8.6.9).
-use Rattle.std.specs.Prelude.{◌≡◌, ◌<◌, ◌≤◌, ℕ, zero, suc, ◌+◌, ◌-◌, max, Bool, if◌then◌else◌, nat_lt, nat_le, List, [], ◌∷◌, ◌++◌, length, map, slice_set, slice_index_or, Option, Some, None}
-use Rattle.std.specs.Option.{option_and_then, option_map, option_map_or}
+use Rattle.std.specs.Prelude.{◌≡◌, ◌<◌, ◌≤◌, ℕ, zero, suc, ◌+◌, ◌-◌, max, Bool, if◌then◌else◌, nat_lt, nat_le, List, [], ◌∷◌, ◌++◌, length, slice_set, Option, Some, None}
+use Rattle.std.specs.Option.{option_and_then, option_map}
 use Rattle.gate_list.specs.Open.{open_while}
 use Rattle.wire_time.specs.declared.TheConstants.{MIN_PS_PER_OCTET, MIN_MTU}
-use Rattle.wire_time.specs.Wire.{occupancy_of}
 use Rattle.gate_list.specs.Gate.{Plan, in_ps, mask_since}
 use Rattle.list_config.specs.History.{Accepted}
 use Rattle.abstract_port.specs.declared.Start.{Start}
@@ -17,6 +16,7 @@ use Rattle.abstract_port.specs.Answers.{answers_of}
 use Rattle.abstract_port.specs.Laws.{starts_in}
 use Rattle.separation.specs.Separation.{IsKeptApart}
 use Rattle.separation.specs.Traffic.{Came, IsOnly, queued_in, offered_in, starts_of_class}
+use Rattle.delay_bounds.specs.Claim.{offsets_of, earliest, flow_at, coming, AreComing, bound_at}
 use Rattle.delay_bounds.specs.declared.Flow.{Flow}
 use Rattle.delay_bounds.specs.declared.Told.{Told}
 use Rattle.delay_bounds.specs.declared.Bound.{Bound}
@@ -32,28 +32,10 @@ pub record Track : Type 0 where
   pub free : ℕ
   pub starts : List ℕ
 
--- when the first frame of each flow comes
-abbrev pub offsets_of : List Flow → List ℕ
-offsets_of = map (λ f. f.offset)
-
--- a moment and its place before others: the first of equal ones
-abbrev pub earlier : ℕ → Option (ℕ × ℕ) → ℕ × ℕ
-earlier t None = (t, 0)
-earlier t (Some u) = if nat_le t u.0 then (t, 0) else (u.0, u.1 + 1)
-
--- the least of moments and its place, the first of equal ones
-unfoldable pub earliest : List ℕ → Option (ℕ × ℕ)
-earliest [] = None
-earliest (t ∷ rest) = Some (earlier t (earliest rest))
-
 -- those of rising moments that are not before t
 unfoldable pub from_on : ℕ → List ℕ → List ℕ
 from_on t [] = []
 from_on t (s ∷ rest) = if nat_lt s t then from_on t rest else s ∷ rest
-
--- a flow at a place
-abbrev pub flow_at : List Flow → ℕ → Flow
-flow_at flows place = slice_index_or flows place (record { need = 0; period = 0; offset = 0 })
 
 -- the frame that comes at t, where there is room; it starts, if it ever does
 abbrev pub arrives : (ℕ → ℕ → Bool) → ℕ → ℕ → ℕ → ℕ → Flow → ℕ → List ℕ → List ℕ → Option (Told × Track)
@@ -77,10 +59,6 @@ told may cycle room flows (suc n) s = option_and_then (λ r. told may cycle room
 abbrev pub told_by : Plan → ℕ → ℕ → List Flow → ℕ → Option Told
 told_by plan class room flows n = told (open_while (mask_since (Some plan) 0 None) class) (in_ps plan.cycle) room flows n (record { nexts = offsets_of flows; free = 0; starts = [] })
 
--- the bounds of the flow at a place
-abbrev pub bound_at : List Bound → ℕ → Bound
-bound_at bounds place = slice_index_or bounds place (record { least = 0; greatest = 0 })
-
 -- a wait lies within bounds
 pub record IsWithin (b : Bound) (wait : ℕ) : Type 0 where
   pub least : b.least ≤ wait
@@ -91,17 +69,6 @@ pub record AreBounds (plan : Plan) (class room : ℕ) (flows : List Flow) (bound
   pub always : (n : ℕ) → (t : Told) × (told_by plan class room flows n ≡ Some t) × IsWithin (bound_at bounds t.place) t.wait
   pub least : (place : ℕ) → place < length flows → (n : ℕ) × (t : Told) × (told_by plan class room flows n ≡ Some t) × (t.place ≡ place) × (t.wait ≡ (bound_at bounds place).least)
   pub greatest : (place : ℕ) → place < length flows → (n : ℕ) × (t : Told) × (told_by plan class room flows n ≡ Some t) × (t.place ≡ place) × (t.wait ≡ (bound_at bounds place).greatest)
-
--- so many frames of all flows: when each comes, and its flow's place; of one moment in the order of the flows
-unfoldable pub coming : List Flow → ℕ → List ℕ → List (ℕ × ℕ)
-coming flows zero nexts = []
-coming flows (suc n) nexts = option_map_or (λ e. e ∷ coming flows n (slice_set nexts e.1 (e.0 + (flow_at flows e.1).period))) (earliest nexts) []
-
--- frames that came are these, by their moments since the change moment, and occupy the wire for as long as those of their flows
-abbrev pub AreComing : ℕ → ℕ → List Flow → List (ℕ × ℕ) → List Came → Type 0
-AreComing ps change flows [] [] = Unit {0}
-AreComing ps change flows (e ∷ more) (f ∷ came) = (f.moment ≡ change + e.0) × (occupancy_of ps f.frame.len ≡ (flow_at flows e.1).need) × AreComing ps change flows more came
-AreComing ps change flows _ _ = ⊥
 
 -- Frames that came, of these places, and started: each within the bounds of its flow.
 abbrev pub AllWithin : List Bound → List (ℕ × ℕ) → List Came → List Start → Type 0

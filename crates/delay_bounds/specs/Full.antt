@@ -7,7 +7,8 @@ use Rattle.abstract_port.specs.declared.Event.{Event}
 use Rattle.abstract_port.specs.AbstractPort.{new_port}
 use Rattle.separation.specs.Separation.{IsKeptApart}
 use Rattle.separation.specs.Traffic.{IsOnly, queued_in, offered_in}
-use Rattle.delay_bounds.specs.Bounds.{Track, offsets_of, earliest, from_on, coming, AreComing}
+use Rattle.delay_bounds.specs.Claim.{offsets_of, earliest, coming, AreComing}
+use Rattle.delay_bounds.specs.Bounds.{Track, from_on}
 use Rattle.delay_bounds.specs.Walk.{may_by, begun, after}
 use Rattle.delay_bounds.specs.declared.Flow.{Flow}
 

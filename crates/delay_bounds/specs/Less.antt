@@ -12,7 +12,8 @@ use Rattle.abstract_port.specs.Answers.{answers_of}
 use Rattle.abstract_port.specs.Laws.{starts_in}
 use Rattle.separation.specs.Separation.{IsKeptApart}
 use Rattle.separation.specs.Traffic.{Came, IsOnly, queued_in, starts_of_class}
-use Rattle.delay_bounds.specs.Bounds.{Track, offsets_of, flow_at, step, coming}
+use Rattle.delay_bounds.specs.Claim.{offsets_of, flow_at, coming}
+use Rattle.delay_bounds.specs.Bounds.{Track, step}
 use Rattle.delay_bounds.specs.Walk.{may_by, begun}
 use Rattle.delay_bounds.specs.declared.Flow.{Flow}
 use Rattle.delay_bounds.specs.declared.Told.{Told}

@@ -1,3 +1,4 @@
+pub mod Claim
 pub mod Bounds
 pub mod Walk
 pub mod ForEver
@@ -7,5 +8,6 @@ pub mod Full
 pub mod Never
 pub mod Less
 pub mod Noted
+pub mod Stuck
 pub mod Bounded
 pub mod Walked

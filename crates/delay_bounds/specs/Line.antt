@@ -1,6 +1,7 @@
 -- Where a walk over the frames of flows stands, with the room of the queue.
 use Rattle.std.specs.Prelude.{ℕ, List}
-use Rattle.delay_bounds.specs.Bounds.{Track, offsets_of}
+use Rattle.delay_bounds.specs.Claim.{offsets_of}
+use Rattle.delay_bounds.specs.Bounds.{Track}
 use Rattle.delay_bounds.specs.Walk.{begun}
 use Rattle.delay_bounds.specs.ForEver.{counting}
 use Rattle.delay_bounds.specs.declared.Flow.{Flow}

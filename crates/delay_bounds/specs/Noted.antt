@@ -1,6 +1,6 @@
 -- The least and the greatest wait of each flow, as frame after frame is noted.
 use Rattle.std.specs.Prelude.{◌^◌, ◌-◌, ℕ, min, max, List, slice_set}
-use Rattle.delay_bounds.specs.Bounds.{bound_at}
+use Rattle.delay_bounds.specs.Claim.{bound_at}
 use Rattle.delay_bounds.specs.declared.Bound.{Bound}
 use Rattle.delay_bounds.specs.declared.Told.{Told}
 

@@ -1,7 +1,6 @@
 -- What contracts and other laws say of the walk over the frames of flows.
-use Rattle.std.specs.Prelude.{◌≡◌, ◌<◌, ◌≤◌, ℕ, zero, suc, Bool, false, if◌then◌else◌, nat_lt, List, [], ◌∷◌, Option, Some, None}
+use Rattle.std.specs.Prelude.{◌≡◌, ℕ, zero, suc, Bool, false, if◌then◌else◌, nat_lt, List, [], ◌∷◌, Option, Some, None}
 use Rattle.std.specs.Option.{option_and_then}
-use Rattle.wire_time.specs.Moment.{greatest_moment}
 use Rattle.gate_list.specs.Gate.{Plan, mask_since}
 use Rattle.gate_list.specs.Open.{open_while}
 use Rattle.delay_bounds.specs.declared.Flow.{Flow}
@@ -29,13 +28,6 @@ IsReached plan class room flows place wait = (n : ℕ) × (t : Told) × (told_by
 abbrev pub begins_before : ℕ → List ℕ → Bool
 begins_before t [] = false
 begins_before t (s ∷ rest) = nat_lt s t
-
--- a flow whose times are moments, and frames of which come one after another
-pub record IsFlow (f : Flow) : Type 0 where
-  pub above : 0 < f.period
-  pub need : f.need ≤ greatest_moment
-  pub period : f.period ≤ greatest_moment
-  pub offset : f.offset ≤ greatest_moment
 
 -- the first of those behind a place, or the moment at the place where none of them is before it
 abbrev pub with_place : Option (ℕ × ℕ) → ℕ → ℕ → Option (ℕ × ℕ)

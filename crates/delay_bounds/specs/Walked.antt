@@ -1,17 +1,18 @@
 -- What `bound_flows` answers, exactly: the walk over the frames of flows, frame after frame, until its state comes again.
-use Rattle.std.specs.Prelude.{ℕ, ◌+◌, ◌-◌, ◌/◌, ◌%◌, ◌^◌, ◌==◌, zero, suc, max, Bool, true, false, ◌&&◌, if◌then◌else◌, nat_lt, nat_le, List, [], ◌∷◌, ◌++◌, length, map, slice_set, Option, Some, None, is_some, Result, Ok, Err}
+use Rattle.std.specs.Prelude.{ℕ, ◌<◌, All, ◌+◌, ◌-◌, ◌%◌, ◌==◌, zero, suc, max, Bool, true, false, ◌&&◌, if◌then◌else◌, nat_lt, nat_le, List, [], ◌∷◌, length, map, Option, Some, None, is_some, Result, Ok, Err}
 use Rattle.std.specs.Option.{option_map_or}
 use Rattle.wire_time.specs.Moment.{greatest_moment}
-use Rattle.gate_list.specs.Gate.{Plan, in_ps}
-use Rattle.delay_bounds.specs.Bounds.{Track, arrives, earliest, first_fit, flow_at, offsets_of}
-use Rattle.delay_bounds.specs.Bounded.{unbound_by}
+use Rattle.gate_list.specs.Gate.{Plan, IsSchedule, in_ps}
+use Rattle.delay_bounds.specs.Claim.{IsFlow, earliest, flow_at, offsets_of}
+use Rattle.delay_bounds.specs.Bounds.{Track, arrives, first_fit}
+use Rattle.delay_bounds.specs.Bounded.{Answer, IsByPlan, told_bounds, unbound_by}
 use Rattle.delay_bounds.specs.ForEver.{counting}
 use Rattle.delay_bounds.specs.Noted.{noted, unseen}
+use Rattle.delay_bounds.specs.Stuck.{before_of, first_refused}
 use Rattle.delay_bounds.specs.Walk.{begun, may_by}
 use Rattle.delay_bounds.specs.declared.Bound.{Bound}
 use Rattle.delay_bounds.specs.declared.Flow.{Flow}
 use Rattle.delay_bounds.specs.declared.FlowFrame.{FlowFrame}
-use Rattle.delay_bounds.specs.declared.Refused.{Refused}
 use Rattle.delay_bounds.specs.declared.Told.{Told}
 use Rattle.delay_bounds.specs.declared.Unbound.{Unbound}
 use Rattle.delay_bounds.specs.declared.Unbound.TheVariants.{Long}
@@ -19,13 +20,6 @@ use Rattle.delay_bounds.specs.declared.bounding.Look.{Look}
 use Rattle.delay_bounds.specs.declared.bounding.Look.TheVariants as Looks
 use Rattle.delay_bounds.specs.declared.line.Stop.{Stop}
 use Rattle.delay_bounds.specs.declared.line.Stop.TheVariants as Stops
-
--- the bounds of each flow, the greatest number of frames that wait at once, and how many frames come in how long
-pub record Answer : Type 0 where
-  pub bounds : List Bound
-  pub most : ℕ
-  pub frames : ℕ
-  pub every : ℕ
 
 -- Where a walk stands after so many frames: its track, the bounds and the most so far; and where it looks back to: after how many frames that
 -- was, when the next one came, and the track then.
@@ -78,42 +72,11 @@ stop_of may cycle room t flow free waiting =
     else if is_some (first_fit may flow.need (max t free) cycle) then None
     else Some Stops.Never
 
--- how many frames of a flow come before the one that comes at t
-abbrev pub before_of : Flow → ℕ → ℕ
-before_of f t = (t - f.offset) / f.period
-
 -- the frame of the flow at a place that comes at a moment, after so many of all flows
 abbrev pub frame_of : List Flow → ℕ × ℕ → ℕ → FlowFrame
 frame_of flows e earlier = record { place = e.1; before = before_of (flow_at flows e.1) e.0; earlier = earlier; moment = e.0 }
 
--- 3. Where nothing starts any more
-
--- the frame of a flow that comes stays in the queue for ever: all moments are less than 2^128
-abbrev pub staying : Flow → ℕ × ℕ → Track → Track
-staying f e s = record { nexts = slice_set s.nexts e.1 (e.0 + f.period); free = s.free; starts = s.starts ++ (2 ^ 128 - 1) ∷ [] }
-
--- the frame of the flow at a place that comes at a moment and finds no room
-abbrev pub refused_of : List Flow → ℕ × ℕ → Refused
-refused_of flows e = record { place = e.1; before = before_of (flow_at flows e.1) e.0; moment = e.0 }
-
--- by the next frame: it finds no room, or it comes after the greatest moment, or it stays
-abbrev pub refused_at : ℕ → List Flow → (Track → Option Refused) → Option (ℕ × ℕ) → Track → Option Refused
-refused_at room flows on None s = None
-refused_at room flows on (Some e) s =
-    if nat_le room (length s.starts) then Some (refused_of flows e)
-    else if nat_lt greatest_moment e.0 then None
-    else on (staying (flow_at flows e.1) e s)
-
--- of so many frames the first that finds no room, where no frame starts any more
-unfoldable pub refused_in : ℕ → List Flow → ℕ → Track → Option Refused
-refused_in room flows zero s = None
-refused_in room flows (suc n) s = refused_at room flows (refused_in room flows n) (earliest s.nexts) (counting s)
-
--- the first frame that finds no room, where no frame starts any more, if it comes by the greatest moment: each of as many as there is room for takes a place
-abbrev pub first_refused : ℕ → List Flow → Track → Option Refused
-first_refused room flows s = refused_in room flows (room + 1) s
-
--- 4. The walk
+-- 3. The walk
 
 module _ (plan : Plan) (class room : ℕ) (flows : List Flow) where
   -- one frame more, as it is told of
@@ -160,3 +123,11 @@ starting flows = record {
 -- the answer about the flows of a class in a plan, by a walk over so many frames at most: their bounds, or why they have none
 abbrev pub answer_of : Plan → ℕ → ℕ → List Flow → ℕ → Result Answer Unbound
 answer_of plan class room flows limit = walked plan class room flows limit (starting flows)
+
+-- the bounds that are answered, or why there are none
+abbrev pub bounds_answered : Plan → ℕ → ℕ → List Flow → ℕ → Result (List Bound) Unbound
+bounds_answered plan class room flows limit = told_bounds (answer_of plan class room flows limit)
+
+-- The law: what is answered says this of the plan alone.
+abbrev pub PlanLaw : Type 0
+PlanLaw = (plan : Plan) (class room limit : ℕ) (flows : List Flow) → IsSchedule plan → 0 < length flows → All IsFlow flows → IsByPlan plan class room flows limit (answer_of plan class room flows limit)

@@ -1,10 +1,22 @@
 //! Laws of the definitions that the contracts cite. There is nothing to run here: a function's contract is its law.
 ghost use Rattle.delay_bounds.specs.Bounds.{EveryRunLaw};
+ghost use Rattle.delay_bounds.specs.Claim.{AnswerLaw};
 ghost use Rattle.delay_bounds.specs.ForEver.{ForEverLaw};
 ghost use Rattle.delay_bounds.specs.Full.{FullLaw};
 ghost use Rattle.delay_bounds.specs.Less.{LessLaw};
-ghost use Rattle.delay_bounds.specs.Never.{NeverLaw};
+ghost use Rattle.delay_bounds.specs.Never.{NeverLaw, StuckLaw};
 ghost use Rattle.delay_bounds.specs.Waits.{BoundsLaw, DropsLaw};
+ghost use Rattle.delay_bounds.specs.Walked.{PlanLaw, bounds_answered};
+
+/// What `bound_flows` answers is worth this in every run, whatever the other classes send: the whole claim (specs/Claim.antt).
+pub fn answers()
+    ensures { AnswerLaw bounds_answered }
+{}
+
+/// What `bound_flows` answers says this of the plan alone.
+pub fn by_plan()
+    ensures { PlanLaw }
+{}
 
 /// Where after some frames of the flows it is as it was before, so much later, what is told of every frame, for ever, is what is
 /// told of one of the first.
@@ -35,6 +47,11 @@ pub fn full()
 /// In every run a frame of the flows that fits into no window of one cycle never starts, nor does any behind it.
 pub fn never()
     ensures { NeverLaw }
+{}
+
+/// Where nothing starts any more, in every run the frame of the flows that then is the first to find no room is dropped, and none before it.
+pub fn stuck()
+    ensures { StuckLaw }
 {}
 
 /// Frames that are left out, shorter or earlier, in their order, make no frame start later.

@@ -5,9 +5,11 @@ ghost use Rattle.wire_time.specs.Moment.{greatest_moment};
 ghost use Rattle.gate_list.specs.Gate.{IsSchedule, in_ps};
 ghost use Rattle.list_position.specs.Position.{IsPlaced};
 ghost use Rattle.delay_bounds.specs.Line.{before_any, when_come};
-ghost use Rattle.delay_bounds.specs.Bounds.{arrives, earliest, first_fit, offsets_of};
-ghost use Rattle.delay_bounds.specs.Walk.{may_by, IsFlow};
-ghost use Rattle.delay_bounds.specs.Walked.{are_later, is_later, staying, stop_of};
+ghost use Rattle.delay_bounds.specs.Claim.{earliest, offsets_of, IsFlow};
+ghost use Rattle.delay_bounds.specs.Bounds.{arrives, first_fit};
+ghost use Rattle.delay_bounds.specs.Walk.{may_by};
+ghost use Rattle.delay_bounds.specs.Stuck.{staying};
+ghost use Rattle.delay_bounds.specs.Walked.{are_later, is_later, stop_of};
 
 use crate::fit::fit;
 use crate::moments::{come_later, copy_ring, drop_before, earliest, is_later, start_later};

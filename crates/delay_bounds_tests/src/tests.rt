@@ -1,7 +1,7 @@
 //! Flows at 1 Gb/s, in two schedules of 250 us: class 7 has the first 13 us of each cycle, then class 5 its window, then class 6.
 
 ghost use Rattle.std.specs.Prelude.{◌<◌, All, length};
-ghost use Rattle.delay_bounds.specs.Walk.{IsFlow};
+ghost use Rattle.delay_bounds.specs.Claim.{IsFlow};
 ghost use Rattle.gate_list.specs.Gate.{IsSchedule};
 ghost use Rattle.wire_time.specs.declared.TheConstants.{CLASSES};
 

@@ -43,22 +43,31 @@ pub record RunsApart (class taken : ℕ) (events : List Event) (p q : AbstractPo
   pub port : q ≡ settled (port_after (take taken events) p)
   pub apart : IsTrue held ↔ IsKeptApart class (take taken events) p
 
+-- the events, and the port behind them, with one more
+pub taken-more : (taken : ℕ) (events : List Event) (event : Event) → taken < length events → event ≡ get_or events taken event → take (taken + 1) events ≡ take taken events ++ event ∷ []
+taken-more taken events event within is_event = take_more events taken event within ∙ ap (λ e. take taken events ++ e ∷ []) (sym is_event)
+
+pub port-on : (taken : ℕ) (events : List Event) (p q r : AbstractPort) (event : Event) → IsTimely p → q ≡ settled (port_after (take taken events) p) → taken < length events → event ≡ get_or events taken event
+    → r ≡ settled (answers_to event q).1 → r ≡ settled (port_after (take (taken + 1) events) p)
+port-on taken events p q r event fit so_far within is_event then =
+    let done : List Event = take taken events in
+    then
+    ∙ (ap (λ x. settled (port_after (event ∷ []) x)) so_far
+    ∙ (settled-after (event ∷ []) (port_after done p) (timely-after done p fit)
+    ∙ ap settled (sym (port_after-append done (event ∷ []) p) ∙ ap (λ x. port_after x p) (sym (taken-more taken events event within is_event)))))
+
 -- one more
 pub runs-on : (class taken : ℕ) (events : List Event) (p q r : AbstractPort) (event : Event) (held here both : Bool) → IsTimely p → RunsApart class taken events p q held → taken < length events → event ≡ get_or events taken event → IsTrue here ↔ IsApartAt class event q → r ≡ settled (answers_to event q).1 → both ≡ (held && here) → RunsApart class (taken + 1) events p r both
 runs-on class taken events p q r event held here both fit so_far within is_event apart then is_both =
     let done : List Event = take taken events in
-    let one_more : take (taken + 1) events ≡ done ++ event ∷ [] = take_more events taken event within ∙ ap (λ e. done ++ e ∷ []) (sym is_event) in
+    let one_more = taken-more taken events event within is_event in
     let there : IsTimely (port_after done p) = timely-after done p fit in
     let asked : IsTrue here ↔ IsApartAt class event (settled (port_after done p)) = subst (λ x. IsTrue here ↔ IsApartAt class event x) so_far.port apart in
     let same = apart-settled class event (port_after done p) there in
     let more = kept-append class done event p in
     let hold = both-hold held here so_far.apart (λ t. same.0 (asked.0 t), λ a. asked.1 (same.1 a)) in
     record {
-      port =
-          then
-          ∙ (ap (λ x. settled (port_after (event ∷ []) x)) so_far.port
-          ∙ (settled-after (event ∷ []) (port_after done p) there
-          ∙ ap settled (sym (port_after-append done (event ∷ []) p) ∙ ap (λ x. port_after x p) (sym one_more))));
+      port = port-on taken events p q r event fit so_far.port within is_event then;
       apart = subst (λ x. IsTrue both ↔ IsKeptApart class x p) (sym one_more) (
         λ t. more.1 (hold.0 (sym is_both ∙ t)),
         λ kept. is_both ∙ hold.1 (more.0 kept),

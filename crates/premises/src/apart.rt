@@ -30,7 +30,7 @@ fn keeps_apart(list: &GateList, class: u8) -> bool
 }
 
 /// Whether a command gives a schedule that keeps the class apart.
-fn is_apart(command: &Command, class: u8) -> bool
+pub fn is_apart(command: &Command, class: u8) -> bool
     requires { class < 8 }
     ensures { IsTrue result ↔ IsApart class command.now }
 {
@@ -74,7 +74,7 @@ fn install_apart<G: Gates, A: Allocator>(
 }
 
 /// Takes an event, and leaves its answers.
-fn take<G: Gates, A: Allocator>(port: &mut Port<G, A>, event: &Event<'_>)
+pub fn take<G: Gates, A: Allocator>(port: &mut Port<G, A>, event: &Event<'_>)
     ensures port { port.new.port ≡ settled (answers_to event.now port.old.port).1 }
     ensures sound { IsSoundPort port.new.port }
 {

@@ -32,6 +32,7 @@ use stepped::Stepped;
 use wire_time::{Rate, lead_law};
 
 pub mod apart;
+pub mod bounds;
 pub mod scripts;
 
 /// The masks of a schedule have eight bits.

@@ -2,8 +2,10 @@
 
 use abstract_port::{Change, Command, Event};
 use class_map::ClassMap;
-use gate_list::{Entry, GateList};
+use delay_bounds::{Bound, Flow, Unbound};
+use gate_list::{Entry, GateList, Schedule};
 use premises::apart::separated;
+use premises::bounds::{answered as bounds_answered, is_run};
 use premises::counted;
 use premises::scripts::answered;
 use script::Settings;
@@ -101,6 +103,106 @@ fn no_class_is_separated_without_a_schedule(rt: HostRuntime) -> Result<(), Fail>
         Event::Install(&Command::Delete),
     ];
     assert_eq!(rt; separated(rt.alloc(), rate, 7, &deleted), Ok(false));
+    Ok(())
+}
+
+/// Frames of 1514 octets, each 100 us from the change moment on.
+const FLOW: Flow = Flow {
+    need: 12_304_000,
+    period: 100_000_000,
+    offset: 0,
+};
+
+/// Two frames of the flow of class 7, whose windows begin with each cycle, and one of class 0.
+#[test]
+fn the_claim_of_bounds_speaks_of_a_run(rt: HostRuntime) -> Result<(), Fail> {
+    let rate = Rate::from_mbps(1000).ok().ok_or("a rate")?;
+    let command = command(20_000, [0x80, 0x7f], [13_000, 87_000]).ok_or("a command")?;
+    let run = [
+        Event::Clock(20_000_000),
+        frame(1, 0),
+        frame(2, 7),
+        Event::Clock(120_000_000),
+        frame(3, 7),
+        Event::Query,
+    ];
+    assert_eq!(rt; is_run(rt.alloc(), rate, 7, &command, FLOW, &run), Ok(true));
+    assert_eq!(rt;
+        is_run(rt.alloc(), rate, 0, &command, FLOW, &run),
+        Ok(false)
+    );
+    Ok(())
+}
+
+/// Not of one with a frame at another time, one frame more, or another command.
+#[test]
+fn the_claim_of_bounds_does_not_speak_of_other_runs(rt: HostRuntime) -> Result<(), Fail> {
+    let rate = Rate::from_mbps(1000).ok().ok_or("a rate")?;
+    let command = command(20_000, [0x80, 0x7f], [13_000, 87_000]).ok_or("a command")?;
+    let late = [Event::Clock(20_000_001), frame(1, 7)];
+    assert_eq!(rt;
+        is_run(rt.alloc(), rate, 7, &command, FLOW, &late),
+        Ok(false)
+    );
+    let more = [Event::Clock(20_000_000), frame(1, 7), frame(2, 7)];
+    assert_eq!(rt;
+        is_run(rt.alloc(), rate, 7, &command, FLOW, &more),
+        Ok(false)
+    );
+    let again = [Event::Clock(20_000_000), Event::Install(&command)];
+    assert_eq!(rt;
+        is_run(rt.alloc(), rate, 7, &command, FLOW, &again),
+        Ok(false)
+    );
+    Ok(())
+}
+
+/// What is answered about that flow, and about one that comes twice as often, and about one that fits into no window.
+#[test]
+fn what_is_answered_is_worth_what_the_claim_says(rt: HostRuntime) -> Result<(), Fail> {
+    let rate = Rate::from_mbps(1000).ok().ok_or("a rate")?;
+    let list = GateList::new(&[
+        Entry {
+            mask: 0x80,
+            interval: 13_000,
+        },
+        Entry {
+            mask: 0x7f,
+            interval: 87_000,
+        },
+    ]);
+    let list = list.ok().ok_or("a list")?;
+    let schedule = Schedule::new(&list, 20_000, 0, 0, rate)
+        .ok()
+        .ok_or("a schedule")?;
+    let bounded = bounds_answered(&rt.alloc(), &schedule, 7, 128, &[FLOW], 1000)
+        .ok()
+        .ok_or("bounds")?;
+    let none = [Bound {
+        least: 0,
+        greatest: 0,
+    }];
+    assert_eq!(rt; bounded.bounds.as_slice(), none.as_slice());
+    let often = [Flow {
+        period: 50_000_000,
+        ..FLOW
+    }];
+    assert!(rt;
+        matches!(
+            bounds_answered(&rt.alloc(), &schedule, 7, 4, &often, 1000),
+            Err(Unbound::Full(_))
+        )
+    );
+    let long = [Flow {
+        need: 13_000_001,
+        ..FLOW
+    }];
+    assert!(rt;
+        matches!(
+            bounds_answered(&rt.alloc(), &schedule, 7, 4, &long, 1000),
+            Err(Unbound::Never(_, Some(_)))
+        )
+    );
     Ok(())
 }
 

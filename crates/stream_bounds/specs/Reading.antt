@@ -3,7 +3,7 @@ use Rattle.std.specs.Prelude.{◌≡◌, ◌⊎◌, ⊤, ℕ, List, ◌++◌, Op
 use Rattle.std.specs.Io.KnownBytes.{Appends}
 use Rattle.octet_writer.specs.Writes.{AppendsFront, FallsShort}
 use Rattle.stream_bounds.specs.declared.faults.Finding.{Finding}
-use Rattle.delay_bounds.specs.Walked.{Answer}
+use Rattle.delay_bounds.specs.Bounded.{Answer}
 use Rattle.delay_bounds.specs.declared.Bounded.{Bounded}
 use Rattle.delay_bounds.specs.declared.Unbound.{Unbound}
 use Rattle.delay_bounds.specs.declared.Unbound.TheVariants as Unbounds

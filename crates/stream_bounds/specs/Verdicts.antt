@@ -9,7 +9,8 @@ use Rattle.gate_list.specs.Gate.{Plan, keeps_apart, plan_fault}
 use Rattle.abstract_port.specs.AbstractPort.{plan_asked}
 use Rattle.abstract_port.specs.declared.Change.{Change}
 use Rattle.abstract_port.specs.declared.Dropped.{Dropped}
-use Rattle.delay_bounds.specs.Walked.{Answer, answer_of}
+use Rattle.delay_bounds.specs.Bounded.{Answer}
+use Rattle.delay_bounds.specs.Walked.{answer_of}
 use Rattle.delay_bounds.specs.declared.Bound.{Bound}
 use Rattle.delay_bounds.specs.declared.Flow.{Flow}
 use Rattle.delay_bounds.specs.declared.FlowFrame.{FlowFrame}

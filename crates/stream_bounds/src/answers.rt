@@ -5,7 +5,8 @@ ghost use Rattle.abstract_port.specs.AbstractPort.{plan_asked};
 ghost use Rattle.gate_list.specs.Gate.{plan_fault};
 ghost use Rattle.job.specs.declared.fault.Fault.TheVariants as Faults;
 ghost use Rattle.wire_time.specs.declared.TheConstants.{CLASSES};
-ghost use Rattle.delay_bounds.specs.Walked.{Answer, answer_of};
+ghost use Rattle.delay_bounds.specs.Bounded.{Answer};
+ghost use Rattle.delay_bounds.specs.Walked.{answer_of};
 ghost use Rattle.stream_bounds.specs.Classes.{IsPeriodic, ids_of};
 ghost use Rattle.stream_bounds.specs.Reading.{IsAnswered};
 ghost use Rattle.stream_bounds.specs.Verdicts.{answer_at, bounds_of, class_answer, class_answers, delay_of, left_after, one_told, verdict_of};
@@ -25,7 +26,7 @@ use traffic::Stream;
 #[derive(Drop)]
 pub struct ClassAnswer {
     verdict: Verdict,
-    bounds: Vec<Bound>,
+    bounds: Vec<Bound, Global>,
     told: usize,
 }
 
@@ -41,7 +42,7 @@ impl Model for ClassAnswer {
 
 impl ClassAnswer {
     /// A verdict, with bounds of which none is told.
-    fn new(verdict: Verdict, bounds: Vec<Bound>) -> ClassAnswer
+    fn new(verdict: Verdict, bounds: Vec<Bound, Global>) -> ClassAnswer
         ensures { result ≡ record { verdict = verdict; left = bounds.items } }
     {
         ClassAnswer {
@@ -76,7 +77,7 @@ fn apart_answer(
     change: &Change,
     streams: &[Stream],
     class: u8,
-    answer: Result<Bounded, Unbound>,
+    answer: Result<Bounded<Global>, Unbound>,
 ) -> Result<ClassAnswer, BoundsFault>
     ensures answer { (told : Result Answer Unbound) → IsAnswered answer told → IfOk result (λ a. a ≡ record { verdict = verdict_of (ids_of settings.now.port change.now class streams.now) told; left = bounds_of told }) }
     ensures memory { IfErr result (λ fault. fault ≡ Faults.Memory) }

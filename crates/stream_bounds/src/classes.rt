@@ -4,7 +4,7 @@ ghost use Rattle.std.specs.Prelude.{◌≡◌, ◌<◌, All, IfErr, IfOk, IfSome
 ghost use Rattle.abstract_port.specs.AbstractPort.{class_for, judged, limit_of};
 ghost use Rattle.wire_time.specs.Wire.{sdu_of};
 ghost use Rattle.wire_time.specs.declared.TheConstants.{CLASSES};
-ghost use Rattle.delay_bounds.specs.Walk.{IsFlow};
+ghost use Rattle.delay_bounds.specs.Claim.{IsFlow};
 ghost use Rattle.job.specs.declared.fault.Fault.TheVariants as Faults;
 ghost use Rattle.stream_bounds.specs.Classes.{class_of, flow_of, flows_of, frame_of, ids_of, is_class, port_of, IsPeriodic};
 

@@ -1,9 +1,9 @@
-use Rattle.std.proofs.Common.{◌≡◌, ◌<◌, ◌≤◌, ◌+◌, ◌-◌, true, false, None, Some, sym, ap, ◌∙◌, arith, length, length-set}
+use Rattle.std.proofs.Common.{◌≡◌, ◌+◌, ◌-◌, true, false, Some, sym, ap, ◌∙◌, arith, length, length-set}
 use Rattle.std.specs.Prelude.{nat_lt}
 use Rattle.wire_time.specs.Moment.{greatest_moment}
-use Rattle.delay_bounds.specs.Bounds.{flow_at}
+use Rattle.delay_bounds.specs.Claim.{flow_at}
 use Rattle.delay_bounds.specs.Line.{Standing}
-use Rattle.delay_bounds.specs.Walked.{refused_in, staying}
+use Rattle.delay_bounds.specs.Stuck.{refused_in, staying}
 use Rattle.delay_bounds.proofs.WalkedLaws.{counting_long, full_here, last_here, late_here, stays_here}
 use Rattle.delay_bounds.proofs.bounding.first_refused.Goals.{then-t-gt-MAX_MOMENT-via-then-t-gt-MAX_MOMENT, then-t-gt-MAX_MOMENT-via-else-t-gt-MAX_MOMENT+then-left-eq0}
 use Rattle.delay_bounds.proofs.bounding.first_refused.Goals as goal

@@ -1,5 +1,5 @@
 use Rattle.std.proofs.Common.{◌≡◌, ◌+◌, length}
-use Rattle.delay_bounds.specs.Walked.{first_refused, refused_in}
+use Rattle.delay_bounds.specs.Stuck.{first_refused, refused_in}
 use Rattle.delay_bounds.proofs.bounding.first_refused.Given as goal
 
 abbrev pub invariant-frames : goal.invariant-frames

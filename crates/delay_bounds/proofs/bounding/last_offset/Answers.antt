@@ -1,5 +1,3 @@
-use Rattle.std.proofs.Common.{◌≡◌, ◌+◌, ℕ, suc, max, drop, List, sym, ap, ◌∙◌, arith}
-use Rattle.delay_bounds.specs.Bounds.{flow_at}
 use Rattle.delay_bounds.specs.Walked.{last_offset}
 use Rattle.delay_bounds.proofs.WalkedLaws.{goes_more, last_all}
 use Rattle.delay_bounds.proofs.bounding.last_offset.Goals as goal

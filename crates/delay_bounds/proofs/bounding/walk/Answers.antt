@@ -5,7 +5,8 @@ use Rattle.delay_bounds.specs.Noted.{noted}
 use Rattle.delay_bounds.specs.Line.{Standing}
 use Rattle.delay_bounds.proofs.SeenLaws.{back_bounds, back_most, back_recurs}
 use Rattle.delay_bounds.proofs.CourseLaws.{comes_at, IsGoing, starts_out, line_long, base_long, come_long, told_place, told_come, goes, stops_come, is_back_come}
-use Rattle.delay_bounds.specs.Walked.{first_refused, frame_of, last_offset}
+use Rattle.delay_bounds.specs.Stuck.{first_refused}
+use Rattle.delay_bounds.specs.Walked.{frame_of, last_offset}
 use Rattle.delay_bounds.specs.declared.Flow.{Flow}
 use Rattle.delay_bounds.proofs.WalkedLaws.{all_unseen, at, back_here, counting_long, ends_here, frame_is, goes_here, is_again, look_said, starts_at, stops_here}
 use Rattle.delay_bounds.proofs.bounding.walk.Goals as goal
@@ -84,7 +85,7 @@ pub returns-in-Err-clause-unbound : goal.returns-in-Err-clause-unbound
 returns-in-Err-clause-unbound g c =
     let turn = comes_at c.args.schedule.now c.args.class c.args.line.now.room c.args.flows.now c.args.limit c.loop-frames.mark.earlier c.loop-frames.frames c.loop-frames.mark.since c.loop-frames.line c.loop-frames.base c.loop-frames.bounds c.loop-frames.most c.loop-frames.invariant.going c.next-t.result.0 c.next-t.result.1 c.flow_at-flow.result c.next-t.ensures.frame c.flow_at-flow.ensures.flow in
     subst (IsUnbound c.args.schedule.now c.args.class c.args.line.now.room c.args.flows.now c.args.limit) (sym (c.unbound.ensures ∙ ap (λ f. unbound_by c.in-Err.stop f (first_refused c.start.new.self.room c.args.flows.now c.start.new.self.track)) (c.frame_at-frame.ensures ∙ frame_is c.args.flows.now c.next-t.result.0 c.next-t.result.1 c.loop-frames.frames turn.0 (subst (λ (f : Flow). 0 < f.period) c.flow_at-flow.ensures.flow (c.flow_at-flow.ensures.times c.requires.flows).above) (turn.1 ∙ ap (λ (f : Flow). f.offset + f.period * turn.0) c.flow_at-flow.ensures.flow))))
-    (stops_come c.args.schedule.now c.args.class c.args.line.now.room c.args.flows.now c.args.limit c.loop-frames.mark.earlier c.loop-frames.frames c.loop-frames.mark.since c.loop-frames.line c.loop-frames.base c.loop-frames.bounds c.loop-frames.most c.loop-frames.invariant.going c.next-t.result.0 c.next-t.result.1 turn.0 c.flow_at-flow.result c.in-Err.stop (first_refused c.start.new.self.room c.args.flows.now c.start.new.self.track) c.next-t.new.self c.next-t.ensures.frame turn.1 c.next-t.ensures.come c.flow_at-flow.ensures.flow
+    (stops_come c.args.schedule.now c.args.class c.args.line.now.room c.args.flows.now c.args.limit c.loop-frames.mark.earlier c.loop-frames.frames c.loop-frames.mark.since c.loop-frames.line c.loop-frames.base c.loop-frames.bounds c.loop-frames.most c.loop-frames.invariant.going c.next-t.result.0 c.next-t.result.1 turn.0 c.flow_at-flow.result c.in-Err.stop (first_refused c.start.new.self.room c.args.flows.now c.start.new.self.track) c.next-t.new.self (ap (λ (l : Standing). first_refused l.room c.args.flows.now l.track) c.in-Err.ensures.same) c.next-t.ensures.frame turn.1 c.next-t.ensures.come c.flow_at-flow.ensures.flow
     c.in-Err.ensures.full c.in-Err.ensures.late c.in-Err.ensures.never)
 
 pub loop-frames-preserved : goal.loop-frames-preserved

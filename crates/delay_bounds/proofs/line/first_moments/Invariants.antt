@@ -1,5 +1,5 @@
 use Rattle.std.proofs.Common.{◌≡◌, take}
-use Rattle.delay_bounds.specs.Bounds.{offsets_of}
+use Rattle.delay_bounds.specs.Claim.{offsets_of}
 use Rattle.delay_bounds.proofs.line.first_moments.Given as goal
 
 abbrev pub invariant-loop-flow : goal.invariant-loop-flow
