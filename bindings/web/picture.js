@@ -7,6 +7,7 @@ const RIGHT = 32; // what lies behind its end
 const TOP = 58; // the top of the row of class 7
 const STEP = 36; // from one row to the next
 const ROW = 28; // the height of a row
+const CROSS = 8; // the width and the height of a cross
 const BOTTOM = TOP + 9 * STEP; // below the row of the wire
 const ABOVE = 30; // what is cut off at the top, where the port writes a heading
 const HEIGHT = BOTTOM + 62 - ABOVE;
@@ -104,6 +105,12 @@ function putCycles(svg, shown, changes) {
 
 const rowOf = (kind) => TOP + (7 - kind) * STEP;
 
+// The class of a row at a height of the port's picture, "wire", or null.
+function rowAt(y) {
+  const place = Math.floor((y - TOP + 4) / STEP);
+  return place < 0 || place > 8 ? null : place === 8 ? "wire" : 7 - place;
+}
+
 // Draws in each row that frames wait to its end and on, from the first of them, and says how many.
 function putLeft(svg, shown, frames) {
   const left = new Map();
@@ -119,6 +126,21 @@ function putLeft(svg, shown, frames) {
     svg.append(element("path", { class: "w", d: `M${x} ${y + 2}V${y + 26}M${x} ${y + 6}H${shown.width - RIGHT}` }));
     svg.append(element("text", { class: "l", x: shown.width - 4, y: y + 19 }, `${number} ${number === 1 ? "waits" : "wait"} ▸`));
   }
+}
+
+// Puts crosses and the lines of changes over all else, each edged with the page's ground, so that they are seen on bars too.
+function putEdges(svg) {
+  const marks = [...svg.querySelectorAll("path.d, path.c")];
+  const edges = marks.map((it) => element("path", { class: `h ${it.getAttribute("class")}`, d: it.getAttribute("d") }));
+  svg.append(...edges, ...marks);
+}
+
+// Where the crosses of dropped frames lie, in pixels: the middle of each, and its row.
+function crossesIn(svg) {
+  return [...svg.querySelectorAll("path.d")].flatMap((it) => {
+    const [, x, y] = /^M([\d.]+) ([\d.]+)/.exec(it.getAttribute("d")) ?? [];
+    return y === undefined || Number(y) > BOTTOM ? [] : [{ x: Number(x) + CROSS / 2, y: Number(y) + CROSS / 2, row: rowAt(Number(y)) }];
+  });
 }
 
 // Moves the legend to the left, where it has room in a narrow picture.
@@ -145,6 +167,8 @@ export class Picture {
     // Waits lie under the bars, so that both are seen.
     const bar = this.svg.querySelector("rect.f");
     if (bar) for (const wait of this.svg.querySelectorAll("path.w")) if (wait.getAttribute("d").startsWith("M") && !wait.getAttribute("d").includes("v")) bar.before(wait);
+    this.crosses = crossesIn(this.svg);
+    putEdges(this.svg);
     putTicks(this.svg, shown, origin);
     putCycles(this.svg, shown, changes);
     putLeft(this.svg, shown, frames);
@@ -153,7 +177,7 @@ export class Picture {
     this.svg.setAttribute("viewBox", `0 ${ABOVE} ${shown.width} ${HEIGHT}`);
     this.svg.setAttribute("width", shown.width);
     this.svg.setAttribute("height", HEIGHT);
-    this.ring = element("rect", { class: "ring", y: 0, height: ROW + 4 });
+    this.ring = element("rect", { class: "ring" });
   }
 
   /** The moment at a place, in pixels from the picture's left edge. */
@@ -163,12 +187,11 @@ export class Picture {
 
   /** The class of a row at a height in pixels, "wire", or null. */
   row(y) {
-    const place = Math.floor((y + ABOVE - TOP + 4) / STEP);
-    return place < 0 || place > 8 ? null : place === 8 ? "wire" : 7 - place;
+    return rowAt(y + ABOVE);
   }
 
   /**
-   * The frame at a place: first one that is on the wire there, then one that waits, then one that was dropped.
+   * The frame at a place: one that was dropped or is on the wire there, and else one that waits.
    *
    * @returns {object | null}
    */
@@ -177,14 +200,16 @@ export class Picture {
     if (row === null) return null;
     const near = lengthOf(this.shown, 3);
     const at = this.moment(x);
+    const cross = this.crosses.find((it) => it.row === row && Math.abs(it.x - x) < CROSS);
     let found = null;
     for (const it of this.frames) {
       if (it.arrival > at + near) break;
       const sent = it.start !== null && it.start <= at + near && at < it.end + near;
       if (sent && (row === "wire" || it.class === row)) return it;
       const waits = it.class === row && (it.start === null ? it.fate === "left" : at < it.start + near);
-      const dropped = it.class === null && it.arrival >= at - near;
-      if (waits || dropped) found ??= it;
+      const dropped = cross && it.class === null && Math.abs(xOf(this.shown, it.arrival) - cross.x) <= 1;
+      if (dropped) return it;
+      if (waits) found ??= it;
     }
     return found;
   }
@@ -203,7 +228,11 @@ export class Picture {
   /** Rings a frame, or none. */
   mark(frame) {
     this.ring.remove();
-    if (!frame || frame.class === null) return;
+    if (!frame) return;
+    if (frame.class === null) {
+      this.#ringCross(frame);
+      return;
+    }
     const [from, to] = [frame.start ?? frame.arrival, frame.end ?? this.shown.to];
     if (to < this.shown.from || from > this.shown.to) return;
     const left = Math.max(LEFT, xOf(this.shown, from));
@@ -211,11 +240,25 @@ export class Picture {
     this.ring.setAttribute("x", left - 3);
     this.ring.setAttribute("width", Math.max(2, right - left) + 6);
     this.ring.setAttribute("y", rowOf(frame.class) - 2);
+    this.ring.setAttribute("height", ROW + 4);
     this.svg.append(this.ring);
   }
 
-  /** Where a frame lies, in pixels: the middle of its bar, or where it begins to wait. */
+  #crossOf(frame) {
+    return this.crosses.find((it) => Math.abs(it.x - xOf(this.shown, frame.arrival)) <= 1);
+  }
+
+  #ringCross(frame) {
+    const cross = this.#crossOf(frame);
+    if (!cross) return;
+    for (const [name, value] of [["x", cross.x - 8], ["y", cross.y - 8], ["width", 16], ["height", 16]]) this.ring.setAttribute(name, value);
+    this.svg.append(this.ring);
+  }
+
+  /** Where a frame lies, in pixels: the middle of its bar, its cross, or where it begins to wait. */
   placeOf(frame) {
+    const cross = frame.class === null ? this.#crossOf(frame) : null;
+    if (cross) return { x: cross.x, y: cross.y - ABOVE };
     const x = xOf(this.shown, frame.start ?? frame.arrival) + (frame.start === null ? 0 : (xOf(this.shown, frame.end) - xOf(this.shown, frame.start)) / 2);
     return { x, y: rowOf(frame.class ?? 0) + ROW / 2 - ABOVE };
   }
