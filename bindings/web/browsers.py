@@ -122,7 +122,10 @@ user_pref("datareporting.policy.dataSubmissionEnabled", false);
 user_pref("app.update.enabled", false);
 user_pref("marionette.port", %d);
 user_pref("ui.systemUsesDarkTheme", %d);
+user_pref("toolkit.legacyUserProfileCustomizations.stylesheets", true);
 """
+# (a window is else no narrower than some 450 pixels)
+NARROW = ":root { min-width: 0 !important; }"
 
 
 def free_port():
@@ -137,11 +140,14 @@ class Firefox:
     name = "firefox"
     logged = ()
 
-    def __init__(self, downloads, dark=False):
+    def __init__(self, downloads, dark=False, preferences=""):
         self.folder = tempfile.TemporaryDirectory(ignore_cleanup_errors=True)
         port = free_port()
         with open(f"{self.folder.name}/user.js", "w", encoding="utf-8") as out:
-            out.write(PREFERENCES % (downloads, port, dark))
+            out.write(PREFERENCES % (downloads, port, dark) + preferences)
+        os.mkdir(f"{self.folder.name}/chrome")
+        with open(f"{self.folder.name}/chrome/userChrome.css", "w", encoding="utf-8") as out:
+            out.write(NARROW)
         self.process = subprocess.Popen(
             ["firefox-esr", "--headless", "--marionette", "--no-remote", "--profile", self.folder.name],
             stdin=subprocess.DEVNULL, stdout=subprocess.DEVNULL, stderr=subprocess.DEVNULL, env={**os.environ, "HOME": self.folder.name})
@@ -202,7 +208,16 @@ class Firefox:
         self.call("WebDriver:PerformActions", actions=[{"type": "pointer", "id": "mouse", "parameters": {"pointerType": "mouse"}, "actions": steps}])
 
     def look(self, dark=False, width=1280, height=1000):
+        """Gives the page's part of the window a size; whether it is dark was said when the browser began."""
         self.call("WebDriver:SetWindowRect", width=width, height=height)
+        for _ in range(50):
+            inner = self.evaluate("return [innerWidth, innerHeight]")
+            if inner == [width, height]:
+                return
+            outer = self.evaluate("return [outerWidth, outerHeight]")
+            self.call("WebDriver:SetWindowRect", width=outer[0] + width - inner[0], height=outer[1] + height - inner[1])
+            time.sleep(0.05)
+        raise Broken(f"firefox is {inner} wide and high")
 
     def shoot(self, path):
         told = self.call("WebDriver:TakeScreenshot", full=True)

@@ -47,7 +47,7 @@ let drawing = false; // whether a picture is drawn for itself
 let again = false; // whether it is to be drawn once more
 
 const NAMES = { script: "Script", bounds: "Schedules", check: "Schedules", streams: "Table of streams", replay: "Script of the replay" };
-const BESIDE = { streams: "Script whose lines go among the frames, each at its moment", bounds: "Table of streams" };
+const BESIDE = { streams: "Script whose lines go among the frames", bounds: "Table of streams" };
 const HINTS = {
   script: "Lines: clock M, frame ID PRIORITY LEN [tagged], query, count CLASS, tc qdisc .. taprio ..; moments in picoseconds.",
   bounds: "Lines: tc qdisc .. taprio ..; below: stream FIRST_ID PRIORITY LEN PERIOD OFFSET COUNT [tagged] [deadline TIME].",
@@ -720,6 +720,7 @@ function noteOwn() {
 
 const SCRIPT_LINE = /^[ \t]*(?:clock|frame|stream|query|count)\b/m;
 const STREAM_LINE = /^[ \t]*stream[ \t]/m;
+const FRAME_LINE = /^[ \t]*(?:frame|stream)\b/m;
 
 // Whether the text that stands in the page can be that of a job.
 function fits(name) {
@@ -727,7 +728,7 @@ function fits(name) {
   if (!words.trim()) return false;
   if (name === "script") return !STREAM_LINE.test(words);
   if (name === "streams") return STREAM_LINE.test(words);
-  if (name === "replay") return capture.length > 0 && !/^[ \t]*(?:frame|stream)\b/m.test(words);
+  if (name === "replay") return capture.length > 0 && !FRAME_LINE.test(words);
   return !SCRIPT_LINE.test(words) && (name !== "bounds" || STREAM_LINE.test(beside.text));
 }
 
@@ -763,12 +764,13 @@ async function takeFile(file) {
   if (kind.kind === "capture") {
     setJob("replay");
     setCapture(octets, file.name);
-    if (/^[ \t]*(?:frame|stream)\b/m.test(editor.text)) editor.text = "";
+    // (the frames of a replay are those of the capture)
+    if (FRAME_LINE.test(editor.text)) editor.text = editor.text.split("\n").filter((it) => !FRAME_LINE.test(it)).join("\n");
     runPast(endOf(octets));
   } else {
     const text = new TextDecoder().decode(octets);
     const name = jobOf(text, job());
-    const part = name === "bounds" && /^[ \t]*stream[ \t]/m.test(text) ? beside : editor;
+    const part = name === "bounds" && STREAM_LINE.test(text) ? beside : editor;
     part.text = text;
     part.writeMicros();
     setJob(name);

@@ -50,7 +50,8 @@ export function zoomed({ from, to }, moment, factor) {
   return clamped(moment - scaled(moment - from), scaled(to - from));
 }
 
-const momentIn = (shown, x) => {
+/** The moment at a place, in pixels from the left edge of a picture. */
+export const momentIn = (shown, x) => {
   const place = (x - LEFT) / (shown.width - LEFT - RIGHT);
   const parts = BigInt(Math.round(Math.min(1, Math.max(0, place)) * 1e6));
   return shown.from + ((shown.to - shown.from) * parts) / 1_000_000n;
@@ -89,13 +90,13 @@ function putTicks(svg, shown, origin) {
   }
 }
 
-// Marks the beginnings of cycles, where they are far enough apart to be seen.
+// Marks the beginnings of cycles but the first, which is a change, where they are far enough apart to be seen.
 function putCycles(svg, shown, changes) {
   const frames = svg.querySelector("rect.f") ?? svg.querySelector("path.c") ?? svg.lastChild;
   changes.forEach(({ change, cycle }, place) => {
     if (cycle === null || lengthOf(shown, 12) > cycle) return;
     const end = changes[place + 1]?.change ?? shown.to;
-    let at = shown.from > change ? change + ((shown.from - change + cycle - 1n) / cycle) * cycle : change;
+    let at = shown.from > change ? change + ((shown.from - change + cycle - 1n) / cycle) * cycle : change + cycle;
     for (; at <= shown.to && at < end; at += cycle) {
       const x = xOf(shown, at).toFixed(2);
       frames.before(element("path", { class: "y", d: `M${x} 52V${BOTTOM}` }));
@@ -128,11 +129,15 @@ function putLeft(svg, shown, frames) {
   }
 }
 
-// Puts crosses and the lines of changes over all else, each edged with the page's ground, so that they are seen on bars too.
-function putEdges(svg) {
-  const marks = [...svg.querySelectorAll("path.d, path.c")];
-  const edges = marks.map((it) => element("path", { class: `h ${it.getAttribute("class")}`, d: it.getAttribute("d") }));
-  svg.append(...edges, ...marks);
+const isPlain = (wait) => !wait.getAttribute("d").includes("v"); // (that of the legend has other strokes)
+
+// Puts waits and changes under the bars and crosses over them, these edged with the page's ground, so that each is seen beside a bar.
+function putInLayers(svg) {
+  const bar = svg.querySelector("rect.f");
+  const under = [...svg.querySelectorAll("path.w, path.c")].filter((it) => isPlain(it));
+  bar?.before(...under);
+  const crosses = [...svg.querySelectorAll("path.d")];
+  svg.append(...crosses.map((it) => element("path", { class: "h", d: it.getAttribute("d") })), ...crosses);
 }
 
 // Where the crosses of dropped frames lie, in pixels: the middle of each, and its row.
@@ -143,11 +148,15 @@ function crossesIn(svg) {
   });
 }
 
-// Moves the legend to the left, where it has room in a narrow picture.
+const LEGEND = [64, 134, 206, 280, 354]; // where the parts of the legend begin
+
+// Moves the legend to the left and apart, where it has room in a narrow picture.
 function moveLegend(svg) {
   for (const it of svg.children) {
-    const y = Number(it.getAttribute("y") ?? /^M[\d.]+ (\d+)/.exec(it.getAttribute("d") ?? "")?.[1] ?? 0);
-    if (y > BOTTOM + 20) it.setAttribute("transform", "translate(-50 0)");
+    const [, atX, atY] = /^M([\d.]+) ([\d.]+)/.exec(it.getAttribute("d") ?? "") ?? [];
+    const [x, y] = [it.getAttribute("x") ?? atX, it.getAttribute("y") ?? atY].map(Number);
+    const part = LEGEND.findLastIndex((begin) => begin <= x);
+    if (y > BOTTOM + 20) it.setAttribute("transform", `translate(${8 * part - 52} 0)`);
   }
 }
 
@@ -164,11 +173,8 @@ export class Picture {
     // (its style goes before it is parsed: the page's policy refuses it)
     const parsed = new DOMParser().parseFromString(text.replace(/<style>[^]*?<\/style>/, ""), "image/svg+xml").documentElement;
     this.svg = safe(parsed);
-    // Waits lie under the bars, so that both are seen.
-    const bar = this.svg.querySelector("rect.f");
-    if (bar) for (const wait of this.svg.querySelectorAll("path.w")) if (wait.getAttribute("d").startsWith("M") && !wait.getAttribute("d").includes("v")) bar.before(wait);
     this.crosses = crossesIn(this.svg);
-    putEdges(this.svg);
+    putInLayers(this.svg);
     putTicks(this.svg, shown, origin);
     putCycles(this.svg, shown, changes);
     putLeft(this.svg, shown, frames);
