@@ -106,12 +106,6 @@ function putCycles(svg, shown, changes) {
 
 const rowOf = (kind) => TOP + (7 - kind) * STEP;
 
-// The class of a row at a height of the port's picture, "wire", or null.
-function rowAt(y) {
-  const place = Math.floor((y - TOP + 4) / STEP);
-  return place < 0 || place > 8 ? null : place === 8 ? "wire" : 7 - place;
-}
-
 // Draws in each row that frames wait to its end and on, from the first of them, and says how many.
 function putLeft(svg, shown, frames) {
   const left = new Map();
@@ -140,23 +134,24 @@ function putInLayers(svg) {
   svg.append(...crosses.map((it) => element("path", { class: "h", d: it.getAttribute("d") })), ...crosses);
 }
 
-// Where the crosses of dropped frames lie, in pixels: the middle of each, and its row.
+// Where the crosses of dropped frames lie, in pixels: the middle of each.
 function crossesIn(svg) {
   return [...svg.querySelectorAll("path.d")].flatMap((it) => {
     const [, x, y] = /^M([\d.]+) ([\d.]+)/.exec(it.getAttribute("d")) ?? [];
-    return y === undefined || Number(y) > BOTTOM ? [] : [{ x: Number(x) + CROSS / 2, y: Number(y) + CROSS / 2, row: rowAt(Number(y)) }];
+    return y === undefined || Number(y) > BOTTOM ? [] : [{ x: Number(x) + CROSS / 2, y: Number(y) + CROSS / 2 }];
   });
 }
 
 const LEGEND = [64, 134, 206, 280, 354]; // where the parts of the legend begin
+const MOVED_TO = [8, 84, 167, 247, 333]; // and where they do in a narrow picture, whose labels are wider
 
-// Moves the legend to the left and apart, where it has room in a narrow picture.
+// Moves the parts of the legend to where they have room in a narrow picture.
 function moveLegend(svg) {
   for (const it of svg.children) {
     const [, atX, atY] = /^M([\d.]+) ([\d.]+)/.exec(it.getAttribute("d") ?? "") ?? [];
     const [x, y] = [it.getAttribute("x") ?? atX, it.getAttribute("y") ?? atY].map(Number);
     const part = LEGEND.findLastIndex((begin) => begin <= x);
-    if (y > BOTTOM + 20) it.setAttribute("transform", `translate(${8 * part - 52} 0)`);
+    if (y > BOTTOM + 20) it.setAttribute("transform", `translate(${MOVED_TO[part] - LEGEND[part]} 0)`);
   }
 }
 
@@ -193,7 +188,8 @@ export class Picture {
 
   /** The class of a row at a height in pixels, "wire", or null. */
   row(y) {
-    return rowAt(y + ABOVE);
+    const place = Math.floor((y + ABOVE - TOP + 4) / STEP);
+    return place < 0 || place > 8 ? null : place === 8 ? "wire" : 7 - place;
   }
 
   /**
@@ -206,18 +202,23 @@ export class Picture {
     if (row === null) return null;
     const near = lengthOf(this.shown, 3);
     const at = this.moment(x);
-    const cross = this.crosses.find((it) => it.row === row && Math.abs(it.x - x) < CROSS);
+    const dropped = this.#droppedAt(x, y);
+    if (dropped) return dropped;
     let found = null;
     for (const it of this.frames) {
       if (it.arrival > at + near) break;
       const sent = it.start !== null && it.start <= at + near && at < it.end + near;
       if (sent && (row === "wire" || it.class === row)) return it;
       const waits = it.class === row && (it.start === null ? it.fate === "left" : at < it.start + near);
-      const dropped = cross && it.class === null && Math.abs(xOf(this.shown, it.arrival) - cross.x) <= 1;
-      if (dropped) return it;
       if (waits) found ??= it;
     }
     return found;
+  }
+
+  // The frame whose cross lies at a place.
+  #droppedAt(x, y) {
+    const cross = this.crosses.find((it) => Math.abs(it.x - x) < CROSS && Math.abs(it.y - ABOVE - y) < CROSS);
+    return cross && this.frames.find((it) => it.class === null && Math.abs(xOf(this.shown, it.arrival) - cross.x) <= 1);
   }
 
   /** The open time of a class at a place, by the picture's bands: about from when to when, or null. */

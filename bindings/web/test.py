@@ -568,7 +568,7 @@ PAINTED = """const svg = document.querySelector('#canvas svg'); const copy = svg
     image.onload = () => {
       const canvas = document.createElement('canvas'); const box = svg.viewBox.baseVal;
       [canvas.width, canvas.height] = [box.width * scale, box.height * scale];
-      const context = canvas.getContext('2d'); context.fillStyle = getComputedStyle(document.body).backgroundColor;
+      const context = canvas.getContext('2d', { willReadFrequently: true }); context.fillStyle = getComputedStyle(document.body).backgroundColor;
       context.fillRect(0, 0, canvas.width, canvas.height); context.drawImage(image, 0, 0, canvas.width, canvas.height);
       const [, x, y] = /^M([\\d.]+) ([\\d.]+)/.exec(svg.querySelector('path.d:not(.h)').getAttribute('d')).map(Number);
       const colour = (right) => [...context.getImageData(Math.round((x + 4 + right - box.x) * scale), Math.round((y + 6 - box.y) * scale), 1, 1).data].slice(0, 3);
