@@ -57,7 +57,6 @@ const END = 24; // what lies behind its end
 const HEAD = 24; // the top of the first stream's row
 const ROW_STEP = 30; // from one stream to the next
 const DRAWN = 200; // streams that are drawn
-const LETTER = 6.6; // about how wide a letter of a label is
 
 // Where a label of this width stands: behind the bar, before it, or behind the deadline, so that it covers neither.
 function placeOf(wide, { from, to, deadline }, width) {
@@ -69,7 +68,7 @@ function placeOf(wide, { from, to, deadline }, width) {
   return deadline !== null && deadline > to && deadline + 8 + wide <= width - 4 ? deadline + 8 : Math.max(BEGIN + 3, Math.min(behind, width - 4 - wide));
 }
 
-// A stream's row: its name, its bar or why it has none, and its deadline.
+// A stream's row: its name, its bar or why it has none, and its deadline; and its label with what it is not to cover.
 function rowOfStream(it, top, x, width, write) {
   const row = element("g", { class: `row ${it.verdict}` });
   const [from, to] = it.last === null ? [BEGIN, BEGIN] : [x(it.first), Math.max(x(it.first) + 3, x(it.last))];
@@ -78,9 +77,9 @@ function rowOfStream(it, top, x, width, write) {
   row.append(element("text", { x: 4, y: top + 15 }, `stream ${it.id}`), element("path", { class: "g", d: `M${BEGIN} ${top + 22}H${width - END}` }));
   if (it.last !== null) row.append(element("rect", { class: "f", x: from, y: top + 3, width: to - from, height: 15 }));
   if (deadline !== null) row.append(element("path", { class: "h", d: `M${deadline} ${top + 1}V${top + 20}` }), element("path", { class: "dl", d: `M${deadline} ${top - 1}V${top + 21}` }));
-  row.append(element("text", { x: placeOf(label.length * LETTER, { from, to, deadline }, width), y: top + 15 }, label));
-  row.append(element("title", {}, `stream ${it.id}: ${it.told}${it.deadline === null ? "" : `, deadline ${write(it.deadline)} ${it.verdict}`}`));
-  return row;
+  const text = element("text", { x: to + 8, y: top + 15 }, label);
+  row.append(text, element("title", {}, `stream ${it.id}: ${it.told}${it.deadline === null ? "" : `, deadline ${write(it.deadline)} ${it.verdict}`}`));
+  return { row, text, beside: { from, to, deadline } };
 }
 
 /**
@@ -89,6 +88,7 @@ function rowOfStream(it, top, x, width, write) {
  * @param {object[]} streams
  * @param {number} width
  * @param {(time: bigint) => string} write
+ * @returns {{svg: SVGElement, place: () => void}} the picture, and what places its labels once it is shown: only then they have a width
  */
 export function drawBounds(streams, width, write) {
   const drawn = streams.slice(0, DRAWN);
@@ -99,6 +99,10 @@ export function drawBounds(streams, width, write) {
   for (const { at, text } of ticks({ from: 0n, to: most }, 0n, Math.max(2, Math.floor(width / 130)))) {
     svg.append(element("path", { class: "g", d: `M${x(at)} ${HEAD - 6}V${height - 12}` }), element("text", { class: "m", x: x(at), y: 14 }, text));
   }
-  drawn.forEach((it, place) => svg.append(rowOfStream(it, HEAD + place * ROW_STEP, x, width, write)));
-  return svg;
+  const rows = drawn.map((it, place) => rowOfStream(it, HEAD + place * ROW_STEP, x, width, write));
+  svg.append(...rows.map(({ row }) => row));
+  const place = () => {
+    for (const { text, beside } of rows) text.setAttribute("x", placeOf(text.getComputedTextLength(), beside, width));
+  };
+  return { svg, place };
 }

@@ -178,13 +178,20 @@ function fillOrigins({ changes, first }) {
   at("origin").replaceChildren(...list.map(([text, value]) => new Option(text, value)));
 }
 
+// What stands below a picture: how to move in time, which schedule it is of, and from when time counts.
+function showControls(time, which, origin) {
+  for (const part of document.querySelectorAll("#zoom [data-step], #zoom details")) part.hidden = !time;
+  at("which-row").hidden = !which;
+  at("origin-row").hidden = !origin;
+}
+
 function showPicture({ output }, values) {
   const text = new TextDecoder().decode(output);
   const shown = shownIn(text, values);
   addressOf(at("save-picture"), output, "image/svg+xml");
   at("frame").dataset.width = values.width;
   at("zoom").hidden = false;
-  for (const part of document.querySelectorAll("#zoom [data-step], #zoom details, #zoom .pair")) part.hidden = part.id === "which-row" ? ran.job !== "check" || ran.schedules.length < 2 : false;
+  showControls(true, ran.job === "check" && ran.schedules.length > 1, ran.job !== "check");
   ran.drawn = { text, shown };
   layPicture();
   performance.mark("picture");
@@ -223,11 +230,12 @@ async function draw(mine) {
 function showBounds() {
   const { streams } = ran.bounds[Number(at("which").value) || 0] ?? { streams: [] };
   if (!streams.length) return hidePicture("");
-  const svg = drawBounds(streams, widthNow(), writeTime);
+  const { svg, place } = drawBounds(streams, widthNow(), writeTime);
   viewer.show({ svg });
+  place();
   addressOf(at("save-picture"), encoded(standalone(svg)), "image/svg+xml");
   at("zoom").hidden = false;
-  for (const part of document.querySelectorAll("#zoom [data-step], #zoom details, #zoom .pair")) part.hidden = part.id !== "which-row" || ran.bounds.length < 2;
+  showControls(false, ran.bounds.length > 1, false);
   at("frame").setAttribute("aria-label", "Each stream from its earliest to its latest end, against its deadline. The table says the same.");
   at("picture-status").textContent = "Bars: from the earliest to the latest end of a stream's frames, counted from their arrival. Line: the deadline, red where it is missed.";
   at("picture-status").classList.add("legend");
@@ -335,6 +343,7 @@ function windowsIn(answers) {
 
 function showTables() {
   const rows = { script: () => byClass(ran.frames), replay: () => byClass(ran.frames), check: () => ran.windows, bounds: () => ran.bounds[Number(at("which").value) || 0]?.streams ?? [], streams: () => byClass(ran.frames) }[ran.job]();
+  for (const name of ["results-name", "numbers"]) at(name).hidden = !rows.length && !ran.frames.length;
   at("classes").hidden = !rows.length;
   at("save-table").hidden = !rows.length;
   if (rows.length) {
@@ -374,6 +383,7 @@ function showFault(text, input = null) {
   if (folded) folded.open = true;
   if (number !== null) editorOf(source).markLine(number);
   at("go").hidden = number === null && !field;
+  at("fault").classList.remove("stale");
   at("go").textContent = !field ? "Go to the line" : input === "capture" ? "Go to the capture" : "Go to the option";
   at("go").onclick = () => (field ? field.focus() : editorOf(source).goTo(number));
   at("fault").hidden = false;
@@ -555,7 +565,7 @@ function showError(error) {
     showFault(error.message, error.field);
   } else {
     say("It could not be run.");
-    showFault(`It could not be run: ${error.message}. ${INSTEAD}`);
+    showFault(`${error.message}. ${INSTEAD}`);
   }
 }
 
@@ -606,9 +616,9 @@ async function runPicture() {
 
 // 5. What stands in the page
 
-// What is shown is of another text or of other options than stand there now.
+// What is shown is of another text or of other options than stand there now; a fault, too.
 function setStale(is, words = "Changed since this was run. Run it (Ctrl+Enter in the text).") {
-  for (const part of [at("view"), at("results")]) part.classList.toggle("stale", is);
+  for (const part of [at("view"), at("results"), at("fault")]) part.classList.toggle("stale", is);
   if (is && ran && words) say(words);
 }
 
@@ -828,6 +838,24 @@ async function takeAsScript() {
   await load({ job: "script", rate, mtu, room, text });
 }
 
+// A file may be dropped anywhere, and the page shows so while it is dragged; text that is dragged stays with the browser.
+function listenToDrops() {
+  const mark = (is) => document.body.classList.toggle("dropping", is);
+  const isFile = (event) => event.dataTransfer?.types.includes("Files");
+  addEventListener("dragover", (event) => {
+    if (!isFile(event)) return;
+    event.preventDefault();
+    mark(true);
+  });
+  addEventListener("dragleave", (event) => event.relatedTarget || mark(false));
+  addEventListener("drop", (event) => {
+    mark(false);
+    if (!isFile(event)) return;
+    event.preventDefault();
+    if (event.dataTransfer.files[0]) takeFile(event.dataTransfer.files[0]);
+  });
+}
+
 function listen() {
   at("form").addEventListener("submit", (event) => {
     event.preventDefault();
@@ -862,16 +890,12 @@ function listen() {
     if (ran.job === "bounds") sayVerdict("");
     await draw(mine);
   }));
-  at("ps").addEventListener("change", () => ran && showTables());
+  at("ps").addEventListener("change", () => ran && (showTables(), ran.job === "bounds" && showBounds()));
   at("answers").addEventListener("click", findAnswered);
   at("frames-box").addEventListener("toggle", () => at("frames-box").open && showFrames());
   at("zoom").addEventListener("click", (event) => event.target.dataset.step && zoom(event.target.dataset.step));
   at("zoom").addEventListener("keydown", (event) => event.key === "Enter" && event.target.matches("input") && runPicture());
-  addEventListener("dragover", (event) => event.preventDefault());
-  addEventListener("drop", (event) => {
-    event.preventDefault();
-    if (event.dataTransfer.files[0]) takeFile(event.dataTransfer.files[0]);
-  });
+  listenToDrops();
   addEventListener("hashchange", openLink);
   let width = innerWidth;
   addEventListener("resize", () => {
@@ -884,7 +908,8 @@ function listen() {
 // Says that this browser can't run the port: what can't be used is not shown.
 function refuseBrowser(why) {
   for (const part of document.querySelectorAll(".jobs, .story, #form, #results")) part.hidden = true;
-  say("Not run.");
+  at("view").classList.add("alone");
+  say("");
   showFault(`This browser can't run the port: ${why}. ${INSTEAD}`);
 }
 

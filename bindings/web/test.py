@@ -434,9 +434,10 @@ def try_bounds(page):
         page.same(f"bounds of {text!r}", page.text("verdict")[: len(said)], said)
 
 
-COVERED = """const marks = [...document.querySelectorAll('#canvas .dl')].map((it) => it.getBoundingClientRect());
-    return [...document.querySelectorAll('#canvas .row text')].filter((it) => { const r = it.getBoundingClientRect();
-      return marks.some((m) => m.left < r.right && m.right > r.left && m.top < r.bottom && m.bottom > r.top); }).map((it) => it.textContent)"""
+# (a deadline is three pixels wide)
+COVERED = """const marks = [...document.querySelectorAll('#canvas .dl')].map((it) => it.getBBox());
+    return [...document.querySelectorAll('#canvas .row text')].filter((it) => { const r = it.getBBox();
+      return marks.some((m) => m.x - 1.5 < r.x + r.width && m.x + 1.5 > r.x && m.y < r.y + r.height && m.y + m.height > r.y); }).map((it) => it.textContent)"""
 
 
 def try_story(page):
@@ -787,14 +788,28 @@ def refuses(browser, address, name, wanted):
     browser.shoot(SHOTS / f"{browser.name}-{name}.png")
 
 
+def old_chromium(downloads):
+    """Chromium, whose WebAssembly takes no module with 64-bit memory."""
+    browser = Chromium(downloads)
+    browser.call("Page.addScriptToEvaluateOnNewDocument", source="WebAssembly.validate = () => false")
+    return browser
+
+
+def old_firefox(downloads):
+    """Firefox without WebAssembly: it has no preference for 64-bit memory alone."""
+    return Firefox(downloads, preferences='user_pref("javascript.options.wasm", false);\n')
+
+
+OLD = {Chromium: (old_chromium, "its WebAssembly has no 64-bit memory"), Firefox: (old_firefox, "it has no WebAssembly")}
+
+
 def try_lacking(kind, address):
-    """What the page says in a browser without 64-bit memory: Firefox has a preference for it, and in Chromium the check is told so."""
+    """What the page says in a browser that can't run its module."""
+    make, why = OLD[kind]
     with tempfile.TemporaryDirectory() as downloads:
-        browser = kind(downloads) if kind is Chromium else kind(downloads, preferences='user_pref("javascript.options.wasm_memory64", false);\n')
+        browser = make(downloads)
         try:
-            if kind is Chromium:
-                browser.call("Page.addScriptToEvaluateOnNewDocument", source="WebAssembly.validate = () => false")
-            refuses(browser, address, "no-memory", re.escape(f"This browser can't run the port: its WebAssembly has no 64-bit memory. {INSTEAD}"))
+            refuses(browser, address, "lacking", re.escape(f"This browser can't run the port: {why}. {INSTEAD}"))
             if browser.evaluate("return document.getElementById('form').checkVisibility()"):
                 raise Broken(f"{browser.name}: there is a form that can't be used")
         finally:
@@ -810,7 +825,7 @@ def try_broken(kind):
         place.write_text(text.replace(module, module[:1000] + "A" * 4000 + module[5000:]), encoding="utf-8")
         browser = kind(downloads)
         try:
-            refuses(browser, place.as_uri(), "broken", r"It could not be run: the port's module does not compile in this browser \(.*\)\. " + re.escape(INSTEAD))
+            refuses(browser, place.as_uri(), "broken", r"The port's module does not compile in this browser \(.*\)\. " + re.escape(INSTEAD))
         finally:
             browser.close()
 

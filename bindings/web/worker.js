@@ -8,7 +8,7 @@ let broken = "";
 
 async function answer({ octets, request }) {
   if (octets) module = await WebAssembly.compile(octets).catch((error) => ((broken = error.message), null));
-  if (broken) throw new Error(`the port's module does not compile in this browser (${broken})`);
+  if (broken) throw new Error(`The port's module does not compile in this browser (${broken})`);
   if (!request) return { ready: true };
   const begun = performance.now();
   const told = request.job === "frames" ? framesIn(request) : run(module, request);
