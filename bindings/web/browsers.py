@@ -96,13 +96,17 @@ class Chromium:
 
     def look(self, dark=False, width=1280, height=1000):
         self.call("Emulation.setEmulatedMedia", features=[{"name": "prefers-color-scheme", "value": "dark" if dark else "light"}])
+        self.resize(width, height)
+
+    def resize(self, width, height):
         self.call("Emulation.setDeviceMetricsOverride", width=width, height=height, deviceScaleFactor=1, mobile=False)
 
     def shoot(self, path):
-        size = self.evaluate("return document.documentElement.scrollHeight")
-        width = self.evaluate("return innerWidth")
-        clip = {"x": 0, "y": 0, "width": width, "height": size, "scale": 1}
-        told = self.call("Page.captureScreenshot", captureBeyondViewport=True, clip=clip)
+        # (a picture of what lies below the window would give the page another width meanwhile)
+        width, height, whole = self.evaluate("return [innerWidth, innerHeight, document.documentElement.scrollHeight]")
+        self.resize(width, max(height, whole))
+        told = self.call("Page.captureScreenshot")
+        self.resize(width, height)
         with open(path, "wb") as out:
             out.write(base64.b64decode(told["data"]))
 

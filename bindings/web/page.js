@@ -377,6 +377,7 @@ function showFault(text, input = null) {
   const { text: words, line: number, source } = explain(text);
   const second = number !== null && editorOf(source) === beside ? { streams: "Script: ", bounds: "Table: " }[job()] : "";
   at("fault-text").textContent = `${second}${words}`;
+  at("fault-hint").textContent = number === null ? "" : HINTS[job()];
   const field = at(input ?? /--(\w+)/.exec(words)?.[1] ?? "");
   field?.setAttribute("aria-invalid", "true");
   const folded = field?.closest("details");
@@ -856,7 +857,7 @@ function listenToDrops() {
   });
 }
 
-function listen() {
+function listenToInput() {
   at("form").addEventListener("submit", (event) => {
     event.preventDefault();
     runAll();
@@ -879,11 +880,14 @@ function listen() {
   at("stop").addEventListener("click", () => runner.stop());
   at("link").addEventListener("click", makeLink);
   at("take").addEventListener("click", takeAsScript);
+}
+
+function listenToResults() {
   at("draw").addEventListener("click", runPicture);
   at("save-png").addEventListener("click", savePng);
   at("origin").addEventListener("change", () => ran && (layPicture(), showTables()));
   at("which").addEventListener("change", () => begin(async (mine) => {
-    for (const name of ["from", "to"]) at(name).value = "";
+    forgetTime();
     if (ran.job === "check") await takeSchedule(mine);
     fillOrigins(ran);
     showTables();
@@ -895,6 +899,11 @@ function listen() {
   at("frames-box").addEventListener("toggle", () => at("frames-box").open && showFrames());
   at("zoom").addEventListener("click", (event) => event.target.dataset.step && zoom(event.target.dataset.step));
   at("zoom").addEventListener("keydown", (event) => event.key === "Enter" && event.target.matches("input") && runPicture());
+}
+
+function listen() {
+  listenToInput();
+  listenToResults();
   listenToDrops();
   addEventListener("hashchange", openLink);
   let width = innerWidth;

@@ -394,6 +394,38 @@ def try_frames(page):
     page.same("waits for ever", page.do("return document.querySelector('#canvas .l')?.textContent"), "1 waits ▸")
 
 
+# The middle of a part of the picture, where the pointer goes.
+OVER = """const over = (it, down = 0.5) => { const r = it.getBoundingClientRect();
+    at('frame').dispatchEvent(new PointerEvent('pointermove', { clientX: (r.left + r.right) / 2, clientY: r.top + down * r.height, bubbles: true })); return at('tip').hidden ? '' : at('tip').innerText; };"""
+
+
+def try_tips(page):
+    """What is told of a wait and of a band, from when time counts, and the way from a line of the answers to its frame."""
+    page.choose("schedule.script")
+    page.click("[data-step=whole]")
+    page.settle()
+    wait = "[...document.querySelectorAll('#canvas path.w')].find((it) => /H/.test(it.getAttribute('d')))"
+    page.same("tip of a wait", page.do(f"{OVER} return over({wait})").split("\n")[0], "Frame 1, class 7")
+    page.same("tip of a band", page.do(f"{OVER} return over(document.querySelector('#canvas rect.o'))").split("\n")[0], "Class 0 is open")
+    for origin, tick, arrives in (("0", "20 us", "arrives 20 us"), ("20000000", "20 us", "arrives 0")):
+        page.do(f"at('origin').value = '{origin}'; at('origin').dispatchEvent(new Event('change'))")
+        page.same(f"marks counted from {origin}", page.do("return [...document.querySelectorAll('#canvas text.m')].map((it) => it.textContent)").count(tick), 1)
+        page.same(f"tip counted from {origin}", page.do(f"{OVER} return over({wait})").split("\n")[1].split(", ")[1], arrives)
+    page.do("at('answers').scrollIntoView({ block: 'center' })")
+    page.do("""const text = at('answers').firstChild; const begin = text.data.indexOf('start 2'); const range = document.createRange();
+        range.setStart(text, begin); range.setEnd(text, begin + 7); const r = range.getBoundingClientRect(); getSelection().removeAllRanges();
+        at('answers').dispatchEvent(new MouseEvent('click', { clientX: r.left + 20, clientY: (r.top + r.bottom) / 2, bubbles: true }))""")
+    page.same("the frame of a line", page.do("return [at('tip').innerText.split('\\n')[0], !!document.querySelector('#canvas .ring')]"), ["Frame 2, class 0", True])
+    page.same("classes", page.saved("save-table").decode(), "class,frames,sent,left,least_ps,mean_ps,greatest_ps\n7,1,1,0,13336000,13336000,13336000\n0,1,1,0,0,0,0\n")
+    page.choose("machine.pcap")
+    page.same("marks of cycles", page.do("return document.querySelectorAll('#canvas path.y').length"), 6)
+    page.choose("planned.streams")
+    page.set("rate", "100")
+    page.click("#take")
+    page.settle()
+    page.same("the rate goes with the script", page.do("return [at('form').elements.job.value, at('rate').value]"), ["script", "100"])
+
+
 def try_pictures(page):
     """Pictures of a check, of each of its schedules, and of a replay."""
     page.choose("windows.schedules")
@@ -422,10 +454,13 @@ def try_bounds(page):
         page.same(f"bars of {name}", page.do("return document.querySelectorAll('#canvas rect.f').length"), 4 - missed)
         page.same(f"missed in {name}", page.do("return document.querySelectorAll('#canvas .missed').length"), missed)
         page.same(f"labels of {name} that cover a deadline", page.do(COVERED), [])
+        drawn = page.saved("save-picture")
+        page.same(f"saved picture of {name}", [drawn[:4], drawn.count(b'class="f"'), b"var(" in drawn], [b"<svg", 4 - missed, False])
         page.browser.shoot(SHOTS / f"{page.browser.name}-{name}.png")
     page.set("beside", "stream 1 7 60 250us 20us\n")
     page.run()
     page.same("a fault of the table", page.do("return !document.querySelector('#beside-editor .mark').hidden"), True)
+    page.same("what is expected", "stream FIRST_ID PRIORITY" in page.text("fault-hint"), True)
     page.same("where it is", page.text("fault-text"), "Table: Line 1: WordCount, the line has too few or too many words.")
     for name, text, said in (("beside", "", "The table has no stream."), ("text", "tc foo\n", "The schedule is not taken."), ("text", "", "No schedule stands there")):
         page.choose("drive.bounds")
@@ -514,6 +549,7 @@ def try_stale(page):
     page.click("#link")
     wait_for(page.browser, "return !document.getElementById('long-link').hidden")
     page.same("a long link", page.do("return at('link-row').hidden"), True)
+    page.same("the text instead", page.saved("save-text").decode(), page.do("return at('text').value"))
 
 
 STORY = "return [...document.querySelectorAll('#example optgroup')[0].children].map((it) => it.value)"
@@ -554,7 +590,7 @@ def try_sizes(page, dark=False):
             page.same(f"contrast, {what}", page.do(CONTRAST), [])
             page.same(f"contrast of marks, {what}", page.do(MARKS), [])
             page.same(f"labels, {what}", page.do(SMALL), [])
-            page.same(f"{what} fits", page.do("return document.documentElement.scrollWidth <= innerWidth"), True)
+            page.same(f"{what} fits", page.do("return document.documentElement.scrollWidth <= document.documentElement.clientWidth"), True)
     page.browser.look(dark)
 
 
@@ -674,7 +710,9 @@ const light = ([r, g, b]) => [r, g, b].map((it) => it / 255).map((it) => it <= 0
   .reduce((sum, it, place) => sum + it * [0.2126, 0.7152, 0.0722][place], 0);
 const back = (it) => { for (; it; it = it.parentElement) { const found = parts(getComputedStyle(it).backgroundColor); if (found.length === 3 || found[3] === 1) return found; } return [255, 255, 255]; };
 const texts = [...document.querySelectorAll('body *')].filter((it) => it.checkVisibility() && !it.disabled && [...it.childNodes].some((child) => child.nodeType === 3 && child.data.trim()));
-return texts.map((it) => { const [one, other] = [light(parts(getComputedStyle(it).color)), light(back(it))].sort((a, b) => b - a);
+const through = (it) => { let share = 1; for (; it; it = it.parentElement) share *= getComputedStyle(it).opacity; return share; };
+const seen = (it) => { const [share, ground] = [through(it), back(it)]; return parts(getComputedStyle(it).color).slice(0, 3).map((part, place) => share * part + (1 - share) * ground[place]); };
+return texts.map((it) => { const [one, other] = [light(seen(it)), light(back(it))].sort((a, b) => b - a);
   return [(one + 0.05) / (other + 0.05), it.tagName + '#' + it.id + '.' + it.className]; }).filter(([ratio]) => ratio < 4.5).map(String);
 """
 
@@ -739,6 +777,7 @@ def try_looks(page):
         page.set("text", "clok\n")
         page.run()
         shoot(page, "fault-dark", dark=True)
+    page.choose("priorities.script")
     page.set("text", "frame 1 0 60\nclock 1000000\n")
     shoot(page, "stale")
     page.choose("windows.schedules")
@@ -749,7 +788,7 @@ def try_looks(page):
     shoot(page, "replay")
 
 
-TRIES = [try_examples, try_replay, try_typing, try_options, try_worked, try_faults, try_refused, try_zoom, try_keys, try_micros, try_frames, try_marks, try_pictures, try_bounds,
+TRIES = [try_examples, try_replay, try_typing, try_options, try_worked, try_faults, try_refused, try_zoom, try_keys, try_micros, try_frames, try_tips, try_marks, try_pictures, try_bounds,
          try_story, try_tabs, try_files, try_stale, try_link, try_stop, try_access, try_screens, try_sizes, try_looks]
 
 
