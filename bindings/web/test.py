@@ -415,7 +415,7 @@ def try_tips(page):
     page.do("""const text = at('answers').firstChild; const begin = text.data.indexOf('start 2'); const range = document.createRange();
         range.setStart(text, begin); range.setEnd(text, begin + 7); const r = range.getBoundingClientRect(); getSelection().removeAllRanges();
         at('answers').dispatchEvent(new MouseEvent('click', { clientX: r.left + 20, clientY: (r.top + r.bottom) / 2, bubbles: true }))""")
-    page.same("the frame of a line", page.do("return [at('tip').innerText.split('\\n')[0], !!document.querySelector('#canvas .ring')]"), ["Frame 2, class 0", True])
+    page.same("the frame of a line", page.do("return [at('tip').firstChild.textContent, !!document.querySelector('#canvas .ring')]"), ["Frame 2, class 0", True])
     page.same("classes", page.saved("save-table").decode(), "class,frames,sent,left,least_ps,mean_ps,greatest_ps\n7,1,1,0,13336000,13336000,13336000\n0,1,1,0,0,0,0\n")
     page.choose("machine.pcap")
     page.same("marks of cycles", page.do("return document.querySelectorAll('#canvas path.y').length"), 6)
