@@ -38,6 +38,7 @@ const beside = new Editor(at("beside-editor"));
 let own = null; // what was typed, while an example is shown
 let ran = null; // the last run: its text, its values, and what was made of its answers
 let jobShown = "script"; // the job whose text stands in the page
+let exampleShown = ""; // the example whose text stands in the page, or OWN
 let capture = new Uint8Array(); // the capture of a replay
 let captureName = "";
 let slow = 0; // the timer after which it is said that a run goes on
@@ -364,7 +365,7 @@ function showFrames() {
 function clearFault() {
   at("fault").hidden = true;
   for (const part of [editor, beside]) part.markLine(null);
-  for (const input of document.querySelectorAll(".options [aria-invalid], #zoom [aria-invalid], #capture")) input.removeAttribute("aria-invalid");
+  for (const input of document.querySelectorAll(".options [aria-invalid], #zoom [aria-invalid]")) input.removeAttribute("aria-invalid");
 }
 
 // The editor that has the lines of which a fault tells.
@@ -379,7 +380,7 @@ function showFault(text, input = null) {
   at("fault-text").textContent = `${second}${words}`;
   at("fault-hint").textContent = number === null ? "" : HINTS[job()];
   const field = at(input ?? /--(\w+)/.exec(words)?.[1] ?? "");
-  field?.setAttribute("aria-invalid", "true");
+  if (field?.matches("input, select")) field.setAttribute("aria-invalid", "true");
   const folded = field?.closest("details");
   if (folded) folded.open = true;
   if (number !== null) editorOf(source).markLine(number);
@@ -566,7 +567,7 @@ function showError(error) {
     showFault(error.message, error.field);
   } else {
     say("It could not be run.");
-    showFault(`${error.message}. ${INSTEAD}`);
+    showFault(error.message);
   }
 }
 
@@ -657,9 +658,9 @@ function load(state) {
 // Keeps the text for a reload, as far as this browser does so.
 function keep() {
   try {
-    const own = job() === "replay" && 4 * capture.length < 3 * MOST_KEPT ? { capture: base64Of(capture), name: captureName } : {};
+    const withCapture = job() === "replay" && 4 * capture.length < 3 * MOST_KEPT ? { capture: base64Of(capture), name: captureName } : {};
     if (editor.text.length + beside.text.length > MOST_KEPT) sessionStorage.removeItem(KEPT);
-    else sessionStorage.setItem(KEPT, JSON.stringify({ ...stateNow(), ...own, example: at("example").value }));
+    else sessionStorage.setItem(KEPT, JSON.stringify({ ...stateNow(), ...withCapture, example: at("example").value }));
   } catch {
     // (a browser may keep nothing for files)
   }
@@ -694,10 +695,15 @@ function saySentence() {
   at("sentence").textContent = step && byName(name).job === job() ? step[2] : "";
 }
 
+function showExample(name) {
+  exampleShown = name;
+  at("example").value = name;
+}
+
 // The text is one's own from now on, and what is shown is of another.
 function becomeOwn() {
   if (!at("example").querySelector(`[value=${OWN}]`)) at("example").prepend(new Option("your own", OWN));
-  at("example").value = OWN;
+  showExample(OWN);
   own = null;
   saySentence();
   setStale(true);
@@ -711,22 +717,24 @@ function forgetTime() {
 }
 
 function chooseExample() {
+  noteOwn();
   const name = at("example").value;
+  showExample(name);
   if (name === OWN) return own && load(own);
   return load(byName(name));
 }
 
 // Goes to the example before or after.
 function stepExample(step) {
-  noteOwn();
   const all = [...at("example").options];
   const place = all.findIndex((it) => it.value === at("example").value);
   at("example").value = all[(place + step + all.length) % all.length].value;
   return chooseExample();
 }
 
+// Keeps one's own text while an example is shown.
 function noteOwn() {
-  if (at("example").value === OWN) own = { ...stateNow(), octets: capture, name: captureName };
+  if (exampleShown === OWN) own = { ...stateNow(), octets: capture, name: captureName };
 }
 
 const SCRIPT_LINE = /^[ \t]*(?:clock|frame|stream|query|count)\b/m;
@@ -871,7 +879,6 @@ function listenToInput() {
     part.area.addEventListener("input", () => (part.writeMicros(), becomeOwn()));
   }
   for (const input of document.querySelectorAll(".options input, .options select")) input.addEventListener("input", () => (setStale(true), keep()));
-  at("example").addEventListener("focus", noteOwn);
   at("example").addEventListener("change", chooseExample);
   at("back").addEventListener("click", () => stepExample(-1));
   at("next").addEventListener("click", () => stepExample(1));
@@ -927,7 +934,7 @@ async function goOn() {
   const state = kept();
   const example = byName(state?.example ?? FIRST);
   if (!example) becomeOwn();
-  else at("example").value = example.name;
+  else showExample(example.name);
   await load(state ? { capture: example?.capture, ...state } : example);
 }
 

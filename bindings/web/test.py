@@ -648,7 +648,8 @@ def try_marks(page):
 def try_tabs(page):
     """Each tab shows an example of its own; one's own text goes along where it can, and is there again where it can't."""
     tab = "document.querySelector('input[name=job][value={}]').click()"
-    page.choose("schedule.script")
+    page.do("sessionStorage.clear()")
+    page.open("")
     for name, example in (("bounds", "drive.bounds"), ("check", "windows.schedules"), ("streams", "planned.streams"), ("replay", "machine.pcap"), ("script", "first.script")):
         page.do(tab.format(name))
         page.settle()
@@ -664,6 +665,10 @@ def try_tabs(page):
     page.do(tab.format("check"))
     page.settle()
     page.same("one's own again", page.do("return at('text').value"), text)
+    page.choose("first.script")
+    page.click("#back")
+    page.settle()
+    page.same("one's own before the first example", page.do("return at('text').value"), text)
 
 
 def try_link(page):

@@ -2,13 +2,14 @@
 import { run } from "./taprio.js";
 import { changesOf, readScript } from "./script.js";
 import { framesOf } from "./frames.js";
+import { INSTEAD } from "./support.js";
 
 let module = null;
 let broken = "";
 
 async function answer({ octets, request }) {
   if (octets) module = await WebAssembly.compile(octets).catch((error) => ((broken = error.message), null));
-  if (broken) throw new Error(`The port's module does not compile in this browser (${broken})`);
+  if (broken) throw new Error(`The port's module does not compile in this browser (${broken}). ${INSTEAD}`);
   if (!request) return { ready: true };
   const begun = performance.now();
   const told = request.job === "frames" ? framesIn(request) : run(module, request);
