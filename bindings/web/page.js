@@ -19,6 +19,8 @@ import { INSTEAD, lacking } from "./support.js";
 
 const SHOWN = 200_000; // characters of answers that are shown
 const RUNNING = "Running ..."; // what is said of a run that takes long
+const STOPPED = "Stopped."; // and of one that was stopped
+const LOOKING = "The frames are being looked through ...";
 const OWN = "own"; // the example that is what was typed
 const KEPT = "taprio"; // under which name the text is kept for a reload
 const MOST_KEPT = 1_000_000; // characters that are kept so
@@ -197,6 +199,7 @@ function showPicture({ output }, values) {
   layPicture();
   performance.mark("picture");
   sayPicture("");
+  if (at("status").textContent === STOPPED) say(ran.said, true);
 }
 
 // Puts what was drawn into the page, with its marks of time.
@@ -401,7 +404,8 @@ function sayStatus({ status, output, time }) {
   const names = { 0: "Done", 2: "A value is refused", 3: "The input has a fault", 4: "Out of memory" };
   clearTimeout(slow);
   const after = status === 3 ? " before it" : "";
-  say(`${names[status]}: ${count(linesIn(output), "line")}${after}, in ${time.toFixed(time < 10 ? 1 : 0)} ms (status ${status}).`, status === 0);
+  ran.said = `${names[status]}: ${count(linesIn(output), "line")}${after}, in ${time.toFixed(time < 10 ? 1 : 0)} ms (status ${status}).`;
+  say(ran.said, status === 0);
 }
 
 // What a check comes to: the classes that its one schedule keeps apart, or how many there are.
@@ -539,7 +543,7 @@ async function work(mine) {
   at("save-departures").hidden = true;
   if (ran.job === "replay") addressOf(at("save-departures"), told.departures, "application/vnd.tcpdump.pcap");
   sayStatus(told);
-  at("verdict").textContent = late ? "The frames are being looked through ..." : "";
+  at("verdict").textContent = late ? LOOKING : "";
   if (told.status !== 0) {
     showFault(told.fault);
     hidePicture(["script", "replay", "check"].includes(ran.job) ? "No picture: the run has a fault." : "");
@@ -561,8 +565,10 @@ async function takeLate(mine, answers) {
 }
 
 function showError(error) {
-  if (error instanceof Stopped) say("Stopped.");
-  else if (error instanceof BadOption) {
+  if (error instanceof Stopped) {
+    say(STOPPED);
+    if (at("verdict").textContent === LOOKING) at("verdict").textContent = "The frames were not looked through.";
+  } else if (error instanceof BadOption) {
     say("A value is refused (status 2).");
     showFault(error.message, error.field);
   } else {

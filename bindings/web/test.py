@@ -703,6 +703,9 @@ def try_stop(page):
     page.same("stopped", page.text("status"), "Stopped.")
     page.choose("first.script")
     try_script(page, EXAMPLES / "first.script")
+    page.do("at('status').textContent = 'Stopped.'; document.querySelector('[data-step=nearer]').click()")
+    page.settle()
+    page.same("drawn after a stop", page.text("status")[:4], "Done")
 
 
 NAMELESS = """return [...document.querySelectorAll('input, select, textarea, button, [tabindex]')]
