@@ -199,7 +199,6 @@ function showPicture({ output }, values) {
   layPicture();
   performance.mark("picture");
   sayPicture("");
-  if (at("status").textContent === STOPPED) say(ran.said, true);
 }
 
 // Puts what was drawn into the page, with its marks of time.
@@ -617,6 +616,7 @@ async function runPicture() {
   if (drawing) return;
   drawing = true;
   clearFault();
+  if (at("status").textContent === STOPPED) say(ran.said, true);
   await begin(draw);
   drawing = false;
   if (again) await runPicture();
