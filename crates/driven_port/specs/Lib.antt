@@ -1,0 +1,5 @@
+pub mod Opened
+pub mod Taken
+pub mod Codes
+pub mod Told
+pub use Rattle.abstract_port.specs.AbstractPort
