@@ -11,6 +11,7 @@ ghost use Rattle.driven_port.specs.Taken.{command_of, frame_of};
 ghost use Rattle.driven_port.specs.Told.{arrives, counters_told, given, report_told, steps};
 ghost use Rattle.wire_time.specs.Wire.{rate_of};
 
+mod slot;
 mod taken;
 mod told;
 mod values;
@@ -27,6 +28,7 @@ use std::alloc::Global;
 use std::marker::Model;
 use wire_time::{MAX_MOMENT, Rate};
 
+pub use slot::PortSlot;
 pub use taken::ScheduleFault;
 pub use values::{CAnswer, CCounters, CEntry, CFrame, CRange, CReport, CSchedule};
 

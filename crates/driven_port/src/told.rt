@@ -2,6 +2,7 @@
 
 ghost use Rattle.std.specs.Prelude.{◌≡◌};
 ghost use Rattle.driven_port.specs.Codes.{dropped_code, plan_code, schedule_code};
+ghost use Rattle.driven_port.specs.Slots.{no_report};
 ghost use Rattle.driven_port.specs.Told.{answer, arrival_told, command_told, counted, high, low, malformed_told, refused_told, shown, start_told};
 
 use crate::taken::ScheduleFault;
@@ -28,7 +29,7 @@ fn high(moment: u128) -> u64
 }
 
 /// An answer of this kind that names nothing.
-fn answer(kind: u32) -> CAnswer
+pub fn answer(kind: u32) -> CAnswer
     ensures { result ≡ answer kind }
 {
     CAnswer {
@@ -222,5 +223,18 @@ pub fn counters_told(counters: Option<Counters>) -> CCounters
             over_sdu: 0,
             full: 0,
         },
+    }
+}
+
+/// A report with nothing.
+pub fn no_report() -> CReport
+    ensures { result ≡ no_report }
+{
+    CReport {
+        now_low: 0,
+        now_high: 0,
+        no_class: 0,
+        gates: 0,
+        pending: 0,
     }
 }
