@@ -32,9 +32,9 @@ pub fn answer_check<A: Allocator, B: Allocator, R: Read, W: Write + Drop, E: Wri
     mut answers: BufWriter<W, B>,
     errors: &mut E,
 ) -> (Ended, W)
-    ensures ending { (tell : Teller) → IsTeller tell → IsEnding (whole_check tell words.windows words.script) (rate_given (octets_of words.rate.entry))
+    ensures ending { (tell : Teller) → IsTeller tell → IsEnding (whole_check tell words.entry.windows words.entry.script) (rate_given (octets_of words.entry.rate))
         (R.remaining reader.old) result.0 (writer_contents W.contents answers) (W.contents result.1) (E.contents errors.old) (E.contents errors.new) }
-    ensures unread { IfErr (rate_given (octets_of words.rate.entry)) (λ _. reader.new ≡ reader.old) }
+    ensures unread { IfErr (rate_given (octets_of words.entry.rate)) (λ _. reader.new ≡ reader.old) }
 {
     match rate_given(words.rate) {
         Ok(rate) => {

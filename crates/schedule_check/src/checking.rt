@@ -52,7 +52,7 @@ fn check_lines<A: Allocator, R: Read + Drop, W: Write>(
 ) -> Result<(), RunFault>
     ensures { (tell : Teller) → IsTeller tell → (read : List (List ℕ) → Result Command TcFault) → IsReader read
         → IfSome (script_left R.remaining lines.old) (λ script.
-        Runs result (W.contents writer.old) (W.contents writer.new) (checked_in settings.script read (verdict_lines tell settings.now) script)) }
+        Runs result (W.contents writer.old) (W.contents writer.new) (checked_in settings.now.script read (verdict_lines tell settings.now) script)) }
 {
     'lines: while lines.advance()? {
         let line = lines.line();
