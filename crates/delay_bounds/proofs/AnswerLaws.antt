@@ -5,7 +5,7 @@ use Rattle.std.specs.Option.{option_map_or}
 use Rattle.std.proofs.lemmas.Bool.{leb-true, leb-false, ltb-true, ltb-false, false≢true}
 use Rattle.std.proofs.lemmas.Option.{same_Some}
 use Rattle.wire_time.specs.Moment.{greatest_moment}
-use Rattle.gate_list.specs.Gate.{Plan, in_ps}
+use Rattle.gate_list.specs.Gate.{IsSchedule, Plan, in_ps}
 use Rattle.delay_bounds.specs.declared.Flow.{Flow}
 use Rattle.delay_bounds.specs.declared.Told.{Told}
 use Rattle.delay_bounds.specs.declared.Unbound.{Unbound}
@@ -205,3 +205,9 @@ plan_law plan class room limit flows sound some fit =
     let above = (sound.plan_is).cycle in
     let short = sound.cycle in
     answers plan class room limit flows above (omega (arith, short)) some fit
+
+-- in the words of a walk in code
+pub by_answer : (plan : Plan) (class room limit : ℕ) (flows : List Flow) → IsSchedule plan → 0 < length flows → All IsFlow flows → (size : ℕ) → size ≡ room → (answer : Result Answer Unbound)
+    → answer_of plan class size flows limit ≡ answer → IsByPlan plan class room flows limit answer
+by_answer plan class room limit flows sound some fit size same answer is =
+    subst (λ (k : ℕ). IsByPlan plan class k flows limit answer) same (subst (IsByPlan plan class size flows limit) is (plan_law plan class size limit flows sound some fit))

@@ -1,5 +1,5 @@
 -- A walk on its way, and where it stood before.
-use Rattle.std.proofs.Common.{Option, set, get_or, get_or-set_same, get_or-set_other, Result, Err, All, ◌⊎◌, ◌≡◌, ◌<◌, ◌≤◌, ◌^◌, ℕ, zero, suc, ◌+◌, ◌-◌, ◌*◌, ◌%◌, ◌/◌, max, Bool, true, false, cond, leb, List, [], ◌∷◌, length, Some, None, IsSome, inl, inr, refl, sym, ap, ◌∙◌, subst, arith}
+use Rattle.std.proofs.Common.{Option, set, get_or, get_or-set_same, get_or-set_other, All, ◌⊎◌, ◌≡◌, ◌<◌, ◌≤◌, ◌^◌, ℕ, zero, suc, ◌+◌, ◌-◌, ◌*◌, ◌%◌, ◌/◌, max, Bool, cond, leb, List, [], ◌∷◌, length, Some, None, IsSome, inl, inr, refl, sym, ap, ◌∙◌, subst, arith}
 use Rattle.std.proofs.lemmas.Bool.{cases_lt, cases_eq}
 use Rattle.std.proofs.lemmas.Option.{same_Some}
 use Rattle.wire_time.specs.Moment.{greatest_moment}
@@ -17,12 +17,11 @@ use Rattle.delay_bounds.specs.ForEver.{later, counts_from, counting}
 use Rattle.delay_bounds.specs.Noted.{unseen, noted}
 use Rattle.delay_bounds.specs.Stuck.{first_refused}
 use Rattle.delay_bounds.specs.Bounded.{unbound_by, ComesAt, IsNext, IsUnbound}
-use Rattle.delay_bounds.specs.declared.bounding.Mark.{Mark}
 use Rattle.delay_bounds.specs.declared.line.Stop.{Stop}
 use Rattle.delay_bounds.specs.declared.line.Stop.TheVariants as Stops
 use Rattle.delay_bounds.proofs.WalkLaws.{told_after}
 use Rattle.delay_bounds.proofs.WaitLaws.{step_is}
-use Rattle.delay_bounds.proofs.StepLaws.{after_step, after_none, counting_nexts, first_of, has_next}
+use Rattle.delay_bounds.proofs.StepLaws.{after_step, after_none, first_of, has_next}
 use Rattle.delay_bounds.proofs.SeenLaws.{AreSeen, IsBack, none_seen, one_seen, length_kept}
 
 -- where a walk stood when a frame came
@@ -139,19 +138,6 @@ module _ (plan : Plan) (class room : ℕ) (flows : List Flow) where
     pub line_long : length line.track.nexts ≡ length flows
     line_long = length_kept (may_by plan class) (in_ps plan.cycle) room flows frames begins line.track h.there ∙ length_offsets flows
 
-    pub base_long : length base.track.nexts ≡ length flows
-    base_long =
-        let m = h.marked in
-        ap (λ (l : Standing). length l.track.nexts) m.base_is
-        ∙ (ap length (counting_nexts m.track)
-        ∙ (length_kept (may_by plan class) (in_ps plan.cycle) room flows first begins m.track m.there ∙ length_offsets flows))
-
-    pub come_long : length (counting line.track).nexts ≡ length flows
-    come_long = ap length (counting_nexts line.track) ∙ line_long
-
-    pub base_room : base.room ≡ line.room
-    base_room = (let m = h.marked in ap (λ (l : Standing). l.room) m.base_is ∙ sym h.room_is)
-
     -- the next frame is one of its flow
     pub comes_at : (t place : ℕ) (f : Flow) → earliest line.track.nexts ≡ Some (t, place) → f ≡ flow_at flows place → ComesAt f t
     comes_at t place f next is =
@@ -217,15 +203,6 @@ module _ (plan : Plan) (class room : ℕ) (flows : List Flow) where
           seen = one_seen plan class room flows frames bounds most told (omega arith) small (told_more (may_by plan class) (in_ps plan.cycle) room flows frames begins line.track now.track told h.there stepped) h.seen;
         }
 
-    pub told_place : (t place : ℕ) (told : Told) (now : Track) → earliest line.track.nexts ≡ Some (t, place)
-        → arrives (may_by plan class) (in_ps plan.cycle) line.room t place (flow_at flows place) (counting line.track).free (counting line.track).nexts (counting line.track).starts ≡ Some (told, now)
-        → told.place ≡ place
-    told_place t place told now next is =
-        let e : ℕ × ℕ = (t, place) in
-        let stepped = step_come (may_by plan class) (in_ps plan.cycle) room flows line.track e next
-        ∙ (ap (λ (r : ℕ). arrives (may_by plan class) (in_ps plan.cycle) r t place (flow_at flows place) (counting line.track).free (counting line.track).nexts (counting line.track).starts) (sym h.room_is) ∙ is) in
-        (step_is (may_by plan class) (in_ps plan.cycle) room flows line.track e (told, now) next stepped).place
-
     -- why it stops
     pub stops : (t place before : ℕ) (stop : Stop) (refused : Option Refused) → refused ≡ first_refused room flows (counting line.track) → earliest line.track.nexts ≡ Some (t, place) → t ≡ (flow_at flows place).offset + (flow_at flows place).period * before
         → (stop ≡ Stops.Full → line.room ≤ length (counting line.track).starts) → (line.room ≤ length (counting line.track).starts → stop ≡ Stops.Full)
@@ -267,61 +244,3 @@ module _ (plan : Plan) (class room : ℕ) (flows : List Flow) where
         let below = h.below in
         let at : frames ≡ limit = omega arith in
         subst IsSome (sym (ap (λ k. after (may_by plan class) (in_ps plan.cycle) room flows k begins) (sym at) ∙ h.there)) refl
-
-    pub marks : (b : Bool) (place : ℕ) (old here mark : Mark) (come there : Standing) → mark ≡ cond b here old → there ≡ cond b come base
-        → old.earlier ≡ first → old.since ≡ since → here.earlier ≡ frames → earliest line.track.nexts ≡ Some (here.since, place) → come ≡ when_come line
-        → (mark.earlier ≤ frames) × IsMarked plan class room flows mark.earlier mark.since there
-    marks b place old here mark come there mark_is there_is was_earlier was_since now_earlier next come_is = go b mark_is there_is
-      where
-        go : (b : Bool) → mark ≡ cond b here old → there ≡ cond b come base → (mark.earlier ≤ frames) × IsMarked plan class room flows mark.earlier mark.since there
-        go true m t =
-            let at : mark.earlier ≡ frames = ap (λ (x : Mark). x.earlier) m ∙ now_earlier in (
-              (let le : mark.earlier ≤ frames = omega arith in le),
-              subst (λ (x : Standing). IsMarked plan class room flows mark.earlier mark.since x) (sym (t ∙ come_is))
-                  (subst (λ (x : Mark). IsMarked plan class room flows x.earlier x.since (when_come line)) (sym m)
-                  (subst (λ k. IsMarked plan class room flows k here.since (when_come line)) (sym now_earlier) (is_marked here.since place next))),
-            )
-        go false m t =
-            let at : mark.earlier ≡ first = ap (λ (x : Mark). x.earlier) m ∙ was_earlier in
-            let onward = h.onward in (
-              (let le : mark.earlier ≤ frames = omega arith in le),
-              subst (λ (x : Standing). IsMarked plan class room flows mark.earlier mark.since x) (sym t)
-                  (subst (λ (x : Mark). IsMarked plan class room flows x.earlier x.since base) (sym m)
-                  (subst (λ k. IsMarked plan class room flows k old.since base) (sym was_earlier) (subst (λ k. IsMarked plan class room flows first k base) (sym was_since) h.marked))),
-            )
-
-    -- what is told, in the words of what counts
-    pub told_come : (t place : ℕ) (f : Flow) (told : Told) (now : Track) (come : Standing) → come ≡ when_come line → f ≡ flow_at flows place
-        → arrives (may_by plan class) (in_ps plan.cycle) come.room t place f come.track.free come.track.nexts come.track.starts ≡ Some (told, now)
-        → arrives (may_by plan class) (in_ps plan.cycle) line.room t place (flow_at flows place) (counting line.track).free (counting line.track).nexts (counting line.track).starts ≡ Some (told, now)
-    told_come t place f told now come come_is f_is is =
-        subst (λ (l : Standing). arrives (may_by plan class) (in_ps plan.cycle) l.room t place (flow_at flows place) l.track.free l.track.nexts l.track.starts ≡ Some (told, now)) come_is
-        (subst (λ (x : Flow). arrives (may_by plan class) (in_ps plan.cycle) come.room t place x come.track.free come.track.nexts come.track.starts ≡ Some (told, now)) f_is is)
-
-    pub goes : (t place : ℕ) (f : Flow) (told : Told) (come now : Standing) (b : Bool) (old here mark : Mark) (there : Standing) → frames < limit → earliest line.track.nexts ≡ Some (t, place)
-        → come ≡ when_come line → f ≡ flow_at flows place
-        → arrives (may_by plan class) (in_ps plan.cycle) come.room t place f come.track.free come.track.nexts come.track.starts ≡ Some (told, now.track)
-        → told.wait < 2 ^ 128 → now.room ≡ come.room → place < length flows
-        → mark ≡ cond b here old → there ≡ cond b come base → old.earlier ≡ first → old.since ≡ since → here.earlier ≡ frames → here.since ≡ t
-        → IsGoing plan class room flows limit mark.earlier (frames + 1) mark.since now there (noted told bounds) (max told.waiting most)
-    goes t place f told come now b old here mark there more next come_is f_is is small same within mark_is there_is was_earlier was_since now_earlier now_since =
-        let m = marks b place old here mark come there mark_is there_is was_earlier was_since now_earlier (next ∙ ap (λ (k : ℕ). Some (k, place)) (sym now_since)) come_is in
-        goes_on t place told now mark.earlier mark.since there more next (told_come t place f told now.track come come_is f_is is) small (same ∙ ap (λ (l : Standing). l.room) come_is) m.0 m.1 within
-
-    pub stops_come : (t place before : ℕ) (f : Flow) (stop : Stop) (refused : Option Refused) (come : Standing) → refused ≡ first_refused come.room flows come.track → earliest line.track.nexts ≡ Some (t, place) → t ≡ f.offset + f.period * before → come ≡ when_come line → f ≡ flow_at flows place
-        → (◌≡◌ {A = Result Told Stop} (Err stop) (Err Stops.Full) → come.room ≤ length come.track.starts) × (come.room ≤ length come.track.starts → ◌≡◌ {A = Result Told Stop} (Err stop) (Err Stops.Full))
-        → (◌≡◌ {A = Result Told Stop} (Err stop) (Err Stops.Late) → greatest_moment < max t come.track.free)
-        → (◌≡◌ {A = Result Told Stop} (Err stop) (Err Stops.Never) → first_fit (may_by plan class) f.need (max t come.track.free) (in_ps plan.cycle) ≡ None)
-        → IsUnbound plan class room flows limit (unbound_by stop (record { place = place; before = before; earlier = frames; moment = t }) refused)
-    stops_come t place before f stop refused come is_refused next turn come_is f_is full late never =
-        stops t place before stop refused
-        (is_refused ∙ (ap (λ (l : Standing). first_refused l.room flows l.track) come_is ∙ ap (λ (r : ℕ). first_refused r flows (counting line.track)) h.room_is)) next (turn ∙ ap (λ (x : Flow). x.offset + x.period * before) f_is)
-        (λ e. subst (λ (l : Standing). l.room ≤ length l.track.starts) come_is (full.0 (ap Err e)))
-        (λ le. (let e = full.1 (subst (λ (l : Standing). l.room ≤ length l.track.starts) (sym come_is) le) in cc))
-        (λ e. subst (λ (l : Standing). greatest_moment < max t l.track.free) come_is (late (ap Err e)))
-        (λ e. subst (λ (l : Standing). first_fit (may_by plan class) (flow_at flows place).need (max t l.track.free) (in_ps plan.cycle) ≡ None) come_is
-        (subst (λ (x : Flow). first_fit (may_by plan class) x.need (max t come.track.free) (in_ps plan.cycle) ≡ None) f_is (never (ap Err e))))
-
-    pub is_back_come : (t place : ℕ) (come : Standing) → 0 < plan.cycle → earliest line.track.nexts ≡ Some (t, place) → come ≡ when_come line
-        → (since < t) × ((t - since) % in_ps plan.cycle ≡ 0) × (come.track ≡ later (t - since) base.track) → IsBack plan class room flows first frames (t - since)
-    is_back_come t place come pos next come_is again = is_back t place pos next again.0 again.1 (sym (ap (λ (l : Standing). l.track) come_is) ∙ again.2)

@@ -1,10 +1,11 @@
 -- The walk as it is defined, step by step.
-use Rattle.std.proofs.Common.{◌≡◌, ◌<◌, ◌≤◌, ◌%◌, ℕ, zero, suc, ◌+◌, ◌-◌, ◌*◌, ◌/◌, max, Bool, true, false, ◌&&◌, cond, List, [], ◌∷◌, length, map, drop, All, Option, Some, None, Result, Ok, Err, refl, sym, ap, ◌∙◌, subst, arith}
+use Rattle.std.proofs.Common.{◌≡◌, ◌<◌, ◌≤◌, ◌%◌, ℕ, zero, suc, ◌+◌, ◌-◌, ◌*◌, ◌/◌, max, Bool, true, false, ◌&&◌, cond, leb, List, [], ◌∷◌, length, length-set, map, drop, All, Option, Some, None, Result, Ok, Err, refl, sym, ap, ◌∙◌, subst, arith}
 use Rattle.std.specs.Prelude.{nat_lt, nat_le}
+use Rattle.std.proofs.lemmas.Option.{same_Some}
 use Rattle.std.proofs.lemmas.List.Elements.{All-head, All-tail}
 use Rattle.gate_list.specs.Gate.{Plan, in_ps}
 use Rattle.delay_bounds.specs.Claim.{earliest, flow_at, offsets_of}
-use Rattle.delay_bounds.specs.Bounds.{Track, arrives}
+use Rattle.delay_bounds.specs.Bounds.{Track, arrives, first_fit}
 use Rattle.delay_bounds.specs.Bounded.{Answer, is_from_here, unbound_by}
 use Rattle.delay_bounds.specs.ForEver.{counting, later}
 use Rattle.delay_bounds.specs.Line.{Standing, before_any, when_come}
@@ -15,6 +16,7 @@ use Rattle.delay_bounds.specs.Walk.{begun, may_by}
 use Rattle.delay_bounds.specs.Stuck.{first_refused, refused_at, refused_in, refused_of, staying}
 use Rattle.delay_bounds.specs.Walked.{Walking, answer_of, are_later, by_look, by_next, by_stop, comes_again, frame_of, goes_on, is_later, last_offset, look, stop_of, walked, with_told}
 use Rattle.delay_bounds.proofs.StepLaws.{counting_nexts}
+use Rattle.delay_bounds.proofs.Words.{starts_at as told_start}
 use Rattle.delay_bounds.specs.declared.Bound.{Bound}
 use Rattle.delay_bounds.specs.declared.Flow.{Flow}
 use Rattle.delay_bounds.specs.declared.FlowFrame.{FlowFrame}
@@ -83,6 +85,33 @@ all_unseen (b ∷ bs) (f ∷ fs) e all = ap (λ x. x ∷ bs) (All-head (λ x. �
 by_cond : {A B : Type 0} (g : A → B) (b : Bool) (x y : A) → g (cond b x y) ≡ cond b (g x) (g y)
 by_cond g true x y = refl
 by_cond g false x y = refl
+
+-- what holds of both holds of one of them
+pub one_of : {A : Type 0} (g : A → ℕ) (b : Bool) (x y : A) {n : ℕ} → g x ≡ n → g y ≡ n → g (cond b x y) ≡ n
+one_of g true x y first other = first
+one_of g false x y first other = other
+
+-- it looks back to a frame that came before
+pub earlier_of : (b : Bool) (n : ℕ) (here old : Mark) → here.earlier ≡ n → old.earlier ≤ n → (cond b here old).earlier ≤ n + 1
+earlier_of true n here old at le = omega (arith, at)
+earlier_of false n here old at le = omega (arith, le)
+
+-- as many moments come first as there are flows
+pub long_offsets : (fs : List Flow) → length (offsets_of fs) ≡ length fs
+long_offsets [] = refl
+long_offsets (f ∷ fs) = ap suc (long_offsets fs)
+
+-- a frame that is told of is of the flow at its place, and of each flow there is a next one as before
+pub arrives_is : (may : ℕ → ℕ → Bool) (cycle room t place : ℕ) (f : Flow) (free : ℕ) (nexts waiting : List ℕ) (r : Told × Track) → arrives may cycle room t place f free nexts waiting ≡ Some r
+    → ((r.0).place ≡ place) × (length (r.1).nexts ≡ length nexts)
+arrives_is may cycle room t place f free nexts waiting r is = by (leb room (length waiting)) (first_fit may f.need (max t free) cycle) is
+  where
+    by : (b : Bool) (o : Option ℕ) → cond b None (told_start o t place f nexts waiting) ≡ Some r → ((r.0).place ≡ place) × (length (r.1).nexts ≡ length nexts)
+    by true o e = absurd (let no : None ≡ Some r = e in cc)
+    by false None e = absurd (let no : None ≡ Some r = e in cc)
+    by false (Some at) e =
+        let same = same_Some _ _ e in
+        (ap (λ x. x.0.place) (sym same), ap (λ x. length x.1.nexts) (sym same) ∙ length-set nexts place (t + f.period))
 
 -- 2. A look back
 

@@ -219,10 +219,6 @@ fn walk<A: Allocator>(
     requires base { base.old ≡ before_any flows.now line.old.room }
     requires bounds { (length bounds.old ≡ length flows.now) × All (λ b. b ≡ unseen) bounds.old }
     ensures count { IfOk result (λ seen. length bounds.new ≡ length flows.now) }
-    ensures bounds { IfOk result (λ seen. AreBounds schedule.now class line.old.room flows.now bounds.new) }
-    ensures most { IfOk result (λ seen. IsMost schedule.now class line.old.room flows.now seen.most) }
-    ensures recurs { IfOk result (λ seen. Recurs schedule.now class line.old.room flows.now seen.frames seen.every) }
-    ensures unbound { IfErr result (IsUnbound schedule.now class line.old.room flows.now limit) }
     ensures answer { MatchResult result
         (λ seen. answer_of schedule.now class line.old.room flows.now limit ≡ Ok (record { bounds = bounds.new; most = seen.most; frames = seen.frames; every = seen.every }))
         (λ why. answer_of schedule.now class line.old.room flows.now limit ≡ Err why) }
@@ -309,7 +305,7 @@ where
     let Ok(mut bounds) = all_unseen(alloc, flows.len()) else {
         return Err(Unbound::Memory);
     };
-    let seen = walk(
+    let seen = match walk(
         schedule,
         class,
         flows,
@@ -317,7 +313,10 @@ where
         &mut line,
         &mut base,
         bounds.as_mut_slice(),
-    )?;
+    ) {
+        Ok(seen) => seen,
+        Err(why) => return Err(why),
+    };
     Ok(Bounded {
         bounds,
         most: seen.most,
