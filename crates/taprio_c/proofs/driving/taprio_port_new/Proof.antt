@@ -17,9 +17,9 @@ use Rattle.driven_port.specs.declared.OpenFault.TheVariants.{Memory}
 use Rattle.driven_port.proofs.slot.PortSlot.TheLaws as slot
 use Rattle.std.specs.contracts.alloc.Global.{the_row as A}
 use Rattle.std.proofs.alloc.Global.TheLaws as heap
-use Rattle.taprio_c.specs.contracts.port.taprio_port_new as f
-use Rattle.taprio_c.proofs.port.taprio_port_new.Statement.{statement}
-use Rattle.taprio_c.proofs.port.taprio_port_new.Code as code
+use Rattle.taprio_c.specs.contracts.driving.taprio_port_new as f
+use Rattle.taprio_c.proofs.driving.taprio_port_new.Statement.{statement}
+use Rattle.taprio_c.proofs.driving.taprio_port_new.Code as code
 use Rattle.driven_port.specs.contracts.slot.PortSlot.new as g
 use Rattle.driven_port.proofs.slot.PortSlot.new.Met.{met}
 use Rattle.driven_port.specs.contracts.slot.PortSlot.{the_row as R}
