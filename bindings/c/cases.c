@@ -323,7 +323,7 @@ static void nulls(void) {
     expect(ran.status == TAPRIO_NO_ROOM && ran.output == 0 && ran.fault == 40, "null pointers", "taprio_run, a fault");
     static const uint8_t frame[] = "frame 1 0 60";
     taprio_run(&usual, frame, 12, NULL, 0, NULL, 0, &ran);
-    expect(ran.status == TAPRIO_NO_ROOM && ran.output == 17 && ran.fault == 0, "null pointers", "taprio_run, no room");
+    expect(ran.status == TAPRIO_NO_ROOM && ran.output == 39 && ran.fault == 0, "null pointers", "taprio_run, no room");
     taprio_check(1000, 1, NULL, 0, NULL, 0, NULL, 0, &ran);
     expect(ran.status == TAPRIO_DONE && ran.output == 0, "null pointers", "taprio_check");
     taprio_streams(NULL, 0, NULL, 0, NULL, 0, NULL, 0, &ran);
@@ -425,12 +425,12 @@ static void schedules(void) {
     wanted.traffic_class = 3;
     answered("a limit over the mtu", installs(&port, bad), wanted);
     bad.has_max_sdu = 0;
-    bad.entries[1].interval = 671;
+    bad.entries[1].interval = 479;
     wanted = says(TAPRIO_REFUSED, TAPRIO_INTERVAL_TOO_SHORT);
     wanted.entry = 1;
     answered("a short entry", installs(&port, bad), wanted);
     bad.entries[1].interval = 100000;
-    bad.cycle_time = 671;
+    bad.cycle_time = 479;
     answered("a short cycle", installs(&port, bad), says(TAPRIO_REFUSED, TAPRIO_CYCLE_TOO_SHORT));
     bad.cycle_time = ((uint64_t)1 << 40) + 1;
     answered("a long cycle", installs(&port, bad), says(TAPRIO_REFUSED, TAPRIO_CYCLE_TOO_LONG));

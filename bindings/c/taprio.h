@@ -21,9 +21,9 @@
  *
  * What a caller has to keep
  * -------------------------
- * - No pointer is null, but that of a slice whose length is 0. Each slice lies in one object and is shorter than 2^63 octets. (The calls
- *   of the library itself take no null: the macros below put a valid pointer in its place. Who calls the library without this header,
- *   as through dlsym, hands in a valid pointer with each length.)
+ * - No pointer is null, but that of a slice whose length is 0. Each slice lies in one object and is shorter than 2^63 octets. (The
+ *   library itself takes no null: this header puts a valid pointer in its place. Who calls the library without the header, as through
+ *   dlsym, hands in a valid pointer with each length.)
  * - The slices that are written, and `ran`, overlap nothing else that the call is handed. Inputs may overlap one another.
  * - Inputs and values are initialised, and so are the slices that are written.
  * - `ran` and the values are aligned as their types are, to 8 octets; slices of octets have no alignment.
@@ -144,41 +144,75 @@ void taprio_replay(const struct taprio_port_values *values, const uint8_t *scrip
                    const uint8_t *capture, size_t capture_length, uint8_t *report, size_t report_length, uint8_t *departures,
                    size_t departures_length, uint8_t *fault, size_t fault_length, struct taprio_replay_ran *ran);
 
-/* A null pointer with length 0, as an empty std::string_view of C++ has it, is a slice without octets: one that is not null takes its
- * place. A call by its name goes through these; (taprio_run)(..) and a pointer to a function do not. */
-static inline const uint8_t *taprio_read(const uint8_t *at) {
+/* A null pointer with length 0, as an empty std::string_view of C++ has it, is a slice without octets: a valid pointer takes its
+ * place. The names of the calls stand for these functions from here on. */
+static inline const uint8_t *taprio_octets(const uint8_t *at) {
     static const uint8_t none = 0;
     return at ? at : &none;
 }
 
-static inline uint8_t *taprio_written(uint8_t *at) {
+static inline uint8_t *taprio_lent(uint8_t *at) {
     static uint8_t none;
     return at ? at : &none;
 }
 
-#define taprio_run(values, script, script_length, output, output_length, fault, fault_length, ran)                                  \
-    (taprio_run)(values, taprio_read(script), script_length, taprio_written(output), output_length, taprio_written(fault),          \
-                 fault_length, ran)
-#define taprio_check(rate, windows, schedules, schedules_length, output, output_length, fault, fault_length, ran)                   \
-    (taprio_check)(rate, windows, taprio_read(schedules), schedules_length, taprio_written(output), output_length,                  \
-                   taprio_written(fault), fault_length, ran)
-#define taprio_streams(table, table_length, script, script_length, output, output_length, fault, fault_length, ran)                 \
-    (taprio_streams)(taprio_read(table), table_length, taprio_read(script), script_length, taprio_written(output), output_length,   \
-                     taprio_written(fault), fault_length, ran)
-#define taprio_streams_from(low, high, table, table_length, script, script_length, output, output_length, fault, fault_length, ran) \
-    (taprio_streams_from)(low, high, taprio_read(table), table_length, taprio_read(script), script_length, taprio_written(output),  \
-                          output_length, taprio_written(fault), fault_length, ran)
-#define taprio_bounds(values, frames, table, table_length, schedules, schedules_length, output, output_length, fault, fault_length, \
-                      ran)                                                                                                          \
-    (taprio_bounds)(values, frames, taprio_read(table), table_length, taprio_read(schedules), schedules_length,                     \
-                    taprio_written(output), output_length, taprio_written(fault), fault_length, ran)
-#define taprio_draw(values, shown, script, script_length, output, output_length, fault, fault_length, ran)                          \
-    (taprio_draw)(values, shown, taprio_read(script), script_length, taprio_written(output), output_length, taprio_written(fault),  \
-                  fault_length, ran)
-#define taprio_replay(values, script, script_length, capture, capture_length, report, report_length, departures,                    \
-                      departures_length, fault, fault_length, ran)                                                                  \
-    (taprio_replay)(values, taprio_read(script), script_length, taprio_read(capture), capture_length, taprio_written(report),       \
-                    report_length, taprio_written(departures), departures_length, taprio_written(fault), fault_length, ran)
+static inline void taprio_run_or_null(const struct taprio_port_values *values, const uint8_t *script, size_t script_length,
+                                      uint8_t *output, size_t output_length, uint8_t *fault, size_t fault_length,
+                                      struct taprio_ran *ran) {
+    taprio_run(values, taprio_octets(script), script_length, taprio_lent(output), output_length, taprio_lent(fault), fault_length,
+               ran);
+}
+
+static inline void taprio_check_or_null(uint32_t rate, uint32_t windows, const uint8_t *schedules, size_t schedules_length,
+                                        uint8_t *output, size_t output_length, uint8_t *fault, size_t fault_length,
+                                        struct taprio_ran *ran) {
+    taprio_check(rate, windows, taprio_octets(schedules), schedules_length, taprio_lent(output), output_length,
+                 taprio_lent(fault), fault_length, ran);
+}
+
+static inline void taprio_streams_or_null(const uint8_t *table, size_t table_length, const uint8_t *script, size_t script_length,
+                                          uint8_t *output, size_t output_length, uint8_t *fault, size_t fault_length,
+                                          struct taprio_ran *ran) {
+    taprio_streams(taprio_octets(table), table_length, taprio_octets(script), script_length, taprio_lent(output), output_length,
+                   taprio_lent(fault), fault_length, ran);
+}
+
+static inline void taprio_streams_from_or_null(uint64_t from_low, uint64_t from_high, const uint8_t *table, size_t table_length,
+                                               const uint8_t *script, size_t script_length, uint8_t *output, size_t output_length,
+                                               uint8_t *fault, size_t fault_length, struct taprio_ran *ran) {
+    taprio_streams_from(from_low, from_high, taprio_octets(table), table_length, taprio_octets(script), script_length,
+                        taprio_lent(output), output_length, taprio_lent(fault), fault_length, ran);
+}
+
+static inline void taprio_bounds_or_null(const struct taprio_port_values *values, uint64_t frames, const uint8_t *table,
+                                         size_t table_length, const uint8_t *schedules, size_t schedules_length, uint8_t *output,
+                                         size_t output_length, uint8_t *fault, size_t fault_length, struct taprio_ran *ran) {
+    taprio_bounds(values, frames, taprio_octets(table), table_length, taprio_octets(schedules), schedules_length,
+                  taprio_lent(output), output_length, taprio_lent(fault), fault_length, ran);
+}
+
+static inline void taprio_draw_or_null(const struct taprio_port_values *values, const struct taprio_picture_values *shown,
+                                       const uint8_t *script, size_t script_length, uint8_t *output, size_t output_length,
+                                       uint8_t *fault, size_t fault_length, struct taprio_ran *ran) {
+    taprio_draw(values, shown, taprio_octets(script), script_length, taprio_lent(output), output_length, taprio_lent(fault),
+                fault_length, ran);
+}
+
+static inline void taprio_replay_or_null(const struct taprio_port_values *values, const uint8_t *script, size_t script_length,
+                                         const uint8_t *capture, size_t capture_length, uint8_t *report, size_t report_length,
+                                         uint8_t *departures, size_t departures_length, uint8_t *fault, size_t fault_length,
+                                         struct taprio_replay_ran *ran) {
+    taprio_replay(values, taprio_octets(script), script_length, taprio_octets(capture), capture_length, taprio_lent(report),
+                  report_length, taprio_lent(departures), departures_length, taprio_lent(fault), fault_length, ran);
+}
+
+#define taprio_run taprio_run_or_null
+#define taprio_check taprio_check_or_null
+#define taprio_streams taprio_streams_or_null
+#define taprio_streams_from taprio_streams_from_or_null
+#define taprio_bounds taprio_bounds_or_null
+#define taprio_draw taprio_draw_or_null
+#define taprio_replay taprio_replay_or_null
 
 /* A port that is driven call by call
  * ---------------------------------

@@ -48,7 +48,7 @@ class PortTest(unittest.TestCase):
             for schedule, wanted in (
                 (taprio.Schedule([(1, 1000)]), ("MapMissing", None, None, None)),
                 (taprio.Schedule([(1, 1000)], map=[0], max_sdu=[0, 1501]), ("SduTooLarge", 1, None, None)),
-                (taprio.Schedule([(1, 1000), (1, 671)], map=[0]), ("IntervalTooShort", None, 1, None)),
+                (taprio.Schedule([(1, 1000), (1, 479)], map=[0]), ("IntervalTooShort", None, 1, None)),
                 (taprio.Schedule([(1, 1000)], map=[0], cycle=2**40 + 1), ("CycleTooLong", None, None, None)),
             ):
                 with self.assertRaises(taprio.Refused) as raised:
