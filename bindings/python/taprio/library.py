@@ -77,7 +77,7 @@ _LENT = [ctypes.POINTER(ctypes.c_char), ctypes.c_size_t]
 
 
 # The calls of a port, by what follows its place.
-_OF_PORT = {
+_OF_PORT: dict[str, list[Any]] = {
     "taprio_port_new": [ctypes.c_uint32, ctypes.c_uint32, ctypes.c_uint32, ctypes.c_void_p],
     "taprio_port_arrive": [ctypes.c_void_p, ctypes.c_void_p],
     "taprio_port_install": [ctypes.c_void_p, ctypes.c_void_p],
@@ -116,16 +116,17 @@ def _typed(library: ctypes.CDLL) -> ctypes.CDLL:
     """The shared object, once its functions have their types."""
     port, picture = ctypes.POINTER(_PortValues), ctypes.POINTER(_PictureValues)
     ran, replay_ran = ctypes.POINTER(_Ran), ctypes.POINTER(_ReplayRan)
-    for name, given in (
-        ("taprio_run", [port, *_OCTETS, *_LENT, *_LENT, ran]),
-        ("taprio_check", [ctypes.c_uint32, ctypes.c_uint32, *_OCTETS, *_LENT, *_LENT, ran]),
-        ("taprio_streams", [*_OCTETS, *_OCTETS, *_LENT, *_LENT, ran]),
-        ("taprio_streams_from", [ctypes.c_uint64, ctypes.c_uint64, *_OCTETS, *_OCTETS, *_LENT, *_LENT, ran]),
-        ("taprio_bounds", [port, ctypes.c_uint64, *_OCTETS, *_OCTETS, *_LENT, *_LENT, ran]),
-        ("taprio_draw", [port, picture, *_OCTETS, *_LENT, *_LENT, ran]),
-        ("taprio_replay", [port, *_OCTETS, *_OCTETS, *_LENT, *_LENT, *_LENT, replay_ran]),
-        *((name, [ctypes.c_void_p, *given]) for name, given in _OF_PORT.items()),
-    ):
+    calls: dict[str, list[Any]] = {
+        "taprio_run": [port, *_OCTETS, *_LENT, *_LENT, ran],
+        "taprio_check": [ctypes.c_uint32, ctypes.c_uint32, *_OCTETS, *_LENT, *_LENT, ran],
+        "taprio_streams": [*_OCTETS, *_OCTETS, *_LENT, *_LENT, ran],
+        "taprio_streams_from": [ctypes.c_uint64, ctypes.c_uint64, *_OCTETS, *_OCTETS, *_LENT, *_LENT, ran],
+        "taprio_bounds": [port, ctypes.c_uint64, *_OCTETS, *_OCTETS, *_LENT, *_LENT, ran],
+        "taprio_draw": [port, picture, *_OCTETS, *_LENT, *_LENT, ran],
+        "taprio_replay": [port, *_OCTETS, *_OCTETS, *_LENT, *_LENT, *_LENT, replay_ran],
+        **{name: [ctypes.c_void_p, *given] for name, given in _OF_PORT.items()},
+    }
+    for name, given in calls.items():
         if name in _LATER and not hasattr(library, name):
             continue
         typed = getattr(library, name)
