@@ -9,6 +9,15 @@ _Static_assert(sizeof(size_t) == 8, "a pointer has 64 bits");
 _Static_assert(sizeof(struct taprio_port_values) == 40, "no padding");
 _Static_assert(sizeof(struct taprio_picture_values) == 48, "no padding");
 _Static_assert(sizeof(struct taprio_ran) == 24 && offsetof(struct taprio_ran, status) == 16, "padding at the end alone");
+_Static_assert(sizeof(struct taprio_port) == 16 && _Alignof(struct taprio_port) == 8, "a port's place");
+_Static_assert(sizeof(struct taprio_frame) == 16 && offsetof(struct taprio_frame, tagged) == 13, "padding at the end alone");
+_Static_assert(sizeof(struct taprio_entry) == 8 && offsetof(struct taprio_entry, gates) == 4, "the same");
+_Static_assert(sizeof(struct taprio_schedule) == 2160 && offsetof(struct taprio_schedule, map) == 32 &&
+                   offsetof(struct taprio_schedule, queues) == 48 && offsetof(struct taprio_schedule, max_sdu) == 80 &&
+                   offsetof(struct taprio_schedule, entries) == 112,
+               "no padding");
+_Static_assert(sizeof(struct taprio_answer) == 56 && sizeof(struct taprio_counters) == 64, "no padding");
+_Static_assert(sizeof(struct taprio_report) == 32 && offsetof(struct taprio_report, pending) == 25, "padding at the end alone");
 _Static_assert(sizeof(struct taprio_replay_ran) == 32 && offsetof(struct taprio_replay_ran, status) == 24, "the same");
 
 struct octets {
@@ -304,6 +313,240 @@ static void bounds(void) {
     free(unknown.at);
 }
 
+/* null pointers with length 0, in the place of each slice: the calls ask for room, or do what they do without octets */
+static void nulls(void) {
+    struct taprio_ran ran;
+    taprio_run(&usual, NULL, 0, NULL, 0, NULL, 0, &ran);
+    expect(ran.status == TAPRIO_DONE && ran.output == 0 && ran.fault == 0, "null pointers", "taprio_run");
+    static const uint8_t bad[] = "clok 5";
+    taprio_run(&usual, bad, 6, NULL, 0, NULL, 0, &ran);
+    expect(ran.status == TAPRIO_NO_ROOM && ran.output == 0 && ran.fault == 40, "null pointers", "taprio_run, a fault");
+    static const uint8_t frame[] = "frame 1 0 60";
+    taprio_run(&usual, frame, 12, NULL, 0, NULL, 0, &ran);
+    expect(ran.status == TAPRIO_NO_ROOM && ran.output == 39 && ran.fault == 0, "null pointers", "taprio_run, no room");
+    taprio_check(1000, 1, NULL, 0, NULL, 0, NULL, 0, &ran);
+    expect(ran.status == TAPRIO_DONE && ran.output == 0, "null pointers", "taprio_check");
+    taprio_streams(NULL, 0, NULL, 0, NULL, 0, NULL, 0, &ran);
+    expect(ran.status == TAPRIO_DONE && ran.output == 0, "null pointers", "taprio_streams");
+    taprio_streams_from(5, 0, NULL, 0, frame, 12, NULL, 0, NULL, 0, &ran);
+    expect(ran.status == TAPRIO_NO_ROOM && ran.output == 13, "null pointers", "taprio_streams_from");
+    taprio_bounds(&usual, 1, NULL, 0, NULL, 0, NULL, 0, NULL, 0, &ran);
+    expect(ran.status == TAPRIO_DONE && ran.output == 0, "null pointers", "taprio_bounds");
+    taprio_draw(&usual, &whole, NULL, 0, NULL, 0, NULL, 0, &ran);
+    expect(ran.status == TAPRIO_NO_ROOM && ran.output > 100, "null pointers", "taprio_draw");
+    struct taprio_replay_ran replayed;
+    taprio_replay(&usual, NULL, 0, NULL, 0, NULL, 0, NULL, 0, NULL, 0, &replayed);
+    expect(replayed.status == TAPRIO_NO_ROOM && replayed.report == 0 && replayed.departures == 0 && replayed.fault == 41, "null pointers",
+           "taprio_replay");
+    uint8_t text[41];
+    taprio_replay(&usual, NULL, 0, NULL, 0, NULL, 0, NULL, 0, text, 41, &replayed);
+    expect(replayed.status == TAPRIO_BAD_INPUT && memcmp(text, "taprio_port: capture header: ShortHeader\n", 41) == 0, "null pointers",
+           "taprio_replay, a fault");
+}
+
+/* what a call of a port answers */
+static void answered(const char *name, struct taprio_answer told, struct taprio_answer wanted) {
+    expect(memcmp(&told, &wanted, sizeof told) == 0, "the answer of a port", name);
+}
+
+static const struct taprio_schedule two_classes = {
+    .length = 2, .entries = {{100000, 0x02}, {100000, 0x01}}, .num_tc = 2, .map = {0, 1}};
+
+static struct taprio_answer installs(struct taprio_port *port, struct taprio_schedule schedule) {
+    struct taprio_answer told;
+    memset(&told, '.', sizeof told);
+    taprio_port_install(port, &schedule, &told);
+    return told;
+}
+
+static struct taprio_answer arrives(struct taprio_port *port, struct taprio_frame frame) {
+    struct taprio_answer told;
+    memset(&told, '.', sizeof told);
+    taprio_port_arrive(port, &frame, &told);
+    return told;
+}
+
+static struct taprio_answer steps(struct taprio_port *port, uint64_t low, uint64_t high) {
+    struct taprio_answer told;
+    memset(&told, '.', sizeof told);
+    taprio_port_step(port, low, high, &told);
+    return told;
+}
+
+static struct taprio_answer opens(struct taprio_port *port, uint32_t rate, uint32_t mtu, uint32_t room) {
+    struct taprio_answer told;
+    memset(port, '.', sizeof *port);
+    memset(&told, '.', sizeof told);
+    taprio_port_new(port, rate, mtu, room, &told);
+    return told;
+}
+
+static struct taprio_answer says(uint32_t kind, uint32_t reason) {
+    struct taprio_answer told = {0};
+    told.kind = kind;
+    told.reason = reason;
+    return told;
+}
+
+/* each reason for which a struct is no schedule, and for which one is refused */
+static void schedules(void) {
+    struct taprio_port port;
+    answered("a port", opens(&port, 1000, 1500, 128), says(TAPRIO_OPENED, 0));
+    struct taprio_schedule bad = two_classes;
+    bad.num_tc = 9;
+    bad.has_queues = 1;
+    bad.length = 0;
+    answered("nine classes", installs(&port, bad), says(TAPRIO_MALFORMED, TAPRIO_BAD_CLASS_COUNT));
+    bad.num_tc = 2;
+    bad.map[15] = 2;
+    answered("a class too many", installs(&port, bad), says(TAPRIO_MALFORMED, TAPRIO_CLASS_OUT_OF_RANGE));
+    bad.map[15] = 0;
+    answered("no queue", installs(&port, bad), says(TAPRIO_MALFORMED, TAPRIO_EMPTY_QUEUE));
+    bad.queues[0] = (struct taprio_range){2, 0};
+    bad.queues[1] = (struct taprio_range){1, 1};
+    answered("a queue of two classes", installs(&port, bad), says(TAPRIO_MALFORMED, TAPRIO_QUEUE_OVERLAP));
+    bad.queues[1].offset = 2;
+    answered("no entry", installs(&port, bad), says(TAPRIO_MALFORMED, TAPRIO_NO_ENTRIES));
+    bad.length = 257;
+    answered("many entries", installs(&port, bad), says(TAPRIO_MALFORMED, TAPRIO_TOO_MANY_ENTRIES));
+    bad.length = 4294967295u;
+    answered("all entries", installs(&port, bad), says(TAPRIO_MALFORMED, TAPRIO_TOO_MANY_ENTRIES));
+    bad.length = 3;
+    answered("no interval", installs(&port, bad), says(TAPRIO_MALFORMED, TAPRIO_ZERO_INTERVAL));
+    bad.length = 2;
+    bad.num_tc = 0;
+    answered("queues without classes", installs(&port, bad), says(TAPRIO_MALFORMED, TAPRIO_QUEUE_COUNT));
+    bad.has_queues = 0;
+    answered("no map", installs(&port, bad), says(TAPRIO_REFUSED, TAPRIO_MAP_MISSING));
+    bad.num_tc = 2;
+    bad.has_max_sdu = 1;
+    bad.max_sdu[3] = 1501;
+    struct taprio_answer wanted = says(TAPRIO_REFUSED, TAPRIO_SDU_TOO_LARGE);
+    wanted.traffic_class = 3;
+    answered("a limit over the mtu", installs(&port, bad), wanted);
+    bad.has_max_sdu = 0;
+    bad.entries[1].interval = 479;
+    wanted = says(TAPRIO_REFUSED, TAPRIO_INTERVAL_TOO_SHORT);
+    wanted.entry = 1;
+    answered("a short entry", installs(&port, bad), wanted);
+    bad.entries[1].interval = 100000;
+    bad.cycle_time = 479;
+    answered("a short cycle", installs(&port, bad), says(TAPRIO_REFUSED, TAPRIO_CYCLE_TOO_SHORT));
+    bad.cycle_time = ((uint64_t)1 << 40) + 1;
+    answered("a long cycle", installs(&port, bad), says(TAPRIO_REFUSED, TAPRIO_CYCLE_TOO_LONG));
+    bad.cycle_time = 0;
+    bad.extension = ((uint64_t)1 << 40) + 1;
+    answered("a long extension", installs(&port, bad), says(TAPRIO_REFUSED, TAPRIO_EXTENSION_TOO_LONG));
+    bad.extension = 0;
+    bad.base_time = (uint64_t)1 << 63;
+    answered("a late base", installs(&port, bad), says(TAPRIO_REFUSED, TAPRIO_BASE_TOO_LATE));
+    /* a last entry that counts, of all 256 */
+    struct taprio_schedule full = two_classes;
+    full.length = 256;
+    full.base_time = ((uint64_t)1 << 63) - 1;
+    for (int at = 0; at < 256; at++)
+        full.entries[at] = (struct taprio_entry){1000, (uint8_t)at};
+    wanted = says(TAPRIO_INSTALLED, 0);
+    wanted.at_low = 18446744073709550616u; /* 499 * 2^64 and so much: 9223372036854775807000 */
+    wanted.at_high = 499;
+    answered("all entries", installs(&port, full), wanted);
+    wanted = says(TAPRIO_REFUSED, TAPRIO_BUSY);
+    wanted.at_low = 12336000;
+    answered("busy", installs(&port, two_classes), wanted);
+    answered("the lead is over", steps(&port, 12336000, 0), says(TAPRIO_REST, 0));
+    bad = two_classes;
+    bad.map[2] = 1;
+    answered("another map", installs(&port, bad), says(TAPRIO_REFUSED, TAPRIO_MAP_CHANGED));
+    taprio_port_free(&port);
+}
+
+/* the run of schedule.c by calls, what is counted, and what comes after the end */
+static void driven(void) {
+    struct taprio_port port, copy;
+    struct taprio_answer told, wanted;
+    answered("a rate", opens(&port, 1001, 67, 0), says(TAPRIO_NOT_OPENED, TAPRIO_BAD_RATE));
+    answered("an mtu", opens(&port, 1000, 67, 0), says(TAPRIO_NOT_OPENED, TAPRIO_BAD_MTU));
+    answered("a room", opens(&port, 1000, 1500, 0), says(TAPRIO_NOT_OPENED, TAPRIO_BAD_ROOM));
+    answered("a room", opens(&port, 1000, 1500, 4097), says(TAPRIO_NOT_OPENED, TAPRIO_BAD_ROOM));
+    answered("no port", steps(&port, 5, 0), says(TAPRIO_NO_PORT, 0));
+    answered("no port", arrives(&port, (struct taprio_frame){1, 60, 0, 0}), says(TAPRIO_NO_PORT, 0));
+    answered("no port", installs(&port, two_classes), says(TAPRIO_NO_PORT, 0));
+    taprio_port_free(&port);
+    answered("a port", opens(&copy, 1000, 1500, 2), says(TAPRIO_OPENED, 0));
+    port = copy; /* a place may be moved */
+    wanted = says(TAPRIO_INSTALLED, 0);
+    wanted.at_low = 200000000;
+    answered("a schedule", installs(&port, two_classes), wanted);
+    struct taprio_report shown;
+    taprio_port_report(&port, &shown);
+    expect(shown.now_low == 0 && shown.now_high == 0 && shown.gates == 0xff && shown.pending == 1, "a report", "before");
+    answered("rest", steps(&port, 1000000000, 0), says(TAPRIO_REST, 0));
+    taprio_port_report(&port, &shown);
+    expect(shown.now_low == 1000000000 && shown.gates == 2 && shown.pending == 0 && shown.no_class == 0, "a report", "after");
+    answered("back", steps(&port, 999999999, 0), says(TAPRIO_BACKWARD, 0));
+    answered("past the end", steps(&port, 18446744073709550617u, 499), says(TAPRIO_BACKWARD, 0));
+    wanted = says(TAPRIO_QUEUED, 0);
+    wanted.id = ((uint64_t)1 << 63) + 1;
+    answered("a frame", arrives(&port, (struct taprio_frame){wanted.id, 1514, 0, 0}), wanted);
+    wanted.traffic_class = 1;
+    wanted.id = 2;
+    answered("a frame", arrives(&port, (struct taprio_frame){2, 1518, 1, 7}), wanted);
+    wanted = says(TAPRIO_DROPPED, TAPRIO_RUNT);
+    wanted.id = 3;
+    answered("a runt", arrives(&port, (struct taprio_frame){3, 17, 1, 1}), wanted);
+    wanted.reason = TAPRIO_TOO_LONG;
+    answered("a long frame", arrives(&port, (struct taprio_frame){3, 1515, 1, 0}), wanted);
+    wanted.reason = TAPRIO_NO_CLASS;
+    answered("no class", arrives(&port, (struct taprio_frame){3, 60, 16, 0}), wanted);
+    wanted = says(TAPRIO_START, 0);
+    wanted.id = 2;
+    wanted.traffic_class = 1;
+    wanted.at_low = 1000000000;
+    wanted.end_low = 1012336000;
+    answered("a start", steps(&port, 1200000000, 0), wanted);
+    wanted.id = ((uint64_t)1 << 63) + 1;
+    wanted.traffic_class = 0;
+    wanted.at_low = 1100000000;
+    wanted.end_low = 1112304000;
+    answered("a start", steps(&port, 1200000000, 0), wanted);
+    answered("rest", steps(&port, 1200000000, 0), says(TAPRIO_REST, 0));
+    wanted = says(TAPRIO_INSTALLED, 0);
+    wanted.at_low = 1212336000;
+    memset(&told, '.', sizeof told);
+    taprio_port_delete(&port, &told);
+    answered("an end", told, wanted);
+    for (uint64_t id = 10; id < 13; id++) {
+        wanted = says(id < 12 ? TAPRIO_QUEUED : TAPRIO_DROPPED, id < 12 ? 0 : TAPRIO_FULL);
+        wanted.id = id;
+        answered("a full queue", arrives(&port, (struct taprio_frame){id, 60, 0, 0}), wanted);
+    }
+    struct taprio_counters counted;
+    taprio_port_counters(&port, 0, &counted);
+    expect(counted.accepted == 3 && counted.sent == 1 && counted.sent_octets == 1514 && counted.waiting == 2 && counted.full == 1 &&
+               counted.runt == 0 && counted.too_long == 0 && counted.over_sdu == 0,
+           "what is counted", "class 0");
+    taprio_port_counters(&port, 1, &counted);
+    expect(counted.accepted == 1 && counted.sent == 1 && counted.waiting == 0 && counted.runt == 1 && counted.too_long == 1,
+           "what is counted", "class 1");
+    static const struct taprio_counters none;
+    taprio_port_counters(&port, 8, &counted);
+    expect(memcmp(&counted, &none, sizeof none) == 0, "what is counted", "class 8");
+    taprio_port_report(&port, &shown);
+    expect(shown.no_class == 1 && shown.pending == 1, "a report", "at the end");
+    taprio_port_free(&port);
+    taprio_port_free(&port);
+    answered("freed", steps(&port, 5, 0), says(TAPRIO_NO_PORT, 0));
+    memset(&told, '.', sizeof told);
+    taprio_port_delete(&port, &told);
+    answered("freed", told, says(TAPRIO_NO_PORT, 0));
+    taprio_port_counters(&port, 0, &counted);
+    expect(memcmp(&counted, &none, sizeof none) == 0, "what is counted", "freed");
+    static const struct taprio_report nothing;
+    memset(&shown, 0, sizeof shown);
+    taprio_port_report(&port, &shown);
+    expect(memcmp(&shown, &nothing, sizeof nothing) == 0, "a report", "freed");
+}
+
 int main(int count, char **words) {
     folder = count > 1 ? words[1] : "examples";
     struct call c = {RUN, usual, whole, 0, 0, {0}, {0}};
@@ -352,6 +595,9 @@ int main(int count, char **words) {
     part.shown.to_low = 16110481868816767488u;
     of_files(part, "manual.script", NULL, "manual.svg");
     machine();
+    nulls();
+    schedules();
+    driven();
 
     struct call run = {RUN, usual, whole, 0, 0, {0}, {0}};
     small("no script", run, "", TAPRIO_DONE, "", "");

@@ -18,13 +18,12 @@ int main(void) {
     struct taprio_ran ran = {16, 16, TAPRIO_NO_ROOM};
     uint8_t *output = NULL, *fault = NULL;
     while (ran.status == TAPRIO_NO_ROOM) {
-        /* calloc(1) where nothing is wanted: no pointer may be null */
         const size_t output_length = ran.output, fault_length = ran.fault;
         free(output);
         free(fault);
-        output = calloc(output_length + 1, 1);
-        fault = calloc(fault_length + 1, 1);
-        if (!output || !fault) {
+        output = calloc(output_length, 1);
+        fault = calloc(fault_length, 1);
+        if ((output_length && !output) || (fault_length && !fault)) {
             ran.status = TAPRIO_NO_MEMORY;
             break;
         }

@@ -21,7 +21,9 @@
  *
  * What a caller has to keep
  * -------------------------
- * - No pointer is null, also where its length is 0, and each slice lies in one object and is shorter than 2^63 octets.
+ * - No pointer is null, but that of a slice whose length is 0. Each slice lies in one object and is shorter than 2^63 octets. (The
+ *   library itself takes no null: this header puts a valid pointer in its place. Who calls the library without the header, as through
+ *   dlsym, hands in a valid pointer with each length.)
  * - The slices that are written, and `ran`, overlap nothing else that the call is handed. Inputs may overlap one another.
  * - Inputs and values are initialised, and so are the slices that are written.
  * - `ran` and the values are aligned as their types are, to 8 octets; slices of octets have no alignment.
@@ -141,6 +143,243 @@ void taprio_draw(const struct taprio_port_values *values, const struct taprio_pi
 void taprio_replay(const struct taprio_port_values *values, const uint8_t *script, size_t script_length,
                    const uint8_t *capture, size_t capture_length, uint8_t *report, size_t report_length, uint8_t *departures,
                    size_t departures_length, uint8_t *fault, size_t fault_length, struct taprio_replay_ran *ran);
+
+/* A null pointer with length 0, as an empty std::string_view of C++ has it, is a slice without octets: a valid pointer takes its
+ * place. The names of the calls stand for these functions from here on. */
+static inline const uint8_t *taprio_octets(const uint8_t *at) {
+    static const uint8_t none = 0;
+    return at ? at : &none;
+}
+
+static inline uint8_t *taprio_lent(uint8_t *at) {
+    static uint8_t none;
+    return at ? at : &none;
+}
+
+static inline void taprio_run_or_null(const struct taprio_port_values *values, const uint8_t *script, size_t script_length,
+                                      uint8_t *output, size_t output_length, uint8_t *fault, size_t fault_length,
+                                      struct taprio_ran *ran) {
+    taprio_run(values, taprio_octets(script), script_length, taprio_lent(output), output_length, taprio_lent(fault), fault_length,
+               ran);
+}
+
+static inline void taprio_check_or_null(uint32_t rate, uint32_t windows, const uint8_t *schedules, size_t schedules_length,
+                                        uint8_t *output, size_t output_length, uint8_t *fault, size_t fault_length,
+                                        struct taprio_ran *ran) {
+    taprio_check(rate, windows, taprio_octets(schedules), schedules_length, taprio_lent(output), output_length,
+                 taprio_lent(fault), fault_length, ran);
+}
+
+static inline void taprio_streams_or_null(const uint8_t *table, size_t table_length, const uint8_t *script, size_t script_length,
+                                          uint8_t *output, size_t output_length, uint8_t *fault, size_t fault_length,
+                                          struct taprio_ran *ran) {
+    taprio_streams(taprio_octets(table), table_length, taprio_octets(script), script_length, taprio_lent(output), output_length,
+                   taprio_lent(fault), fault_length, ran);
+}
+
+static inline void taprio_streams_from_or_null(uint64_t from_low, uint64_t from_high, const uint8_t *table, size_t table_length,
+                                               const uint8_t *script, size_t script_length, uint8_t *output, size_t output_length,
+                                               uint8_t *fault, size_t fault_length, struct taprio_ran *ran) {
+    taprio_streams_from(from_low, from_high, taprio_octets(table), table_length, taprio_octets(script), script_length,
+                        taprio_lent(output), output_length, taprio_lent(fault), fault_length, ran);
+}
+
+static inline void taprio_bounds_or_null(const struct taprio_port_values *values, uint64_t frames, const uint8_t *table,
+                                         size_t table_length, const uint8_t *schedules, size_t schedules_length, uint8_t *output,
+                                         size_t output_length, uint8_t *fault, size_t fault_length, struct taprio_ran *ran) {
+    taprio_bounds(values, frames, taprio_octets(table), table_length, taprio_octets(schedules), schedules_length,
+                  taprio_lent(output), output_length, taprio_lent(fault), fault_length, ran);
+}
+
+static inline void taprio_draw_or_null(const struct taprio_port_values *values, const struct taprio_picture_values *shown,
+                                       const uint8_t *script, size_t script_length, uint8_t *output, size_t output_length,
+                                       uint8_t *fault, size_t fault_length, struct taprio_ran *ran) {
+    taprio_draw(values, shown, taprio_octets(script), script_length, taprio_lent(output), output_length, taprio_lent(fault),
+                fault_length, ran);
+}
+
+static inline void taprio_replay_or_null(const struct taprio_port_values *values, const uint8_t *script, size_t script_length,
+                                         const uint8_t *capture, size_t capture_length, uint8_t *report, size_t report_length,
+                                         uint8_t *departures, size_t departures_length, uint8_t *fault, size_t fault_length,
+                                         struct taprio_replay_ran *ran) {
+    taprio_replay(values, taprio_octets(script), script_length, taprio_octets(capture), capture_length, taprio_lent(report),
+                  report_length, taprio_lent(departures), departures_length, taprio_lent(fault), fault_length, ran);
+}
+
+#define taprio_run taprio_run_or_null
+#define taprio_check taprio_check_or_null
+#define taprio_streams taprio_streams_or_null
+#define taprio_streams_from taprio_streams_from_or_null
+#define taprio_bounds taprio_bounds_or_null
+#define taprio_draw taprio_draw_or_null
+#define taprio_replay taprio_replay_or_null
+
+/* A port that is driven call by call
+ * ---------------------------------
+ * A simulator that has its own clock drives a port by calls, without text. Its moments are in picoseconds: high * 2^64 + low.
+ *
+ *   struct taprio_port port;
+ *   struct taprio_answer told;
+ *   taprio_port_new(&port, 1000, 1500, 128, &told);      a port of 1000 Mb/s, at moment 0; told.kind is TAPRIO_OPENED
+ *   taprio_port_arrive(&port, &frame, &told);            a frame arrives now
+ *   taprio_port_step(&port, until, 0, &told);            the clock goes on to the next start before `until`, or to `until`
+ *   taprio_port_free(&port);
+ *
+ * What a caller has to keep, beside what is said above:
+ * - taprio_port_new writes its place and reads nothing of it. The other calls want a place that taprio_port_new has written. The place
+ *   may be copied elsewhere, if only the copy is used from then on.
+ * - Between the calls nobody reads or writes a place, and one call at a time is handed it. Different ports share nothing. A port stays
+ *   on the thread that made it.
+ * - taprio_port_new takes memory for the port and for all frames that ever wait, about 500 kB at a room of 4096; the other calls take
+ *   none, but taprio_port_free gives it back. A place that is made anew without taprio_port_free leaks what it had.
+ * - What is written (`told`) overlaps nothing else that the call is handed. */
+
+/* The place of a port, in memory of the caller's; 16 octets, aligned to 8. */
+struct taprio_port {
+    uint64_t words[2]; /* the library's */
+};
+
+/* A frame; 16 octets. */
+struct taprio_frame {
+    uint64_t id;      /* the caller's name for it, which answers repeat */
+    uint32_t length;  /* octets from the destination address to the end of the payload, without the frame check sequence */
+    uint8_t priority; /* 0 to 15 */
+    uint8_t tagged;   /* 0: no customer VLAN tag; else it has one */
+};
+
+/* An entry of a gate control list; 8 octets. */
+struct taprio_entry {
+    uint32_t interval; /* nanoseconds */
+    uint8_t gates;     /* bit c: class c is open */
+};
+
+/* The device queues of a class; 4 octets. They have no effect on the port. */
+struct taprio_range {
+    uint16_t count;  /* how many */
+    uint16_t offset; /* the first of them */
+};
+
+/* A schedule; 2160 octets. All zeros is one without entries, so an initialiser names what it wants. Times are nanoseconds. */
+struct taprio_schedule {
+    uint64_t base_time;
+    uint64_t cycle_time;  /* 0: the sum of the intervals */
+    uint64_t extension;   /* by how much the last cycle before the next change may be longer */
+    uint32_t length;      /* how many entries there are, 1 to 256 */
+    uint8_t num_tc;       /* how many classes, 1 to 8; 0: the classes as before. The first schedule of a port needs them */
+    uint8_t has_queues;   /* 0: `queues` is not looked at */
+    uint8_t has_max_sdu;  /* 0: `max_sdu` is not looked at, and the limits stay as they are */
+    uint8_t unused;       /* any */
+    uint8_t map[16];      /* the class of each priority */
+    struct taprio_range queues[8];
+    uint32_t max_sdu[8];  /* the longest service data unit of each class, in octets; 0: no limit but the mtu */
+    struct taprio_entry entries[256];
+};
+
+/* What an answer is. The fields that it names are in brackets; all others are 0. */
+enum taprio_kind {
+    TAPRIO_NO_PORT = 0,    /* the place has no port: it was not opened, or is freed. Nothing is done */
+    TAPRIO_QUEUED = 1,     /* the frame waits [id, traffic_class] */
+    TAPRIO_DROPPED = 2,    /* the frame is dropped [id, reason] */
+    TAPRIO_INSTALLED = 3,  /* the command is accepted, and in force from a moment on [at] */
+    TAPRIO_REFUSED = 4,    /* the command is not accepted, and nothing has changed [reason, and what it names] */
+    TAPRIO_MALFORMED = 5,  /* the struct is no schedule, and nothing has changed [reason] */
+    TAPRIO_START = 6,      /* a frame starts, and the clock is there [id, traffic_class, at, end: the wire is free again] */
+    TAPRIO_REST = 7,       /* nothing starts before `until`, and the clock is there */
+    TAPRIO_BACKWARD = 8,   /* `until` is before the clock, or over 9223372036854775807000; nothing has changed */
+    TAPRIO_OPENED = 9,     /* there is a port */
+    TAPRIO_NOT_OPENED = 10 /* there is none [reason] */
+};
+
+/* Why: the names are those of docs/errors.md. */
+enum taprio_reason {
+    TAPRIO_NO_REASON = 0,
+    TAPRIO_NO_CLASS = 1, /* of TAPRIO_DROPPED, the first that applies */
+    TAPRIO_RUNT = 2,
+    TAPRIO_TOO_LONG = 3,
+    TAPRIO_OVER_SDU = 4,
+    TAPRIO_FULL = 5,
+    TAPRIO_MAP_MISSING = 6, /* of TAPRIO_REFUSED, the first that applies */
+    TAPRIO_MAP_CHANGED = 7,
+    TAPRIO_SDU_TOO_LARGE = 8,      /* traffic_class: the least such class */
+    TAPRIO_INTERVAL_TOO_SHORT = 9, /* entry: the first such entry */
+    TAPRIO_CYCLE_TOO_SHORT = 10,
+    TAPRIO_CYCLE_TOO_LONG = 11,
+    TAPRIO_EXTENSION_TOO_LONG = 12,
+    TAPRIO_BASE_TOO_LATE = 13,
+    TAPRIO_BUSY = 14,            /* at: the lead moment of the command before, which has not come */
+    TAPRIO_BAD_CLASS_COUNT = 15, /* of TAPRIO_MALFORMED, the first that applies. (16 is not used) */
+    TAPRIO_CLASS_OUT_OF_RANGE = 17,
+    TAPRIO_QUEUE_COUNT = 18,
+    TAPRIO_EMPTY_QUEUE = 19,
+    TAPRIO_QUEUE_OVERLAP = 20,
+    TAPRIO_NO_ENTRIES = 21,
+    TAPRIO_TOO_MANY_ENTRIES = 22,
+    TAPRIO_ZERO_INTERVAL = 23,
+    TAPRIO_BAD_RATE = 24, /* of TAPRIO_NOT_OPENED, the first that applies */
+    TAPRIO_BAD_MTU = 25,
+    TAPRIO_BAD_ROOM = 26,
+    TAPRIO_OUT_OF_MEMORY = 27
+};
+
+/* What a call answers; 56 octets. */
+struct taprio_answer {
+    uint64_t id;
+    uint64_t at_low; /* a moment, in picoseconds: at_high * 2^64 + at_low */
+    uint64_t at_high;
+    uint64_t end_low; /* the same */
+    uint64_t end_high;
+    uint32_t kind;   /* one of enum taprio_kind */
+    uint32_t reason; /* one of enum taprio_reason */
+    uint32_t traffic_class;
+    uint32_t entry;
+};
+
+/* What a port shows; 32 octets. */
+struct taprio_report {
+    uint64_t now_low; /* the clock, in picoseconds: now_high * 2^64 + now_low */
+    uint64_t now_high;
+    uint64_t no_class; /* frames that were dropped since their priority has no class */
+    uint8_t gates;     /* bit c: class c is open now */
+    uint8_t pending;   /* 1 where a command is accepted and not in force yet */
+};
+
+/* What a class shows; 64 octets. Frames, but for sent_octets. */
+struct taprio_counters {
+    uint64_t accepted; /* were queued */
+    uint64_t sent;     /* have started */
+    uint64_t sent_octets;
+    uint64_t waiting;  /* wait now */
+    uint64_t runt;     /* were dropped, by reason */
+    uint64_t too_long;
+    uint64_t over_sdu;
+    uint64_t full;
+};
+
+/* Makes a port of a rate in Mb/s, an mtu in octets (68 to 9216) and room for so many frames a class (1 to 4096). Its clock is at 0,
+ * all gates are open, and nothing waits. The answer is TAPRIO_OPENED or TAPRIO_NOT_OPENED; either way the place is written. */
+void taprio_port_new(struct taprio_port *port, uint32_t rate, uint32_t mtu, uint32_t room, struct taprio_answer *told);
+
+/* A frame arrives now: TAPRIO_QUEUED or TAPRIO_DROPPED. */
+void taprio_port_arrive(struct taprio_port *port, const struct taprio_frame *frame, struct taprio_answer *told);
+
+/* A schedule is given now: TAPRIO_INSTALLED, TAPRIO_REFUSED or TAPRIO_MALFORMED. */
+void taprio_port_install(struct taprio_port *port, const struct taprio_schedule *schedule, struct taprio_answer *told);
+
+/* The schedule is to end, and all gates to open: TAPRIO_INSTALLED, or TAPRIO_REFUSED with TAPRIO_BUSY. */
+void taprio_port_delete(struct taprio_port *port, struct taprio_answer *told);
+
+/* The clock goes on: TAPRIO_START at the first start before `until`, TAPRIO_REST at `until` where there is none, or TAPRIO_BACKWARD.
+ * Call it again after a start. What arrives meanwhile is handed over at its moment, with the clock there. */
+void taprio_port_step(struct taprio_port *port, uint64_t until_low, uint64_t until_high, struct taprio_answer *told);
+
+/* What the port shows now; zeros without a port. */
+void taprio_port_report(struct taprio_port *port, struct taprio_report *told);
+
+/* What a class has counted, 0 to 7, and how many of its frames wait; zeros for another class, and without a port. */
+void taprio_port_counters(struct taprio_port *port, uint32_t traffic_class, struct taprio_counters *told);
+
+/* Frees what a port has taken. The place has none then: taprio_port_free does nothing there, and other calls answer TAPRIO_NO_PORT. */
+void taprio_port_free(struct taprio_port *port);
 
 #ifdef __cplusplus
 }

@@ -10,7 +10,7 @@ The five calls `run`, `check`, `streams`, `draw` and `replay` are jobs of the pr
     b'queued 1 class 0\\nstart 1 class 0 at 0 end 672000\\n'
 
 They stand on the shared object that `bindings/c/build` makes, which is loaded at the first of them (`taprio.library`). `Program` has the same
-calls over the program. Calls may be made from several threads: they share nothing, and the interpreter goes on meanwhile.
+calls over the program. `Port` is a port that is driven call by call, over the shared object. Calls may be made from several threads: they share nothing, and the interpreter goes on meanwhile.
 
 Nothing else here needs the shared object: `taprio.schedules` reads and writes schedules (times in nanoseconds), `Stream` is a stream of
 frames (times in nanoseconds), `run_streams` runs both, `bounds` tells how long the frames wait for ever, `read_run`, `read_check` and
@@ -18,9 +18,21 @@ frames (times in nanoseconds), `run_streams` runs both, `bounds` tells how long 
 """
 
 from .captures import read_capture
-from .faults import BadAnswer, BadCapture, BadInput, BadSchedule, BadValue, LeftOut, LibraryMissing, Replay, TaprioError
+from .faults import (
+    BadAnswer,
+    BadCapture,
+    BadInput,
+    BadSchedule,
+    BadValue,
+    LeftOut,
+    LibraryMissing,
+    Refused,
+    Replay,
+    TaprioError,
+)
 from .library import Library, check, draw, replay, run, streams
 from .plotting import plot
+from .port import Port
 from .program import Backend, Program, backend
 from .results import read_bounds, read_check, read_run
 from .schedules import Schedule
@@ -38,7 +50,9 @@ __all__ = [
     "LeftOut",
     "Library",
     "LibraryMissing",
+    "Port",
     "Program",
+    "Refused",
     "Replay",
     "Schedule",
     "Stream",

@@ -5,7 +5,7 @@ from __future__ import annotations
 import re
 from typing import Any, NamedTuple
 
-__all__ = ["BadAnswer", "BadCapture", "BadInput", "BadSchedule", "BadValue", "LeftOut", "LibraryMissing", "Replay", "TaprioError"]
+__all__ = ["BadAnswer", "BadCapture", "BadInput", "BadSchedule", "BadValue", "LeftOut", "LibraryMissing", "Refused", "Replay", "TaprioError"]
 
 BAD_VALUE, BAD_INPUT, NO_MEMORY, NO_ROOM = 2, 3, 4, 5
 _BEFORE = "taprio_port: "
@@ -58,6 +58,25 @@ class BadInput(TaprioError, ValueError):
 
 class LibraryMissing(TaprioError, OSError):
     """The shared object can't be loaded. The text says which file was looked for, and what to do."""
+
+
+class Refused(TaprioError, ValueError):
+    """A port did not accept a command, and nothing has changed.
+
+    `name` is why, such as "Busy" (docs/errors.md). `traffic_class` is the class of "SduTooLarge", `entry` the index of the entry of
+    "IntervalTooShort", and `moment` the lead moment of "Busy", in picoseconds; else they are None.
+    """
+
+    def __init__(self, name: str, traffic_class: int | None = None, entry: int | None = None, moment: int | None = None) -> None:
+        more = [str(it) for it in (traffic_class, entry, moment) if it is not None]
+        super().__init__(" ".join(["refused", name, *more]))
+        self.name = name
+        self.traffic_class = traffic_class
+        self.entry = entry
+        self.moment = moment
+
+    def __reduce__(self) -> tuple[Any, ...]:
+        return type(self), (self.name, self.traffic_class, self.entry, self.moment), self.__dict__
 
 
 class BadSchedule(TaprioError, ValueError):

@@ -76,8 +76,20 @@ _OCTETS = [ctypes.c_char_p, ctypes.c_size_t]
 _LENT = [ctypes.POINTER(ctypes.c_char), ctypes.c_size_t]
 
 
-# What a shared object lacks that was built before there were bounds.
-_LATER = ("taprio_streams_from", "taprio_bounds")
+# The calls of a port, by what follows its place.
+_OF_PORT: dict[str, list[Any]] = {
+    "taprio_port_new": [ctypes.c_uint32, ctypes.c_uint32, ctypes.c_uint32, ctypes.c_void_p],
+    "taprio_port_arrive": [ctypes.c_void_p, ctypes.c_void_p],
+    "taprio_port_install": [ctypes.c_void_p, ctypes.c_void_p],
+    "taprio_port_delete": [ctypes.c_void_p],
+    "taprio_port_step": [ctypes.c_uint64, ctypes.c_uint64, ctypes.c_void_p],
+    "taprio_port_report": [ctypes.c_void_p],
+    "taprio_port_counters": [ctypes.c_uint32, ctypes.c_void_p],
+    "taprio_port_free": [],
+}
+
+# What a shared object lacks that was built before there were bounds, or ports that are driven.
+_LATER = ("taprio_streams_from", "taprio_bounds", *_OF_PORT)
 
 
 def _path() -> str:
@@ -104,20 +116,22 @@ def _typed(library: ctypes.CDLL) -> ctypes.CDLL:
     """The shared object, once its functions have their types."""
     port, picture = ctypes.POINTER(_PortValues), ctypes.POINTER(_PictureValues)
     ran, replay_ran = ctypes.POINTER(_Ran), ctypes.POINTER(_ReplayRan)
-    for name, given in (
-        ("taprio_run", [port, *_OCTETS, *_LENT, *_LENT, ran]),
-        ("taprio_check", [ctypes.c_uint32, ctypes.c_uint32, *_OCTETS, *_LENT, *_LENT, ran]),
-        ("taprio_streams", [*_OCTETS, *_OCTETS, *_LENT, *_LENT, ran]),
-        ("taprio_streams_from", [ctypes.c_uint64, ctypes.c_uint64, *_OCTETS, *_OCTETS, *_LENT, *_LENT, ran]),
-        ("taprio_bounds", [port, ctypes.c_uint64, *_OCTETS, *_OCTETS, *_LENT, *_LENT, ran]),
-        ("taprio_draw", [port, picture, *_OCTETS, *_LENT, *_LENT, ran]),
-        ("taprio_replay", [port, *_OCTETS, *_OCTETS, *_LENT, *_LENT, *_LENT, replay_ran]),
-    ):
+    calls: dict[str, list[Any]] = {
+        "taprio_run": [port, *_OCTETS, *_LENT, *_LENT, ran],
+        "taprio_check": [ctypes.c_uint32, ctypes.c_uint32, *_OCTETS, *_LENT, *_LENT, ran],
+        "taprio_streams": [*_OCTETS, *_OCTETS, *_LENT, *_LENT, ran],
+        "taprio_streams_from": [ctypes.c_uint64, ctypes.c_uint64, *_OCTETS, *_OCTETS, *_LENT, *_LENT, ran],
+        "taprio_bounds": [port, ctypes.c_uint64, *_OCTETS, *_OCTETS, *_LENT, *_LENT, ran],
+        "taprio_draw": [port, picture, *_OCTETS, *_LENT, *_LENT, ran],
+        "taprio_replay": [port, *_OCTETS, *_OCTETS, *_LENT, *_LENT, *_LENT, replay_ran],
+        **{name: [ctypes.c_void_p, *given] for name, given in _OF_PORT.items()},
+    }
+    for name, given in calls.items():
         if name in _LATER and not hasattr(library, name):
             continue
-        function = getattr(library, name)
-        function.argtypes = given
-        function.restype = None
+        typed = getattr(library, name)
+        typed.argtypes = given
+        typed.restype = None
     return library
 
 
@@ -126,14 +140,14 @@ def has(name: str) -> bool:
     return hasattr(_loaded(_path()), name)
 
 
-def _function(name: str) -> Callable[..., None]:
+def function(name: str) -> Callable[..., None]:
     """A function of the shared object, which is loaded where it isn't yet."""
     if not has(name):
         raise LibraryMissing(
             f"the library {_path()} has no {name}: build it again with bindings/c/build, or call the program instead with taprio.Program"
         )
-    function: Callable[..., None] = getattr(_loaded(_path()), name)
-    return function
+    found: Callable[..., None] = getattr(_loaded(_path()), name)
+    return found
 
 
 def is_there() -> bool:
@@ -174,12 +188,12 @@ def _port(rate: int, mtu: int, room: int, until: int | None, summary: bool) -> _
 
 def _call(name: str, given: list[Any], ran: _Ran | _ReplayRan, names: list[str], guess: int) -> list[bytes]:
     """Calls with slices that it makes larger where the call tells that it wants more room; the octets of each."""
-    function = _function(name)
+    called = function(name)
     lengths = [guess] * (len(names) - 1) + [256]
     while True:
         lent = [ctypes.create_string_buffer(length + 1) for length in lengths]
         slices = [it for slot, length in zip(lent, lengths) for it in (slot, length)]
-        function(*given, *slices, ctypes.byref(ran))
+        called(*given, *slices, ctypes.byref(ran))
         wanted = [getattr(ran, name) for name in names]
         if ran.status != NO_ROOM:
             break

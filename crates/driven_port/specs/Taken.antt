@@ -1,5 +1,5 @@
 -- What is handed in, as a port takes it.
-use Rattle.std.specs.Prelude.{ℕ, ◌==◌, nat_lt, if◌then◌else◌, List, map, take, Option, Some, None, Result, Ok, Err}
+use Rattle.std.specs.Prelude.{ℕ, ◌+◌, ◌*◌, ◌^◌, ◌==◌, nat_lt, if◌then◌else◌, List, map, take, Option, Some, None, Result, Ok, Err}
 use Rattle.wire_time.specs.declared.Frame.{Frame}
 use Rattle.class_map.specs.declared.ClassMap.{ClassMap}
 use Rattle.class_map.specs.declared.Queues.{Queues}
@@ -18,6 +18,10 @@ use Rattle.driven_port.specs.declared.values.CEntry.{CEntry}
 use Rattle.driven_port.specs.declared.values.CFrame.{CFrame}
 use Rattle.driven_port.specs.declared.values.CRange.{CRange}
 use Rattle.driven_port.specs.declared.values.CSchedule.{CSchedule}
+
+-- the moment of two halves
+abbrev pub moment_of : ℕ → ℕ → ℕ
+moment_of low high = high * 2 ^ 64 + low
 
 -- a frame
 abbrev pub frame_of : CFrame → Frame

@@ -24,13 +24,12 @@ use crate::told::{
 use abstract_port::{Command, Counters};
 use jumping::Jumping;
 use port::{Port, is_mtu, is_room};
+pub use slot::PortSlot;
 use std::alloc::Global;
 use std::marker::Model;
-use wire_time::{MAX_MOMENT, Rate};
-
-pub use slot::PortSlot;
-pub use taken::ScheduleFault;
+pub use taken::{ScheduleFault, moment_of};
 pub use values::{CAnswer, CCounters, CEntry, CFrame, CRange, CReport, CSchedule};
+use wire_time::{MAX_MOMENT, Rate};
 
 /// Why there is no port.
 #[derive(Clone, Copy, Debug, PartialEq, Eq)]
@@ -153,6 +152,10 @@ impl DrivenPort {
     pub fn counters(&self, class: u32) -> CCounters
         ensures { result ≡ counters_told class self.now }
     {
-        counters_told(if class < 8 { Some(self.port.counters(class as u8)) } else { None })
+        counters_told(if class < 8 {
+            Some(self.port.counters(class as u8))
+        } else {
+            None
+        })
     }
 }

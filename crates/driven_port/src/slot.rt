@@ -150,3 +150,11 @@ impl PortSlot {
         }
     }
 }
+
+/// Its caller can move a value of this type to another thread.
+fn is_send<T: Send>() {}
+
+/// Nothing to run: that it is accepted shows that a place may go to another thread.
+pub fn goes_to_threads() {
+    is_send::<PortSlot>()
+}

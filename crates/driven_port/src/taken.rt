@@ -1,7 +1,7 @@
 //! What is handed in, as a port takes it.
 
 ghost use Rattle.std.specs.Prelude.{◌≡◌};
-ghost use Rattle.driven_port.specs.Taken.{all_entries, command_of, frame_of, limits_of, list_from, list_of, map_of_classes, queues_of_classes};
+ghost use Rattle.driven_port.specs.Taken.{all_entries, command_of, frame_of, limits_of, list_from, list_of, map_of_classes, moment_of, queues_of_classes};
 
 use crate::values::{CFrame, CSchedule};
 use abstract_port::{Change, Command};
@@ -18,6 +18,16 @@ pub enum ScheduleFault {
     Ranges(QueueFault),
     /// The entries are refused.
     Gates(GateFault),
+}
+
+/// 2^64.
+const TWO_TO_64: u128 = 0x1_0000_0000_0000_0000;
+
+/// The moment of two halves, in picoseconds.
+pub fn moment_of(low: u64, high: u64) -> u128
+    ensures { result ≡ moment_of low high }
+{
+    u128::from(high) * TWO_TO_64 + u128::from(low)
 }
 
 /// A frame.

@@ -95,8 +95,14 @@ fn refused_told(why: Refused) -> CAnswer
 {
     let refused = answer(4);
     match why {
-        Refused::MapMissing => CAnswer { reason: 6, ..refused },
-        Refused::MapChanged => CAnswer { reason: 7, ..refused },
+        Refused::MapMissing => CAnswer {
+            reason: 6,
+            ..refused
+        },
+        Refused::MapChanged => CAnswer {
+            reason: 7,
+            ..refused
+        },
         Refused::SduTooLarge(class) => CAnswer {
             reason: 8,
             class: u32::from(class),

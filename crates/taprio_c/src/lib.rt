@@ -3,7 +3,6 @@
 //! The contract of each function is that of its job in `in_memory`; what C's values say is specs/FromC.antt.
 #![tactic(auto)]
 
-mod port;
 mod values;
 
 ghost use Rattle.std.specs.Prelude.{List, ℕ, Result};

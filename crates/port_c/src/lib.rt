@@ -1,6 +1,7 @@
 //! A port that is driven call by call, for C, whose declarations are in `bindings/c/taprio.h`.
 //!
 //! A caller lends the memory that a port's place takes, and nothing but these calls reads or writes it.
+#![tactic(auto)]
 
 ghost use Rattle.std.specs.Prelude.{◌≡◌, ◌⊎◌, IfNone, IfSome, None, Ok, Option};
 ghost use Rattle.std.specs.Borrow.{full_share, sem};
@@ -9,14 +10,12 @@ ghost use Rattle.abstract_port.specs.AbstractPort.{AbstractPort};
 ghost use Rattle.abstract_port.specs.declared.Command.{Command};
 ghost use Rattle.driven_port.specs.Opened.{open_refusal};
 ghost use Rattle.driven_port.specs.Slots.{at_slot, counters_at, opened_at, open_reason, report_at};
-ghost use Rattle.driven_port.specs.Taken.{command_of, frame_of};
+ghost use Rattle.driven_port.specs.Taken.{command_of, frame_of, moment_of};
 ghost use Rattle.driven_port.specs.Told.{answer, arrives, given, steps};
 ghost use Rattle.driven_port.specs.contracts.slot.PortSlot.{the_row};
 ghost use Rattle.driven_port.specs.declared.OpenFault.{OpenFault};
-ghost use Rattle.taprio_c.specs.FromC.{moment_of};
 
-use crate::values::moment_of;
-use driven_port::{CAnswer, CCounters, CFrame, CReport, CSchedule, PortSlot};
+use driven_port::{CAnswer, CCounters, CFrame, CReport, CSchedule, PortSlot, moment_of};
 use std::alloc::Global;
 
 /// The octets of a port's place: `struct taprio_port` of C.
@@ -39,7 +38,10 @@ pub unsafe extern "C" fn taprio_port_new(
     ensures refused { IfSome (open_refusal rate mtu room) (λ fault. told.new ≡ record (answer 10) { reason = open_reason fault }) }
     ensures memory { IfNone (open_refusal rate mtu room) ((told.new ≡ answer 9) ⊎ (told.new ≡ record (answer 10) { reason = open_reason OpenFault.Memory })) }
 {
-    std::ptr::write(port as *mut PortSlot, PortSlot::new(alloc, rate, mtu, room, told));
+    std::ptr::write(
+        port as *mut PortSlot,
+        PortSlot::new(alloc, rate, mtu, room, told),
+    );
 }
 
 fn free(port: &mut PortSlot)

@@ -1,5 +1,5 @@
 -- The walk of `taprio_port_new`: what `PortSlot::new` answers is written where there was room.
-use Rattle.taprio_c.proofs.Walks.{◌≡◌, ℕ, [], ◌∷◌, refl, ap, MutBor, proved, full_share, id⊢, Lft, ftrue, flft, fres, flent, WpFn, named, vunit, vptr, fact, tables, Body, ‵, raw, ◌⊛◌, some, later, prop, ◌$◌, ◌∵◌, !, qed, done, move, keep, drop, use1, split, join, fsplit, fjoin, feq_i, feq_l, pick, await, regoal, rewrite, suffices, frame, group, enter, of_opd, unit_lit, addr, stop, no_more, and_then, returns, alloc_all, pass_all, free_all, look_at, get, through, sets, lands_as, unit, u32, w32, vint, uint_vals, uint_Tells, yes, Ptr, RawPtr, block_ptr, lies_at, in_a_block, rawptr_vals, rawptr_Tells, ptr_val, MutRef, mut_vals, mut_Tells, plain, nothing, only, heard, calls_at, Lasts, lasts, triple_of, framed, Stays, walk_of, says, stay_dropped, Goes-dropped, gave_ref, Goes-gave_ref, ends_at}
+use Rattle.port_c.proofs.Walks.{◌≡◌, ℕ, [], ◌∷◌, refl, ap, MutBor, proved, full_share, id⊢, Lft, ftrue, flft, fres, flent, WpFn, named, vunit, vptr, fact, tables, Body, ‵, raw, ◌⊛◌, some, later, prop, ◌$◌, ◌∵◌, !, qed, done, move, keep, drop, use1, split, join, fsplit, fjoin, feq_i, feq_l, pick, await, regoal, rewrite, suffices, frame, group, enter, of_opd, unit_lit, addr, stop, no_more, and_then, returns, alloc_all, pass_all, free_all, look_at, get, through, sets, lands_as, unit, u32, w32, vint, uint_vals, uint_Tells, yes, Ptr, RawPtr, block_ptr, lies_at, in_a_block, rawptr_vals, rawptr_Tells, ptr_val, MutRef, mut_vals, mut_Tells, plain, nothing, only, heard, calls_at, Lasts, lasts, triple_of, framed, Stays, walk_of, says, stay_dropped, Goes-dropped, gave_ref, Goes-gave_ref, ends_at}
 use denote.RawPtr.{room_at}
 use base.Logic.{emp}
 use contract.Monad.{fact_i}
@@ -17,9 +17,9 @@ use Rattle.driven_port.specs.declared.OpenFault.TheVariants.{Memory}
 use Rattle.driven_port.proofs.slot.PortSlot.TheLaws as slot
 use Rattle.std.specs.contracts.alloc.Global.{the_row as A}
 use Rattle.std.proofs.alloc.Global.TheLaws as heap
-use Rattle.taprio_c.specs.contracts.port.taprio_port_new as f
-use Rattle.taprio_c.proofs.port.taprio_port_new.Statement.{statement}
-use Rattle.taprio_c.proofs.port.taprio_port_new.Code as code
+use Rattle.port_c.specs.contracts.taprio_port_new as f
+use Rattle.port_c.proofs.taprio_port_new.Statement.{statement}
+use Rattle.port_c.proofs.taprio_port_new.Code as code
 use Rattle.driven_port.specs.contracts.slot.PortSlot.new as g
 use Rattle.driven_port.proofs.slot.PortSlot.new.Met.{met}
 use Rattle.driven_port.specs.contracts.slot.PortSlot.{the_row as R}
@@ -55,7 +55,7 @@ taprio_port_new_spec 𝓤 𝓛 𝓜 𝓡 wired =
     use1 𝓛 (later (some (λ (d : R.Denot). ((‵ (flft κ q) ⊛ ‵ ftrue) ⊛ ‵ (R.own_val d (v ∷ []))) ⊛
     some (λ (ws : Lasts g.ended z.0.0 z.0.3). ‵ (lasts g.ended z.0.0 z.0.3 ws) ⊛ (raw (fact 𝓤 (d ≡ opened_at s2 s3 s4 ws.1.1.1.1.0.kind)) ⊛
     (raw (fact 𝓤 (IfSome (open_refusal s2 s3 s4) (λ fault. ws.1.1.1.1.0 ≡ record (answer 10) { reason = open_reason fault }))) ⊛
-    raw (fact 𝓤 (IfNone (open_refusal s2 s3 s4) ((ws.1.1.1.1.0 ≡ answer 9) ⊎ (ws.1.1.1.1.0 ≡ record (answer 10) { reason = open_reason Memory }))))))))) ) (id⊢ 𝓤 _) $
+    raw (fact 𝓤 (IfNone (open_refusal s2 s3 s4) ((ws.1.1.1.1.0 ≡ answer 9) ⊎ (ws.1.1.1.1.0 ≡ record (answer 10) { reason = open_reason Memory })))))))))) (id⊢ 𝓤 _) $
     await ! tt $ pick ! (λ d. split ! $ split ! $ move ! (2 ∷ []) $ pick ! (λ ws. split ! $ move ! (1 ∷ []) $ split ! $ heard ! _ (λ is_port. split ! $ heard ! _ (λ is_refused. heard ! _ (λ is_memory.
     -- [the last values; the token; the place's value; the room]
     move ! (2 ∷ []) $ peeks ! R (Is R) (shows 𝓛 R) d (v ∷ []) (λ is. let good = (((slot.the_row_laws).lawful 𝓛).typed d (v ∷ []) is).0 in

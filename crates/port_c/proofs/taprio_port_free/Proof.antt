@@ -1,11 +1,11 @@
 -- The walk of `taprio_port_free`: the port is lent for a lifetime that is made for the call of `free`, and lies at its pointer again when that is over.
-use Rattle.taprio_c.proofs.Walks.{◌≡◌, ℕ, [], ◌∷◌, refl, ap, MutBor, proved, full_share, id⊢, Lft, ftrue, flft, fres, flent, WpFn, named, vunit, vptr, fact, tables, Body, ‵, raw, ◌⊛◌, some, later, prop, ◌$◌, ◌∵◌, !, qed, done, move, keep, drop, use1, use3, split, join, fsplit, fjoin, feq_i, feq_l, pick, await, regoal, rewrite, suffices, frame, group, lft_new, lft_end, enter, of_opd, unit_lit, addr, stop, no_more, and_then, returns, alloc_all, pass_all, free_all, look_at, get, through, sets, lands_as, unit, yes, lends_ref, ref_back, mem, Ptr, RawPtr, block_ptr, lies_at, in_a_block, rawptr_vals, rawptr_Tells, ptr_val, MutRef, mut_vals, plain, nothing, only, heard, calls_at, Lasts, lasts, triple_of, framed, Stays, walk_of, stay_dropped, Goes-dropped, ends_at}
+use Rattle.port_c.proofs.Walks.{◌≡◌, ℕ, [], ◌∷◌, refl, ap, MutBor, proved, full_share, id⊢, Lft, ftrue, flft, fres, flent, WpFn, named, vunit, vptr, fact, tables, Body, ‵, raw, ◌⊛◌, some, later, prop, ◌$◌, ◌∵◌, !, qed, done, move, keep, drop, use1, use3, split, join, fsplit, fjoin, feq_i, feq_l, pick, await, regoal, rewrite, suffices, frame, group, lft_new, lft_end, enter, of_opd, unit_lit, addr, stop, no_more, and_then, returns, alloc_all, pass_all, free_all, look_at, get, through, sets, lands_as, unit, yes, lends_ref, ref_back, mem, Ptr, RawPtr, block_ptr, lies_at, in_a_block, rawptr_vals, rawptr_Tells, ptr_val, MutRef, mut_vals, plain, nothing, only, heard, calls_at, Lasts, lasts, triple_of, framed, Stays, walk_of, stay_dropped, Goes-dropped, ends_at}
 use Rattle.std.specs.Prelude.{None}
-use Rattle.taprio_c.specs.contracts.port.taprio_port_free as f
-use Rattle.taprio_c.proofs.port.taprio_port_free.Statement.{statement}
-use Rattle.taprio_c.proofs.port.taprio_port_free.Code as code
-use Rattle.taprio_c.specs.contracts.port.free as g
-use Rattle.taprio_c.proofs.port.free.Met.{met}
+use Rattle.port_c.specs.contracts.taprio_port_free as f
+use Rattle.port_c.proofs.taprio_port_free.Statement.{statement}
+use Rattle.port_c.proofs.taprio_port_free.Code as code
+use Rattle.port_c.specs.contracts.free as g
+use Rattle.port_c.proofs.free.Met.{met}
 use Rattle.driven_port.specs.contracts.slot.PortSlot.{the_row as R}
 
 abbrev stayed : Stays f.ended.signature.params f.ended.kept
@@ -33,7 +33,7 @@ taprio_port_free_spec 𝓤 𝓛 𝓜 𝓡 wired =
     let z : G.Ghost = (((κ, tt), (full_share, tt), tt, (m, tt), (mut_vals m, tt)), tt) in
     nothing ! $ move ! (1 ∷ 0 ∷ []) $ fjoin ! $ nothing ! $ move ! (3 ∷ 0 ∷ []) $ join ! $ join ! $ nothing ! $ move ! (1 ∷ 0 ∷ []) $ join ! $
     use1 𝓛 (raw (G.pre z)) (id⊢ 𝓤 _) $
-    calls_at ! (framed 𝓤 𝓛.H 𝓜 𝓣) G (met 𝓤 𝓛 𝓜 𝓡 (code.calls-taprio_c::port::free 𝓡.env wired)) z
+    calls_at ! (framed 𝓤 𝓛.H 𝓜 𝓣) G (met 𝓤 𝓛 𝓜 𝓡 (code.calls-port_c::free 𝓡.env wired)) z
     (and_then ! (get ! refl) (no_more !)) (λ v.
     use1 𝓛 (later (some (λ (u : Unit {0}). ((‵ (flft κ full_share) ⊛ ‵ ftrue) ⊛ ‵ (unit.own_val u (v ∷ []))) ⊛
     some (λ (ws : Lasts g.ended z.0.0 z.0.3). ‵ (lasts g.ended z.0.0 z.0.3 ws) ⊛ raw (fact 𝓤 (ws.0 ≡ None)))))) (id⊢ 𝓤 _) $
