@@ -1,5 +1,7 @@
 // Delay bounds: what is told of each stream, and a picture of it against its deadline.
+import { ticks } from "./moments.js";
 import { element } from "./svg.js";
+import { count } from "./words.js";
 
 const BOUND = /^bound (\d+) (?:class (\d) )?(?:wait (\d+) to (\d+) end (\d+) to (\d+)|(none|unknown)|dropped (\w+))(?: deadline (\d+) (met|missed|unknown))?$/;
 
@@ -43,15 +45,42 @@ export function boundsVerdict({ classes, streams }, write) {
   const due = streams.filter((it) => it.deadline !== null);
   const met = due.filter((it) => it.verdict === "met");
   const missed = due.filter((it) => it.verdict === "missed").map((it) => it.id);
-  const head = !due.length ? `${streams.length} streams, no deadlines.`
+  const head = !streams.length ? ""
+    : !due.length ? `${count(streams.length, "stream")}, no deadlines.`
     : met.length === due.length ? `Every deadline is met, for ever.`
     : `${met.length} of ${due.length} deadlines are met for ever${missed.length ? `; missed: stream${missed.length === 1 ? "" : "s"} ${missed.join(", ")}` : ""}.`;
   return [head, ...classes.map((it) => classWords(it, write)).filter(Boolean)].join(" ");
 }
 
 const BEGIN = 92; // where time begins, in pixels
+const END = 24; // what lies behind its end
+const HEAD = 24; // the top of the first stream's row
 const ROW_STEP = 30; // from one stream to the next
 const DRAWN = 200; // streams that are drawn
+
+// Where a label of this width stands: behind the bar, before it, or behind the deadline, so that it covers neither.
+function placeOf(wide, { from, to, deadline }, width) {
+  const clear = (left) => deadline === null || deadline < left - 3 || deadline > left + wide + 3;
+  const behind = to + 8;
+  const before = from - 6 - wide;
+  if (behind + wide <= width - 4 && clear(behind)) return behind;
+  if (before >= BEGIN + 3 && clear(before)) return before;
+  return deadline !== null && deadline > to && deadline + 8 + wide <= width - 4 ? deadline + 8 : Math.max(BEGIN + 3, Math.min(behind, width - 4 - wide));
+}
+
+// A stream's row: its name, its bar or why it has none, and its deadline; and its label with what it is not to cover.
+function rowOfStream(it, top, x, width, write) {
+  const row = element("g", { class: `row ${it.verdict}` });
+  const [from, to] = it.last === null ? [BEGIN, BEGIN] : [x(it.first), Math.max(x(it.first) + 3, x(it.last))];
+  const deadline = it.deadline === null ? null : x(it.deadline);
+  const label = it.last === null ? it.told : it.first === it.last ? write(it.last) : `${write(it.first)} to ${write(it.last)}`;
+  row.append(element("text", { x: 4, y: top + 15 }, `stream ${it.id}`), element("path", { class: "g", d: `M${BEGIN} ${top + 22}H${width - END}` }));
+  if (it.last !== null) row.append(element("rect", { class: "f", x: from, y: top + 3, width: to - from, height: 15 }));
+  if (deadline !== null) row.append(element("path", { class: "h", d: `M${deadline} ${top + 1}V${top + 20}` }), element("path", { class: "dl", d: `M${deadline} ${top - 1}V${top + 21}` }));
+  const text = element("text", { x: to + 8, y: top + 15 }, label);
+  row.append(text, element("title", {}, `stream ${it.id}: ${it.told}${it.deadline === null ? "" : `, deadline ${write(it.deadline)} ${it.verdict}`}`));
+  return { row, text, beside: { from, to, deadline } };
+}
 
 /**
  * A picture of streams: from the least to the greatest time to each frame's end, against its deadline.
@@ -59,28 +88,21 @@ const DRAWN = 200; // streams that are drawn
  * @param {object[]} streams
  * @param {number} width
  * @param {(time: bigint) => string} write
+ * @returns {{svg: SVGElement, place: () => void}} the picture, and what places its labels once it is shown: only then they have a width
  */
 export function drawBounds(streams, width, write) {
   const drawn = streams.slice(0, DRAWN);
-  const height = 24 + drawn.length * ROW_STEP + 12;
+  const height = HEAD + drawn.length * ROW_STEP + 12;
   const svg = element("svg", { width, height, viewBox: `0 0 ${width} ${height}`, role: "img", class: "bounds" });
   const most = drawn.reduce((most, it) => [it.last, it.deadline].reduce((a, b) => (b !== null && b > a ? b : a), most), 1n);
-  const x = (time) => BEGIN + (Number(time) / Number(most)) * (width - BEGIN - 24);
-  svg.append(element("text", { class: "m", x: BEGIN, y: 14 }, "0"), element("text", { class: "e", x: width - 24, y: 14 }, write(most)));
-  drawn.forEach((it, place) => {
-    const top = 24 + place * ROW_STEP;
-    const row = element("g", { class: `row ${it.verdict}` });
-    row.append(element("text", { x: 4, y: top + 15 }, `stream ${it.id}`), element("path", { class: "g", d: `M${BEGIN} ${top + 22}H${width - 24}` }));
-    if (it.deadline !== null) row.append(element("path", { class: "dl", d: `M${x(it.deadline)} ${top - 1}V${top + 21}` }));
-    if (it.last !== null) {
-      row.append(element("rect", { class: "f", x: x(it.first), y: top + 3, width: Math.max(3, x(it.last) - x(it.first)), height: 15 }));
-      const label = `${write(it.first)} to ${write(it.last)}`;
-      const inside = x(it.last) > width / 2;
-      row.append(element("text", { class: inside ? "e" : "", x: inside ? x(it.first) - 6 : x(it.last) + 8, y: top + 15 }, it.first === it.last ? write(it.last) : label));
-    } else row.append(element("text", { x: BEGIN + 8, y: top + 15 }, it.told));
-    const title = element("title", {}, `stream ${it.id}: ${it.told}${it.deadline === null ? "" : `, deadline ${write(it.deadline)} ${it.verdict}`}`);
-    row.append(title);
-    svg.append(row);
-  });
-  return svg;
+  const x = (time) => BEGIN + (Number(time) / Number(most)) * (width - BEGIN - END);
+  for (const { at, text } of ticks({ from: 0n, to: most }, 0n, Math.max(2, Math.floor(width / 130)))) {
+    svg.append(element("path", { class: "g", d: `M${x(at)} ${HEAD - 6}V${height - 12}` }), element("text", { class: "m", x: x(at), y: 14 }, text));
+  }
+  const rows = drawn.map((it, place) => rowOfStream(it, HEAD + place * ROW_STEP, x, width, write));
+  svg.append(...rows.map(({ row }) => row));
+  const place = () => {
+    for (const { text, beside } of rows) text.setAttribute("x", placeOf(text.getComputedTextLength(), beside, width));
+  };
+  return { svg, place };
 }

@@ -42,6 +42,21 @@ export class Editor {
     this.#changed();
   }
 
+  /** Writes u for the micro sign and for the Greek letter mu in the times of a table of streams: the port takes u alone. */
+  writeMicros() {
+    const plain = this.text.replace(/^[ \t]*stream\b.*[µμ]s.*$/gm, (line) => line.replace(/[µμ](?=s\b)/g, "u"));
+    if (plain === this.text) return;
+    const { selectionStart, selectionEnd, scrollTop } = this.area;
+    this.text = plain;
+    this.area.setSelectionRange(selectionStart, selectionEnd);
+    this.area.scrollTop = scrollTop;
+  }
+
+  /** Whether all of the text is selected, so that what is typed or pasted takes its place. */
+  get whole() {
+    return this.area.selectionStart === 0 && this.area.selectionEnd === this.area.value.length;
+  }
+
   /** Marks a line, or none where it is null. */
   markLine(line) {
     this.line = line;

@@ -10,6 +10,17 @@ const MEANINGS = {
   ClockTooLate: "the moment is after the greatest, 9223372036854775807000 ps.",
 };
 
+const MOMENT = "a moment such as 20000000 (ps) or 20 us, at most 9223372036854775807000 ps";
+const WANTED = {
+  rate: "a line rate of the list",
+  mtu: "a whole number from 68 to 9216",
+  room: "a whole number from 1 to 4096",
+  frames: "a whole number from 1 to 1000000000",
+  until: `${MOMENT}; a replay needs one`,
+  from: MOMENT,
+  to: `${MOMENT}, after From`,
+};
+
 /**
  * The place and the meaning of a fault.
  *
@@ -18,6 +29,8 @@ const MEANINGS = {
  */
 export function explain(text) {
   const said = text.trim().replace(/^taprio_port: /, "");
+  const [, option] = /^bad value of --(\w+)$/.exec(said) ?? [];
+  if (WANTED[option]) return { text: `${said}: wanted is ${WANTED[option]}.`, line: null, source: null };
   const found = /^(script|table) line (\d+): (\w+)/.exec(said);
   if (!found) return { text: said, line: null, source: null };
   const [, source, line, name] = found;

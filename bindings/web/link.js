@@ -4,11 +4,14 @@ const GREATEST_TEXT = 16 << 20; // octets that a link may unfold to
 
 const octetsOf = async (stream) => new Uint8Array(await new Response(stream).arrayBuffer());
 
-function spell(octets) {
+/** Octets as base64. */
+export function base64Of(octets) {
   let text = "";
   for (let at = 0; at < octets.length; at += 8192) text += String.fromCharCode(...octets.subarray(at, at + 8192));
-  return btoa(text).replace(/\+/g, "-").replace(/\//g, "_").replace(/=+$/, "");
+  return btoa(text);
 }
+
+const spell = (octets) => base64Of(octets).replace(/\+/g, "-").replace(/\//g, "_").replace(/=+$/, "");
 
 const unspell = (text) => Uint8Array.from(atob(text.replace(/-/g, "+").replace(/_/g, "/")), (it) => it.charCodeAt(0));
 

@@ -14,10 +14,14 @@ const USED = {
   streams: [],
 };
 
-/** A value that can't be read; `field` is the id of its input. */
+/** A value that can't be read, or that lacks. */
 export class BadOption extends Error {
-  constructor(field) {
-    super(`taprio_port: bad value of --${field}`);
+  /**
+   * @param {string} field the id of its input
+   * @param {string} words what is said of it
+   */
+  constructor(field, words = `taprio_port: bad value of --${field}`) {
+    super(words);
     this.field = field;
   }
 }

@@ -2,26 +2,30 @@
 import { Runner, Stopped } from "./runner.js";
 import { Editor } from "./editor.js";
 import { BadOption, setOptions, valuesFor, wordsOfOptions } from "./options.js";
-import { readLink, writeLink } from "./link.js";
+import { base64Of, readLink, writeLink } from "./link.js";
 import { explain } from "./faults.js";
 import { refusedCommands } from "./commands.js";
 import { Picture, shownIn, stepped } from "./picture.js";
 import { Viewer } from "./viewer.js";
 import { Table } from "./tables.js";
-import { writeMoment } from "./moments.js";
+import { GREATEST, readMoment, writeMoment } from "./moments.js";
 import { linesOf, readScript } from "./script.js";
 import { byClass, runVerdict } from "./frames.js";
 import { boundsIn, boundsVerdict, drawBounds } from "./bounds.js";
 import { count } from "./words.js";
 import { jobOf, kindOf, recordsOf, scriptOfReplay } from "./captures.js";
 import { STEPS } from "./gallery.js";
-import { lacking } from "./support.js";
+import { INSTEAD, lacking } from "./support.js";
 
 const SHOWN = 200_000; // characters of answers that are shown
 const RUNNING = "Running ..."; // what is said of a run that takes long
+const STOPPED = "Stopped."; // and of one that was stopped
+const LOOKING = "The frames are being looked through ...";
 const OWN = "own"; // the example that is what was typed
 const KEPT = "taprio"; // under which name the text is kept for a reload
 const MOST_KEPT = 1_000_000; // characters that are kept so
+const FIRST = "schedule.script"; // the example that is shown at first
+const GOES_ON = 1_000_000_000n; // how long a table's script, and a replay, goes on after its last frame, in picoseconds
 const LONG = 500_000; // characters of answers after which the picture comes before the frames
 const MOST_LINK = 8_000; // characters of a link that most places take
 
@@ -35,6 +39,8 @@ const beside = new Editor(at("beside-editor"));
 
 let own = null; // what was typed, while an example is shown
 let ran = null; // the last run: its text, its values, and what was made of its answers
+let jobShown = "script"; // the job whose text stands in the page
+let exampleShown = ""; // the example whose text stands in the page, or OWN
 let capture = new Uint8Array(); // the capture of a replay
 let captureName = "";
 let slow = 0; // the timer after which it is said that a run goes on
@@ -44,7 +50,7 @@ let drawing = false; // whether a picture is drawn for itself
 let again = false; // whether it is to be drawn once more
 
 const NAMES = { script: "Script", bounds: "Schedules", check: "Schedules", streams: "Table of streams", replay: "Script of the replay" };
-const BESIDE = { streams: "Script whose lines go among the frames, each at its moment", bounds: "Table of streams" };
+const BESIDE = { streams: "Script whose lines go among the frames", bounds: "Table of streams" };
 const HINTS = {
   script: "Lines: clock M, frame ID PRIORITY LEN [tagged], query, count CLASS, tc qdisc .. taprio ..; moments in picoseconds.",
   bounds: "Lines: tc qdisc .. taprio ..; below: stream FIRST_ID PRIORITY LEN PERIOD OFFSET COUNT [tagged] [deadline TIME].",
@@ -157,7 +163,13 @@ function hidePicture(why) {
   viewer.show(null);
   at("zoom").hidden = true;
   at("save-picture").hidden = true;
-  at("picture-status").textContent = why;
+  sayPicture(why);
+}
+
+// Says of the picture why there is none, or nothing.
+function sayPicture(words) {
+  at("picture-status").textContent = words;
+  at("picture-status").classList.remove("legend");
 }
 
 // The width of a picture: what there is, between what the port takes.
@@ -169,17 +181,24 @@ function fillOrigins({ changes, first }) {
   at("origin").replaceChildren(...list.map(([text, value]) => new Option(text, value)));
 }
 
+// What stands below a picture: how to move in time, which schedule it is of, and from when time counts.
+function showControls(time, which, origin) {
+  for (const part of document.querySelectorAll("#zoom [data-step], #zoom details")) part.hidden = !time;
+  at("which-row").hidden = !which;
+  at("origin-row").hidden = !origin;
+}
+
 function showPicture({ output }, values) {
   const text = new TextDecoder().decode(output);
   const shown = shownIn(text, values);
   addressOf(at("save-picture"), output, "image/svg+xml");
   at("frame").dataset.width = values.width;
   at("zoom").hidden = false;
-  for (const part of document.querySelectorAll("#zoom [data-step], #zoom details, #zoom .pair")) part.hidden = part.id === "which-row" ? ran.job !== "check" || ran.schedules.length < 2 : false;
+  showControls(true, ran.job === "check" && ran.schedules.length > 1, ran.job !== "check");
   ran.drawn = { text, shown };
   layPicture();
   performance.mark("picture");
-  at("picture-status").textContent = "";
+  sayPicture("");
 }
 
 // Puts what was drawn into the page, with its marks of time.
@@ -214,13 +233,15 @@ async function draw(mine) {
 function showBounds() {
   const { streams } = ran.bounds[Number(at("which").value) || 0] ?? { streams: [] };
   if (!streams.length) return hidePicture("");
-  const svg = drawBounds(streams, widthNow(), writeTime);
+  const { svg, place } = drawBounds(streams, widthNow(), writeTime);
   viewer.show({ svg });
+  place();
   addressOf(at("save-picture"), encoded(standalone(svg)), "image/svg+xml");
   at("zoom").hidden = false;
-  for (const part of document.querySelectorAll("#zoom [data-step], #zoom details, #zoom .pair")) part.hidden = part.id !== "which-row" || ran.bounds.length < 2;
+  showControls(false, ran.bounds.length > 1, false);
   at("frame").setAttribute("aria-label", "Each stream from its earliest to its latest end, against its deadline. The table says the same.");
-  at("picture-status").textContent = "Bars: from the earliest to the latest end of a stream's frames, from their arrival on. Line: the deadline.";
+  at("picture-status").textContent = "Bars: from the earliest to the latest end of a stream's frames, counted from their arrival. Line: the deadline, red where it is missed.";
+  at("picture-status").classList.add("legend");
   return undefined;
 }
 
@@ -325,6 +346,7 @@ function windowsIn(answers) {
 
 function showTables() {
   const rows = { script: () => byClass(ran.frames), replay: () => byClass(ran.frames), check: () => ran.windows, bounds: () => ran.bounds[Number(at("which").value) || 0]?.streams ?? [], streams: () => byClass(ran.frames) }[ran.job]();
+  for (const name of ["results-name", "numbers"]) at(name).hidden = !rows.length && !ran.frames.length;
   at("classes").hidden = !rows.length;
   at("save-table").hidden = !rows.length;
   if (rows.length) {
@@ -345,7 +367,7 @@ function showFrames() {
 function clearFault() {
   at("fault").hidden = true;
   for (const part of [editor, beside]) part.markLine(null);
-  for (const input of document.querySelectorAll("input[aria-invalid]")) input.removeAttribute("aria-invalid");
+  for (const input of document.querySelectorAll(".options [aria-invalid], #zoom [aria-invalid]")) input.removeAttribute("aria-invalid");
 }
 
 // The editor that has the lines of which a fault tells.
@@ -354,15 +376,19 @@ const editorOf = (source) => {
   return ["streams", "bounds"].includes(job()) && source === second ? beside : editor;
 };
 
-function showFault(text) {
+function showFault(text, input = null) {
   const { text: words, line: number, source } = explain(text);
-  at("fault-text").textContent = words;
-  const field = at(/--(\w+)/.exec(words)?.[1] ?? "");
-  field?.setAttribute("aria-invalid", "true");
-  if (field) field.closest("details").open = true;
+  const second = number !== null && editorOf(source) === beside ? { streams: "Script: ", bounds: "Table: " }[job()] : "";
+  at("fault-text").textContent = `${second}${words}`;
+  at("fault-hint").textContent = number === null ? "" : HINTS[job()];
+  const field = at(input ?? /--(\w+)/.exec(words)?.[1] ?? "");
+  if (field?.matches("input, select")) field.setAttribute("aria-invalid", "true");
+  const folded = field?.closest("details");
+  if (folded) folded.open = true;
   if (number !== null) editorOf(source).markLine(number);
   at("go").hidden = number === null && !field;
-  at("go").textContent = field ? "Go to the option" : "Go to the line";
+  at("fault").classList.remove("stale");
+  at("go").textContent = !field ? "Go to the line" : input === "capture" ? "Go to the capture" : "Go to the option";
   at("go").onclick = () => (field ? field.focus() : editorOf(source).goTo(number));
   at("fault").hidden = false;
 }
@@ -377,22 +403,41 @@ function sayStatus({ status, output, time }) {
   const names = { 0: "Done", 2: "A value is refused", 3: "The input has a fault", 4: "Out of memory" };
   clearTimeout(slow);
   const after = status === 3 ? " before it" : "";
-  say(`${names[status]}: ${count(linesIn(output), "line")}${after}, in ${time.toFixed(time < 10 ? 1 : 0)} ms (status ${status}).`, status === 0);
+  ran.said = `${names[status]}: ${count(linesIn(output), "line")}${after}, in ${time.toFixed(time < 10 ? 1 : 0)} ms (status ${status}).`;
+  say(ran.said, status === 0);
 }
 
-const APART = (text) => text.replace(/^apart /, "");
+// What a check comes to: the classes that its one schedule keeps apart, or how many there are.
+function checkVerdict(answers) {
+  const told = answers.match(/^(?:apart|refused|tc-fault)\b.*$/gm) ?? [];
+  const refused = told.filter((it) => !it.startsWith("apart")).length;
+  if (!told.length) return "No schedule stands there: a line tc qdisc replace .. taprio .. gives one.";
+  if (ran.schedules.length !== 1 || refused) return `${count(ran.schedules.length, "schedule")} accepted${refused ? `, ${count(refused, "command")} not taken` : ""}.`;
+  const apart = ran.schedules[0].told.replace(/^apart /, "");
+  return `Kept apart: ${apart === "none" ? "no class" : `class ${apart.replace(/ /g, ", ")}`}.`;
+}
+
+// What bounds come to, or what lacks for them.
+function boundsSaid() {
+  const it = ran.bounds[Number(at("which").value) || 0];
+  if (!it) return "No schedule stands there: a line tc qdisc replace .. taprio .. gives one.";
+  if (!it.apart.startsWith("apart")) return "The schedule is not taken.";
+  return it.streams.length ? boundsVerdict(it, writeTime) : "The table has no stream.";
+}
+
+// What a run comes to; of frames that wait since nothing goes on after them, what makes it go on.
+function runSaid() {
+  const ends = ran.job === "script" && ran.values.until === null && ran.frames.some((it) => it.fate === "left") && ran.last <= ran.frames.at(-1).arrival;
+  return `${runVerdict(ran.frames, writeTime)}${ends ? " The run ends when the last frame comes: a line clock MOMENT after it, or the option Run on until, goes on." : ""}`;
+}
+
+function streamsSaid(answers) {
+  if (ran.source === null) return `A script of ${count((answers.match(/^frame /gm) ?? []).length, "frame")}, with a fault.`;
+  return ran.frames.length ? `As a script, run to 1 ms after its end: ${runVerdict(ran.frames, writeTime)}` : "The table has no frame.";
+}
 
 function sayVerdict(answers) {
-  const said = {
-    script: () => runVerdict(ran.frames, writeTime),
-    replay: () => runVerdict(ran.frames, writeTime),
-    streams: () => `A script of ${count((answers.match(/^frame /gm) ?? []).length, "frame")}. Run from moment 0: ${runVerdict(ran.frames, writeTime)}`,
-    bounds: () => boundsVerdict(ran.bounds[Number(at("which").value) || 0] ?? { classes: [], streams: [] }, writeTime),
-    check: () => {
-      const apart = answers.match(/^apart .*$/gm) ?? [];
-      return apart.length === 1 ? `Kept apart: ${APART(apart[0]) === "none" ? "no class" : `class ${APART(apart[0]).replace(/ /g, ", ")}`}.` : `${count(apart.length, "schedule")} accepted.`;
-    },
-  }[ran.job]();
+  const said = { script: runSaid, replay: runSaid, streams: () => streamsSaid(answers), bounds: boundsSaid, check: () => checkVerdict(answers) }[ran.job]();
   const change = ran.changes.length && ["script", "replay"].includes(ran.job) ? ` In force from ${writeMoment(ran.changes[0].change)}.` : "";
   at("verdict").textContent = said + (ran.frames.length ? "" : change);
 }
@@ -408,10 +453,11 @@ function running(is) {
 function snapshot() {
   const name = job();
   const values = valuesFor(name);
+  if (name === "replay" && !capture.length) throw new BadOption("capture", "No capture is chosen: choose a classic pcap file, or drop one on the page.");
   if (name === "replay" && values.until === null) throw new BadOption("until");
   const second = name === "replay" ? capture : encoded(["streams", "bounds"].includes(name) ? beside.text : "");
   const { rate, mtu, room } = values;
-  return { job: name, text: editor.text, beside: second, values, port: { rate, mtu, room }, frames: [], changes: [], first: 0n, windows: [], bounds: [], schedules: [], source: null, why: "", drawn: null, window: null };
+  return { job: name, text: editor.text, beside: second, values, port: { rate, mtu, room }, frames: [], changes: [], first: 0n, last: 0n, windows: [], bounds: [], schedules: [], source: null, why: "", drawn: null, window: null };
 }
 
 // Does a job for a run, and null where another run has begun since.
@@ -423,7 +469,7 @@ async function ask(mine, request) {
 // What a script and its answers come to.
 async function takeRun(mine, script, answers) {
   const told = await ask(mine, { job: "frames", script, answers });
-  if (told) Object.assign(ran, { frames: told.frames, changes: told.changes, first: told.first, source: script });
+  if (told) Object.assign(ran, { frames: told.frames, changes: told.changes, first: told.first, last: told.last, source: script });
 }
 
 // The schedule of a check that is drawn: two of its cycles from its change on.
@@ -444,10 +490,15 @@ async function takeSchedule(mine) {
 
 // The script that a table of streams became is run, too: it is what its picture shows.
 async function takeScript(mine, script) {
-  const told = await ask(mine, { job: "script", input: encoded(script), beside: new Uint8Array(), values: ran.values });
+  const until = readScript(script).last + GOES_ON;
+  const values = { ...ran.values, until: until < GREATEST ? until : GREATEST };
+  const told = await ask(mine, { job: "script", input: encoded(script), beside: new Uint8Array(), values });
   if (!told) return;
-  if (told.status === 0) await takeRun(mine, script, new TextDecoder().decode(told.output));
-  else ran.why = "No picture: the script has a fault. Open it as a script to see which.";
+  if (told.status === 0) {
+    await takeRun(mine, script, new TextDecoder().decode(told.output));
+    const to = ran.frames.reduce((last, it) => (it.end !== null && it.end > last ? it.end : last), ran.last);
+    if (to > 0n) ran.window = { from: 0n, to };
+  } else ran.why = `No picture: the script that is made has a fault. ${explain(told.fault).text} Open it as a script to mend it.`;
 }
 
 async function takeAnswers(mine, answers) {
@@ -461,14 +512,14 @@ async function takeAnswers(mine, answers) {
     const told = ran.values.windows ? null : await ask(mine, { job: "check", input, beside: new Uint8Array(), values: { ...ran.values, windows: true } });
     ran.windows = windowsIn(told ? new TextDecoder().decode(told.output) : answers);
     const tells = answers.match(/^(?:apart|refused|tc-fault)\b.*$/gm) ?? [];
-    ran.schedules = readScript(ran.text).commands.map(({ line: number, words }, place) => ({ number, line: words.join(" "), told: tells[place] })).filter((it) => /^apart/.test(it.told ?? "") && it.line.includes("sched-entry"));
+    ran.schedules = readScript(ran.text).commands.map(({ line: number, words }, place) => ({ number, name: `${place + 1} (line ${number})`, line: words.join(" "), told: tells[place] })).filter((it) => /^apart/.test(it.told ?? "") && it.line.includes("sched-entry"));
   }
-  fillWhich(name === "bounds" ? ran.bounds.length : ran.schedules.length);
+  fillWhich(name === "bounds" ? ran.bounds.map((_, place) => String(place + 1)) : ran.schedules.map((it) => it.name));
   if (name === "check") await takeSchedule(mine);
 }
 
-function fillWhich(number) {
-  at("which").replaceChildren(...Array.from({ length: number }, (_, place) => new Option(String(place + 1), String(place))));
+function fillWhich(names) {
+  at("which").replaceChildren(...names.map((name, place) => new Option(name, String(place))));
 }
 
 async function work(mine) {
@@ -491,7 +542,7 @@ async function work(mine) {
   at("save-departures").hidden = true;
   if (ran.job === "replay") addressOf(at("save-departures"), told.departures, "application/vnd.tcpdump.pcap");
   sayStatus(told);
-  at("verdict").textContent = late ? "The frames are being looked through ..." : "";
+  at("verdict").textContent = late ? LOOKING : "";
   if (told.status !== 0) {
     showFault(told.fault);
     hidePicture(["script", "replay", "check"].includes(ran.job) ? "No picture: the run has a fault." : "");
@@ -513,11 +564,16 @@ async function takeLate(mine, answers) {
 }
 
 function showError(error) {
-  if (error instanceof Stopped) say("Stopped.");
-  else if (error instanceof BadOption) {
+  if (error instanceof Stopped) {
+    say(STOPPED);
+    if (at("verdict").textContent === LOOKING) at("verdict").textContent = "The frames were not looked through.";
+  } else if (error instanceof BadOption) {
     say("A value is refused (status 2).");
+    showFault(error.message, error.field);
+  } else {
+    say("It could not be run.");
     showFault(error.message);
-  } else say(`This browser could not run it: ${error.message}`);
+  }
 }
 
 // Begins a run of all or of the picture alone; one that still goes on is stopped.
@@ -560,6 +616,7 @@ async function runPicture() {
   if (drawing) return;
   drawing = true;
   clearFault();
+  if (at("status").textContent === STOPPED) say(ran.said, true);
   await begin(draw);
   drawing = false;
   if (again) await runPicture();
@@ -567,13 +624,14 @@ async function runPicture() {
 
 // 5. What stands in the page
 
-// What is shown is of another text or of other options than stand there now.
+// What is shown is of another text or of other options than stand there now; a fault, too.
 function setStale(is, words = "Changed since this was run. Run it (Ctrl+Enter in the text).") {
-  for (const part of [at("view"), at("results")]) part.classList.toggle("stale", is);
+  for (const part of [at("view"), at("results"), at("fault")]) part.classList.toggle("stale", is);
   if (is && ran && words) say(words);
 }
 
 function setJob(name) {
+  jobShown = name;
   at("form").elements.job.value = name;
   at("text-name").textContent = NAMES[name];
   at("text-hint").textContent = HINTS[name];
@@ -586,7 +644,7 @@ function setCapture(octets, name) {
   at("capture-name").textContent = octets.length ? `${name}, ${count(octets.length, "octet")}` : "none is chosen";
 }
 
-const stateNow = () => ({ job: job(), ...wordsOfOptions(), ...(["streams", "bounds"].includes(job()) ? { beside: beside.text } : {}), text: editor.text });
+const stateNow = () => ({ job: jobShown, ...wordsOfOptions(), ...(["streams", "bounds"].includes(jobShown) ? { beside: beside.text } : {}), text: editor.text });
 
 // Puts a text, its kind and its options into the page, and runs it.
 function load(state) {
@@ -595,7 +653,8 @@ function load(state) {
   setOptions(state.job === "check" ? { ...state, from: "", to: "" } : state);
   editor.text = state.text ?? "";
   beside.text = state.beside ?? "";
-  at("capture").value = "";
+  for (const part of [editor, beside]) part.writeMicros();
+  saySentence();
   setCapture(state.octets ?? octetsIn(state.capture ?? ""), state.name);
   at("link-row").hidden = true;
   at("long-link").hidden = true;
@@ -605,8 +664,9 @@ function load(state) {
 // Keeps the text for a reload, as far as this browser does so.
 function keep() {
   try {
+    const withCapture = job() === "replay" && 4 * capture.length < 3 * MOST_KEPT ? { capture: base64Of(capture), name: captureName } : {};
     if (editor.text.length + beside.text.length > MOST_KEPT) sessionStorage.removeItem(KEPT);
-    else sessionStorage.setItem(KEPT, JSON.stringify({ ...stateNow(), example: at("example").value }));
+    else sessionStorage.setItem(KEPT, JSON.stringify({ ...stateNow(), ...withCapture, example: at("example").value }));
   } catch {
     // (a browser may keep nothing for files)
   }
@@ -638,58 +698,84 @@ function fillExamples() {
 function saySentence() {
   const name = at("example").value;
   const step = STEPS.find((it) => it[0] === name);
-  at("sentence").textContent = step ? step[2] : "";
+  at("sentence").textContent = step && byName(name).job === job() ? step[2] : "";
+}
+
+function showExample(name) {
+  exampleShown = name;
+  at("example").value = name;
 }
 
 // The text is one's own from now on, and what is shown is of another.
 function becomeOwn() {
   if (!at("example").querySelector(`[value=${OWN}]`)) at("example").prepend(new Option("your own", OWN));
-  at("example").value = OWN;
+  showExample(OWN);
   own = null;
   saySentence();
   setStale(true);
   keep();
 }
 
+// What is typed or pasted in the place of all is another text: the time that the picture showed of the old one goes with it.
+function forgetTime() {
+  at("from").value = "";
+  at("to").value = "";
+}
+
 function chooseExample() {
+  noteOwn();
   const name = at("example").value;
-  saySentence();
+  showExample(name);
   if (name === OWN) return own && load(own);
   return load(byName(name));
 }
 
 // Goes to the example before or after.
 function stepExample(step) {
-  noteOwn();
   const all = [...at("example").options];
   const place = all.findIndex((it) => it.value === at("example").value);
   at("example").value = all[(place + step + all.length) % all.length].value;
   return chooseExample();
 }
 
+// Keeps one's own text while an example is shown.
 function noteOwn() {
-  if (at("example").value === OWN) own = { ...stateNow(), octets: capture, name: captureName };
+  if (exampleShown === OWN) own = { ...stateNow(), octets: capture, name: captureName };
 }
 
-// Another job by its tab: the text goes with it where it can, and else an example comes.
+const SCRIPT_LINE = /^[ \t]*(?:clock|frame|stream|query|count)\b/m;
+const STREAM_LINE = /^[ \t]*stream[ \t]/m;
+const FRAME_LINE = /^[ \t]*(?:frame|stream)\b/m;
+
+// Whether the text that stands in the page can be that of a job.
+function fits(name) {
+  const words = editor.text;
+  if (!words.trim()) return false;
+  if (name === "script") return !STREAM_LINE.test(words);
+  if (name === "streams") return STREAM_LINE.test(words);
+  if (name === "replay") return capture.length > 0 && !FRAME_LINE.test(words);
+  return !SCRIPT_LINE.test(words) && (name !== "bounds" || STREAM_LINE.test(beside.text));
+}
+
+// Another job by its tab: one's own text goes with it where it can, and else an example comes.
 function chooseJob() {
   const name = job();
-  setJob(name);
-  const words = editor.text;
-  const fits = { script: !/^[ \t]*stream[ \t]/m.test(words), check: !/^[ \t]*(?:clock|frame|stream|query|count)\b/m.test(words), bounds: !/^[ \t]*(?:clock|frame|stream|query|count)\b/m.test(words), replay: !/^[ \t]*(?:frame|stream)\b/m.test(words), streams: /^[ \t]*stream[ \t]/m.test(words) }[name];
-  if (fits && (name !== "bounds" || beside.text) && (name !== "replay" || capture.length)) {
-    setStale(true);
-    return;
+  noteOwn();
+  if (at("example").value === OWN && fits(name)) {
+    setJob(name);
+    forgetTime();
+    return runAll();
   }
   const first = STEPS.map(([it]) => byName(it)).find((it) => it?.job === name) ?? examples.find((it) => it.job === name);
-  if (!first) return;
-  at("example").value = first.name;
-  chooseExample();
+  at("example").value = own?.job === name ? OWN : first.name;
+  return chooseExample();
 }
 
-async function chooseCapture() {
-  const [file] = at("capture").files;
+// Takes the file that was chosen; the same one can be chosen again.
+async function takeChosen() {
+  const [file] = at("file").files;
   if (file) await takeFile(file);
+  at("file").value = "";
 }
 
 // Takes a file by what its octets are.
@@ -703,21 +789,30 @@ async function takeFile(file) {
   if (kind.kind === "capture") {
     setJob("replay");
     setCapture(octets, file.name);
-    if (/^[ \t]*frame\b/m.test(editor.text)) editor.text = "";
-    if (!at("until").value) at("until").value = writeMoment(endOf(octets));
+    // (the frames of a replay are those of the capture)
+    if (FRAME_LINE.test(editor.text)) editor.text = editor.text.split("\n").filter((it) => !FRAME_LINE.test(it)).join("\n");
+    runPast(endOf(octets));
   } else {
     const text = new TextDecoder().decode(octets);
     const name = jobOf(text, job());
-    if (name === "bounds") beside.text = text;
-    else editor.text = text;
+    const part = name === "bounds" && STREAM_LINE.test(text) ? beside : editor;
+    part.text = text;
+    part.writeMicros();
     setJob(name);
   }
+  forgetTime();
   becomeOwn();
   await runAll();
 }
 
-// A millisecond after the last record.
-const endOf = (octets) => (recordsOf(octets).at(-1)?.moment ?? 0n) + 1_000_000_000n;
+// A while after the last record.
+const endOf = (octets) => (recordsOf(octets).at(-1)?.moment ?? 0n) + GOES_ON;
+
+// A replay runs on to this moment at least.
+function runPast(moment) {
+  const now = readMoment(at("until").value);
+  if (now === null || now === undefined || now < moment) at("until").value = writeMoment(moment);
+}
 
 async function makeLink() {
   const fragment = await writeLink(stateNow());
@@ -758,7 +853,25 @@ async function takeAsScript() {
   await load({ job: "script", rate, mtu, room, text });
 }
 
-function listen() {
+// A file may be dropped anywhere, and the page shows so while it is dragged; text that is dragged stays with the browser.
+function listenToDrops() {
+  const mark = (is) => document.body.classList.toggle("dropping", is);
+  const isFile = (event) => event.dataTransfer?.types.includes("Files");
+  addEventListener("dragover", (event) => {
+    if (!isFile(event)) return;
+    event.preventDefault();
+    mark(true);
+  });
+  addEventListener("dragleave", (event) => event.relatedTarget || mark(false));
+  addEventListener("drop", (event) => {
+    mark(false);
+    if (!isFile(event)) return;
+    event.preventDefault();
+    if (event.dataTransfer.files[0]) takeFile(event.dataTransfer.files[0]);
+  });
+}
+
+function listenToInput() {
   at("form").addEventListener("submit", (event) => {
     event.preventDefault();
     runAll();
@@ -767,39 +880,44 @@ function listen() {
     if (event.key === "Enter" && (event.ctrlKey || event.metaKey)) runAll();
   });
   for (const radio of at("form").elements.job) radio.addEventListener("change", chooseJob);
-  for (const area of [editor.area, beside.area]) area.addEventListener("input", becomeOwn);
-  for (const input of document.querySelectorAll(".options input, .options select")) input.addEventListener("input", () => setStale(true));
-  at("example").addEventListener("focus", noteOwn);
+  for (const part of [editor, beside]) {
+    part.area.addEventListener("beforeinput", () => part.whole && forgetTime());
+    part.area.addEventListener("input", () => (part.writeMicros(), becomeOwn()));
+  }
+  for (const input of document.querySelectorAll(".options input, .options select")) input.addEventListener("input", () => (setStale(true), keep()));
   at("example").addEventListener("change", chooseExample);
   at("back").addEventListener("click", () => stepExample(-1));
   at("next").addEventListener("click", () => stepExample(1));
-  at("capture").addEventListener("change", chooseCapture);
-  at("open").addEventListener("click", () => at("file").click());
-  at("file").addEventListener("change", () => at("file").files[0] && takeFile(at("file").files[0]));
+  for (const name of ["open", "capture"]) at(name).addEventListener("click", () => at("file").click());
+  at("file").addEventListener("change", takeChosen);
   at("stop").addEventListener("click", () => runner.stop());
   at("link").addEventListener("click", makeLink);
   at("take").addEventListener("click", takeAsScript);
+}
+
+function listenToResults() {
   at("draw").addEventListener("click", runPicture);
   at("save-png").addEventListener("click", savePng);
   at("origin").addEventListener("change", () => ran && (layPicture(), showTables()));
   at("which").addEventListener("change", () => begin(async (mine) => {
-    for (const name of ["from", "to"]) at(name).value = "";
+    forgetTime();
     if (ran.job === "check") await takeSchedule(mine);
     fillOrigins(ran);
     showTables();
     if (ran.job === "bounds") sayVerdict("");
     await draw(mine);
   }));
-  at("ps").addEventListener("change", () => ran && showTables());
+  at("ps").addEventListener("change", () => ran && (showTables(), ran.job === "bounds" && showBounds()));
   at("answers").addEventListener("click", findAnswered);
   at("frames-box").addEventListener("toggle", () => at("frames-box").open && showFrames());
   at("zoom").addEventListener("click", (event) => event.target.dataset.step && zoom(event.target.dataset.step));
   at("zoom").addEventListener("keydown", (event) => event.key === "Enter" && event.target.matches("input") && runPicture());
-  addEventListener("dragover", (event) => event.preventDefault());
-  addEventListener("drop", (event) => {
-    event.preventDefault();
-    if (event.dataTransfer.files[0]) takeFile(event.dataTransfer.files[0]);
-  });
+}
+
+function listen() {
+  listenToInput();
+  listenToResults();
+  listenToDrops();
   addEventListener("hashchange", openLink);
   let width = innerWidth;
   addEventListener("resize", () => {
@@ -809,26 +927,34 @@ function listen() {
   });
 }
 
+// Says that this browser can't run the port: what can't be used is not shown.
+function refuseBrowser(why) {
+  for (const part of document.querySelectorAll(".jobs, .story, #form, #results")) part.hidden = true;
+  at("view").classList.add("alone");
+  say("");
+  showFault(`This browser can't run the port: ${why}. ${INSTEAD}`);
+}
+
+// Goes on where a reload broke off, or begins with an example.
+async function goOn() {
+  const state = kept();
+  const example = byName(state?.example ?? FIRST);
+  if (!example) becomeOwn();
+  else showExample(example.name);
+  await load(state ? { capture: example?.capture, ...state } : example);
+}
+
 async function start() {
   fillExamples();
   setJob("script");
   hidePicture("");
   const why = lacking();
   if (why) {
-    say(`This browser can't run the port: ${why}. The program answers the same.`);
-    at("run").disabled = true;
+    refuseBrowser(why);
     return;
   }
   listen();
-  if (await openLink()) return;
-  const state = kept();
-  if (state && (state.example === OWN || !byName(state.example))) {
-    becomeOwn();
-    await load(state);
-    return;
-  }
-  at("example").value = byName(state?.example) ? state.example : "schedule.script";
-  await chooseExample();
+  if (!(await openLink())) await goOn();
 }
 
 start();

@@ -7,6 +7,7 @@ const RIGHT = 32; // what lies behind its end
 const TOP = 58; // the top of the row of class 7
 const STEP = 36; // from one row to the next
 const ROW = 28; // the height of a row
+const CROSS = 8; // the width and the height of a cross
 const BOTTOM = TOP + 9 * STEP; // below the row of the wire
 const ABOVE = 30; // what is cut off at the top, where the port writes a heading
 const HEIGHT = BOTTOM + 62 - ABOVE;
@@ -49,7 +50,8 @@ export function zoomed({ from, to }, moment, factor) {
   return clamped(moment - scaled(moment - from), scaled(to - from));
 }
 
-const momentIn = (shown, x) => {
+/** The moment at a place, in pixels from the left edge of a picture. */
+export const momentIn = (shown, x) => {
   const place = (x - LEFT) / (shown.width - LEFT - RIGHT);
   const parts = BigInt(Math.round(Math.min(1, Math.max(0, place)) * 1e6));
   return shown.from + ((shown.to - shown.from) * parts) / 1_000_000n;
@@ -88,13 +90,13 @@ function putTicks(svg, shown, origin) {
   }
 }
 
-// Marks the beginnings of cycles, where they are far enough apart to be seen.
+// Marks the beginnings of cycles but the first, which is a change, where they are far enough apart to be seen.
 function putCycles(svg, shown, changes) {
   const frames = svg.querySelector("rect.f") ?? svg.querySelector("path.c") ?? svg.lastChild;
   changes.forEach(({ change, cycle }, place) => {
     if (cycle === null || lengthOf(shown, 12) > cycle) return;
     const end = changes[place + 1]?.change ?? shown.to;
-    let at = shown.from > change ? change + ((shown.from - change + cycle - 1n) / cycle) * cycle : change;
+    let at = shown.from > change ? change + ((shown.from - change + cycle - 1n) / cycle) * cycle : change + cycle;
     for (; at <= shown.to && at < end; at += cycle) {
       const x = xOf(shown, at).toFixed(2);
       frames.before(element("path", { class: "y", d: `M${x} 52V${BOTTOM}` }));
@@ -121,11 +123,35 @@ function putLeft(svg, shown, frames) {
   }
 }
 
-// Moves the legend to the left, where it has room in a narrow picture.
+const isPlain = (wait) => !wait.getAttribute("d").includes("v"); // (that of the legend has other strokes)
+
+// Puts waits and changes under the bars and crosses over them, these edged with the page's ground, so that each is seen beside a bar.
+function putInLayers(svg) {
+  const bar = svg.querySelector("rect.f");
+  const under = [...svg.querySelectorAll("path.w, path.c")].filter((it) => isPlain(it));
+  bar?.before(...under);
+  const crosses = [...svg.querySelectorAll("path.d")];
+  svg.append(...crosses.map((it) => element("path", { class: "h", d: it.getAttribute("d") })), ...crosses);
+}
+
+// Where the crosses of dropped frames lie, in pixels: the middle of each.
+function crossesIn(svg) {
+  return [...svg.querySelectorAll("path.d")].flatMap((it) => {
+    const [, x, y] = /^M([\d.]+) ([\d.]+)/.exec(it.getAttribute("d")) ?? [];
+    return y === undefined || Number(y) > BOTTOM ? [] : [{ x: Number(x) + CROSS / 2, y: Number(y) + CROSS / 2 }];
+  });
+}
+
+const LEGEND = [64, 134, 206, 280, 354]; // where the parts of the legend begin
+const MOVED_TO = [8, 84, 167, 247, 333]; // and where they do in a narrow picture, whose labels are wider
+
+// Moves the parts of the legend to where they have room in a narrow picture.
 function moveLegend(svg) {
   for (const it of svg.children) {
-    const y = Number(it.getAttribute("y") ?? /^M[\d.]+ (\d+)/.exec(it.getAttribute("d") ?? "")?.[1] ?? 0);
-    if (y > BOTTOM + 20) it.setAttribute("transform", "translate(-50 0)");
+    const [, atX, atY] = /^M([\d.]+) ([\d.]+)/.exec(it.getAttribute("d") ?? "") ?? [];
+    const [x, y] = [it.getAttribute("x") ?? atX, it.getAttribute("y") ?? atY].map(Number);
+    const part = LEGEND.findLastIndex((begin) => begin <= x);
+    if (y > BOTTOM + 20) it.setAttribute("transform", `translate(${MOVED_TO[part] - LEGEND[part]} 0)`);
   }
 }
 
@@ -142,9 +168,8 @@ export class Picture {
     // (its style goes before it is parsed: the page's policy refuses it)
     const parsed = new DOMParser().parseFromString(text.replace(/<style>[^]*?<\/style>/, ""), "image/svg+xml").documentElement;
     this.svg = safe(parsed);
-    // Waits lie under the bars, so that both are seen.
-    const bar = this.svg.querySelector("rect.f");
-    if (bar) for (const wait of this.svg.querySelectorAll("path.w")) if (wait.getAttribute("d").startsWith("M") && !wait.getAttribute("d").includes("v")) bar.before(wait);
+    this.crosses = crossesIn(this.svg);
+    putInLayers(this.svg);
     putTicks(this.svg, shown, origin);
     putCycles(this.svg, shown, changes);
     putLeft(this.svg, shown, frames);
@@ -153,7 +178,7 @@ export class Picture {
     this.svg.setAttribute("viewBox", `0 ${ABOVE} ${shown.width} ${HEIGHT}`);
     this.svg.setAttribute("width", shown.width);
     this.svg.setAttribute("height", HEIGHT);
-    this.ring = element("rect", { class: "ring", y: 0, height: ROW + 4 });
+    this.ring = element("rect", { class: "ring" });
   }
 
   /** The moment at a place, in pixels from the picture's left edge. */
@@ -168,7 +193,7 @@ export class Picture {
   }
 
   /**
-   * The frame at a place: first one that is on the wire there, then one that waits, then one that was dropped.
+   * The frame at a place: one that was dropped or is on the wire there, and else one that waits.
    *
    * @returns {object | null}
    */
@@ -177,16 +202,23 @@ export class Picture {
     if (row === null) return null;
     const near = lengthOf(this.shown, 3);
     const at = this.moment(x);
+    const dropped = this.#droppedAt(x, y);
+    if (dropped) return dropped;
     let found = null;
     for (const it of this.frames) {
       if (it.arrival > at + near) break;
       const sent = it.start !== null && it.start <= at + near && at < it.end + near;
       if (sent && (row === "wire" || it.class === row)) return it;
       const waits = it.class === row && (it.start === null ? it.fate === "left" : at < it.start + near);
-      const dropped = it.class === null && it.arrival >= at - near;
-      if (waits || dropped) found ??= it;
+      if (waits) found ??= it;
     }
     return found;
+  }
+
+  // The frame whose cross lies at a place.
+  #droppedAt(x, y) {
+    const cross = this.crosses.find((it) => Math.abs(it.x - x) < CROSS && Math.abs(it.y - ABOVE - y) < CROSS);
+    return cross && this.frames.find((it) => it.class === null && Math.abs(xOf(this.shown, it.arrival) - cross.x) <= 1);
   }
 
   /** The open time of a class at a place, by the picture's bands: about from when to when, or null. */
@@ -203,7 +235,11 @@ export class Picture {
   /** Rings a frame, or none. */
   mark(frame) {
     this.ring.remove();
-    if (!frame || frame.class === null) return;
+    if (!frame) return;
+    if (frame.class === null) {
+      this.#ringCross(frame);
+      return;
+    }
     const [from, to] = [frame.start ?? frame.arrival, frame.end ?? this.shown.to];
     if (to < this.shown.from || from > this.shown.to) return;
     const left = Math.max(LEFT, xOf(this.shown, from));
@@ -211,11 +247,25 @@ export class Picture {
     this.ring.setAttribute("x", left - 3);
     this.ring.setAttribute("width", Math.max(2, right - left) + 6);
     this.ring.setAttribute("y", rowOf(frame.class) - 2);
+    this.ring.setAttribute("height", ROW + 4);
     this.svg.append(this.ring);
   }
 
-  /** Where a frame lies, in pixels: the middle of its bar, or where it begins to wait. */
+  #crossOf(frame) {
+    return this.crosses.find((it) => Math.abs(it.x - xOf(this.shown, frame.arrival)) <= 1);
+  }
+
+  #ringCross(frame) {
+    const cross = this.#crossOf(frame);
+    if (!cross) return;
+    for (const [name, value] of [["x", cross.x - 8], ["y", cross.y - 8], ["width", 16], ["height", 16]]) this.ring.setAttribute(name, value);
+    this.svg.append(this.ring);
+  }
+
+  /** Where a frame lies, in pixels: the middle of its bar, its cross, or where it begins to wait. */
   placeOf(frame) {
+    const cross = frame.class === null ? this.#crossOf(frame) : null;
+    if (cross) return { x: cross.x, y: cross.y - ABOVE };
     const x = xOf(this.shown, frame.start ?? frame.arrival) + (frame.start === null ? 0 : (xOf(this.shown, frame.end) - xOf(this.shown, frame.start)) / 2);
     return { x, y: rowOf(frame.class ?? 0) + ROW / 2 - ABOVE };
   }

@@ -43,7 +43,7 @@ export class Runner {
     const worker = new Worker(address);
     URL.revokeObjectURL(address);
     worker.onmessage = ({ data }) => this.#hear(data);
-    worker.onerror = (event) => this.#end(new Error(event.message || "the worker did not start"));
+    worker.onerror = (event) => this.#end(new Error(event.message || "The page's worker did not start."));
     this.#worker = worker;
     this.#ask({ octets: this.#octets }).catch(() => {});
   }

@@ -1,12 +1,16 @@
 // The picture under the pointer and the keys: it is moved and zoomed, and says what lies where.
-import { clamped, lengthOf, stepped, zoomed } from "./picture.js";
+import { clamped, lengthOf, momentIn, stepped, zoomed } from "./picture.js";
 
 const MOVED = 4; // pixels after which a press is a drag
+const LINE = 33; // pixels of a wheel that counts in lines
+const TURN = 0.00223; // how much a pixel of a wheel zooms: a hundred of them by 1.25
+const PINCHED = 0.01; // and one of two fingers on a touchpad, which come as a wheel with Ctrl
 
 /** What moves a picture in a box. Times that are wanted go to `want`, a frame that is chosen to `choose`. */
 export class Viewer {
   #pointers = new Map();
   #begun = null;
+  #wanted = null; // the time that is wanted last, until its picture comes
 
   /**
    * @param {{box: HTMLElement, canvas: HTMLElement, band: HTMLElement, tip: HTMLElement}} parts
@@ -29,11 +33,14 @@ export class Viewer {
   /** Shows another picture, or none. */
   show(picture) {
     this.picture = picture;
+    this.#wanted = null;
     this.canvas.style.transform = "";
     this.canvas.replaceChildren(...(picture ? [picture.svg] : []));
     this.box.hidden = !picture;
     this.#hide();
-    if (this.frame) picture?.mark?.(this.frame);
+    // (a frame of another run is not marked)
+    if (!picture?.frames?.includes(this.frame)) this.frame = null;
+    else picture.mark(this.frame);
   }
 
   /** Marks a frame, and shows where it is; another time is wanted where it lies outside. */
@@ -56,32 +63,45 @@ export class Viewer {
     return Boolean(this.picture?.shown);
   }
 
-  // A place of the pointer in the picture's pixels.
+  // A place of the pointer in the picture's pixels, wherever the picture is moved to meanwhile.
   #place(event) {
-    const { left, top } = this.picture.svg.getBoundingClientRect();
+    const { left, top } = this.box.getBoundingClientRect();
     const scale = this.#scale();
-    return { x: (event.clientX - left) / scale, y: (event.clientY - top) / scale };
+    return { x: (event.clientX - left - this.box.clientLeft) / scale, y: (event.clientY - top - this.box.clientTop) / scale };
   }
 
   // How many pixels of the window one of the picture's has.
   #scale() {
-    return this.picture.svg.getBoundingClientRect().width / this.picture.shown.width;
+    return this.picture.svg.clientWidth / this.picture.shown.width;
+  }
+
+  // The time that is shown, or will be: turns of a wheel add up while a picture is drawn.
+  #base() {
+    return { ...this.picture.shown, ...this.#wanted };
+  }
+
+  #want(time) {
+    this.#wanted = time;
+    this.calls.want(time);
   }
 
   #wheel(event) {
-    if (!this.#hasTime() || event.ctrlKey) return;
+    if (!this.#hasTime()) return;
     event.preventDefault();
-    const { x } = this.#place(event);
-    if (event.shiftKey || Math.abs(event.deltaX) > Math.abs(event.deltaY)) {
-      this.#shift(lengthOf(this.picture.shown, event.deltaX || event.deltaY));
+    const scale = event.deltaMode === WheelEvent.DOM_DELTA_LINE ? LINE : 1;
+    const [across, down] = [event.deltaX * scale, event.deltaY * scale];
+    const base = this.#base();
+    if (event.shiftKey || Math.abs(across) > Math.abs(down)) {
+      this.#shift(lengthOf(base, across || down));
       return;
     }
-    this.calls.want(zoomed(this.picture.shown, this.picture.moment(x), event.deltaY > 0 ? 1.25 : 0.8));
+    const factor = Math.exp(down * (event.ctrlKey ? PINCHED : TURN));
+    this.#want(zoomed(base, momentIn(base, this.#place(event).x), Math.min(2, Math.max(0.5, factor))));
   }
 
   #shift(length) {
-    const { from, to } = this.picture.shown;
-    this.calls.want(clamped(from + length, to - from));
+    const { from, to } = this.#base();
+    this.#want(clamped(from + length, to - from));
   }
 
   #down(event) {
@@ -117,6 +137,8 @@ export class Viewer {
     if (!begun.spread) return;
     begun.moved = true;
     begun.wanted = zoomed(begun.time, this.picture.moment(begun.middle), begun.spread / spread);
+    this.canvas.style.transformOrigin = `${begun.middle * this.#scale()}px 0`;
+    this.canvas.style.transform = `scaleX(${spread / begun.spread})`;
   }
 
   #stretch(one, other) {
@@ -179,7 +201,7 @@ export class Viewer {
   #key(event) {
     if (!this.#hasTime() || event.ctrlKey || event.metaKey || event.altKey) return;
     const step = { "+": "nearer", "=": "nearer", "-": "farther" }[event.key] ?? (event.shiftKey ? { ArrowLeft: "earlier", ArrowRight: "later" }[event.key] : undefined);
-    if (step) this.calls.want(stepped(this.picture.shown, step));
+    if (step) this.#want(stepped(this.#base(), step));
     else if (event.key === "Home") this.calls.whole();
     else if (event.key === "Escape") this.#hide();
     else if (event.key === "ArrowLeft" || event.key === "ArrowRight") this.#walk(event.key === "ArrowRight" ? 1 : -1);

@@ -2,13 +2,14 @@
 import { run } from "./taprio.js";
 import { changesOf, readScript } from "./script.js";
 import { framesOf } from "./frames.js";
+import { INSTEAD } from "./support.js";
 
 let module = null;
 let broken = "";
 
 async function answer({ octets, request }) {
-  if (octets) module = await WebAssembly.compile(octets).catch((error) => ((broken = String(error)), null));
-  if (broken) throw new Error(`the port's module does not compile here (${broken}). The program answers the same`);
+  if (octets) module = await WebAssembly.compile(octets).catch((error) => ((broken = error.message), null));
+  if (broken) throw new Error(`The port's module does not compile in this browser (${broken}). ${INSTEAD}`);
   if (!request) return { ready: true };
   const begun = performance.now();
   const told = request.job === "frames" ? framesIn(request) : run(module, request);
@@ -17,8 +18,8 @@ async function answer({ octets, request }) {
 
 // What a script and its answers come to, frame by frame.
 function framesIn({ script, answers }) {
-  const { arrivals, commands, first } = readScript(script);
-  return { frames: framesOf(arrivals, answers), changes: changesOf(commands, answers), first };
+  const { arrivals, commands, first, last } = readScript(script);
+  return { frames: framesOf(arrivals, answers), changes: changesOf(commands, answers), first, last };
 }
 
 let last = Promise.resolve();
@@ -28,6 +29,6 @@ onmessage = ({ data }) => {
     .then(() => answer(data))
     .then(
       (said) => postMessage({ id: data.id, ...said }),
-      (error) => postMessage({ id: data.id, error: String(error) }),
+      (error) => postMessage({ id: data.id, error: error.message }),
     );
 };
