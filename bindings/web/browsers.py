@@ -96,13 +96,17 @@ class Chromium:
 
     def look(self, dark=False, width=1280, height=1000):
         self.call("Emulation.setEmulatedMedia", features=[{"name": "prefers-color-scheme", "value": "dark" if dark else "light"}])
+        self.resize(width, height)
+
+    def resize(self, width, height):
         self.call("Emulation.setDeviceMetricsOverride", width=width, height=height, deviceScaleFactor=1, mobile=False)
 
     def shoot(self, path):
-        size = self.evaluate("return document.documentElement.scrollHeight")
-        width = self.evaluate("return innerWidth")
-        clip = {"x": 0, "y": 0, "width": width, "height": size, "scale": 1}
-        told = self.call("Page.captureScreenshot", captureBeyondViewport=True, clip=clip)
+        # (a picture of what lies below the window would give the page another width meanwhile)
+        width, height, whole = self.evaluate("return [innerWidth, innerHeight, document.documentElement.scrollHeight]")
+        self.resize(width, max(height, whole))
+        told = self.call("Page.captureScreenshot")
+        self.resize(width, height)
         with open(path, "wb") as out:
             out.write(base64.b64decode(told["data"]))
 
@@ -122,7 +126,10 @@ user_pref("datareporting.policy.dataSubmissionEnabled", false);
 user_pref("app.update.enabled", false);
 user_pref("marionette.port", %d);
 user_pref("ui.systemUsesDarkTheme", %d);
+user_pref("toolkit.legacyUserProfileCustomizations.stylesheets", true);
 """
+# (a window is else no narrower than some 450 pixels)
+NARROW = ":root { min-width: 0 !important; }"
 
 
 def free_port():
@@ -137,11 +144,14 @@ class Firefox:
     name = "firefox"
     logged = ()
 
-    def __init__(self, downloads, dark=False):
+    def __init__(self, downloads, dark=False, preferences=""):
         self.folder = tempfile.TemporaryDirectory(ignore_cleanup_errors=True)
         port = free_port()
         with open(f"{self.folder.name}/user.js", "w", encoding="utf-8") as out:
-            out.write(PREFERENCES % (downloads, port, dark))
+            out.write(PREFERENCES % (downloads, port, dark) + preferences)
+        os.mkdir(f"{self.folder.name}/chrome")
+        with open(f"{self.folder.name}/chrome/userChrome.css", "w", encoding="utf-8") as out:
+            out.write(NARROW)
         self.process = subprocess.Popen(
             ["firefox-esr", "--headless", "--marionette", "--no-remote", "--profile", self.folder.name],
             stdin=subprocess.DEVNULL, stdout=subprocess.DEVNULL, stderr=subprocess.DEVNULL, env={**os.environ, "HOME": self.folder.name})
@@ -202,7 +212,16 @@ class Firefox:
         self.call("WebDriver:PerformActions", actions=[{"type": "pointer", "id": "mouse", "parameters": {"pointerType": "mouse"}, "actions": steps}])
 
     def look(self, dark=False, width=1280, height=1000):
+        """Gives the page's part of the window a size; whether it is dark was said when the browser began."""
         self.call("WebDriver:SetWindowRect", width=width, height=height)
+        for _ in range(50):
+            inner = self.evaluate("return [innerWidth, innerHeight]")
+            if inner == [width, height]:
+                return
+            outer = self.evaluate("return [outerWidth, outerHeight]")
+            self.call("WebDriver:SetWindowRect", width=outer[0] + width - inner[0], height=outer[1] + height - inner[1])
+            time.sleep(0.05)
+        raise Broken(f"firefox is {inner} wide and high")
 
     def shoot(self, path):
         told = self.call("WebDriver:TakeScreenshot", full=True)

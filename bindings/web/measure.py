@@ -27,6 +27,8 @@ def of_program(text):
 
 def of_page(page, text, wanted):
     """The milliseconds that the page says for the script."""
+    # (a long text that was dropped can't be changed)
+    page.choose("first.script")
     page.do(f"at('text').value = {json.dumps(text)}")
     page.run(300)
     page.same("a long script", page.saved("save-answers"), wanted)

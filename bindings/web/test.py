@@ -1,14 +1,17 @@
 #!/usr/bin/env python3
 """Compares the page of bindings/web/out with the program of the repository: test.py [chromium|firefox ..]."""
+import base64
 import functools
 import http.server
 import json
 import pathlib
+import re
 import subprocess
 import sys
 import tempfile
 import threading
 import time
+import zlib
 
 from bundle import options
 from browsers import Broken, Chromium, Firefox, wait_for
@@ -182,7 +185,8 @@ def try_replay(page):
         page.same("departures", page.saved("save-departures"), departures)
     page.set("until", "")
     page.run()
-    page.same("a replay without an end", page.text("fault-text"), "bad value of --until")
+    page.same("a replay without an end", page.text("fault-text").split(":")[0], "bad value of --until")
+    page.same("what it wants", page.text("fault-text").endswith("a replay needs one."), True)
 
 
 def try_typing(page):
@@ -239,7 +243,7 @@ def try_faults(page):
         page.choose("first.script")
         page.set(name, value)
         page.run()
-        page.same(f"{name} {value}", page.text("fault-text"), f"bad value of --{name}")
+        page.same(f"{name} {value}", page.text("fault-text").split(": wanted is ")[0], f"bad value of --{name}")
         page.same("invalid", page.do(f"return at('{name}').getAttribute('aria-invalid')"), "true")
 
 
@@ -336,10 +340,30 @@ def try_keys(page):
         at('frame').setPointerCapture = () => {{}}; send('pointerdown', 1, {x[0.4]}); send('pointerdown', 2, {x[0.6]}); send('pointermove', 1, {x[0.3]}); send('pointermove', 2, {x[0.7]});
         send('pointerup', 1, {x[0.3]}); send('pointerup', 2, {x[0.7]}); delete at('frame').setPointerCapture""")
     gesture(page, "two fingers", (25, 75), text)
+    page.do(f"for (let k = 0; k < 2; k += 1) at('frame').dispatchEvent(new WheelEvent('wheel', {{ deltaY: -50, clientX: {x[0.4] / 2 + x[0.6] / 2}, clientY: {top + height / 2}, bubbles: true, cancelable: true }}))")
+    gesture(page, "two turns of a wheel at once", (30, 70), text)
+    page.do(f"at('frame').dispatchEvent(new WheelEvent('wheel', {{ deltaY: 22.3, ctrlKey: true, clientX: {x[0.4] / 2 + x[0.6] / 2}, clientY: {top + height / 2}, bubbles: true, cancelable: true }}))")
+    gesture(page, "two fingers on a touchpad", (25, 75), text)
+
+
+def try_micros(page):
+    """The micro sign, the Greek letter mu and the letter u are one: in each field of a time and in a table."""
+    page.choose("schedule.script")
+    text = (EXAMPLES / "schedule.script").read_bytes()
     for sign in ("\u00b5s", "\u03bcs", "us"):
+        page.choose("schedule.script")
         page.set("until", f"50 {sign}")
         page.run()
         page.answers(f"until 50 {sign}", program("script", "--until", "50000000", text=text)[1])
+        page.set("from", f"1.5{sign}")
+        page.set("to", f"30 {sign}")
+        page.click("#draw")
+        page.settle()
+        page.picture(f"from and to in {sign}", text, "--from", "1500000", "--to", "30000000")
+        page.choose("planned.streams")
+        page.type(f"# 5 {sign}\nstream 1 7 60 250{sign} 20{sign} 3\n")
+        page.same(f"a table in {sign}", page.do("return at('text').value"), f"# 5 {sign}\nstream 1 7 60 250us 20us 3\n")
+        page.same(f"{sign} is taken", page.text("status")[:4], "Done")
 
 
 def try_frames(page):
@@ -367,12 +391,46 @@ def try_frames(page):
     page.do("at('ps').click()")
     page.same("bitmap", page.saved("save-png")[:8], b"\x89PNG\r\n\x1a\n")
     page.choose("extension.script")
+    page.same("no mark of another run", page.do("return document.querySelectorAll('#canvas .ring').length"), 0)
     page.same("waits for ever", page.do("return document.querySelector('#canvas .l')?.textContent"), "1 waits ▸")
+
+
+# The middle of a part of the picture, where the pointer goes.
+OVER = """const over = (it, down = 0.5) => { const r = it.getBoundingClientRect();
+    at('frame').dispatchEvent(new PointerEvent('pointermove', { clientX: (r.left + r.right) / 2, clientY: r.top + down * r.height, bubbles: true })); return at('tip').hidden ? '' : at('tip').innerText; };"""
+
+
+def try_tips(page):
+    """What is told of a wait and of a band, from when time counts, and the way from a line of the answers to its frame."""
+    page.choose("schedule.script")
+    page.click("[data-step=whole]")
+    page.settle()
+    wait = "[...document.querySelectorAll('#canvas path.w')].find((it) => /H/.test(it.getAttribute('d')))"
+    page.same("tip of a wait", page.do(f"{OVER} return over({wait})").split("\n")[0], "Frame 1, class 7")
+    page.same("tip of a band", page.do(f"{OVER} return over(document.querySelector('#canvas rect.o'))").split("\n")[0], "Class 0 is open")
+    for origin, tick, arrives in (("0", "20 us", "arrives 20 us"), ("20000000", "20 us", "arrives 0")):
+        page.do(f"at('origin').value = '{origin}'; at('origin').dispatchEvent(new Event('change'))")
+        page.same(f"marks counted from {origin}", page.do("return [...document.querySelectorAll('#canvas text.m')].map((it) => it.textContent)").count(tick), 1)
+        page.same(f"tip counted from {origin}", page.do(f"{OVER} return over({wait})").split("\n")[1].split(", ")[1], arrives)
+    page.do("at('answers').scrollIntoView({ block: 'center' })")
+    page.do("""const text = at('answers').firstChild; const begin = text.data.indexOf('start 2'); const range = document.createRange();
+        range.setStart(text, begin); range.setEnd(text, begin + 7); const r = range.getBoundingClientRect(); getSelection().removeAllRanges();
+        at('answers').dispatchEvent(new MouseEvent('click', { clientX: r.left + 20, clientY: (r.top + r.bottom) / 2, bubbles: true }))""")
+    page.same("the frame of a line", page.do("return [at('tip').firstChild.textContent, !!document.querySelector('#canvas .ring')]"), ["Frame 2, class 0", True])
+    page.same("classes", page.saved("save-table").decode(), "class,frames,sent,left,least_ps,mean_ps,greatest_ps\n7,1,1,0,13336000,13336000,13336000\n0,1,1,0,0,0,0\n")
+    page.choose("machine.pcap")
+    page.same("marks of cycles", page.do("return document.querySelectorAll('#canvas path.y').length"), 6)
+    page.choose("planned.streams")
+    page.set("rate", "100")
+    page.click("#take")
+    page.settle()
+    page.same("the rate goes with the script", page.do("return [at('form').elements.job.value, at('rate').value]"), ["script", "100"])
 
 
 def try_pictures(page):
     """Pictures of a check, of each of its schedules, and of a replay."""
     page.choose("windows.schedules")
+    page.same("a table that is not too wide for itself", page.do("return at('classes').scrollWidth <= at('classes').clientWidth"), True)
     told = (EXAMPLES / "windows.answers").read_text(encoding="utf-8").count("\nwindow ")
     page.same("windows", page.do("return document.querySelectorAll('#classes tbody tr').length"), told)
     page.same("bands", page.do("return document.querySelectorAll('#canvas rect.o').length") > 3, True)
@@ -397,10 +455,26 @@ def try_bounds(page):
         page.same(f"rows of {name}", page.do("return document.querySelectorAll('#classes tbody tr').length"), 4)
         page.same(f"bars of {name}", page.do("return document.querySelectorAll('#canvas rect.f').length"), 4 - missed)
         page.same(f"missed in {name}", page.do("return document.querySelectorAll('#canvas .missed').length"), missed)
+        page.same(f"labels of {name} that cover a deadline", page.do(COVERED), [])
+        drawn = page.saved("save-picture")
+        page.same(f"saved picture of {name}", [drawn[:4], drawn.count(b'class="f"'), b"var(" in drawn], [b"<svg", 4 - missed, False])
         page.browser.shoot(SHOTS / f"{page.browser.name}-{name}.png")
     page.set("beside", "stream 1 7 60 250us 20us\n")
     page.run()
     page.same("a fault of the table", page.do("return !document.querySelector('#beside-editor .mark').hidden"), True)
+    page.same("what is expected", "stream FIRST_ID PRIORITY" in page.text("fault-hint"), True)
+    page.same("where it is", page.text("fault-text"), "Table: Line 1: WordCount, the line has too few or too many words.")
+    for name, text, said in (("beside", "", "The table has no stream."), ("text", "tc foo\n", "The schedule is not taken."), ("text", "", "No schedule stands there")):
+        page.choose("drive.bounds")
+        page.set(name, text)
+        page.run()
+        page.same(f"bounds of {text!r}", page.text("verdict")[: len(said)], said)
+
+
+# (a deadline is three pixels wide)
+COVERED = """const marks = [...document.querySelectorAll('#canvas .dl')].map((it) => it.getBBox());
+    return [...document.querySelectorAll('#canvas .row text')].filter((it) => { const r = it.getBBox();
+      return marks.some((m) => m.x - 1.5 < r.x + r.width && m.x + 1.5 > r.x && m.y < r.y + r.height && m.y + m.height > r.y); }).map((it) => it.textContent)"""
 
 
 def try_story(page):
@@ -409,6 +483,12 @@ def try_story(page):
         page.choose(value)
         page.same(f"{value} is done", page.text("status")[:4], "Done")
         page.same(f"{value} has a sentence", page.text("sentence") != "", True)
+
+
+def packed(text):
+    """A text as a link carries it."""
+    made = zlib.compressobj(wbits=-15)
+    return base64.urlsafe_b64encode(made.compress(text.encode()) + made.flush()).decode().rstrip("=")
 
 
 def give(page, name, octets):
@@ -426,10 +506,25 @@ def try_files(page):
     page.answers("a file", program("script", text=text)[1])
     give(page, "my.pcapng", bytes.fromhex("0a0d0d0a1c000000"))
     page.same("pcapng", page.text("status"), "my.pcapng: this is a pcapng file. Make a classic one of it: editcap -F pcap IN OUT")
+    page.same("and the text stays", page.do("return at('text').value"), text.decode())
+    for name, octets, why in (("a.gz", b"\x1f\x8b\x08\0", "this is a gzip file. Unpack it first: gunzip FILE"), ("a.png", b"\x89PNG\r\n\x1a\n\0", "this is neither text nor a classic pcap file.")):
+        give(page, name, octets)
+        page.same(name, page.text("status"), f"{name}: {why}")
     give(page, "machine.pcap", (EXAMPLES / "machine.pcap").read_bytes())
     page.same("a capture", page.do("return at('form').elements.job.value"), "replay")
+    page.same("it is run", page.text("verdict")[:15], "12 frames sent,")
+    page.do("location.reload()")
+    time.sleep(0.5)
+    page.settle()
+    page.same("kept over a reload", [page.text("capture-name"), page.text("verdict")[:15]], ["machine.pcap, 936 octets", "12 frames sent,"])
+    page.open(f"#job=replay&until=1+ms&text={packed('clock 1000000')}")
+    page.same("no capture", page.text("fault-text")[:21], "No capture is chosen:")
+    page.open("")
     page.choose("planned.streams")
-    page.same("a table", page.do("return at('form').elements.job.value"), "streams")
+    table = b"stream 5 7 60 250us 20us 3\nstream 9 6 100 1ms 0us 2\n"
+    give(page, "my.streams", table)
+    page.same("a table", page.do("return [at('form').elements.job.value, at('text').value]"), ["streams", table.decode()])
+    page.same("its frames leave", page.text("verdict")[:51], "As a script, run to 1 ms after its end: 5 frames sent"[:51])
 
 
 def try_stale(page):
@@ -441,24 +536,141 @@ def try_stale(page):
     time.sleep(0.5)
     page.settle()
     page.same("kept over a reload", page.do("return at('text').value"), "frame 1 0 60\nclock 1000000\nquery\n")
+    page.choose("schedule.script")
+    page.click("[data-step=nearer]")
+    page.settle()
+    page.same("zoomed", page.do("return at('from').value"), "15 us")
+    page.type("frame 1 0 60\nclock 5000000\n")
+    page.same("another text is shown whole", page.do("return at('from').value"), "")
+    page.picture("another text", b"frame 1 0 60\nclock 5000000\n")
+    page.click("[data-step=nearer]")
+    page.settle()
+    give(page, "other.script", b"frame 2 0 60\nclock 9000000\n")
+    page.picture("another file", b"frame 2 0 60\nclock 9000000\n")
     page.set("text", "".join(f"frame {(it * 7919) % 1000003} {it % 8} {60 + it * 31 % 1400}\n" for it in range(6000)))
     page.click("#link")
     wait_for(page.browser, "return !document.getElementById('long-link').hidden")
     page.same("a long link", page.do("return at('link-row').hidden"), True)
+    page.same("the text instead", page.saved("save-text").decode(), page.do("return at('text').value"))
+
+
+STORY = "return [...document.querySelectorAll('#example optgroup')[0].children].map((it) => it.value)"
+
+
+def at_size(page, width, height, dark=False):
+    """Gives the window a size, and waits for what is drawn anew for it."""
+    page.browser.look(dark, width, height)
+    time.sleep(0.3)
+    page.settle()
 
 
 def try_screens(page):
-    """That the first screen shows text, verdict and picture without scrolling."""
-    if not isinstance(page.browser, Chromium):
-        return
+    """That the first screen of each step shows its text, its verdict and its picture without scrolling."""
     for width, height in ((1280, 900), (390, 844)):
-        page.browser.look(width=width, height=height)
+        at_size(page, width, height)
+        for name in page.do(STORY):
+            page.choose(name)
+            page.do("scrollTo(0, 0)")
+            seen = "const inside = (it) => { const r = it.getBoundingClientRect(); return r.height > 0 && r.top >= 0 && r.bottom <= innerHeight; };"
+            page.same(f"first screen of {name} at {width}", page.do(f"{seen} return ['text', 'verdict', 'frame'].filter((it) => !inside(at(it)))"), [])
         page.choose("schedule.script")
-        time.sleep(0.3)
-        page.settle()
-        page.same(f"first screen at {width}", page.do("return at('frame').getBoundingClientRect().bottom + scrollY <= innerHeight && at('verdict').getBoundingClientRect().top > 0"), True)
         page.browser.shoot(SHOTS / f"{page.browser.name}-first-{width}.png")
     page.browser.look()
+
+
+SMALL = """const svg = document.querySelector('#canvas svg'); const scale = svg.clientWidth / svg.viewBox.baseVal.width;
+    return [...svg.querySelectorAll('text')].map((it) => [parseFloat(getComputedStyle(it).fontSize) * scale, it.textContent]).filter(([size]) => size < 11).map(String)"""
+
+
+def try_sizes(page, dark=False):
+    """Each step at each size: what is written and drawn can be told from its ground, labels can be read, and nothing is wider than the window."""
+    for width, height in ((1280, 900), (820, 1100), (390, 844), (320, 700)):
+        at_size(page, width, height, dark)
+        for name in page.do(STORY):
+            page.choose(name)
+            what = f"{name}, {width} wide{', dark' if dark else ''}"
+            page.same(f"contrast, {what}", page.do(CONTRAST), [])
+            page.same(f"contrast of marks, {what}", page.do(MARKS), [])
+            page.same(f"labels, {what}", page.do(SMALL), [])
+            page.same(f"{what} fits", page.do("return document.documentElement.scrollWidth <= document.documentElement.clientWidth"), True)
+    page.browser.look(dark)
+
+
+# A frame of class 1 goes, and another one of its class finds the queue full meanwhile: its cross lies on the bar of the first.
+DROPS = "frame 1 1 1514\nclock 1000000\nframe 2 1 1500\nclock 3000000\nframe 3 1 60\nclock 30000000\n"
+# Paints the picture as it looks, four times as large, and takes the colours of a cross on a bar: in its middle, beside its strokes, and farther.
+PAINTED = """const svg = document.querySelector('#canvas svg'); const copy = svg.cloneNode(true); const scale = 4;
+    const [old, made] = [svg, copy].map((it) => [...it.querySelectorAll('*')]);
+    old.forEach((it, place) => { for (const name of ['fill', 'stroke', 'stroke-width', 'stroke-linecap', 'stroke-dasharray']) made[place].setAttribute(name, getComputedStyle(it).getPropertyValue(name)); });
+    copy.setAttribute('xmlns', 'http://www.w3.org/2000/svg');
+    const image = new Image(); window.painted = null;
+    image.onload = () => {
+      const canvas = document.createElement('canvas'); const box = svg.viewBox.baseVal;
+      [canvas.width, canvas.height] = [box.width * scale, box.height * scale];
+      const context = canvas.getContext('2d', { willReadFrequently: true }); context.fillStyle = getComputedStyle(document.body).backgroundColor;
+      context.fillRect(0, 0, canvas.width, canvas.height); context.drawImage(image, 0, 0, canvas.width, canvas.height);
+      const [, x, y] = /^M([\\d.]+) ([\\d.]+)/.exec(svg.querySelector('path.d:not(.h)').getAttribute('d')).map(Number);
+      const colour = (right) => [...context.getImageData(Math.round((x + 4 + right - box.x) * scale), Math.round((y + 6 - box.y) * scale), 1, 1).data].slice(0, 3);
+      window.painted = [2, 4.6, 9].map(colour);
+    };
+    image.src = URL.createObjectURL(new Blob([new XMLSerializer().serializeToString(copy)], { type: 'image/svg+xml' }))"""
+
+
+def ratio(one, other):
+    """The contrast of two colours: Web Content Accessibility Guidelines 2.2, the contrast ratio."""
+    def light(colour):
+        parts = [it / 255 for it in colour]
+        parts = [it / 12.92 if it <= 0.04045 else ((it + 0.055) / 1.055) ** 2.4 for it in parts]
+        return sum(it * weight for it, weight in zip(parts, (0.2126, 0.7152, 0.0722)))
+    darker, lighter = sorted((light(one), light(other)))
+    return (lighter + 0.05) / (darker + 0.05)
+
+
+def try_marks(page):
+    """The cross of a dropped frame on a bar, as it is painted, and that waits and changes lie under the bars."""
+    page.choose("first.script")
+    page.set("room", "1")
+    page.set("text", DROPS)
+    page.run()
+    page.same("a frame is dropped", page.text("verdict")[:32], "2 of 3 frames sent, 1 dropped, l")
+    page.do(PAINTED)
+    wait_for(page.browser, "return window.painted !== null")
+    mark, edge, bar = page.do("return window.painted")
+    told = [[int(it) for it in re.findall(r"\d+", page.do(f"return getComputedStyle(document.querySelector('#canvas {name}')).{what}"))[:3]] for name, what in (("path.d:not(.h)", "stroke"), ("path.h", "stroke"), ("rect.f", "fill"))]
+    page.same("colours of a cross, its edge and the bar", [mark, edge, bar], told)
+    page.same(f"contrast of a cross on a bar, {ratio(mark, edge):.1f} and {ratio(edge, bar):.1f}", min(ratio(mark, edge), ratio(edge, bar)) >= 3, True)
+    under = "const bar = document.querySelector('#canvas rect.f'); return [...document.querySelectorAll('#canvas path.w, #canvas path.c')].filter((it) => !it.getAttribute('d').includes('v') && bar.compareDocumentPosition(it) & 4).length"
+    page.same("waits and changes on bars", page.do(under), 0)
+    page.do("const r = document.querySelector('#canvas path.d:not(.h)').getBoundingClientRect(); at('frame').dispatchEvent(new PointerEvent('pointermove', { clientX: r.left + 4, clientY: r.top + 4, bubbles: true }))")
+    page.same("tip of a cross", page.do("return at('tip').innerText").split("\n")[::2], ["Frame 3", "dropped: Full"])
+    dark = page.do("return matchMedia('(prefers-color-scheme: dark)').matches")
+    page.browser.shoot(SHOTS / f"{page.browser.name}-dropped{'-dark' if dark else ''}.png")
+
+
+def try_tabs(page):
+    """Each tab shows an example of its own; one's own text goes along where it can, and is there again where it can't."""
+    tab = "document.querySelector('input[name=job][value={}]').click()"
+    page.do("sessionStorage.clear()")
+    page.open("")
+    for name, example in (("bounds", "drive.bounds"), ("check", "windows.schedules"), ("streams", "planned.streams"), ("replay", "machine.pcap"), ("script", "first.script")):
+        page.do(tab.format(name))
+        page.settle()
+        page.same(f"the tab {name}", page.do("return [at('example').value, at('sentence').textContent !== '', at('view').classList.contains('stale'), at('frame').hidden]"), [example, True, False, False])
+    text = "tc qdisc replace dev eth0 root taprio num_tc 1 map 0 sched-entry S 01 100000\n"
+    page.type(text)
+    page.do(tab.format("check"))
+    page.settle()
+    page.same("one's own schedule", [page.do("return at('text').value"), page.text("verdict")], [text, "Kept apart: class 0."])
+    page.do(tab.format("streams"))
+    page.settle()
+    page.same("the example of streams", page.do("return at('example').value"), "planned.streams")
+    page.do(tab.format("check"))
+    page.settle()
+    page.same("one's own again", page.do("return at('text').value"), text)
+    page.choose("first.script")
+    page.click("#back")
+    page.settle()
+    page.same("one's own before the first example", page.do("return at('text').value"), text)
 
 
 def try_link(page):
@@ -493,6 +705,9 @@ def try_stop(page):
     page.same("stopped", page.text("status"), "Stopped.")
     page.choose("first.script")
     try_script(page, EXAMPLES / "first.script")
+    page.do("at('status').textContent = 'Stopped.'; document.querySelector('[data-step=nearer]').click()")
+    page.settle()
+    page.same("drawn after a stop", page.text("status")[:4], "Done")
 
 
 NAMELESS = """return [...document.querySelectorAll('input, select, textarea, button, [tabindex]')]
@@ -505,7 +720,9 @@ const light = ([r, g, b]) => [r, g, b].map((it) => it / 255).map((it) => it <= 0
   .reduce((sum, it, place) => sum + it * [0.2126, 0.7152, 0.0722][place], 0);
 const back = (it) => { for (; it; it = it.parentElement) { const found = parts(getComputedStyle(it).backgroundColor); if (found.length === 3 || found[3] === 1) return found; } return [255, 255, 255]; };
 const texts = [...document.querySelectorAll('body *')].filter((it) => it.checkVisibility() && !it.disabled && [...it.childNodes].some((child) => child.nodeType === 3 && child.data.trim()));
-return texts.map((it) => { const [one, other] = [light(parts(getComputedStyle(it).color)), light(back(it))].sort((a, b) => b - a);
+const through = (it) => { let share = 1; for (; it; it = it.parentElement) share *= getComputedStyle(it).opacity; return share; };
+const seen = (it) => { const [share, ground] = [through(it), back(it)]; return parts(getComputedStyle(it).color).slice(0, 3).map((part, place) => share * part + (1 - share) * ground[place]); };
+return texts.map((it) => { const [one, other] = [light(seen(it)), light(back(it))].sort((a, b) => b - a);
   return [(one + 0.05) / (other + 0.05), it.tagName + '#' + it.id + '.' + it.className]; }).filter(([ratio]) => ratio < 4.5).map(String);
 """
 
@@ -545,12 +762,8 @@ def try_closed(page, server):
 
 
 def shoot(page, name, dark=False, width=1280):
-    page.browser.look(dark, width)
-    time.sleep(0.3)
+    at_size(page, width, 1000, dark)
     page.same(f"contrast, {name}", page.do(CONTRAST), [])
-    page.same(f"contrast of marks, {name}", page.do(MARKS), [])
-    wide = page.do("return document.documentElement.scrollWidth - innerWidth")
-    page.same(f"{name} is no wider than the window", str(wide <= 0), "True")
     page.browser.shoot(SHOTS / f"{page.browser.name}-{name}.png")
     page.browser.look()
 
@@ -559,14 +772,24 @@ def try_looks(page):
     page.choose("priorities.script")
     shoot(page, "light")
     shoot(page, "middle", width=820)
-    shoot(page, "narrow", width=400)
+    shoot(page, "narrow", width=390)
     if isinstance(page.browser, Chromium):
         shoot(page, "dark", dark=True)
         shoot(page, "middle-dark", dark=True, width=820)
-        shoot(page, "narrow-dark", dark=True, width=400)
+        shoot(page, "narrow-dark", dark=True, width=390)
+        page.choose("first.script")
+        page.browser.look(dark=True)
+        try_marks(page)
+        try_sizes(page, dark=True)
+        page.choose("drive_short.bounds")
+        shoot(page, "bounds-dark", dark=True)
+        page.choose("first.script")
         page.set("text", "clok\n")
         page.run()
         shoot(page, "fault-dark", dark=True)
+    page.choose("priorities.script")
+    page.set("text", "frame 1 0 60\nclock 1000000\n")
+    shoot(page, "stale")
     page.choose("windows.schedules")
     shoot(page, "check")
     page.choose("planned.streams")
@@ -575,8 +798,8 @@ def try_looks(page):
     shoot(page, "replay")
 
 
-TRIES = [try_examples, try_replay, try_typing, try_options, try_worked, try_faults, try_refused, try_zoom, try_keys, try_frames, try_pictures, try_bounds, try_story, try_files, try_stale,
-         try_link, try_stop, try_access, try_screens, try_looks]
+TRIES = [try_examples, try_replay, try_typing, try_options, try_worked, try_faults, try_refused, try_zoom, try_keys, try_micros, try_frames, try_tips, try_marks, try_pictures, try_bounds,
+         try_story, try_tabs, try_files, try_stale, try_link, try_stop, try_access, try_screens, try_sizes, try_looks]
 
 
 def try_page(kind, address, server):
@@ -600,31 +823,74 @@ def try_logged(browser):
         raise Broken(f"{browser.name} logs {others}")
 
 
-def try_lacking(address):
-    """What the page says in a browser without 64-bit memory."""
-    for script, wanted in (("WebAssembly.validate = () => false", "This browser can't run the port: its WebAssembly has no 64-bit memory."),):
-        with tempfile.TemporaryDirectory() as downloads:
-            browser = Chromium(downloads)
-            try:
-                browser.call("Page.addScriptToEvaluateOnNewDocument", source=script)
-                browser.open(address)
-                said = browser.evaluate("return document.getElementById('status').textContent")
-                if not said.startswith(wanted):
-                    raise Broken(f"without memory: {said}")
-            finally:
-                browser.close()
+INSTEAD = "Use Chromium or Chrome 133, Firefox 134, or a later one. The program taprio_port answers the same."
+
+
+def refuses(browser, address, name, wanted):
+    """That the page says why it can't run here, where it is seen, and what to use."""
+    browser.look()
+    browser.open(address)
+    wait_for(browser, "return !document.getElementById('fault').hidden")
+    said = browser.evaluate("return document.getElementById('fault-text').textContent")
+    if not re.fullmatch(wanted, said):
+        raise Broken(f"{browser.name} {name}: {said}")
+    browser.shoot(SHOTS / f"{browser.name}-{name}.png")
+
+
+def old_chromium(downloads):
+    """Chromium, whose WebAssembly takes no module with 64-bit memory."""
+    browser = Chromium(downloads)
+    browser.call("Page.addScriptToEvaluateOnNewDocument", source="WebAssembly.validate = () => false")
+    return browser
+
+
+def old_firefox(downloads):
+    """Firefox without WebAssembly: it has no preference for 64-bit memory alone."""
+    return Firefox(downloads, preferences='user_pref("javascript.options.wasm", false);\n')
+
+
+OLD = {Chromium: (old_chromium, "its WebAssembly has no 64-bit memory"), Firefox: (old_firefox, "it has no WebAssembly")}
+
+
+def try_lacking(kind, address):
+    """What the page says in a browser that can't run its module."""
+    make, why = OLD[kind]
+    with tempfile.TemporaryDirectory() as downloads:
+        browser = make(downloads)
+        try:
+            refuses(browser, address, "lacking", re.escape(f"This browser can't run the port: {why}. {INSTEAD}"))
+            if browser.evaluate("return document.getElementById('form').checkVisibility()"):
+                raise Broken(f"{browser.name}: there is a form that can't be used")
+        finally:
+            browser.close()
+
+
+def try_broken(kind):
+    """What a page says whose module does not compile: one in which a part of it is another."""
+    text = PAGE.read_text(encoding="utf-8")
+    module = re.search(r'id="page-wasm">([^<]+)<', text)[1]
+    with tempfile.TemporaryDirectory() as downloads:
+        place = pathlib.Path(downloads) / "broken.html"
+        place.write_text(text.replace(module, module[:1000] + "A" * 4000 + module[5000:]), encoding="utf-8")
+        browser = kind(downloads)
+        try:
+            refuses(browser, place.as_uri(), "broken", r"The port's module does not compile in this browser \(.*\)\. " + re.escape(INSTEAD))
+        finally:
+            browser.close()
 
 
 def try_dark_firefox(address):
+    """Firefox is told that it is dark when it begins."""
     with tempfile.TemporaryDirectory() as downloads:
         browser = Firefox(downloads, dark=True)
         try:
             page = Page(browser, downloads, address)
-            for width in (1280, 820, 400):
-                browser.look(width=width)
-                time.sleep(0.3)
-                page.same(f"contrast, dark, {width}", page.do(CONTRAST), [])
-                page.same(f"contrast of marks, dark, {width}", page.do(MARKS), [])
+            browser.look()
+            try_marks(page)
+            try_sizes(page, dark=True)
+            for width in (1280, 820, 390):
+                at_size(page, width, 900)
+                page.choose("schedule.script")
                 browser.shoot(SHOTS / f"firefox-dark-{width}.png")
         finally:
             browser.close()
@@ -640,8 +906,8 @@ def main(names):
             continue
         for address in places:
             try_page(kind, address, server)
-    if not names or "chromium" in names:
-        try_lacking(places[0])
+        try_lacking(kind, places[0])
+        try_broken(kind)
     if not names or "firefox" in names:
         try_dark_firefox(places[0])
     print("bindings/web/test: all is as it should be")
