@@ -391,6 +391,7 @@ def try_frames(page):
     page.do("at('ps').click()")
     page.same("bitmap", page.saved("save-png")[:8], b"\x89PNG\r\n\x1a\n")
     page.choose("extension.script")
+    page.same("no mark of another run", page.do("return document.querySelectorAll('#canvas .ring').length"), 0)
     page.same("waits for ever", page.do("return document.querySelector('#canvas .l')?.textContent"), "1 waits ▸")
 
 
@@ -429,6 +430,7 @@ def try_tips(page):
 def try_pictures(page):
     """Pictures of a check, of each of its schedules, and of a replay."""
     page.choose("windows.schedules")
+    page.same("a table that is not too wide for itself", page.do("return at('classes').scrollWidth <= at('classes').clientWidth"), True)
     told = (EXAMPLES / "windows.answers").read_text(encoding="utf-8").count("\nwindow ")
     page.same("windows", page.do("return document.querySelectorAll('#classes tbody tr').length"), told)
     page.same("bands", page.do("return document.querySelectorAll('#canvas rect.o').length") > 3, True)

@@ -38,7 +38,9 @@ export class Viewer {
     this.canvas.replaceChildren(...(picture ? [picture.svg] : []));
     this.box.hidden = !picture;
     this.#hide();
-    if (this.frame) picture?.mark?.(this.frame);
+    // (a frame of another run is not marked)
+    if (!picture?.frames?.includes(this.frame)) this.frame = null;
+    else picture.mark(this.frame);
   }
 
   /** Marks a frame, and shows where it is; another time is wanted where it lies outside. */
