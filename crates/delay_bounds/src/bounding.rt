@@ -1,6 +1,6 @@
 //! The bounds of flows, by a walk over their frames until its state comes again.
 
-ghost use Rattle.std.specs.Prelude.{◌+◌, ◌*◌, ℕ, if◌then◌else◌, ◌≡◌, ◌<◌, ◌≤◌, ◌-◌, ◌%◌, ◌↔◌, ◌⊎◌, All, Err, IfErr, IfOk, MatchResult, Ok, length, map};
+ghost use Rattle.std.specs.Prelude.{◌+◌, ◌*◌, if◌then◌else◌, ◌≡◌, ◌<◌, ◌-◌, ◌%◌, ◌⊎◌, All, Err, IfErr, IfOk, MatchResult, Ok, length};
 ghost use Rattle.gate_list.specs.Gate.{IsSchedule};
 ghost use Rattle.delay_bounds.specs.Bounded.{is_from_here, unbound_by, IsMost, IsUnbound};
 ghost use Rattle.delay_bounds.specs.Claim.{flow_at, IsFlow};
@@ -9,7 +9,7 @@ ghost use Rattle.delay_bounds.specs.ForEver.{Recurs};
 ghost use Rattle.delay_bounds.specs.Line.{before_any};
 ghost use Rattle.delay_bounds.specs.Noted.{unseen};
 ghost use Rattle.delay_bounds.specs.Stuck.{before_of, first_refused, refused_of};
-ghost use Rattle.delay_bounds.specs.Walked.{answer_of, comes_again, frame_of, last_offset, look, starting, walked};
+ghost use Rattle.delay_bounds.specs.Walked.{answer_of, comes_again, frame_of, last_offset, look, walked};
 
 use crate::line::{Line, Stop};
 use crate::noting::{all_unseen, note};

@@ -1,6 +1,6 @@
 //! Lists of moments, in picoseconds.
 
-ghost use Rattle.std.specs.Prelude.{◌≡◌, ◌<◌, ◌≤◌, ◌↔◌, ◌+◌, ◌==◌, map, IfSome, IsSome, IsTrue, length, slice_index_or};
+ghost use Rattle.std.specs.Prelude.{◌≡◌, ◌<◌, ◌↔◌, ◌+◌, ◌==◌, map, IfSome, IsSome, IsTrue, length, slice_index_or};
 ghost use Rattle.delay_bounds.specs.Claim.{earliest};
 ghost use Rattle.delay_bounds.specs.Bounds.{from_on};
 ghost use Rattle.delay_bounds.specs.Walk.{begins_before, with_place};

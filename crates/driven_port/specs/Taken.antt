@@ -9,14 +9,11 @@ use Rattle.gate_list.specs.Gate.{gate_fault, ok_unless}
 use Rattle.gate_list.specs.declared.Entry.{Entry}
 use Rattle.gate_list.specs.declared.GateFault.TheVariants.{TooManyEntries}
 use Rattle.gate_list.specs.declared.GateList.{GateList}
-use Rattle.abstract_port.specs.declared.Change.{Change}
 use Rattle.abstract_port.specs.declared.Command.{Command}
 use Rattle.abstract_port.specs.declared.Command.TheVariants.{Replace}
 use Rattle.driven_port.specs.declared.taken.ScheduleFault.{ScheduleFault}
 use Rattle.driven_port.specs.declared.taken.ScheduleFault.TheVariants.{Map, Ranges, Gates}
-use Rattle.driven_port.specs.declared.values.CEntry.{CEntry}
 use Rattle.driven_port.specs.declared.values.CFrame.{CFrame}
-use Rattle.driven_port.specs.declared.values.CRange.{CRange}
 use Rattle.driven_port.specs.declared.values.CSchedule.{CSchedule}
 
 -- the moment of two halves

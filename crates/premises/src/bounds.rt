@@ -1,7 +1,7 @@
 //! Whether the claim about delay bounds speaks of a run, and what it says of an answer.
 
 ghost use Rattle.std.specs.Prelude.{[], ◌∷◌, ◌≡◌, ◌<◌, ◌+◌, ℕ, All, IfErr, IfOk, IfSome, IsTrue, MatchResult, None, Ok, Err, length, if◌then◌else◌};
-ghost use Rattle.abstract_port.specs.AbstractPort.{AbstractPort, class_for, new_command, plan_asked, refusal, settled};
+ghost use Rattle.abstract_port.specs.AbstractPort.{AbstractPort, class_for, new_command, plan_asked, settled};
 ghost use Rattle.abstract_port.specs.Answers.{answers_to};
 ghost use Rattle.abstract_port.specs.Sound.{IsSoundPort};
 ghost use Rattle.abstract_port.specs.declared.Change.{Change};

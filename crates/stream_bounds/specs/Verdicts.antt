@@ -5,7 +5,7 @@
 -- each is reached (`AreBounds`); a class that is full has no room for that very frame, and one that is stuck has a frame that fits into no window
 -- (`IsUnbound`). The laws `EveryRunLaw`, `FullLaw` and `NeverLaw` carry these over to every run of a port.
 use Rattle.std.specs.Prelude.{ℕ, ◌+◌, ◌-◌, ◌^◌, min, nat_le, Bool, true, false, List, [], ◌∷◌, drop, slice_get, slice_set, slice_index_or, Option, Some, None, unwrap_or, Result, Ok, Err, if◌then◌else◌}
-use Rattle.gate_list.specs.Gate.{Plan, keeps_apart, plan_fault}
+use Rattle.gate_list.specs.Gate.{keeps_apart}
 use Rattle.abstract_port.specs.AbstractPort.{plan_asked}
 use Rattle.abstract_port.specs.declared.Change.{Change}
 use Rattle.abstract_port.specs.declared.Dropped.{Dropped}
@@ -13,11 +13,10 @@ use Rattle.delay_bounds.specs.Bounded.{Answer}
 use Rattle.delay_bounds.specs.Walked.{answer_of}
 use Rattle.delay_bounds.specs.declared.Bound.{Bound}
 use Rattle.delay_bounds.specs.declared.Flow.{Flow}
-use Rattle.delay_bounds.specs.declared.FlowFrame.{FlowFrame}
 use Rattle.delay_bounds.specs.declared.Refused.{Refused}
 use Rattle.delay_bounds.specs.declared.Unbound.{Unbound}
 use Rattle.delay_bounds.specs.declared.Unbound.TheVariants as Unbounds
-use Rattle.stream_bounds.specs.Classes.{class_of, flow_of, flows_of, ids_of}
+use Rattle.stream_bounds.specs.Classes.{flows_of, ids_of}
 use Rattle.stream_bounds.specs.declared.settings.BoundsSettings.{BoundsSettings}
 use Rattle.stream_bounds.specs.declared.verdicts.Place.{Place}
 use Rattle.stream_bounds.specs.declared.verdicts.Verdict.{Verdict}

@@ -1,12 +1,10 @@
 //! The answers about all classes.
 
-ghost use Rattle.std.specs.Prelude.{◌≡◌, ◌<◌, All, IfErr, IfOk, Result, drop, slice_get, slice_index_or, unwrap_or};
+ghost use Rattle.std.specs.Prelude.{◌≡◌, ◌<◌, All, IfErr, IfOk, Result, drop, slice_get, unwrap_or};
 ghost use Rattle.abstract_port.specs.AbstractPort.{plan_asked};
-ghost use Rattle.gate_list.specs.Gate.{plan_fault};
 ghost use Rattle.job.specs.declared.fault.Fault.TheVariants as Faults;
 ghost use Rattle.wire_time.specs.declared.TheConstants.{CLASSES};
 ghost use Rattle.delay_bounds.specs.Bounded.{Answer};
-ghost use Rattle.delay_bounds.specs.Walked.{answer_of};
 ghost use Rattle.stream_bounds.specs.Classes.{IsPeriodic, ids_of};
 ghost use Rattle.stream_bounds.specs.Reading.{IsAnswered};
 ghost use Rattle.stream_bounds.specs.Verdicts.{answer_at, bounds_of, class_answer, class_answers, delay_of, left_after, one_told, verdict_of};

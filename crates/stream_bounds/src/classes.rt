@@ -1,8 +1,7 @@
 //! Which streams are of which class.
 
 ghost use Rattle.std.specs.Prelude.{◌≡◌, ◌<◌, All, IfErr, IfOk, IfSome};
-ghost use Rattle.abstract_port.specs.AbstractPort.{class_for, judged, limit_of};
-ghost use Rattle.wire_time.specs.Wire.{sdu_of};
+ghost use Rattle.abstract_port.specs.AbstractPort.{class_for, limit_of};
 ghost use Rattle.wire_time.specs.declared.TheConstants.{CLASSES};
 ghost use Rattle.delay_bounds.specs.Claim.{IsFlow};
 ghost use Rattle.job.specs.declared.fault.Fault.TheVariants as Faults;

@@ -1,6 +1,6 @@
 //! The lines of streams.
 
-ghost use Rattle.std.specs.Prelude.{◌≡◌, ◌++◌, IfOk, List};
+ghost use Rattle.std.specs.Prelude.{◌≡◌, IfOk};
 ghost use Rattle.answer_text.specs.Names.{dropped_name};
 ghost use Rattle.octet_writer.specs.Writes.{Writes};
 ghost use Rattle.stream_bounds.specs.BoundLines.{bound_head, bound_line, bound_lines, deadline_end, deadline_finding, delay_text, finding_in, first_of, met_word, unmet};

@@ -1,7 +1,6 @@
 //! The verdict about a class, and the delay of a stream.
 
-ghost use Rattle.std.specs.Prelude.{◌≡◌, Err, Ok, map};
-ghost use Rattle.delay_bounds.specs.Bounded.{Answer};
+ghost use Rattle.std.specs.Prelude.{◌≡◌, Err};
 ghost use Rattle.stream_bounds.specs.Verdicts.{delay_by, met_by, place_of, plus, stuck_at, verdict_of};
 
 use abstract_port::Dropped;
