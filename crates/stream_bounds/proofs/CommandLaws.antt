@@ -1,7 +1,6 @@
 -- The lines of schedules, one after another, and the ends of a run.
-use Rattle.std.proofs.Common.{◌≡◌, ℕ, Bool, List, [], ◌∷◌, ◌++◌, Option, Some, None, Result, Ok, Err, true, false, refl, sym, ap, ◌∙◌, subst, append_assoc}
+use Rattle.std.proofs.Common.{◌≡◌, ℕ, Bool, List, [], ◌++◌, Option, Some, None, Result, Ok, Err, true, false, refl, sym, ap, ◌∙◌, subst, append_assoc}
 use Rattle.std.specs.Prelude.{IfSome, option_map}
-use Rattle.std.specs.Io.KnownBytes.{Appends}
 use Rattle.octet_writer.specs.Writes.{AppendsFront, Sent}
 use Rattle.octet_writer.proofs.Fronts.{Appends-append, Appends-nil, sent_all, sent_none}
 use Rattle.words.specs.Words.{words_of}

@@ -11,7 +11,6 @@ use Rattle.abstract_port.specs.declared.Command.{Command}
 use Rattle.abstract_port.specs.declared.Command.TheVariants.{Replace, Delete}
 use Rattle.abstract_port.specs.declared.Refused.TheVariants.{Schedule}
 use Rattle.answer_text.specs.Lines.{refused_line, tc_fault_line}
-use Rattle.delay_bounds.specs.declared.Bound.{Bound}
 use Rattle.schedule_check.specs.Apart.{apart_line, class_count, classes_apart}
 use Rattle.stream_bounds.specs.Classes.{class_of}
 use Rattle.stream_bounds.specs.Verdicts.{ClassAnswer, answer_at, class_answers, delay_of, left_after, met_by, plus}

@@ -1,5 +1,5 @@
 -- What a run of the program on a table and schedules leaves: its exit status, what the writer got, and the text of a fault.
-use Rattle.std.specs.Prelude.{ℕ, ◌≤◌, nat_le, Bool, List, Option, Some, None, Result, Ok, Err, IfSome, unwrap_or, codes, if◌then◌else◌}
+use Rattle.std.specs.Prelude.{ℕ, nat_le, Bool, List, Option, Some, None, Result, Ok, Err, IfSome, unwrap_or, codes, if◌then◌else◌}
 use Rattle.abstract_port.specs.declared.Command.{Command}
 use Rattle.job.specs.Ending.{IsLetOut, IsRunEnding, IsUnanswered}
 use Rattle.job.specs.Outcome.{RunsOut}

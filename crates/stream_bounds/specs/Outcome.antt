@@ -1,5 +1,5 @@
 -- What is written for a table of streams and schedules, and the fault that ends it.
-use Rattle.std.specs.Prelude.{ℕ, ◌==◌, List, [], ◌∷◌, ◌++◌, Bool, true, false, Option, Some, None, Result, Ok, Err, if◌then◌else◌}
+use Rattle.std.specs.Prelude.{ℕ, ◌==◌, List, [], ◌++◌, Bool, true, false, Option, Some, None, Result, Ok, Err, if◌then◌else◌}
 use Rattle.words.specs.Words.{words_of}
 use Rattle.line_reader.specs.Script.{Script, End, Broken, Line, script_of}
 use Rattle.abstract_port.specs.declared.Command.{Command}

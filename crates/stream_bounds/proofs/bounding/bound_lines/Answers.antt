@@ -4,7 +4,7 @@ use Rattle.words.specs.Words.{words_of}
 use Rattle.line_reader.specs.LineReader.{current_number, script_left}
 use Rattle.job.proofs.LineLaws.{Goes, begun, goes_on, goes_past, goes_wrong, stops}
 use Rattle.schedule_check.specs.Checked.{is_command}
-use Rattle.stream_bounds.specs.BoundLines.{command_finding, command_lines, first_of}
+use Rattle.stream_bounds.specs.BoundLines.{command_finding, first_of}
 use Rattle.stream_bounds.specs.Faults.{schedules_limited}
 use Rattle.stream_bounds.specs.declared.faults.BoundsInput.TheVariants as Inputs
 use Rattle.stream_bounds.specs.declared.faults.Finding.{Finding}

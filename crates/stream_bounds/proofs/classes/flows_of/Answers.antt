@@ -1,5 +1,5 @@
 use Rattle.stream_bounds.specs.Classes.{class_of, flow_of, is_class}
-use Rattle.stream_bounds.proofs.PickLaws.{kept_all, kept_more, kept_same}
+use Rattle.stream_bounds.proofs.PickLaws.{kept_all}
 use Rattle.traffic.specs.declared.table.Stream.{Stream}
 use Rattle.stream_bounds.proofs.classes.flows_of.Goals as goal
 

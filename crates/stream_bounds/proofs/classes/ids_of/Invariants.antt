@@ -1,6 +1,5 @@
-use Rattle.std.proofs.Common.{◌≡◌, ◌++◌, All, drop}
-use Rattle.delay_bounds.specs.Claim.{IsFlow}
-use Rattle.stream_bounds.specs.Classes.{class_of, flow_of, ids_of, is_class}
+use Rattle.std.proofs.Common.{◌≡◌, ◌++◌, drop}
+use Rattle.stream_bounds.specs.Classes.{class_of, ids_of, is_class}
 use Rattle.stream_bounds.proofs.PickLaws.{picked}
 use Rattle.traffic.specs.declared.table.Stream.{Stream}
 use Rattle.stream_bounds.proofs.classes.ids_of.Given as goal

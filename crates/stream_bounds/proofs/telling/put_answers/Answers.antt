@@ -1,10 +1,10 @@
-use Rattle.std.proofs.Common.{◌≡◌, ◌++◌, List, ℕ, None, ap, refl}
+use Rattle.std.proofs.Common.{◌≡◌, None, ap, refl}
 use Rattle.std.proofs.lemmas.Result.{err_from_is_err_and}
 use Rattle.octet_writer.proofs.Fronts.{sent_none, sent_more, sent_exit, sent_last}
 use Rattle.abstract_port.specs.AbstractPort.{plan_asked}
 use Rattle.gate_list.specs.Gate.{Plan}
 use Rattle.schedule_check.specs.Apart.{apart_line, class_count, classes_apart}
-use Rattle.stream_bounds.specs.BoundLines.{bound_lines, change_lines, class_lines}
+use Rattle.stream_bounds.specs.BoundLines.{change_lines, class_lines}
 use Rattle.stream_bounds.specs.Verdicts.{class_answers}
 use Rattle.stream_bounds.proofs.telling.put_answers.Goals as goal
 

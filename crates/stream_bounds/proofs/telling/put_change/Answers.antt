@@ -1,6 +1,6 @@
-use Rattle.std.proofs.Common.{◌≡◌, Option, Some, None, Result, Ok, Err, refl, sym, ap, ◌∙◌, subst}
+use Rattle.std.proofs.Common.{◌≡◌, Option, Some, Ok, Err, refl, sym, subst}
 use Rattle.abstract_port.specs.AbstractPort.{plan_asked}
-use Rattle.gate_list.specs.Gate.{Plan, ok_unless, plan_fault}
+use Rattle.gate_list.specs.Gate.{ok_unless, plan_fault}
 use Rattle.gate_list.specs.declared.PlanFault.{PlanFault}
 use Rattle.schedule_check.proofs.ChangeLaws.{made_without_fault}
 use Rattle.stream_bounds.specs.BoundLines.{change_finding, change_lines}
