@@ -1,9 +1,8 @@
 -- What is answered about a class and its streams.
 --
--- The claim: the answer about a class is `answer_of` (delay_bounds/specs/Walked.antt) for the flows of its streams in the schedule. The contract of
--- `bound_flows` says of the same answer what it is worth, in the words of delay_bounds/specs/Bounds.antt and Bounded.antt: bounds hold for ever, and
--- each is reached (`AreBounds`); a class that is full has no room for that very frame, and one that is stuck has a frame that fits into no window
--- (`IsUnbound`). The laws `EveryRunLaw`, `FullLaw` and `NeverLaw` carry these over to every run of a port.
+-- The claim: the answer about a class is `answer_of` (delay_bounds/specs/Walked.antt) for the flows of its streams in the schedule. What it is
+-- worth in every run of a port is delay_bounds/specs/Claim.antt, the law `delay_bounds::laws::answers`: bounds hold for ever, and each is reached;
+-- of a class that is full that very frame is the first to be dropped, and of one that is stuck it is too, behind a frame that never starts.
 use Rattle.std.specs.Prelude.{ℕ, ◌+◌, ◌-◌, ◌^◌, min, nat_le, Bool, true, false, List, [], ◌∷◌, drop, slice_get, slice_set, slice_index_or, Option, Some, None, unwrap_or, Result, Ok, Err, if◌then◌else◌}
 use Rattle.gate_list.specs.Gate.{keeps_apart}
 use Rattle.abstract_port.specs.AbstractPort.{plan_asked}

@@ -1,4 +1,3 @@
-use Rattle.std.proofs.Common.{◌-◌}
 use Rattle.std.proofs.lemmas.Result.{err_from_is_err_and}
 use Rattle.octet_writer.proofs.Fronts.{sent_all, sent_exit, sent_more}
 use Rattle.stream_bounds.proofs.LineLaws.{class_end, class_more}

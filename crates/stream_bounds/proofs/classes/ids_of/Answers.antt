@@ -1,4 +1,4 @@
-use Rattle.std.proofs.Common.{rules, sym, ap, ◌∙◌, ◌+◌}
+use Rattle.std.proofs.Common.{rules, sym, ap, ◌∙◌}
 use Rattle.stream_bounds.proofs.classes.ids_of.Goals.{then-is_class+in-Ok, else-is_class}
 use Rattle.stream_bounds.specs.Classes.{class_of, is_class}
 use Rattle.stream_bounds.proofs.PickLaws.{kept_all, kept_more, kept_same}
