@@ -1,4 +1,4 @@
--- What is handed in, as a port takes it.
+-- What structs of a fixed layout say: a moment, a frame, a schedule (IEEE Std 802.1Q-2018, 12.29.1).
 use Rattle.std.specs.Prelude.{ℕ, ◌+◌, ◌*◌, ◌^◌, ◌==◌, nat_lt, if◌then◌else◌, List, map, take, Option, Some, None, Result, Ok, Err}
 use Rattle.wire_time.specs.declared.Frame.{Frame}
 use Rattle.class_map.specs.declared.ClassMap.{ClassMap}
@@ -9,14 +9,11 @@ use Rattle.gate_list.specs.Gate.{gate_fault, ok_unless}
 use Rattle.gate_list.specs.declared.Entry.{Entry}
 use Rattle.gate_list.specs.declared.GateFault.TheVariants.{TooManyEntries}
 use Rattle.gate_list.specs.declared.GateList.{GateList}
-use Rattle.abstract_port.specs.declared.Change.{Change}
 use Rattle.abstract_port.specs.declared.Command.{Command}
 use Rattle.abstract_port.specs.declared.Command.TheVariants.{Replace}
 use Rattle.driven_port.specs.declared.taken.ScheduleFault.{ScheduleFault}
 use Rattle.driven_port.specs.declared.taken.ScheduleFault.TheVariants.{Map, Ranges, Gates}
-use Rattle.driven_port.specs.declared.values.CEntry.{CEntry}
 use Rattle.driven_port.specs.declared.values.CFrame.{CFrame}
-use Rattle.driven_port.specs.declared.values.CRange.{CRange}
 use Rattle.driven_port.specs.declared.values.CSchedule.{CSchedule}
 
 -- the moment of two halves

@@ -1,5 +1,5 @@
--- What a driven port answers, and the port then.
-use Rattle.std.specs.Prelude.{ℕ, ◌+◌, ◌/◌, ◌%◌, ◌^◌, Bool, true, false, ◌||◌, nat_lt, if◌then◌else◌, Option, Some, None, Result, Ok, Err, is_some, slice_index_or}
+-- What a driven port answers, and the port then (IEEE Std 802.1Q-2018, 8.6.8.4), as structs of a fixed layout.
+use Rattle.std.specs.Prelude.{ℕ, ◌/◌, ◌%◌, ◌^◌, Bool, true, false, ◌||◌, nat_lt, if◌then◌else◌, Option, Some, None, Result, Ok, Err, is_some, slice_index_or}
 use Rattle.wire_time.specs.Moment.{greatest_moment}
 use Rattle.wire_time.specs.declared.Frame.{Frame}
 use Rattle.abstract_port.specs.AbstractPort.{AbstractPort, verdict, after_arrival, installs, next_start, settled, report_of, counters_of}

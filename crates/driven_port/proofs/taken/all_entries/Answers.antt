@@ -1,4 +1,4 @@
-use Rattle.std.proofs.Common.{rules, ◌≡◌, ℕ, ◌<◌, sym, ◌∙◌, length, List, slice_index_or, arith}
+use Rattle.std.proofs.Common.{rules, ◌≡◌, sym, ◌∙◌, length, slice_index_or}
 use Rattle.std.proofs.lemmas.List.{ext_get_or, get_or-map, length-map}
 use Rattle.gate_list.specs.declared.Entry.{Entry}
 use Rattle.driven_port.specs.declared.values.CEntry.{CEntry}
