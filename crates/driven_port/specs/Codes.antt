@@ -1,4 +1,4 @@
--- The numbers of reasons, as `enum taprio_reason` of bindings/c/taprio.h has them.
+-- The numbers of reasons: those of `enum taprio_reason` of bindings/c/taprio.h.
 use Rattle.std.specs.Prelude.{ℕ}
 use Rattle.class_map.specs.declared.MapFault.TheVariants as maps
 use Rattle.class_map.specs.declared.QueueFault.TheVariants as queues

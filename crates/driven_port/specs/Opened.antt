@@ -1,4 +1,4 @@
--- Which values a port can have.
+-- Which rate, mtu and room a port can have, judged in this order.
 use Rattle.std.specs.Prelude.{ℕ, not, if◌then◌else◌, Option, Some, None, is_err}
 use Rattle.wire_time.specs.Wire.{rate_of}
 use Rattle.port.specs.Limits.{is_mtu, is_room}

@@ -1,4 +1,4 @@
--- A place with a port, or without one.
+-- A place with a port, or without one, and what a call does there.
 use Rattle.std.specs.Prelude.{ℕ, ◌==◌, if◌then◌else◌, Option, Some, None, Result, Ok, Err}
 use Rattle.wire_time.specs.Wire.{rate_of}
 use Rattle.wire_time.specs.declared.RateFault.{RateFault}

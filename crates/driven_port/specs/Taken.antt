@@ -1,4 +1,4 @@
--- What is handed in, as a port takes it.
+-- What structs of a fixed layout say: a moment, a frame, a schedule (IEEE Std 802.1Q-2018, 12.29.1).
 use Rattle.std.specs.Prelude.{ℕ, ◌+◌, ◌*◌, ◌^◌, ◌==◌, nat_lt, if◌then◌else◌, List, map, take, Option, Some, None, Result, Ok, Err}
 use Rattle.wire_time.specs.declared.Frame.{Frame}
 use Rattle.class_map.specs.declared.ClassMap.{ClassMap}
