@@ -1,8 +1,4 @@
-<<<<<<< HEAD
--- What a driven port answers, and the port then.
-=======
 -- What a driven port answers, and the port then (IEEE Std 802.1Q-2018, 8.6.8.4), as structs of a fixed layout.
->>>>>>> 4d99c186216ef059e4fa38b9ba1673ff66f73df3
 use Rattle.std.specs.Prelude.{ℕ, ◌/◌, ◌%◌, ◌^◌, Bool, true, false, ◌||◌, nat_lt, if◌then◌else◌, Option, Some, None, Result, Ok, Err, is_some, slice_index_or}
 use Rattle.wire_time.specs.Moment.{greatest_moment}
 use Rattle.wire_time.specs.declared.Frame.{Frame}
