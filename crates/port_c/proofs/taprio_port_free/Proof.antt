@@ -1,5 +1,5 @@
 -- The walk of `taprio_port_free`: the port is lent for a lifetime that is made for the call of `free`, and lies at its pointer again when that is over.
-use Rattle.port_c.proofs.Walks.{◌≡◌, ℕ, [], ◌∷◌, refl, ap, MutBor, proved, full_share, id⊢, Lft, ftrue, flft, fres, flent, WpFn, named, vunit, vptr, fact, tables, Body, ‵, raw, ◌⊛◌, some, later, prop, ◌$◌, ◌∵◌, !, qed, done, move, keep, drop, use1, use3, split, join, fsplit, fjoin, feq_i, feq_l, pick, await, regoal, rewrite, suffices, frame, group, lft_new, lft_end, enter, of_opd, unit_lit, addr, stop, no_more, and_then, returns, alloc_all, pass_all, free_all, look_at, get, through, sets, lands_as, unit, yes, lends_ref, ref_back, mem, Ptr, RawPtr, block_ptr, lies_at, in_a_block, rawptr_vals, rawptr_Tells, ptr_val, MutRef, mut_vals, plain, nothing, only, heard, calls_at, Lasts, lasts, triple_of, framed, Stays, walk_of, stay_dropped, Goes-dropped, ends_at}
+use Rattle.port_c.proofs.Walks.{◌≡◌, ℕ, [], ◌∷◌, refl, ap, MutBor, proved, full_share, id⊢, Lft, ftrue, flft, fres, flent, WpFn, named, vunit, vptr, fact, tables, Body, ‵, raw, ◌⊛◌, some, later, prop, ◌$◌, ◌∵◌, !, qed, done, move, keep, drop, use1, use3, split, join, fsplit, fjoin, feq_i, feq_l, pick, await, regoal, rewrite, suffices, group, lft_new, lft_end, enter, of_opd, unit_lit, addr, stop, no_more, and_then, returns, alloc_all, pass_all, free_all, look_at, get, through, sets, lands_as, unit, yes, lends_ref, ref_back, mem, Ptr, RawPtr, block_ptr, lies_at, in_a_block, rawptr_vals, rawptr_Tells, MutRef, mut_vals, plain, nothing, only, heard, calls_at, Lasts, lasts, triple_of, framed, Stays, walk_of, stay_dropped, Goes-dropped, ends_at}
 use Rattle.std.specs.Prelude.{None}
 use Rattle.port_c.specs.contracts.taprio_port_free as f
 use Rattle.port_c.proofs.taprio_port_free.Statement.{statement}

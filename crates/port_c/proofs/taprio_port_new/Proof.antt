@@ -1,5 +1,5 @@
 -- The walk of `taprio_port_new`: what `PortSlot::new` answers is written where there was room.
-use Rattle.port_c.proofs.Walks.{◌≡◌, ℕ, [], ◌∷◌, refl, ap, MutBor, proved, full_share, id⊢, Lft, ftrue, flft, fres, flent, WpFn, named, vunit, vptr, fact, tables, Body, ‵, raw, ◌⊛◌, some, later, prop, ◌$◌, ◌∵◌, !, qed, done, move, keep, drop, use1, split, join, fsplit, fjoin, feq_i, feq_l, pick, await, regoal, rewrite, suffices, frame, group, enter, of_opd, unit_lit, addr, stop, no_more, and_then, returns, alloc_all, pass_all, free_all, look_at, get, through, sets, lands_as, unit, u32, w32, vint, uint_vals, uint_Tells, yes, Ptr, RawPtr, block_ptr, lies_at, in_a_block, rawptr_vals, rawptr_Tells, ptr_val, MutRef, mut_vals, mut_Tells, plain, nothing, only, heard, calls_at, Lasts, lasts, triple_of, framed, Stays, walk_of, says, stay_dropped, Goes-dropped, gave_ref, Goes-gave_ref, ends_at}
+use Rattle.port_c.proofs.Walks.{◌≡◌, [], ◌∷◌, refl, proved, full_share, id⊢, ftrue, flft, WpFn, named, vunit, vptr, fact, tables, ‵, raw, ◌⊛◌, some, later, prop, ◌$◌, ◌∵◌, !, qed, done, move, keep, drop, use1, split, join, fsplit, fjoin, feq_i, pick, await, regoal, rewrite, suffices, group, enter, of_opd, unit_lit, addr, stop, no_more, and_then, returns, alloc_all, pass_all, free_all, look_at, get, through, sets, lands_as, u32, w32, vint, uint_vals, uint_Tells, yes, Ptr, RawPtr, block_ptr, in_a_block, rawptr_vals, rawptr_Tells, ptr_val, MutRef, mut_vals, mut_Tells, plain, nothing, heard, calls_at, Lasts, lasts, triple_of, framed, Stays, walk_of, stay_dropped, Goes-dropped, gave_ref, Goes-gave_ref, ends_at}
 use denote.RawPtr.{room_at}
 use base.Logic.{emp}
 use contract.Monad.{fact_i}
