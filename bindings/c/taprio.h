@@ -228,10 +228,11 @@ static inline void taprio_replay_or_null(const struct taprio_port_values *values
  * What a caller has to keep, beside what is said above:
  * - taprio_port_new writes its place and reads nothing of it. The other calls want a place that taprio_port_new has written. The place
  *   may be copied elsewhere, if only the copy is used from then on.
- * - Between the calls nobody reads or writes a place, and one call at a time is handed it. Different ports share nothing. A port stays
- *   on the thread that made it.
- * - taprio_port_new takes memory for the port and for all frames that ever wait, about 500 kB at a room of 4096; the other calls take
- *   none, but taprio_port_free gives it back. A place that is made anew without taprio_port_free leaks what it had.
+ * - Between the calls nobody reads or writes a place, and one call at a time is handed it. Another thread may make the next call, where
+ *   a lock, or the start or the end of a thread, orders the two. Different ports share nothing.
+ * - taprio_port_new takes memory for the port and for all frames that ever wait: 22 kB, and 192 octets for each frame of room (800 kB at
+ *   most). The other calls take none, and taprio_port_free gives all of it back. A place that is made anew without taprio_port_free
+ *   leaks what it had.
  * - What is written (`told`) overlaps nothing else that the call is handed. */
 
 /* The place of a port, in memory of the caller's; 16 octets, aligned to 8. */
