@@ -118,7 +118,7 @@ def case_the_readme_is_short(program):
 def spec_lines(path):
     """How many lines a file of definitions has, without blank lines, comments and imports."""
     lines = [line.strip() for line in path.read_text(encoding="utf-8").splitlines()]
-    return sum(1 for line in lines if line and not line.startswith(("--", "use ", "pub use ")))
+    return sum(1 for line in lines if line and not line.startswith(("--", "use ", "pub use ", "unfoldable pub use ")))
 
 
 def case_the_readme_counts_what_there_is(program):
