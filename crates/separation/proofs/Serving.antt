@@ -24,10 +24,10 @@ use Rattle.abstract_port.proofs.RunLaws.{accepted_plan, has_cycle, clock_back, c
 use Rattle.abstract_port.proofs.ArrivalLaws.{verdict_with}
 use Rattle.separation.specs.Separation.{IsApartAt, IsApart, IsKeptApart, is_other}
 use Rattle.separation.proofs.Histories.{push_open}
-use Rattle.separation.proofs.Lockstep.{AreFit, rest_of, live, IsLawful, IsSameWire}
+use Rattle.separation.proofs.Lockstep.{rest_of, live, IsLawful, IsSameWire}
 use Rattle.separation.proofs.Lives.{starts_until_live}
 use Rattle.separation.proofs.Steps.{AreHeld, Judged, judged, queued, dropped, install_with}
-use Rattle.separation.proofs.Separates.{step, skip, no_queue}
+use Rattle.separation.proofs.Separates.{step, skip, new_lawful, no_queue}
 use Rattle.separation.specs.Traffic.{Came, queued_as, queued_by, queued_in, starts_of_class, IsOnlyAt, IsOnly}
 use Rattle.separation.specs.Served.{frames_of, AreServed, ServedLaw}
 use Rattle.separation.proofs.Alone.{serve, may_in, serves}
@@ -333,18 +333,6 @@ module _ (c : ℕ) (a : Accepted) (pace : ℕ) (lc : c < 8) where
       later)
 
 -- ---- a new port
-
-new_lawful : (ps mtu room c : ℕ) → 80 ≤ ps → 68 ≤ mtu → c < 8 → IsLawful c (new_port ps mtu room)
-new_lawful ps mtu room c rate large lc = record {
-  rate = rate;
-  mtu = large;
-  wire = omega arith;
-  fits = λ d. subst (AreFit ps mtu) (sym (no_queue d)) tt;
-  apart = tt;
-  waits = λ n. no_queue c;
-  queued = lc;
-  counted = lc;
-}
 
 pub new_holds : (ps mtu room c : ℕ) (a : Accepted) → 80 ≤ ps → 68 ≤ mtu → c < 8 → Holds c a ps (new_port ps mtu room) [] []
 new_holds ps mtu room c a rate large lc = record {
