@@ -269,10 +269,10 @@ fn walk<A: Allocator>(
 /// and each place of the queue alone.
 ///
 /// # Errors
-/// `Full` and `Never` tell of the first frame that finds no room, or that never starts, and then of the first that finds no room. `Long`: after `limit` frames it does not yet
-/// stand as it did. `Late`: a frame can't start before `MAX_MOMENT`. `Memory`: out of memory.
+/// `Full` and `Never` tell of the first frame that finds no room, or that never starts, and then of the first that finds no room.
+/// `Long`: after `limit` frames it does not yet stand as it did. `Late`: a frame can't start before `MAX_MOMENT`. `Memory`: out of memory.
 ///
-/// IEEE Std 802.1Q-2018, 8.6.8.4 and 8.6.9. `laws` say what these bounds are worth.
+/// IEEE Std 802.1Q-2018, 8.6.8.4 and 8.6.9. `laws::answers` says what the answer is worth in every run.
 pub fn bound_flows<A: Allocator>(
     alloc: &A,
     schedule: &Schedule,

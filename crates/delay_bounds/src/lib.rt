@@ -1,4 +1,6 @@
 //! How long the frames of flows wait in a class that a schedule keeps apart, exactly and for ever.
+//!
+//! The whole claim is specs/Claim.antt, the contract of `laws::answers`. What is answered is that of `bound_flows`.
 #![tactic(auto)]
 
 use std::alloc::{Allocator, Global};
