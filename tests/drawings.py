@@ -1,0 +1,148 @@
+"""Pictures of random runs against the answers to the same scripts: bands, bars, waits, drops and changes, each at its place to a hundredth of a
+pixel. What is expected is taken from what `script` answers and from the schedule, and not from the program's picture.
+
+    python3 tests/drawings.py PROGRAM COUNT    compares so many runs"""
+import random
+import re
+import sys
+
+from rows import run
+
+RUNS = 150
+LEFT, RIGHT = 64, 32
+# The least width of a bar and of a band, in hundredths of a pixel.
+LEAST = 100
+TOPS = [310, 274, 238, 202, 166, 130, 94, 58, 346]
+WIRE = 8
+RECT = re.compile(r'<rect class="([of])" x="(\d+\.\d\d)" y="(\d+)" width="(\d+\.\d\d)" height="(\d+)"/>')
+WAIT = re.compile(r'<path class="w" d="M(\d+\.\d\d) (\d+)H(\d+\.\d\d)"/>')
+DROP = re.compile(r'<path class="d" d="M(\d+) (\d+)l8 8m0 -8l-8 8"/>')
+CHANGE = re.compile(r'<path class="c" d="M(\d+\.\d\d) 48V382"/>')
+
+
+class Run:
+    """A random script, and the part of its run that is drawn."""
+
+    def __init__(self, number):
+        rng = random.Random(f"drawings {number}")
+        self.classes = rng.randint(1, 8)
+        self.entries = [(rng.randrange(1 << self.classes), rng.randint(600, 40_000)) for _ in range(rng.randint(1, 5))]
+        self.base = rng.randrange(200_000)
+        self.frames, self.now = [], 0
+        lines = [
+            f"tc qdisc replace dev eth0 root taprio num_tc {self.classes} map {' '.join(str(c) for c in range(self.classes))} "
+            f"base-time {self.base} {' '.join(f'sched-entry S {mask:02x} {interval}' for mask, interval in self.entries)}"
+        ]
+        for identifier in range(1, rng.randint(2, 40)):
+            if rng.random() < 0.6:
+                self.now += rng.choice([1, 700, 50_000, 1_000_000, 30_000_000]) * rng.randint(1, 20)
+                lines.append(f"clock {self.now}")
+            length = rng.choice([13, 60, 60, 200, 1514, 1515])
+            number = rng.randrange(self.classes)
+            lines.append(f"frame {identifier} {number} {length}")
+            self.frames.append((self.now, number))
+        self.to = self.now + rng.choice([1_000, 5_000_000, 100_000_000]) * rng.randint(1, 9)
+        self.begin = rng.choice([0, 0, rng.randrange(self.to)])
+        self.width = rng.choice([400, 777, 1200, 2400])
+        self.room = rng.choice([1, 2, 128])
+        self.script = "".join(f"{line}\n" for line in lines).encode()
+
+    def x(self, moment):
+        """The place of a moment, in hundredths of a pixel; before and after the picture that of its edge."""
+        inside = min(max(moment, self.begin), self.to) - self.begin
+        return LEFT * 100 + inside * (self.width - LEFT - RIGHT) * 100 // (self.to - self.begin)
+
+    def shows(self, begin, end):
+        """Whether something of a time is drawn; one of no length is where its moment is."""
+        return begin < self.to and (end > self.begin or begin == end >= self.begin)
+
+    def mask(self, change, moment):
+        """The gates at a moment, and until when at least they stay."""
+        if moment < change:
+            return 0xFF, change
+        at = (moment - change) % (1000 * sum(interval for _, interval in self.entries))
+        for mask, interval in self.entries:
+            if at < 1000 * interval:
+                return mask, moment + 1000 * interval - at
+            at -= 1000 * interval
+        raise AssertionError
+
+    def bands(self, change):
+        """For each class the longest times for which it is open, up to the end."""
+        found, since, moment = [[] for _ in range(8)], [None] * 8, 0
+        while moment < self.to:
+            mask, after = self.mask(change, moment)
+            for number in range(8):
+                if mask >> number & 1 and since[number] is None:
+                    since[number] = moment
+                elif not mask >> number & 1 and since[number] is not None:
+                    found[number].append((since[number], moment))
+                    since[number] = None
+            moment = after
+        for number, begin in enumerate(since):
+            if begin is not None:
+                found[number].append((begin, self.to))
+        return found
+
+
+def expected(one, answers):
+    """What is drawn, by the answers. A frame that doesn't start by the end has no wait."""
+    marks, change = {"o": [], "f": [], "w": [], "d": [], "c": []}, float("inf")
+    for line in answers.split("\n"):
+        words = line.split()
+        if words[:1] == ["installed"]:
+            change = int(words[2])
+            if one.begin <= change < one.to:
+                marks["c"].append(one.x(change))
+        elif words[:1] == ["dropped"]:
+            moment, number = one.frames[int(words[1]) - 1]
+            if one.shows(moment, moment):
+                marks["d"].append((TOPS[number] + 10, one.x(moment) // 100 - 4))
+        elif words[:1] == ["start"]:
+            identifier, number, at, end = int(words[1]), int(words[3]), int(words[5]), int(words[7])
+            came, _ = one.frames[identifier - 1]
+            if one.shows(at, end):
+                marks["f"] += [(TOPS[lane] + 10, one.x(at), max(LEAST, one.x(end) - one.x(at))) for lane in (number, WIRE)]
+            if came < at and one.shows(came, at):
+                marks["w"].append((TOPS[number] + 6, one.x(came), one.x(at)))
+    for number, bands in enumerate(one.bands(change)):
+        marks["o"] += [(TOPS[number], one.x(begin), max(LEAST, one.x(end) - one.x(begin))) for begin, end in bands if one.shows(begin, end)]
+    return marks
+
+
+def drawn(picture):
+    """What the picture has, without its legend, whose marks lie below the lanes."""
+    hundredths = lambda text: int(text.replace(".", ""))
+    marks = {"o": [], "f": [], "w": [], "d": [], "c": []}
+    for kind, x, y, width, _ in RECT.findall(picture):
+        if int(y) < 400:
+            marks[kind].append((int(y), hundredths(x), hundredths(width)))
+    marks["w"] = [(int(y), hundredths(begin), hundredths(end)) for begin, y, end in WAIT.findall(picture)]
+    marks["d"] = [(int(y), int(x)) for x, y in DROP.findall(picture) if int(y) < 400]
+    marks["c"] = [hundredths(x) for x in CHANGE.findall(picture)]
+    return marks
+
+
+def compare(program, number):
+    """Compares the picture of a run with its answers."""
+    one = Run(number)
+    room = ["--room", str(one.room)]
+    told = run(program, ["script", "--until", str(one.to), *room], one.script)
+    words = ["draw", "--from", str(one.begin), "--to", str(one.to), "--width", str(one.width), *room]
+    picture = run(program, words, one.script)
+    assert (told.status, picture.status, told.errors, picture.errors) == (0, 0, b"", b""), (number, told, picture)
+    wanted, got = expected(one, told.output.decode()), drawn(picture.output.decode())
+    for kind in wanted:
+        assert sorted(wanted[kind]) == sorted(got[kind]), f"run {number}, marks {kind}: wanted {sorted(wanted[kind])}, got {sorted(got[kind])}"
+
+
+def case_pictures_of_random_runs_are_their_answers(program):
+    """Bands, bars, waits, drops and changes of seeded runs lie where the answers say."""
+    for number in range(RUNS):
+        compare(program, number)
+
+
+if __name__ == "__main__":
+    for each in range(int(sys.argv[2])):
+        compare(sys.argv[1], each)
+    print(f"{sys.argv[2]} runs are drawn as they were answered")
