@@ -10,6 +10,7 @@ pub mod NeverLaws
 pub mod StuckLaws
 pub mod LessLaws
 pub mod OverloadLaws
+pub mod OverloadExample
 pub mod EveryRunLaws
 pub mod FitLaws
 pub mod MomentLaws

@@ -134,7 +134,7 @@ module _ (may : ℕ → ℕ → Bool) (cycle : ℕ) (flows : List Flow) where
   IsFull room s = (m : ℕ) × (z : Track) × (e : ℕ × ℕ) × (after may cycle room flows m s ≡ Some z) × (earliest z.nexts ≡ Some e) × (room ≤ length (from_on e.0 z.starts))
 
   -- a frame that finds room and starts
-  one_goes : (room : ℕ) (s : Track) (e : ℕ × ℕ) (at : ℕ) → earliest s.nexts ≡ Some e → length (from_on e.0 s.starts) < room → first_fit may (flow_at flows e.1).need (max e.0 s.free) cycle ≡ Some at
+  pub one_goes : (room : ℕ) (s : Track) (e : ℕ × ℕ) (at : ℕ) → earliest s.nexts ≡ Some e → length (from_on e.0 s.starts) < room → first_fit may (flow_at flows e.1).need (max e.0 s.free) cycle ≡ Some at
       → (t : Told) × (step may cycle room flows s ≡ Some (t, record { nexts = next_behind flows s.nexts e; free = at + (flow_at flows e.1).need; starts = from_on e.0 s.starts ++ at ∷ [] }))
   unfolding step
   one_goes room s e at first few fit = (
