@@ -9,7 +9,7 @@ use Rattle.delay_bounds.specs.declared.Flow.{Flow}
 
 -- By a plan alone, where at some room no frame is dropped so far, and of so many frames behind the first ones:
 -- * behind them the frames of the flows come as they did before them, some whole cycles later;
--- * each of them comes while the wire is still the class's, for the frames before it;
+-- * each of them comes before the wire is free of the frames before it, or just then;
 -- * behind them the wire is free later than before them by these cycles, and by one more at least.
 --
 -- The second is needed. Frames that come together late in a hyperperiod, behind an idle time, make the wire free by any number of cycles
