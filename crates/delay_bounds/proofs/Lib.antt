@@ -9,6 +9,8 @@ pub mod FullLaws
 pub mod NeverLaws
 pub mod StuckLaws
 pub mod LessLaws
+pub mod OverloadLaws
+pub mod OverloadExample
 pub mod EveryRunLaws
 pub mod FitLaws
 pub mod MomentLaws

@@ -228,7 +228,7 @@ module _ (flows : List Flow) where
               let behind = rest u first k (omega (arith, less)) in
               omega (arith, at, behind)
 
-  rises_once : (nexts : List ℕ) (e d : ℕ × ℕ) → earliest nexts ≡ Some e → earliest (next_behind flows nexts e) ≡ Some d → e.0 ≤ d.0
+  pub rises_once : (nexts : List ℕ) (e d : ℕ × ℕ) → earliest nexts ≡ Some e → earliest (next_behind flows nexts e) ≡ Some d → e.0 ≤ d.0
   rises_once nexts e d first second =
       let period : ℕ = (flow_at flows e.1).period in
       let here = first_of nexts e first in

@@ -66,7 +66,7 @@ from_shift t d (s ∷ rest) =
     by true e = e
     by false e = refl
 
-set_map : (d : ℕ) (xs : List ℕ) (i x : ℕ) → set (map (λ s. s + d) xs) i (x + d) ≡ map (λ s. s + d) (set xs i x)
+pub set_map : (d : ℕ) (xs : List ℕ) (i x : ℕ) → set (map (λ s. s + d) xs) i (x + d) ≡ map (λ s. s + d) (set xs i x)
 set_map d [] i x = refl
 set_map d (y ∷ ys) zero x = refl
 set_map d (y ∷ ys) (suc i) x = ap (λ zs. (y + d) ∷ zs) (set_map d ys i x)

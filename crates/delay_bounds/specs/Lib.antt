@@ -9,5 +9,6 @@ pub mod Never
 pub mod Less
 pub mod Noted
 pub mod Stuck
+pub mod Overloaded
 pub mod Bounded
 pub mod Walked

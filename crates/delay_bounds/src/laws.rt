@@ -5,6 +5,7 @@ ghost use Rattle.delay_bounds.specs.ForEver.{ForEverLaw};
 ghost use Rattle.delay_bounds.specs.Full.{FullLaw};
 ghost use Rattle.delay_bounds.specs.Less.{LessLaw};
 ghost use Rattle.delay_bounds.specs.Never.{NeverLaw, StuckLaw};
+ghost use Rattle.delay_bounds.specs.Overloaded.{OverloadLaw};
 ghost use Rattle.delay_bounds.specs.Waits.{BoundsLaw, DropsLaw};
 ghost use Rattle.delay_bounds.specs.Walked.{PlanLaw, bounds_answered};
 
@@ -52,6 +53,11 @@ pub fn never()
 /// Where nothing starts any more, in every run the frame of the flows that then is the first to find no room is dropped, and none before it.
 pub fn stuck()
     ensures { StuckLaw }
+{}
+
+/// Where the class is overloaded, a frame of the flows finds no room at last, whatever the room: in every run it is dropped, and none before it.
+pub fn overload()
+    ensures { OverloadLaw }
 {}
 
 /// Frames that are left out, shorter or earlier, in their order, make no frame start later.
