@@ -1,6 +1,6 @@
 //! Schedule commands in memory.
 
-ghost use Rattle.std.specs.Prelude.{List, ℕ, Result};
+ghost use Rattle.std.specs.Prelude.{List, ℕ, Result, false};
 ghost use Rattle.abstract_port.specs.declared.Command.{Command};
 ghost use Rattle.in_memory.specs.Slices.{Answers, slices, told_by, told_of};
 ghost use Rattle.in_memory.specs.Values.{rate_at};

@@ -2,16 +2,14 @@
 //! that a number that is changed where it stands is refused here.
 #![tactic(auto)]
 
-ghost use Rattle.std.specs.Prelude.{◌≡◌, ◌+◌, ◌-◌, ◌*◌, ◌^◌};
+ghost use Rattle.std.specs.Prelude.{◌≡◌, ◌-◌, ◌*◌, ◌/◌, ◌^◌};
 ghost use Rattle.wire_time.specs.Moment.{greatest_moment};
 ghost use Rattle.wire_time.specs.declared.TheConstants.{CLASSES, MAX_MOMENT, MAX_MTU, MAX_PS_PER_OCTET, MIN_MTU, MIN_PS_PER_OCTET, PRIORITIES};
 ghost use Rattle.gate_list.specs.declared.TheConstants.{MAX_BASE_NS, MAX_CYCLE_NS, MAX_ENTRIES};
 ghost use Rattle.class_queue.specs.declared.TheConstants.{MAX_ROOM};
 ghost use Rattle.line_reader.specs.declared.lines.TheConstants.{MAX_LINES, MAX_LINE_OCTETS};
-ghost use Rattle.tc_reader.specs.declared.values.TheConstants.{MAX_SDU_VALUES};
 ghost use Rattle.capture.specs.declared.format.TheConstants.{MAX_RECORDS, MAX_RECORD_OCTETS};
 ghost use Rattle.capture.specs.declared.writer.TheConstants.{CAPTURE_END};
-ghost use Rattle.drawing.specs.declared.page.TheConstants as Page;
 ghost use Rattle.stream_bounds.specs.declared.settings.TheConstants.{MAX_FRAMES};
 
 /// Time: a moment is at most 2^63 - 1 nanoseconds, in picoseconds: the greatest `ktime_t` of Linux, in which tc-taprio(8) gives times.
@@ -32,12 +30,11 @@ pub fn port_limits()
     ensures fastest { MIN_PS_PER_OCTET ≡ 8 * 10 ^ 12 / (100 * 10 ^ 9) }
 {}
 
-/// Schedules: 256 entries; cycles and extensions of 2^40 nanoseconds, some 18 minutes; base times of 63 bits; sixteen values of max-sdu.
+/// Schedules: 256 entries; cycles and extensions of 2^40 nanoseconds, some 18 minutes; base times of 63 bits.
 pub fn schedule_limits()
     ensures entries { MAX_ENTRIES ≡ 256 }
     ensures cycle { MAX_CYCLE_NS ≡ 2 ^ 40 }
     ensures base { MAX_BASE_NS ≡ 2 ^ 63 - 1 }
-    ensures sizes { MAX_SDU_VALUES ≡ 16 }
 {}
 
 /// Text: 4,000,000 lines of 65,536 octets.
@@ -53,9 +50,7 @@ pub fn capture_limits()
     ensures end { CAPTURE_END ≡ 2 ^ 32 * 10 ^ 12 }
 {}
 
-/// Pictures: 400 to 2400 pixels wide. Bounds: 1,000,000,000 frames of a class.
+/// Bounds: 1,000,000,000 frames of a class.
 pub fn answer_limits()
-    ensures narrowest { Page.MIN_WIDTH ≡ 400 }
-    ensures widest { Page.MAX_WIDTH ≡ 2400 }
-    ensures frames { MAX_FRAMES ≡ 1000000000 }
+    ensures { MAX_FRAMES ≡ 1000000000 }
 {}

@@ -6,6 +6,7 @@ ghost use Rattle.clap.specs.Matches.{found_of};
 ghost use Rattle.program.specs.Given.{over_input_text, settings_in};
 ghost use Rattle.capture.specs.declared.writer.TheConstants.{CAPTURE_END};
 ghost use Rattle.job.specs.Ending.{IsUnanswered};
+ghost use Rattle.job.specs.Texts.{IsTold};
 ghost use Rattle.script.specs.Ending.{IsRefusal};
 ghost use Rattle.replay.specs.Texts.{open_text};
 
@@ -121,6 +122,23 @@ pub(crate) fn end_unopened<B: Allocator, W: Write + Drop, E: Write>(
     end_told(say_unopened(path, errors), answers)
 }
 
+/// Writes the text of an output that is one of the inputs. The exit status that goes with it is 2, also where that write fails.
+fn say_over_input<W: Write>(path: &str, writer: &mut W) -> Ended
+    ensures status { result.status ≡ 2 }
+    ensures told { IsTold result.told (W.contents writer.old) (W.contents writer.new) (over_input_text path.now) }
+{
+    let told = put_parts(
+        writer,
+        &[
+            Part::Text(b"taprio_port: OUT is one of the inputs: "),
+            Part::Text(path.as_bytes()),
+            Part::Text(b"\n"),
+        ],
+    )
+    .is_ok();
+    Ended { status: 2, told }
+}
+
 /// Reports an output that is one of the inputs, and gives the writer of the answers back. Nothing is answered.
 fn end_over_input<B: Allocator, W: Write + Drop, E: Write>(
     path: &str,
@@ -129,16 +147,7 @@ fn end_over_input<B: Allocator, W: Write + Drop, E: Write>(
 ) -> (Ended, W)
     ensures { IsUnanswered 2 (over_input_text path.now) result.0 (writer_contents W.contents answers) (W.contents result.1) (E.contents errors.old) (E.contents errors.new) }
 {
-    let told = put_parts(
-        errors,
-        &[
-            Part::Text(b"taprio_port: OUT is one of the inputs: "),
-            Part::Text(path.as_bytes()),
-            Part::Text(b"\n"),
-        ],
-    )
-    .is_ok();
-    end_told(Ended { status: 2, told }, answers)
+    end_told(say_over_input(path, errors), answers)
 }
 
 /// Replays what is open, the capture from `reader` where that is the standard input.

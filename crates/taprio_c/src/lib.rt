@@ -5,7 +5,7 @@
 
 mod values;
 
-ghost use Rattle.std.specs.Prelude.{List, ℕ, Result};
+ghost use Rattle.std.specs.Prelude.{List, ℕ, Result, false};
 ghost use Rattle.abstract_port.specs.declared.Command.{Command};
 ghost use Rattle.capture.specs.Records.{Entry};
 ghost use Rattle.capture.specs.declared.fault.CapFault.{CapFault};

@@ -1,4 +1,4 @@
-use Rattle.std.proofs.Common.{Bool, subst}
+use Rattle.std.proofs.Common.{Bool, false, subst}
 use Rattle.in_memory.specs.Slices.{Answers, slices, told_by}
 use Rattle.in_memory.specs.Values.{rate_at}
 use Rattle.schedule_check.specs.Checked.{whole_check}
