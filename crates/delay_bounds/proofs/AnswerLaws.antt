@@ -1,5 +1,5 @@
 -- What an answer says of a plan alone: the walk by its definition.
-use Rattle.std.proofs.Common.{◌≡◌, ◌<◌, ◌≤◌, ◌^◌, ℕ, zero, suc, ◌+◌, ◌-◌, max, Bool, true, false, cond, leb, ltb, List, [], ◌∷◌, ◌++◌, length, map, All, Option, Some, None, is_some, Result, refl, sym, ap, ◌∙◌, subst, arith, set}
+use Rattle.std.proofs.Common.{◌≡◌, ◌<◌, ◌≤◌, ◌^◌, ℕ, zero, suc, ◌+◌, ◌-◌, max, Bool, true, false, cond, leb, ltb, List, [], ◌∷◌, ◌++◌, length, map, All, Option, Some, None, IsSome, is_some, Result, refl, sym, ap, ◌∙◌, subst, arith, set}
 use Rattle.std.proofs.lemmas.List.{length-map}
 use Rattle.std.specs.Option.{option_map_or}
 use Rattle.std.proofs.lemmas.Bool.{leb-true, leb-false, ltb-true, ltb-false, false≢true}
@@ -9,19 +9,24 @@ use Rattle.gate_list.specs.Gate.{IsSchedule, Plan, in_ps}
 use Rattle.delay_bounds.specs.declared.Flow.{Flow}
 use Rattle.delay_bounds.specs.declared.Told.{Told}
 use Rattle.delay_bounds.specs.declared.Unbound.{Unbound}
-use Rattle.delay_bounds.specs.declared.bounding.Look.{Look}
-use Rattle.delay_bounds.specs.declared.bounding.Look.TheVariants as Looks
+use Rattle.delay_bounds.specs.declared.Unbound.TheVariants.{Overloaded, Long}
+use Rattle.delay_bounds.specs.declared.looking.Backlog.{Backlog}
+use Rattle.delay_bounds.specs.declared.looking.Look.{Look}
+use Rattle.delay_bounds.specs.declared.looking.Look.TheVariants as Looks
 use Rattle.delay_bounds.specs.declared.line.Stop.{Stop}
 use Rattle.delay_bounds.specs.declared.line.Stop.TheVariants as Stops
+use Rattle.delay_bounds.specs.Backlog.{followed, taken_at}
 use Rattle.delay_bounds.specs.Bounded.{Answer, IsByPlan, IsUnbound, unbound_by}
 use Rattle.delay_bounds.specs.Bounds.{Track, arrives, first_fit}
 use Rattle.delay_bounds.specs.Claim.{IsFlow, earliest, flow_at, offsets_of}
 use Rattle.delay_bounds.specs.ForEver.{counting}
 use Rattle.delay_bounds.specs.Line.{Standing, before_any}
 use Rattle.delay_bounds.specs.Noted.{noted, unseen}
+use Rattle.delay_bounds.specs.Overloaded.{IsOverloaded}
 use Rattle.delay_bounds.specs.Stuck.{first_refused}
-use Rattle.delay_bounds.specs.Walk.{begun, may_by}
+use Rattle.delay_bounds.specs.Walk.{after, begun, may_by}
 use Rattle.delay_bounds.specs.Walked.{PlanLaw, Walking, answer_of, by_look, by_next, by_stop, frame_of, goes_on, last_offset, look, starting, stop_of, walked, with_told}
+use Rattle.delay_bounds.proofs.BacklogLaws.{IsKept, kept_none, kept_on}
 use Rattle.delay_bounds.proofs.CourseLaws.{IsGoing, IsMarked, comes_at, goes_on as one_on, is_back, is_long, is_marked, line_long, starts_out, stops}
 use Rattle.delay_bounds.proofs.MomentLaws.{some_least}
 use Rattle.delay_bounds.proofs.SeenLaws.{back_bounds, back_most, back_recurs}
@@ -97,10 +102,19 @@ module _ (plan : Plan) (class room limit : ℕ) (flows : List Flow) (above : 0 <
   abbrev Goes : Walking → Type 0
   Goes w = IsGoing plan class room flows limit w.earlier w.frames w.since (standing w.track) (standing w.base) w.bounds w.most
 
+  abbrev Keeps : Walking → Type 0
+  Keeps w = IsKept plan class room flows w.frames w.since w.base w.backlog
+
   abbrev Meets : Result Answer Unbound → Type 0
   Meets answer = IsByPlan plan class room flows limit answer
 
-  module _ (n : ℕ) (w : Walking) (e : ℕ × ℕ) (first : earliest w.track.nexts ≡ Some e) (count : w.frames + suc n ≡ limit) (h : Goes w) (on : (v : Walking) → v.frames + n ≡ limit → Goes v → Meets (walked plan class room flows n v)) where
+  -- so many frames were walked as may be
+  unended_is : (grows : Bool) → (grows ≡ true → IsOverloaded plan class flows) → IsSome (after (may_by plan class) (in_ps plan.cycle) room flows limit (begun (offsets_of flows)))
+      → IsUnbound plan class room flows limit (cond grows Overloaded Long)
+  unended_is true growing long = (growing refl, long)
+  unended_is false growing long = long
+
+  module _ (n : ℕ) (w : Walking) (e : ℕ × ℕ) (first : earliest w.track.nexts ≡ Some e) (count : w.frames + suc n ≡ limit) (h : Goes w) (kept : Keeps w) (on : (v : Walking) → v.frames + n ≡ limit → Goes v → Keeps v → Meets (walked plan class room flows n v)) where
     abbrev new : Track
     new = counting w.track
 
@@ -122,11 +136,11 @@ module _ (plan : Plan) (class room limit : ℕ) (flows : List Flow) (above : 0 <
         says.full says.not_full says.late says.never)
 
     -- it goes on, and looks back to where it stood when a frame came
-    gone : (earlier since : ℕ) (base : Track) → earlier ≤ w.frames → IsMarked plan class room flows earlier since (standing base)
+    gone : (earlier since : ℕ) (base : Track) (backlog : Backlog) → earlier ≤ w.frames → IsMarked plan class room flows earlier since (standing base) → IsKept plan class room flows (w.frames + 1) since base backlog
         → Fits (may_by plan class) (in_ps plan.cycle) room e.0 (flow_at flows e.1) new.free new.starts
-        → Meets (with_told plan class room flows (walked plan class room flows n) (record { frames = w.frames; track = w.track; bounds = w.bounds; most = w.most; earlier = earlier; since = since; base = base })
+        → Meets (with_told plan class room flows (walked plan class room flows n) (record { frames = w.frames; track = w.track; bounds = w.bounds; most = w.most; earlier = earlier; since = since; base = base; backlog = backlog })
         (arrives (may_by plan class) (in_ps plan.cycle) room e.0 e.1 (flow_at flows e.1) new.free new.nexts new.starts))
-    gone earlier since base onward marked fits =
+    gone earlier since base backlog onward marked keeps fits =
         let f : Flow = flow_at flows e.1 in
         let told : Told = record { place = e.1; wait = fits.at - e.0; waiting = length new.starts + 1 } in
         let now : Track = record { nexts = set new.nexts e.1 (e.0 + f.period); free = fits.at + f.need; starts = new.starts ++ fits.at ∷ [] } in
@@ -136,21 +150,25 @@ module _ (plan : Plan) (class room limit : ℕ) (flows : List Flow) (above : 0 <
         let near = fit_soon (may_by plan class) f.need (max e.0 new.free) (in_ps plan.cycle) fits.at fits.fit in
         let soon = fits.soon in
         let small : told.wait < 2 ^ 128 = omega (arith, near, soon, short) in
-        let v : Walking = record { frames = w.frames + 1; track = now; bounds = noted told w.bounds; most = max told.waiting w.most; earlier = earlier; since = since; base = base } in
-        subst (λ o. Meets (with_told plan class room flows (walked plan class room flows n) (record { frames = w.frames; track = w.track; bounds = w.bounds; most = w.most; earlier = earlier; since = since; base = base }) o)) (sym is)
+        let v : Walking = record { frames = w.frames + 1; track = now; bounds = noted told w.bounds; most = max told.waiting w.most; earlier = earlier; since = since; base = base; backlog = backlog } in
+        subst (λ o. Meets (with_told plan class room flows (walked plan class room flows n) (record { frames = w.frames; track = w.track; bounds = w.bounds; most = w.most; earlier = earlier; since = since; base = base; backlog = backlog }) o)) (sym is)
         (on v (omega (arith, count))
-        (one_on plan class room flows limit w.earlier w.frames w.since (standing w.track) (standing w.base) w.bounds w.most h e.0 e.1 told (standing now) earlier since (standing base) (omega (arith, count)) first is small refl onward marked within))
+        (one_on plan class room flows limit w.earlier w.frames w.since (standing w.track) (standing w.base) w.bounds w.most h e.0 e.1 told (standing now) earlier since (standing base) (omega (arith, count)) first is small refl onward marked within) keeps)
 
-    by_frame : (earlier since : ℕ) (base : Track) → earlier ≤ w.frames → IsMarked plan class room flows earlier since (standing base)
-        → Meets (goes_on plan class room flows (walked plan class room flows n) e new (record { frames = w.frames; track = w.track; bounds = w.bounds; most = w.most; earlier = earlier; since = since; base = base }))
-    by_frame earlier since base onward marked = go (stop_of (may_by plan class) (in_ps plan.cycle) room e.0 (flow_at flows e.1) new.free new.starts) refl
+    by_frame : (earlier since : ℕ) (base : Track) (backlog : Backlog) → earlier ≤ w.frames → IsMarked plan class room flows earlier since (standing base) → IsKept plan class room flows (w.frames + 1) since base backlog
+        → Meets (goes_on plan class room flows (walked plan class room flows n) e new (record { frames = w.frames; track = w.track; bounds = w.bounds; most = w.most; earlier = earlier; since = since; base = base; backlog = backlog }))
+    by_frame earlier since base backlog onward marked keeps = go (stop_of (may_by plan class) (in_ps plan.cycle) room e.0 (flow_at flows e.1) new.free new.starts) refl
       where
         v : Walking
-        v = record { frames = w.frames; track = w.track; bounds = w.bounds; most = w.most; earlier = earlier; since = since; base = base }
+        v = record { frames = w.frames; track = w.track; bounds = w.bounds; most = w.most; earlier = earlier; since = since; base = base; backlog = backlog }
 
         go : (o : Option Stop) → stop_of (may_by plan class) (in_ps plan.cycle) room e.0 (flow_at flows e.1) new.free new.starts ≡ o → Meets (by_stop plan class room flows (walked plan class room flows n) e new v o)
         go (Some stop) is = stopped stop (stop_says (may_by plan class) (in_ps plan.cycle) room e.0 (flow_at flows e.1) new.free new.starts stop is)
-        go None is = gone earlier since base onward marked (none_fits (may_by plan class) (in_ps plan.cycle) room e.0 (flow_at flows e.1) new.free new.starts is)
+        go None is = gone earlier since base backlog onward marked keeps (none_fits (may_by plan class) (in_ps plan.cycle) room e.0 (flow_at flows e.1) new.free new.starts is)
+
+    -- the backlog behind a look and the frame
+    abbrev followed_by : Look → Backlog
+    followed_by l = followed (in_ps plan.cycle) l (taken_at e.0 new) w.backlog
 
     by_looking : (l : Look) → look (in_ps plan.cycle) (last_offset flows) w.since e.0 new w.base ≡ l → Meets (by_look plan class room flows (walked plan class room flows n) e new w l)
     by_looking Looks.Again is =
@@ -160,20 +178,26 @@ module _ (plan : Plan) (class room limit : ℕ) (flows : List Flow) (above : 0 <
           back_most plan class room flows above w.earlier w.frames (e.0 - w.since) back w.bounds w.most h.seen,
           back_recurs plan class room flows above w.earlier w.frames (e.0 - w.since) back,
         )
-    by_looking Looks.FromHere is =
-        by_frame w.frames e.0 new (omega arith) (is_marked plan class room flows limit w.earlier w.frames w.since (standing w.track) (standing w.base) w.bounds w.most h e.0 e.1 first)
-    by_looking Looks.On is = by_frame w.earlier w.since w.base h.onward h.marked
+    by_looking Looks.Frames is =
+        by_frame w.frames e.0 new (followed_by Looks.Frames) (omega arith) (is_marked plan class room flows limit w.earlier w.frames w.since (standing w.track) (standing w.base) w.bounds w.most h e.0 e.1 first)
+        (kept_on plan class room flows above w.frames w.track e h.there first w.since (last_offset flows) w.base w.backlog Looks.Frames is (λ no. cc) kept)
+    by_looking Looks.First is =
+        by_frame w.frames e.0 new (followed_by Looks.First) (omega arith) (is_marked plan class room flows limit w.earlier w.frames w.since (standing w.track) (standing w.base) w.bounds w.most h e.0 e.1 first)
+        (kept_on plan class room flows above w.frames w.track e h.there first w.since (last_offset flows) w.base w.backlog Looks.First is (λ no. cc) kept)
+    by_looking Looks.On is =
+        by_frame w.earlier w.since w.base (followed_by Looks.On) h.onward h.marked
+        (kept_on plan class room flows above w.frames w.track e h.there first w.since (last_offset flows) w.base w.backlog Looks.On is (λ no. cc) kept)
 
-  meets : (n : ℕ) (w : Walking) → w.frames + n ≡ limit → Goes w → Meets (walked plan class room flows n w)
+  meets : (n : ℕ) (w : Walking) → w.frames + n ≡ limit → Goes w → Keeps w → Meets (walked plan class room flows n w)
   unfolding walked
-  meets zero w count h = is_long plan class room flows limit w.earlier w.frames w.since (standing w.track) (standing w.base) w.bounds w.most h (omega (arith, count))
-  meets (suc n) w count h = go (earliest w.track.nexts) refl (meets n)
+  meets zero w count h kept = unended_is (w.backlog).grows kept.growing (is_long plan class room flows limit w.earlier w.frames w.since (standing w.track) (standing w.base) w.bounds w.most h (omega (arith, count)))
+  meets (suc n) w count h kept = go (earliest w.track.nexts) refl (meets n)
     where
-      go : (o : Option (ℕ × ℕ)) → earliest w.track.nexts ≡ o → ((v : Walking) → v.frames + n ≡ limit → Goes v → Meets (walked plan class room flows n v)) → Meets (by_next plan class room flows (walked plan class room flows n) w (counting w.track) o)
+      go : (o : Option (ℕ × ℕ)) → earliest w.track.nexts ≡ o → ((v : Walking) → v.frames + n ≡ limit → Goes v → Keeps v → Meets (walked plan class room flows n v)) → Meets (by_next plan class room flows (walked plan class room flows n) w (counting w.track) o)
       go None none on =
           let long = line_long plan class room flows limit w.earlier w.frames w.since (standing w.track) (standing w.base) w.bounds w.most h in
           absurd (false≢true (sym (ap is_some none) ∙ some_least w.track.nexts (omega (arith, long, some))))
-      go (Some e) first on = by_looking n w e first count h on (look (in_ps plan.cycle) (last_offset flows) w.since e.0 (counting w.track) w.base) refl
+      go (Some e) first on = by_looking n w e first count h kept on (look (in_ps plan.cycle) (last_offset flows) w.since e.0 (counting w.track) w.base) refl
 
   all_unseen : (fs : List Flow) → All (λ b. b ≡ unseen) (map (λ f. unseen) fs)
   all_unseen [] i d less = absurd (omega (arith, less))
@@ -199,6 +223,7 @@ module _ (plan : Plan) (class room limit : ℕ) (flows : List Flow) (above : 0 <
           let start = starts_out plan class room flows limit e.0 e.1 line line (map (λ f. unseen) flows) refl refl first (length-map flows (λ f. unseen)) (all_unseen flows) in
           meets limit (starting flows) (omega arith)
           (subst (λ k. IsGoing plan class room flows limit 0 0 k line (standing (counting (begun (offsets_of flows)))) (map (λ f. unseen) flows) 0) (sym since) start)
+          (kept_none plan class room flows above (starting flows).since (counting (begun (offsets_of flows))))
 
 pub plan_law : PlanLaw
 plan_law plan class room limit flows sound some fit =

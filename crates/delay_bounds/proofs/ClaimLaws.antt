@@ -10,7 +10,7 @@ use Rattle.delay_bounds.specs.declared.FlowFrame.{FlowFrame}
 use Rattle.delay_bounds.specs.declared.Refused.{Refused}
 use Rattle.delay_bounds.specs.declared.Told.{Told}
 use Rattle.delay_bounds.specs.declared.Unbound.{Unbound}
-use Rattle.delay_bounds.specs.declared.Unbound.TheVariants.{Full, Never, Long, Late, Memory}
+use Rattle.delay_bounds.specs.declared.Unbound.TheVariants.{Full, Never, Overloaded, Long, Late, Memory}
 use Rattle.delay_bounds.specs.Bounded.{Answer, IsByPlan, IsUnbound, told_bounds}
 use Rattle.delay_bounds.specs.Bounds.{AllWithin, AreBounds, IsWithin, Track, step, told, told_by}
 use Rattle.delay_bounds.specs.Claim.{AnswerLaw, AreComing, AreExact, IsFirstDropped, IsFrame, IsWait, IsWorth, Waits, NeverStarts, bound_at, coming, earliest, offsets_of}
@@ -24,6 +24,7 @@ use Rattle.delay_bounds.proofs.DropLaws.{drops_law}
 use Rattle.delay_bounds.proofs.EveryRunLaws.{every_run_law}
 use Rattle.delay_bounds.proofs.FullLaws.{full_law}
 use Rattle.delay_bounds.proofs.NeverLaws.{never_offered}
+use Rattle.delay_bounds.proofs.OverloadLaws.{overload_law}
 use Rattle.delay_bounds.proofs.StepLaws.{after_nexts, coming_at, first_told, has_next, nexts_after, nexts_more, nexts_none}
 use Rattle.delay_bounds.proofs.StuckLaws.{stuck_law}
 use Rattle.delay_bounds.proofs.WaitLaws.{bounds_law, step_is, told_next}
@@ -165,6 +166,7 @@ module _ (plan : Plan) (class room : ℕ) (flows : List Flow) (above : 0 < plan.
   worth limit (Ok a) h = exact a.bounds h.0
   worth limit (Err (Full f)) h = dropped limit f h
   worth limit (Err (Never f refused)) h = stuck limit f refused h
+  worth limit (Err Overloaded) h = λ any. (overload_law plan class any flows lc above h.0).0
   worth limit (Err Long) h = tt
   worth limit (Err Late) h = tt
   worth limit (Err Memory) h = tt

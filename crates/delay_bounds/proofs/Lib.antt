@@ -17,5 +17,6 @@ pub mod MomentLaws
 pub mod SeenLaws
 pub mod CourseLaws
 pub mod WalkedLaws
+pub mod BacklogLaws
 pub mod AnswerLaws
 pub mod ClaimLaws

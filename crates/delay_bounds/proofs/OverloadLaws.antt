@@ -1,5 +1,5 @@
 -- Where the class is overloaded, its queue is full at last.
-use Rattle.std.proofs.Common.{◌≡◌, ◌<◌, ◌≤◌, ℕ, zero, suc, ◌+◌, ◌-◌, ◌*◌, ◌%◌, ◌/◌, max, Bool, true, false, cond, List, [], ◌∷◌, ◌++◌, length, map, set, Option, Some, None, IsSome, ◌⊎◌, inl, inr, refl, sym, ap, ◌∙◌, subst, arith}
+use Rattle.std.proofs.Common.{◌≡◌, ◌<◌, ◌≤◌, ℕ, zero, suc, ◌+◌, ◌-◌, ◌*◌, max, Bool, true, false, cond, List, [], ◌∷◌, ◌++◌, length, map, set, Option, Some, None, IsSome, ◌⊎◌, inl, inr, refl, sym, ap, ◌∙◌, subst, arith}
 use Rattle.std.proofs.lemmas.Bool.{cases_lt, both_ways, lt-leb}
 use Rattle.std.proofs.lemmas.Option.{same_Some}
 use Rattle.gate_list.specs.Gate.{Plan, in_ps}
@@ -9,18 +9,16 @@ use Rattle.delay_bounds.specs.declared.Flow.{Flow}
 use Rattle.delay_bounds.specs.declared.Told.{Told}
 use Rattle.delay_bounds.specs.Bounds.{AreBounds, Track, first_fit, from_on, step, told}
 use Rattle.delay_bounds.specs.Claim.{IsFirstDropped, earliest, flow_at, offsets_of}
-use Rattle.delay_bounds.specs.ForEver.{Repeats, counts_from, counting}
+use Rattle.delay_bounds.specs.ForEver.{Repeats}
 use Rattle.delay_bounds.specs.Overloaded.{IsOverloaded, OverloadLaw}
 use Rattle.delay_bounds.specs.Walk.{after, begun, may_by}
-use Rattle.delay_bounds.specs.Walked.{are_later, comes_again}
 use Rattle.delay_bounds.proofs.FullLaws.{full_law}
 use Rattle.delay_bounds.proofs.GateLaws.{by_repeats}
 use Rattle.delay_bounds.proofs.NeverLaws.{none_ever}
 use Rattle.delay_bounds.proofs.QueueLaws.{from_both, from_more}
-use Rattle.delay_bounds.proofs.StepLaws.{after_none, after_step, after_nexts, coming_at, counting_nexts, has_next, next_behind, rises_once}
+use Rattle.delay_bounds.proofs.StepLaws.{after_none, after_step, after_nexts, coming_at, has_next, next_behind, rises_once}
 use Rattle.delay_bounds.proofs.WaitLaws.{first_is, has_step, step_is}
 use Rattle.delay_bounds.proofs.WalkLaws.{earliest_shift, fit_shift, later_place, set_map, told_after}
-use Rattle.delay_bounds.proofs.WalkedLaws.{later_is}
 use Rattle.delay_bounds.proofs.Words.{after_on, starts_at, step_from}
 
 -- a first moment that is found is one of so many
@@ -84,15 +82,6 @@ module _ (may : ℕ → ℕ → Bool) (cycle : ℕ) (flows : List Flow) where
   goes_on (suc m) n xs ys zs u v w a b =
       let at : suc (m + n) ≡ suc m + n = omega arith in
       subst (λ k. Goes k xs u zs w) at (a.0, a.1, a.2, a.3, goes_on m n (next_behind flows xs a.0) ys zs (a.1 + (flow_at flows a.0.1).need) v w a.4 b)
-
-  -- it goes in one way
-  goes_same : (n : ℕ) (xs ys zs : List ℕ) (u v w : ℕ) → Goes n xs u ys v → Goes n xs u zs w → v ≡ w
-  goes_same zero xs ys zs u v w a b = sym a.1 ∙ b.1
-  goes_same (suc n) xs ys zs u v w a b =
-      let one : b.0 ≡ a.0 = same_Some b.0 a.0 (sym b.2 ∙ a.2) in
-      let c = subst (λ (e : ℕ × ℕ). (first_fit may (flow_at flows e.1).need (max e.0 u) cycle ≡ Some b.1) × Goes n (next_behind flows xs e) (b.1 + (flow_at flows e.1).need) zs w) one (b.3, b.4) in
-      let at : b.1 ≡ a.1 = same_Some b.1 a.1 (sym c.0 ∙ a.3) in
-      goes_same n (next_behind flows xs a.0) ys zs (a.1 + (flow_at flows (a.0).1).need) v w a.4 (subst (λ k. Goes n (next_behind flows xs a.0) (k + (flow_at flows (a.0).1).need) zs w) at c.1)
 
   -- all of it may be so much later
   goes_shift : (d : ℕ) → Repeats may d → (n : ℕ) (xs ys : List ℕ) (u v : ℕ) → Goes n xs u ys v → Goes n (map (λ t. t + d) xs) (u + d) (map (λ t. t + d) ys) (v + d)
@@ -250,72 +239,6 @@ module _ (may : ℕ → ℕ → Bool) (cycle : ℕ) (flows : List Flow) where
         let rest = goes_later n (next_behind flows xs e) ys (at + need) v (fit.0 + need) g.4 (omega (arith, more)) in
         (rest.0, (e, fit.0, g.2, fit.1, rest.1), rest.2)
 
-    -- ---- where the wire is taken
-
-    -- each of so many frames behind a track comes while the wire is taken, with so much room
-    abbrev IsBusy : ℕ → ℕ → Track → Type 0
-    IsBusy room n s = (k : ℕ) (z : Track) (e : ℕ × ℕ) → k < n → after may cycle room flows k s ≡ Some z → earliest z.nexts ≡ Some e → e.0 ≤ z.free
-
-    -- one frame and those behind it
-    busy_on : (room n : ℕ) (s : Track) (e : ℕ × ℕ) (r : Told × Track) → earliest s.nexts ≡ Some e → step may cycle room flows s ≡ Some r → e.0 ≤ s.free → IsBusy room n r.1 → IsBusy room (suc n) s
-    busy_on room n s e r first stepped taken busy zero z d less there next =
-        let same = after_none may cycle room flows s z there in
-        let one : e ≡ d = same_Some e d (sym first ∙ (ap (λ (x : Track). earliest x.nexts) same ∙ next)) in
-        let at = ap (λ (x : ℕ × ℕ). x.0) one in
-        let free = ap (λ (x : Track). x.free) same in
-        omega (arith, taken, at, free)
-    busy_on room n s e r first stepped taken busy (suc k) z d less there next =
-        let again_stepped = after_step may cycle room flows k s z there in
-        let same : again_stepped.0 ≡ r = same_Some again_stepped.0 r (sym again_stepped.1 ∙ stepped) in
-        busy k z d (omega (arith, less)) (ap (λ (x : Told × Track). after may cycle room flows k x.1) (sym same) ∙ again_stepped.2) next
-
-    -- where the wire is free earlier, it is so behind the same frames, or each of them comes while it is taken
-    earlier_or_busy : (room n : ℕ) (s z : Track) (ys : List ℕ) (u v : ℕ) → Goes n s.nexts u ys v → after may cycle room flows n s ≡ Some z → u ≤ s.free → (v ≡ z.free) ⊎ IsBusy room n s
-    earlier_or_busy room zero s z ys u v g there le = inr (λ k y e less at next. absurd (omega (arith, less)))
-    earlier_or_busy room (suc n) s z ys u v g there le =
-        let stepped = after_step may cycle room flows n s z there in
-        let r = stepped.0 in
-        let e = g.0 in
-        let is = step_is may cycle room flows s e r g.2 stepped.1 in
-        let need : ℕ = (flow_at flows e.1).need in
-        let freed = is.free in
-        elim (cases_lt s.free e.0) [
-          | inl idle ↦
-              let from : max e.0 u ≡ max e.0 s.free = omega (arith, le, idle) in
-              let at : g.1 ≡ is.at = same_Some g.1 is.at (sym g.3 ∙ (ap (λ k. first_fit may need k cycle) from ∙ is.fit)) in
-              let ends : g.1 + need ≡ (r.1).free = omega (arith, at, freed) in
-              let mine = subst (λ ts. Goes n ts (r.1).free ys v) (sym is.nexts) (subst (λ k. Goes n (next_behind flows s.nexts e) k ys v) ends g.4) in
-              inl (goes_same n (r.1).nexts ys z.nexts (r.1).free v z.free mine (goes_of room n r.1 z stepped.2))
-          | inr taken ↦
-              let fit = fit_later need (max e.0 u) (max e.0 s.free) g.1 g.3 (omega (arith, le)) in
-              let at : fit.0 ≡ is.at = same_Some fit.0 is.at (sym fit.1 ∙ is.fit) in
-              let more = fit.2 in
-              let mine = subst (λ ts. Goes n ts (g.1 + need) ys v) (sym is.nexts) g.4 in
-              elim (earlier_or_busy room n r.1 z ys (g.1 + need) v mine stepped.2 (omega (arith, at, more, freed))) [
-                | inl same ↦ inl same
-                | inr busy ↦ inr (busy_on room n s e r g.2 stepped.1 taken busy)
-              ]
-        ]
-
-    -- Three tracks, each so many frames behind the one before it, and so much later: where the wire's moment rises from the second to the third,
-    -- each frame between them comes while it is taken.
-    rises_busy : (room n d : ℕ) (x y z : Track) → Repeats may d → after may cycle room flows n x ≡ Some y → after may cycle room flows n y ≡ Some z
-        → y.nexts ≡ map (λ t. t + d) x.nexts → z.nexts ≡ map (λ t. t + d) y.nexts → y.free + d < z.free → IsBusy room n y
-    rises_busy room n d x y z same first second one two more =
-        let shifted = goes_shift d same n x.nexts y.nexts x.free y.free (goes_of room n x y first) in
-        let below = subst (λ ts. Goes n ts (x.free + d) (map (λ t. t + d) y.nexts) (y.free + d)) (sym one) shifted in
-        elim (cases_lt y.free (x.free + d)) [
-          | inl sooner ↦
-              let later = goes_later n y.nexts z.nexts y.free z.free (x.free + d) (goes_of room n y z second) (omega (arith, sooner)) in
-              let ends = goes_same n y.nexts z.nexts (map (λ t. t + d) y.nexts) (x.free + d) later.0 (y.free + d) later.1 below in
-              let least = later.2 in
-              absurd (omega (arith, ends, least, more))
-          | inr le ↦ elim (earlier_or_busy room n y z (map (λ t. t + d) y.nexts) (x.free + d) (y.free + d) below second le) [
-            | inl ends ↦ absurd (omega (arith, ends, more))
-            | inr busy ↦ busy
-          ]
-        ]
-
     -- ---- the backlog grows
 
     -- so many frames, behind which the next ones come some cycles later, and the wire is free later by these and one more; and so too where it is
@@ -463,72 +386,3 @@ module _ (plan : Plan) (class room : ℕ) (flows : List Flow) (above : 0 < plan.
 
 pub overload_law : OverloadLaw
 overload_law plan class room flows lc above h = (first_dropped plan class room flows above h lc, no_bounds plan class room flows above h)
-
--- ---- how overload is seen
-
-module _ (plan : Plan) (class room : ℕ) (flows : List Flow) (above : 0 < plan.cycle) where
-  -- when the next frames come, behind a track and some frames later: they come as they did, each frame between them has come while the wire was
-  -- taken, and what counts of it has risen by a cycle
-  pub seen_overloaded : (first frames since t place behind : ℕ) (old new : Track)
-      → after (may_by plan class) (in_ps plan.cycle) room flows first (begun (offsets_of flows)) ≡ Some old
-      → after (may_by plan class) (in_ps plan.cycle) room flows (first + frames) (begun (offsets_of flows)) ≡ Some new
-      → earliest old.nexts ≡ Some (since, place) → earliest new.nexts ≡ Some (t, behind)
-      → comes_again (in_ps plan.cycle) since t (counting new) (counting old) ≡ true
-      → ((k : ℕ) (z : Track) (e : ℕ × ℕ) → k < frames → after (may_by plan class) (in_ps plan.cycle) room flows (first + k) (begun (offsets_of flows)) ≡ Some z → earliest z.nexts ≡ Some e → e.0 ≤ z.free)
-      → (counting old).free + (t - since) + in_ps plan.cycle ≤ (counting new).free
-      → IsOverloaded plan class flows
-  seen_overloaded first frames since t place behind old new was is here there again busy more =
-      let c : ℕ = in_ps plan.cycle in
-      let d : ℕ = t - since in
-      let some : 0 < c = omega (arith, above) in
-      let sooner : since < t = grind (arith, again) in
-      let whole : d % c ≡ 0 = grind (arith, again) in
-      let nexts : are_later d (counting new).nexts (counting old).nexts ≡ true = grind (arith, again) in
-      let parts : d ≡ c * (d / c) = grind (arith, whole, some) in
-      let later = later_is d (counting new).nexts (counting old).nexts nexts in
-      let old_free : (counting old).free ≡ max since old.free = ap (λ o. (counts_from o old).free) here in
-      let new_free : (counting new).free ≡ max t new.free = ap (λ o. (counts_from o new).free) there in
-      let wider : c * (d / c + 1) ≡ c * (d / c) + c = grind arith in
-      record {
-        room = room;
-        first = first;
-        frames = frames;
-        cycles = d / c;
-        old = old;
-        new = new;
-        was = was;
-        is = is;
-        alike = sym (counting_nexts new) ∙ (later ∙ (ap (λ k. map (λ t. t + k) (counting old).nexts) parts ∙ ap (map (λ t. t + c * (d / c))) (counting_nexts old)));
-        busy = busy;
-        behind = omega (arith, sooner, parts, wider, old_free, new_free, more);
-      }
-
-  -- after three tracks, each so many frames and cycles behind the one before it: from the second to the third the wire's moment has risen by a cycle
-  pub rises_overloaded : (first frames cycles : ℕ) (x y z : Track)
-      → after (may_by plan class) (in_ps plan.cycle) room flows first (begun (offsets_of flows)) ≡ Some x
-      → after (may_by plan class) (in_ps plan.cycle) room flows frames x ≡ Some y
-      → after (may_by plan class) (in_ps plan.cycle) room flows frames y ≡ Some z
-      → y.nexts ≡ map (λ t. t + in_ps plan.cycle * cycles) x.nexts → z.nexts ≡ map (λ t. t + in_ps plan.cycle * cycles) y.nexts
-      → y.free + in_ps plan.cycle * (cycles + 1) ≤ z.free
-      → IsOverloaded plan class flows
-  rises_overloaded first frames cycles x y z was one two alike_one alike_two more =
-      let c : ℕ = in_ps plan.cycle in
-      let some : 0 < c = omega (arith, above) in
-      let wider : c * (cycles + 1) ≡ c * cycles + c = grind arith in
-      let again = by_repeats plan above class in
-      let there = after_behind (may_by plan class) c flows room first frames (begun (offsets_of flows)) x was ∙ one in
-      record {
-        room = room;
-        first = first + frames;
-        frames = frames;
-        cycles = cycles;
-        old = y;
-        new = z;
-        was = there;
-        is = after_behind (may_by plan class) c flows room (first + frames) frames (begun (offsets_of flows)) y there ∙ two;
-        alike = alike_two;
-        busy = λ k t e less at next.
-            rises_busy (may_by plan class) c flows some again room frames (c * cycles) x y z (again cycles) one two alike_one alike_two (omega (arith, wider, some, more)) k t e less
-            (sym (after_behind (may_by plan class) c flows room (first + frames) k (begun (offsets_of flows)) y there) ∙ at) next;
-        behind = more;
-      }

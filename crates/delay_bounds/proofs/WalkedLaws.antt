@@ -6,6 +6,7 @@ use Rattle.std.proofs.lemmas.List.Elements.{All-head, All-tail}
 use Rattle.gate_list.specs.Gate.{Plan, in_ps}
 use Rattle.delay_bounds.specs.Claim.{earliest, flow_at, offsets_of}
 use Rattle.delay_bounds.specs.Bounds.{Track, arrives, first_fit}
+use Rattle.delay_bounds.specs.Backlog.{followed, no_backlog, taken_at, unended}
 use Rattle.delay_bounds.specs.Bounded.{Answer, is_from_here, unbound_by}
 use Rattle.delay_bounds.specs.ForEver.{counting, later}
 use Rattle.delay_bounds.specs.Line.{Standing, before_any, when_come}
@@ -14,7 +15,7 @@ use Rattle.std.specs.Option.{option_map_or}
 use Rattle.delay_bounds.specs.Noted.{noted, unseen}
 use Rattle.delay_bounds.specs.Walk.{begun, may_by}
 use Rattle.delay_bounds.specs.Stuck.{first_refused, refused_at, refused_in, refused_of, staying}
-use Rattle.delay_bounds.specs.Walked.{Walking, answer_of, are_later, by_look, by_next, by_stop, comes_again, frame_of, goes_on, is_later, last_offset, look, stop_of, walked, with_told}
+use Rattle.delay_bounds.specs.Walked.{Walking, answer_of, are_later, by_look, by_next, by_stop, comes_again, frame_of, goes_on, is_later, last_offset, look, moved, stop_of, walked, with_told}
 use Rattle.delay_bounds.proofs.StepLaws.{counting_nexts}
 use Rattle.delay_bounds.proofs.Words.{starts_at as told_start}
 use Rattle.delay_bounds.specs.declared.Bound.{Bound}
@@ -23,10 +24,10 @@ use Rattle.delay_bounds.specs.declared.FlowFrame.{FlowFrame}
 use Rattle.delay_bounds.specs.declared.Refused.{Refused}
 use Rattle.delay_bounds.specs.declared.Told.{Told}
 use Rattle.delay_bounds.specs.declared.Unbound.{Unbound}
-use Rattle.delay_bounds.specs.declared.Unbound.TheVariants.{Long}
-use Rattle.delay_bounds.specs.declared.bounding.Look.{Look}
-use Rattle.delay_bounds.specs.declared.bounding.Look.TheVariants as Looks
-use Rattle.delay_bounds.specs.declared.bounding.Mark.{Mark}
+use Rattle.delay_bounds.specs.declared.looking.Backlog.{Backlog}
+use Rattle.delay_bounds.specs.declared.looking.Look.{Look}
+use Rattle.delay_bounds.specs.declared.looking.Look.TheVariants as Looks
+use Rattle.delay_bounds.specs.declared.looking.Mark.{Mark}
 use Rattle.delay_bounds.specs.declared.line.Stop.{Stop}
 
 -- 1. Moments
@@ -120,7 +121,7 @@ pub is_again : (cycle last since t : ℕ) (new old : Track) → look cycle last 
 is_again cycle last since t new old e = by (comes_again cycle since t new old) refl (is_later (t - since) new old) refl e
   where
     by : (b : Bool) → comes_again cycle since t new old ≡ b → (c : Bool) → is_later (t - since) new old ≡ c
-        → cond b (cond c Looks.Again Looks.FromHere) (cond (nat_lt since last && nat_le last t) Looks.FromHere Looks.On) ≡ Looks.Again
+        → cond b (cond c Looks.Again Looks.Frames) (cond (nat_lt since last && nat_le last t) Looks.First Looks.On) ≡ Looks.Again
         → (since < t) × ((t - since) % cycle ≡ 0) × (new ≡ later (t - since) old)
     by true b true c e =
         let less : since < t = grind (arith, b) in
@@ -139,13 +140,17 @@ is_again cycle last since t new old e = by (comes_again cycle since t new old) r
     by true b false c e = absurd (let no : ⊥ = cc in no)
     by false b c d e = neither (nat_lt since last && nat_le last t) e
       where
-        neither : (f : Bool) → cond f Looks.FromHere Looks.On ≡ Looks.Again → (since < t) × ((t - since) % cycle ≡ 0) × (new ≡ later (t - since) old)
+        neither : (f : Bool) → cond f Looks.First Looks.On ≡ Looks.Again → (since < t) × ((t - since) % cycle ≡ 0) × (new ≡ later (t - since) old)
         neither true e = absurd (let no : ⊥ = cc in no)
         neither false e = absurd (let no : ⊥ = cc in no)
 
 -- what a look said, by the cycle and the latest first frame
 pub look_said : (last offset cycle_ns cycle since t : ℕ) (new old : Track) (l : Look) → l ≡ look (1000 * cycle_ns) last since t new old → last ≡ offset → cycle_ns ≡ cycle → l ≡ look (in_ps cycle) offset since t new old
 look_said last offset cycle_ns cycle since t new old l is last_is cycle_is = is ∙ (ap (λ k. look (1000 * k) last since t new old) cycle_is ∙ ap (λ k. look (in_ps cycle) k since t new old) last_is)
+
+-- what a backlog becomes, by the cycle and for how long the wire is taken
+pub followed_said : (cycle_ns cycle taken other : ℕ) (l : Look) (b now : Backlog) → now ≡ followed (1000 * cycle_ns) l taken b → cycle_ns ≡ cycle → taken ≡ other → now ≡ followed (in_ps cycle) l other b
+followed_said cycle_ns cycle taken other l b now is cycle_is taken_is = is ∙ (ap (λ k. followed (1000 * k) l taken b) cycle_is ∙ ap (λ k. followed (in_ps cycle) l k b) taken_is)
 
 -- 3. Where nothing starts any more
 
@@ -209,8 +214,8 @@ frame_is flows t place earlier before above turn =
     ap (λ (k : ℕ). (let f : FlowFrame = record { place = place; before = k; earlier = earlier; moment = t } in f)) (ap (λ (d : ℕ). d / period) past ∙ count)
 
 -- where a walk stands, and where it looks back to
-abbrev pub at : ℕ → Standing → Standing → Mark → List Bound → ℕ → Walking
-at frames line base mark bounds most = record { frames = frames; track = line.track; bounds = bounds; most = most; earlier = mark.earlier; since = mark.since; base = base.track }
+abbrev pub at : ℕ → Standing → Standing → Mark → List Bound → ℕ → Backlog → Walking
+at frames line base mark bounds most backlog = record { frames = frames; track = line.track; bounds = bounds; most = most; earlier = mark.earlier; since = mark.since; base = base.track; backlog = backlog }
 
 module _ (plan : Plan) (class room : ℕ) (flows : List Flow) where
   abbrev walks : ℕ → Walking → Result Answer Unbound
@@ -219,22 +224,22 @@ module _ (plan : Plan) (class room : ℕ) (flows : List Flow) where
   abbrev looks : Walking → ℕ → Track → Look
   looks w t new = look (in_ps plan.cycle) (last_offset flows) w.since t new w.base
 
-  -- what it looks back to after a look
-  abbrev moved : Look → ℕ × ℕ → Track → Walking → Walking
-  moved l e new w = record { frames = w.frames; track = w.track; bounds = w.bounds; most = w.most; earlier = cond (is_from_here l) w.frames w.earlier; since = cond (is_from_here l) e.0 w.since; base = cond (is_from_here l) new w.base }
+  abbrev moves : Look → ℕ × ℕ → Track → Walking → Walking
+  moves l e new w = moved plan class room flows l e new w
 
   one_step : (n : ℕ) (w : Walking) (e : ℕ × ℕ) → earliest w.track.nexts ≡ Some e → walks (suc n) w ≡ by_look plan class room flows (walks n) e (counting w.track) w (looks w e.0 (counting w.track))
   unfolding walked
   one_step n w e next = ap (λ o. by_next plan class room flows (walks n) w (counting w.track) o) next
 
-  no_step : (n : ℕ) (w : Walking) → n ≡ 0 → walks n w ≡ Err Long
+  no_step : (n : ℕ) (w : Walking) → n ≡ 0 → walks n w ≡ Err (unended w.backlog)
   unfolding walked
   no_step zero w e = refl
   no_step (suc n) w e = absurd (omega (arith, e))
 
-  on_from : (on : Walking → Result Answer Unbound) (e : ℕ × ℕ) (new : Track) (w : Walking) (l : Look) → (l ≡ Looks.Again → ⊥) → by_look plan class room flows on e new w l ≡ goes_on plan class room flows on e new (moved l e new w)
+  on_from : (on : Walking → Result Answer Unbound) (e : ℕ × ℕ) (new : Track) (w : Walking) (l : Look) → (l ≡ Looks.Again → ⊥) → by_look plan class room flows on e new w l ≡ goes_on plan class room flows on e new (moves l e new w)
   on_from on e new w Looks.Again other = absurd (other refl)
-  on_from on e new w Looks.FromHere other = refl
+  on_from on e new w Looks.Frames other = refl
+  on_from on e new w Looks.First other = refl
   on_from on e new w Looks.On other = refl
 
   -- where the state comes again
@@ -252,20 +257,20 @@ module _ (plan : Plan) (class room : ℕ) (flows : List Flow) where
       let l = looks w e.0 (counting w.track) in
       one_step n w e next
       ∙ (on_from (walks n) e (counting w.track) w l other
-      ∙ ap (by_stop plan class room flows (walks n) e (counting w.track) (moved l e (counting w.track) w)) is)
+      ∙ ap (by_stop plan class room flows (walks n) e (counting w.track) (moves l e (counting w.track) w)) is)
 
   -- where it goes on
   goes_at : (left : ℕ) (w : Walking) (e : ℕ × ℕ) (told : Told) (now : Track) → 0 < left → earliest w.track.nexts ≡ Some e → (looks w e.0 (counting w.track) ≡ Looks.Again → ⊥)
       → stop_of (may_by plan class) (in_ps plan.cycle) room e.0 (flow_at flows e.1) (counting w.track).free (counting w.track).starts ≡ None
       → arrives (may_by plan class) (in_ps plan.cycle) room e.0 e.1 (flow_at flows e.1) (counting w.track).free (counting w.track).nexts (counting w.track).starts ≡ Some (told, now)
       → (l : Look) → l ≡ looks w e.0 (counting w.track)
-      → walks left w ≡ walks (left - 1) (record { frames = w.frames + 1; track = now; bounds = noted told w.bounds; most = max told.waiting w.most; earlier = cond (is_from_here l) w.frames w.earlier; since = cond (is_from_here l) e.0 w.since; base = cond (is_from_here l) (counting w.track) w.base })
+      → walks left w ≡ walks (left - 1) (record { frames = w.frames + 1; track = now; bounds = noted told w.bounds; most = max told.waiting w.most; earlier = cond (is_from_here l) w.frames w.earlier; since = cond (is_from_here l) e.0 w.since; base = cond (is_from_here l) (counting w.track) w.base; backlog = followed (in_ps plan.cycle) l (taken_at e.0 (counting w.track)) w.backlog })
   goes_at zero w e told now some next other none is l l_is = absurd (omega (arith, some))
   goes_at (suc n) w e told now some next other none is l l_is =
       let k = looks w e.0 (counting w.track) in
-      let m : Look → Walking = λ x. moved x e (counting w.track) w in
+      let m : Look → Walking = λ x. moves x e (counting w.track) w in
       let less : suc n - 1 ≡ n = omega arith in
-      let on : Look → ℕ → Result Answer Unbound = λ x i. walks i (record { frames = w.frames + 1; track = now; bounds = noted told w.bounds; most = max told.waiting w.most; earlier = (m x).earlier; since = (m x).since; base = (m x).base }) in
+      let on : Look → ℕ → Result Answer Unbound = λ x i. walks i (record { frames = w.frames + 1; track = now; bounds = noted told w.bounds; most = max told.waiting w.most; earlier = (m x).earlier; since = (m x).since; base = (m x).base; backlog = (m x).backlog }) in
       one_step n w e next
       ∙ (on_from (walks n) e (counting w.track) w k other
       ∙ (ap (by_stop plan class room flows (walks n) e (counting w.track) (m k)) none
@@ -273,68 +278,72 @@ module _ (plan : Plan) (class room : ℕ) (flows : List Flow) where
       ∙ (ap (λ x. on x n) (sym l_is) ∙ ap (λ i. on l i) (sym less)))))
 
   -- before any frame
-  pub starts_at : (limit : ℕ) (line base come : Standing) (t place : ℕ) (bounds : List Bound) → line ≡ before_any flows line.room → base ≡ before_any flows line.room → come ≡ when_come base
-      → earliest base.track.nexts ≡ Some (t, place) → bounds ≡ map (λ f. unseen) flows
-      → walks (limit - 0) (at 0 line come (record { since = t; earlier = 0 }) bounds 0) ≡ answer_of plan class room flows limit
-  starts_at limit line base come t place bounds line_is base_is come_is next none =
+  pub starts_at : (limit : ℕ) (line base come : Standing) (t place : ℕ) (bounds : List Bound) (backlog : Backlog) → line ≡ before_any flows line.room → base ≡ before_any flows line.room → come ≡ when_come base
+      → earliest base.track.nexts ≡ Some (t, place) → bounds ≡ map (λ f. unseen) flows → backlog ≡ no_backlog
+      → walks (limit - 0) (at 0 line come (record { since = t; earlier = 0 }) bounds 0 backlog) ≡ answer_of plan class room flows limit
+  starts_at limit line base come t place bounds backlog line_is base_is come_is next none backlog_none =
       let first : Track = begun (offsets_of flows) in
-      let start : ℕ → Track → List Bound → ℕ → Track → Result Answer Unbound = λ n track bs since b. walks n (record { frames = 0; track = track; bounds = bs; most = 0; earlier = 0; since = since; base = b }) in
+      let start : ℕ → Track → List Bound → ℕ → Track → Backlog → Result Answer Unbound = λ n track bs since b left. walks n (record { frames = 0; track = track; bounds = bs; most = 0; earlier = 0; since = since; base = b; backlog = left }) in
       let track : line.track ≡ first = ap (λ (l : Standing). l.track) line_is in
       let back : come.track ≡ counting first = ap (λ (l : Standing). l.track) come_is ∙ ap (λ (l : Standing). counting l.track) base_is in
       let since : t ≡ option_map_or (λ e. e.0) (earliest (offsets_of flows)) 0 =
       sym (ap (λ (o : Option (ℕ × ℕ)). option_map_or (λ e. e.0) o 0) (sym (ap (λ (l : Standing). earliest l.track.nexts) base_is) ∙ next)) in
       let all : limit - 0 ≡ limit = omega arith in
-      ap (λ n. start n line.track bounds t come.track) all
-      ∙ (ap (λ x. start limit x bounds t come.track) track
-      ∙ (ap (λ x. start limit first x t come.track) none
-      ∙ (ap (λ x. start limit first (map (λ f. unseen) flows) x come.track) since
-      ∙ ap (λ x. start limit first (map (λ f. unseen) flows) (option_map_or (λ e. e.0) (earliest (offsets_of flows)) 0) x) back)))
+      ap (λ n. start n line.track bounds t come.track backlog) all
+      ∙ (ap (λ x. start limit x bounds t come.track backlog) track
+      ∙ (ap (λ x. start limit first x t come.track backlog) none
+      ∙ (ap (λ x. start limit first (map (λ f. unseen) flows) x come.track backlog) since
+      ∙ (ap (λ x. start limit first (map (λ f. unseen) flows) (option_map_or (λ e. e.0) (earliest (offsets_of flows)) 0) x backlog) back
+      ∙ ap (λ x. start limit first (map (λ f. unseen) flows) (option_map_or (λ e. e.0) (earliest (offsets_of flows)) 0) (counting first) x) backlog_none))))
 
   -- In the words of the code: the next frame has come, and this is what a look back said.
-  module _ (limit frames t place : ℕ) (line base come : Standing) (mark : Mark) (bounds : List Bound) (most : ℕ) (l : Look) (more : frames < limit) (next : earliest line.track.nexts ≡ Some (t, place)) (come_is : come ≡ when_come line) (room_is : line.room ≡ room) (l_is : l ≡ look (in_ps plan.cycle) (last_offset flows) mark.since t come.track base.track) where
+  module _ (limit frames t place : ℕ) (line base come : Standing) (mark : Mark) (bounds : List Bound) (most : ℕ) (backlog : Backlog) (l : Look) (more : frames < limit) (next : earliest line.track.nexts ≡ Some (t, place)) (come_is : come ≡ when_come line) (room_is : line.room ≡ room) (l_is : l ≡ look (in_ps plan.cycle) (last_offset flows) mark.since t come.track base.track) where
     counted_is : come.track ≡ counting line.track
     counted_is = ap (λ (x : Standing). x.track) come_is
 
     come_room : come.room ≡ room
     come_room = ap (λ (x : Standing). x.room) come_is ∙ room_is
 
-    look_is : l ≡ looks (at frames line base mark bounds most) t (counting line.track)
+    look_is : l ≡ looks (at frames line base mark bounds most backlog) t (counting line.track)
     look_is = l_is ∙ ap (λ x. look (in_ps plan.cycle) (last_offset flows) mark.since t x base.track) counted_is
 
-    pub back_here : l ≡ Looks.Again → walks (limit - frames) (at frames line base mark bounds most) ≡ Ok (record { bounds = bounds; most = most; frames = frames - mark.earlier; every = t - mark.since })
-    back_here again = comes_back (limit - frames) (at frames line base mark bounds most) (t, place) (omega (arith, more)) next (sym look_is ∙ again)
+    pub back_here : l ≡ Looks.Again → walks (limit - frames) (at frames line base mark bounds most backlog) ≡ Ok (record { bounds = bounds; most = most; frames = frames - mark.earlier; every = t - mark.since })
+    back_here again = comes_back (limit - frames) (at frames line base mark bounds most backlog) (t, place) (omega (arith, more)) next (sym look_is ∙ again)
 
     pub stops_here : (f : Flow) (stop : Stop) → (l ≡ Looks.Again → ⊥) → f ≡ flow_at flows place → stop_of (may_by plan class) (in_ps plan.cycle) come.room t f come.track.free come.track.starts ≡ Some stop
-        → walks (limit - frames) (at frames line base mark bounds most) ≡ Err (unbound_by stop (frame_of flows (t, place) frames) (first_refused come.room flows come.track))
+        → walks (limit - frames) (at frames line base mark bounds most backlog) ≡ Err (unbound_by stop (frame_of flows (t, place) frames) (first_refused come.room flows come.track))
     stops_here f stop other f_is is =
         let P : ℕ → Flow → Track → Type 0 = λ r x s. stop_of (may_by plan class) (in_ps plan.cycle) r t x s.free s.starts ≡ Some stop in
         let told = subst (λ s. P room (flow_at flows place) s) counted_is (subst (λ x. P room x come.track) f_is (subst (λ r. P r f come.track) come_room is)) in
-        stops_at (limit - frames) (at frames line base mark bounds most) (t, place) stop (omega (arith, more)) next (λ again. other (look_is ∙ again)) told
+        stops_at (limit - frames) (at frames line base mark bounds most backlog) (t, place) stop (omega (arith, more)) next (λ again. other (look_is ∙ again)) told
         ∙ ap (λ s. Err (unbound_by stop (frame_of flows (t, place) frames) (first_refused room flows s))) (sym counted_is)
         ∙ ap (λ r. Err (unbound_by stop (frame_of flows (t, place) frames) (first_refused r flows come.track))) (sym come_room)
 
-    pub goes_here : (f : Flow) (told : Told) (now there : Standing) (new here : Mark) (noted_all : List Bound) (most_now : ℕ) → (l ≡ Looks.Again → ⊥) → f ≡ flow_at flows place
+    pub goes_here : (f : Flow) (told : Told) (now there : Standing) (new here : Mark) (noted_all : List Bound) (most_now : ℕ) (backlog_now : Backlog) → (l ≡ Looks.Again → ⊥) → f ≡ flow_at flows place
         → stop_of (may_by plan class) (in_ps plan.cycle) come.room t f come.track.free come.track.starts ≡ None
         → arrives (may_by plan class) (in_ps plan.cycle) come.room t place f come.track.free come.track.nexts come.track.starts ≡ Some (told, now.track)
-        → here ≡ record { since = t; earlier = frames } → new ≡ cond (is_from_here l) here mark → there ≡ cond (is_from_here l) come base → noted_all ≡ noted told bounds → most_now ≡ max told.waiting most
-        → walks (limit - frames) (at frames line base mark bounds most) ≡ walks (limit - (frames + 1)) (at (frames + 1) now there new noted_all most_now)
-    goes_here f told now there new here noted_all most_now other f_is none is here_is new_is there_is noted_is most_is =
+        → here ≡ record { since = t; earlier = frames } → new ≡ cond (is_from_here l) here mark → there ≡ cond (is_from_here l) come base → noted_all ≡ noted told bounds → most_now ≡ max told.waiting most → backlog_now ≡ followed (in_ps plan.cycle) l (taken_at t come.track) backlog
+        → walks (limit - frames) (at frames line base mark bounds most backlog) ≡ walks (limit - (frames + 1)) (at (frames + 1) now there new noted_all most_now backlog_now)
+    goes_here f told now there new here noted_all most_now backlog_now other f_is none is here_is new_is there_is noted_is most_is backlog_is =
         let P : ℕ → Flow → Track → Type 0 = λ r x s. (stop_of (may_by plan class) (in_ps plan.cycle) r t x s.free s.starts ≡ None) × (arrives (may_by plan class) (in_ps plan.cycle) r t place x s.free s.nexts s.starts ≡ Some (told, now.track)) in
         let known = subst (λ s. P room (flow_at flows place) s) counted_is (subst (λ x. P room x come.track) f_is (subst (λ r. P r f come.track) come_room (none, is))) in
         let less : limit - frames - 1 ≡ limit - (frames + 1) = omega arith in
-        let on : ℕ → ℕ → ℕ → Track → List Bound → ℕ → Result Answer Unbound = λ n earlier since b bs m. walks n (record { frames = frames + 1; track = now.track; bounds = bs; most = m; earlier = earlier; since = since; base = b }) in
+        let on : ℕ → ℕ → ℕ → Track → List Bound → ℕ → Backlog → Result Answer Unbound = λ n earlier since b bs m left. walks n (record { frames = frames + 1; track = now.track; bounds = bs; most = m; earlier = earlier; since = since; base = b; backlog = left }) in
         let earlier_is : cond (is_from_here l) frames mark.earlier ≡ new.earlier = sym (ap (λ (x : Mark). x.earlier) (new_is ∙ ap (λ x. cond (is_from_here l) x mark) here_is) ∙ by_cond (λ (x : Mark). x.earlier) (is_from_here l) (record { since = t; earlier = frames }) mark) in
         let since_is : cond (is_from_here l) t mark.since ≡ new.since = sym (ap (λ (x : Mark). x.since) (new_is ∙ ap (λ x. cond (is_from_here l) x mark) here_is) ∙ by_cond (λ (x : Mark). x.since) (is_from_here l) (record { since = t; earlier = frames }) mark) in
         let base_is : cond (is_from_here l) (counting line.track) base.track ≡ there.track =
         ap (λ x. cond (is_from_here l) x base.track) (sym counted_is) ∙ sym (ap (λ (x : Standing). x.track) there_is ∙ by_cond (λ (x : Standing). x.track) (is_from_here l) come base) in
-        goes_at (limit - frames) (at frames line base mark bounds most) (t, place) told now.track (omega (arith, more)) next (λ again. other (look_is ∙ again)) known.0 known.1 l look_is
-        ∙ (ap (λ n. on n (cond (is_from_here l) frames mark.earlier) (cond (is_from_here l) t mark.since) (cond (is_from_here l) (counting line.track) base.track) (noted told bounds) (max told.waiting most)) less
-        ∙ (ap (λ x. on (limit - (frames + 1)) x (cond (is_from_here l) t mark.since) (cond (is_from_here l) (counting line.track) base.track) (noted told bounds) (max told.waiting most)) earlier_is
-        ∙ (ap (λ x. on (limit - (frames + 1)) new.earlier x (cond (is_from_here l) (counting line.track) base.track) (noted told bounds) (max told.waiting most)) since_is
-        ∙ (ap (λ x. on (limit - (frames + 1)) new.earlier new.since x (noted told bounds) (max told.waiting most)) base_is
-        ∙ (ap (λ x. on (limit - (frames + 1)) new.earlier new.since there.track x (max told.waiting most)) (sym noted_is)
-        ∙ ap (λ x. on (limit - (frames + 1)) new.earlier new.since there.track noted_all x) (sym most_is))))))
+        let left : Backlog = followed (in_ps plan.cycle) l (taken_at t (counting line.track)) backlog in
+        let left_is : left ≡ backlog_now = sym (backlog_is ∙ ap (λ s. followed (in_ps plan.cycle) l (taken_at t s) backlog) counted_is) in
+        goes_at (limit - frames) (at frames line base mark bounds most backlog) (t, place) told now.track (omega (arith, more)) next (λ again. other (look_is ∙ again)) known.0 known.1 l look_is
+        ∙ (ap (λ n. on n (cond (is_from_here l) frames mark.earlier) (cond (is_from_here l) t mark.since) (cond (is_from_here l) (counting line.track) base.track) (noted told bounds) (max told.waiting most) left) less
+        ∙ (ap (λ x. on (limit - (frames + 1)) x (cond (is_from_here l) t mark.since) (cond (is_from_here l) (counting line.track) base.track) (noted told bounds) (max told.waiting most) left) earlier_is
+        ∙ (ap (λ x. on (limit - (frames + 1)) new.earlier x (cond (is_from_here l) (counting line.track) base.track) (noted told bounds) (max told.waiting most) left) since_is
+        ∙ (ap (λ x. on (limit - (frames + 1)) new.earlier new.since x (noted told bounds) (max told.waiting most) left) base_is
+        ∙ (ap (λ x. on (limit - (frames + 1)) new.earlier new.since there.track x (max told.waiting most) left) (sym noted_is)
+        ∙ (ap (λ x. on (limit - (frames + 1)) new.earlier new.since there.track noted_all x left) (sym most_is)
+        ∙ ap (λ x. on (limit - (frames + 1)) new.earlier new.since there.track noted_all most_now x) left_is))))))
 
   -- where so many frames were walked as may be
-  pub ends_here : (limit frames : ℕ) (w : Walking) → limit ≤ frames → walks (limit - frames) w ≡ Err Long
+  pub ends_here : (limit frames : ℕ) (w : Walking) → limit ≤ frames → walks (limit - frames) w ≡ Err (unended w.backlog)
   ends_here limit frames w over = no_step (limit - frames) w (omega (arith, over))

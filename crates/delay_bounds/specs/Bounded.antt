@@ -5,19 +5,20 @@ use Rattle.gate_list.specs.Gate.{Plan, in_ps}
 use Rattle.delay_bounds.specs.Claim.{offsets_of, earliest, flow_at}
 use Rattle.delay_bounds.specs.Bounds.{AreBounds, Track, from_on, first_fit, told_by}
 use Rattle.delay_bounds.specs.ForEver.{counting, Recurs}
+use Rattle.delay_bounds.specs.Overloaded.{IsOverloaded}
 use Rattle.delay_bounds.specs.Stuck.{first_refused}
 use Rattle.delay_bounds.specs.Walk.{may_by, begun, after}
 use Rattle.delay_bounds.specs.declared.Bound.{Bound}
 use Rattle.delay_bounds.specs.declared.Flow.{Flow}
 use Rattle.delay_bounds.specs.declared.Told.{Told}
 use Rattle.delay_bounds.specs.declared.FlowFrame.{FlowFrame}
-use Rattle.delay_bounds.specs.declared.bounding.Look.{Look}
-use Rattle.delay_bounds.specs.declared.bounding.Look.TheVariants.{FromHere}
+use Rattle.delay_bounds.specs.declared.looking.Look.{Look}
+use Rattle.delay_bounds.specs.declared.looking.Look.TheVariants.{Frames, First}
 use Rattle.delay_bounds.specs.declared.line.Stop.{Stop}
 use Rattle.delay_bounds.specs.declared.line.Stop.TheVariants as Stops
 use Rattle.delay_bounds.specs.declared.Refused.{Refused}
 use Rattle.delay_bounds.specs.declared.Unbound.{Unbound}
-use Rattle.delay_bounds.specs.declared.Unbound.TheVariants.{Full, Never, Long, Late, Memory}
+use Rattle.delay_bounds.specs.declared.Unbound.TheVariants.{Full, Never, Overloaded, Long, Late, Memory}
 
 -- the greatest number of frames that ever wait at once, by a plan alone
 pub record IsMost (plan : Plan) (class room : ℕ) (flows : List Flow) (most : ℕ) : Type 0 where
@@ -36,7 +37,8 @@ pub record IsNext (plan : Plan) (class room : ℕ) (flows : List Flow) (f : Flow
 
 -- to look from here on
 abbrev pub is_from_here : Look → Bool
-is_from_here FromHere = true
+is_from_here Frames = true
+is_from_here First = true
 is_from_here _ = false
 
 -- why flows have no bounds, where a walk stops at a frame, and where nothing starts any more this is the first to find no room
@@ -46,13 +48,15 @@ unbound_by Stops.Never f refused = Never f refused
 unbound_by Stops.Late f refused = Late
 
 -- Why flows have no bounds: a frame finds no room; one finds room, but fits into no window of a cycle, and then this is the first to find none; so
--- many frames as may be were walked; or a frame finds room, but can't start before the greatest moment.
+-- many frames as may be were walked, and the class is overloaded; so many were; or a frame finds room, but can't start before the greatest moment.
 abbrev pub IsUnbound : Plan → ℕ → ℕ → List Flow → ℕ → Unbound → Type 0
 IsUnbound plan class room flows limit (Full f) = (z : Track) × IsNext plan class room flows f z × (room ≤ length (from_on f.moment z.starts))
 IsUnbound plan class room flows limit (Never f refused) =
     (z : Track) × IsNext plan class room flows f z × (length (from_on f.moment z.starts) < room)
     × (first_fit (may_by plan class) (flow_at flows f.place).need (max f.moment z.free) (in_ps plan.cycle) ≡ None)
     × (refused ≡ first_refused room flows (counting z))
+IsUnbound plan class room flows limit Overloaded =
+    IsOverloaded plan class flows × IsSome (after (may_by plan class) (in_ps plan.cycle) room flows limit (begun (offsets_of flows)))
 IsUnbound plan class room flows limit Long = IsSome (after (may_by plan class) (in_ps plan.cycle) room flows limit (begun (offsets_of flows)))
 IsUnbound plan class room flows limit Late =
     (f : FlowFrame) × (z : Track) × IsNext plan class room flows f z × (length (from_on f.moment z.starts) < room) × (greatest_moment < max f.moment z.free)

@@ -19,7 +19,7 @@ use Rattle.separation.specs.Traffic.{Came, IsOnly, queued_in, offered_in, starts
 use Rattle.delay_bounds.specs.declared.Flow.{Flow}
 use Rattle.delay_bounds.specs.declared.Bound.{Bound}
 use Rattle.delay_bounds.specs.declared.Unbound.{Unbound}
-use Rattle.delay_bounds.specs.declared.Unbound.TheVariants.{Full, Never}
+use Rattle.delay_bounds.specs.declared.Unbound.TheVariants.{Full, Never, Overloaded}
 
 -- 1. The frames of flows
 
@@ -111,15 +111,15 @@ module _ (plan : Plan) (class room : ℕ) (flows : List Flow) where
   abbrev pub NeverStarts : ℕ → ℕ → ℕ → Type 0
   NeverStarts k place moment = IsFrame flows k place moment × InEveryRun (λ n offered queued starts. length starts ≤ k)
 
-  -- bounds, or why there are none
-  abbrev pub IsWorth : Result (List Bound) Unbound → Type 0
-  IsWorth (Ok bounds) = AreExact bounds
-  IsWorth (Err (Full f)) = IsFirstDropped f.earlier f.place f.moment
-  IsWorth (Err (Never f refused)) = NeverStarts f.earlier f.place f.moment × IfSome refused (λ r. (k : ℕ) × IsFirstDropped k r.place r.moment)
-  IsWorth (Err why) = Unit {0}
+-- bounds, or why there are none; an overloaded class loses a frame at any room
+abbrev pub IsWorth : Plan → ℕ → ℕ → List Flow → Result (List Bound) Unbound → Type 0
+IsWorth plan class room flows (Ok bounds) = AreExact plan class room flows bounds
+IsWorth plan class room flows (Err (Full f)) = IsFirstDropped plan class room flows f.earlier f.place f.moment
+IsWorth plan class room flows (Err (Never f refused)) = NeverStarts plan class room flows f.earlier f.place f.moment × IfSome refused (λ r. (k : ℕ) × IsFirstDropped plan class room flows k r.place r.moment)
+IsWorth plan class room flows (Err Overloaded) = (any : ℕ) → (k place moment : ℕ) × IsFirstDropped plan class any flows k place moment
+IsWorth plan class room flows (Err why) = Unit {0}
 
 -- The law: what is answered about flows, by a walk over so many of their frames at most, is worth this.
 abbrev pub AnswerLaw : (Plan → ℕ → ℕ → List Flow → ℕ → Result (List Bound) Unbound) → Type 0
 AnswerLaw answer =
-    (plan : Plan) (class room limit : ℕ) (flows : List Flow) → IsSchedule plan → class < 8 → 0 < length flows → All IsFlow flows
-    → IsWorth plan class room flows (answer plan class room flows limit)
+    (plan : Plan) (class room limit : ℕ) (flows : List Flow) → IsSchedule plan → class < 8 → 0 < length flows → All IsFlow flows → IsWorth plan class room flows (answer plan class room flows limit)

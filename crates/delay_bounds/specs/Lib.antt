@@ -10,5 +10,6 @@ pub mod Less
 pub mod Noted
 pub mod Stuck
 pub mod Overloaded
+pub mod Backlog
 pub mod Bounded
 pub mod Walked

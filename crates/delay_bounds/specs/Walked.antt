@@ -5,7 +5,8 @@ use Rattle.wire_time.specs.Moment.{greatest_moment}
 use Rattle.gate_list.specs.Gate.{Plan, IsSchedule, in_ps}
 use Rattle.delay_bounds.specs.Claim.{IsFlow, earliest, flow_at, offsets_of}
 use Rattle.delay_bounds.specs.Bounds.{Track, arrives, first_fit}
-use Rattle.delay_bounds.specs.Bounded.{Answer, IsByPlan, told_bounds, unbound_by}
+use Rattle.delay_bounds.specs.Backlog.{followed, no_backlog, taken_at, unended}
+use Rattle.delay_bounds.specs.Bounded.{Answer, IsByPlan, is_from_here, told_bounds, unbound_by}
 use Rattle.delay_bounds.specs.ForEver.{counting}
 use Rattle.delay_bounds.specs.Noted.{noted, unseen}
 use Rattle.delay_bounds.specs.Stuck.{before_of, first_refused}
@@ -16,13 +17,14 @@ use Rattle.delay_bounds.specs.declared.FlowFrame.{FlowFrame}
 use Rattle.delay_bounds.specs.declared.Told.{Told}
 use Rattle.delay_bounds.specs.declared.Unbound.{Unbound}
 use Rattle.delay_bounds.specs.declared.Unbound.TheVariants.{Long}
-use Rattle.delay_bounds.specs.declared.bounding.Look.{Look}
-use Rattle.delay_bounds.specs.declared.bounding.Look.TheVariants as Looks
+use Rattle.delay_bounds.specs.declared.looking.Backlog.{Backlog}
+use Rattle.delay_bounds.specs.declared.looking.Look.{Look}
+use Rattle.delay_bounds.specs.declared.looking.Look.TheVariants as Looks
 use Rattle.delay_bounds.specs.declared.line.Stop.{Stop}
 use Rattle.delay_bounds.specs.declared.line.Stop.TheVariants as Stops
 
--- Where a walk stands after so many frames: its track, the bounds and the most so far; and where it looks back to: after how many frames that
--- was, when the next one came, and the track then.
+-- Where a walk stands after so many frames: its track, the bounds and the most so far; where it looks back to: after how many frames that
+-- was, when the next one came, and the track then; and its backlog.
 pub record Walking : Type 0 where
   pub frames : ℕ
   pub track : Track
@@ -31,6 +33,7 @@ pub record Walking : Type 0 where
   pub earlier : ℕ
   pub since : ℕ
   pub base : Track
+  pub backlog : Backlog
 
 -- 1. Looking back
 
@@ -55,12 +58,12 @@ abbrev pub comes_again : ℕ → ℕ → ℕ → Track → Track → Bool
 comes_again cycle since t new old = nat_lt since t && (t - since) % cycle == 0 && are_later (t - since) new.nexts old.nexts
 
 -- What comes of a look at a track whose next frame comes at t, beside one whose next frame came at `since`: it is the same, whole cycles later;
--- or only the frames come as they did, or the first ones of all flows have come; or neither.
+-- or only the frames come as they did; or the first ones of all flows have come; or none of these.
 abbrev pub look : ℕ → ℕ → ℕ → ℕ → Track → Track → Look
 look cycle last since t new old =
     if comes_again cycle since t new old
-    then (if is_later (t - since) new old then Looks.Again else Looks.FromHere)
-    else if nat_lt since last && nat_le last t then Looks.FromHere else Looks.On
+    then (if is_later (t - since) new old then Looks.Again else Looks.Frames)
+    else if nat_lt since last && nat_le last t then Looks.First else Looks.On
 
 -- 2. A frame
 
@@ -82,7 +85,7 @@ module _ (plan : Plan) (class room : ℕ) (flows : List Flow) where
   -- one frame more, as it is told of
   abbrev pub with_told : (Walking → Result Answer Unbound) → Walking → Option (Told × Track) → Result Answer Unbound
   with_told on w None = Err Long
-  with_told on w (Some r) = on (record { frames = w.frames + 1; track = r.1; bounds = noted r.0 w.bounds; most = max (r.0).waiting w.most; earlier = w.earlier; since = w.since; base = w.base })
+  with_told on w (Some r) = on (record { frames = w.frames + 1; track = r.1; bounds = noted r.0 w.bounds; most = max (r.0).waiting w.most; earlier = w.earlier; since = w.since; base = w.base; backlog = w.backlog })
 
   -- the next frame starts, or the walk stops there
   abbrev pub by_stop : (Walking → Result Answer Unbound) → ℕ × ℕ → Track → Walking → Option Stop → Result Answer Unbound
@@ -92,11 +95,23 @@ module _ (plan : Plan) (class room : ℕ) (flows : List Flow) where
   abbrev pub goes_on : (Walking → Result Answer Unbound) → ℕ × ℕ → Track → Walking → Result Answer Unbound
   goes_on on e new w = by_stop on e new w (stop_of (may_by plan class) (in_ps plan.cycle) room e.0 (flow_at flows e.1) new.free new.starts)
 
+  -- where it stands behind a look, at which the next frame has come
+  abbrev pub moved : Look → ℕ × ℕ → Track → Walking → Walking
+  moved l e new w = record {
+    frames = w.frames;
+    track = w.track;
+    bounds = w.bounds;
+    most = w.most;
+    earlier = if is_from_here l then w.frames else w.earlier;
+    since = if is_from_here l then e.0 else w.since;
+    base = if is_from_here l then new else w.base;
+    backlog = followed (in_ps plan.cycle) l (taken_at e.0 new) w.backlog;
+  }
+
   -- by a look back
   abbrev pub by_look : (Walking → Result Answer Unbound) → ℕ × ℕ → Track → Walking → Look → Result Answer Unbound
   by_look on e new w Looks.Again = Ok (record { bounds = w.bounds; most = w.most; frames = w.frames - w.earlier; every = e.0 - w.since })
-  by_look on e new w Looks.FromHere = goes_on on e new (record { frames = w.frames; track = w.track; bounds = w.bounds; most = w.most; earlier = w.frames; since = e.0; base = new })
-  by_look on e new w Looks.On = goes_on on e new w
+  by_look on e new w l = goes_on on e new (moved l e new w)
 
   -- by the next frame
   abbrev pub by_next : (Walking → Result Answer Unbound) → Walking → Track → Option (ℕ × ℕ) → Result Answer Unbound
@@ -105,7 +120,7 @@ module _ (plan : Plan) (class room : ℕ) (flows : List Flow) where
 
   -- from where a walk stands, after so many frames more at most
   unfoldable pub walked : ℕ → Walking → Result Answer Unbound
-  walked zero w = Err Long
+  walked zero w = Err (unended w.backlog)
   walked (suc n) w = by_next (walked n) w (counting w.track) (earliest w.track.nexts)
 
 -- before any frame
@@ -118,6 +133,7 @@ starting flows = record {
   earlier = 0;
   since = option_map_or (λ e. e.0) (earliest (offsets_of flows)) 0;
   base = counting (begun (offsets_of flows));
+  backlog = no_backlog;
 }
 
 -- the answer about the flows of a class in a plan, by a walk over so many frames at most: their bounds, or why they have none

@@ -1,30 +1,27 @@
 //! The bounds of flows, by a walk over their frames until its state comes again.
 
-ghost use Rattle.std.specs.Prelude.{◌+◌, ◌*◌, if◌then◌else◌, ◌≡◌, ◌<◌, ◌-◌, ◌%◌, ◌⊎◌, All, Err, IfErr, IfOk, MatchResult, Ok, length};
+ghost use Rattle.std.specs.Prelude.{◌+◌, ◌*◌, ◌≡◌, ◌<◌, ◌-◌, ◌⊎◌, All, Err, IfErr, IfOk, MatchResult, Ok, length};
 ghost use Rattle.gate_list.specs.Gate.{IsSchedule};
-ghost use Rattle.delay_bounds.specs.Bounded.{is_from_here, unbound_by, IsMost, IsUnbound};
+ghost use Rattle.delay_bounds.specs.Backlog.{unended};
+ghost use Rattle.delay_bounds.specs.Bounded.{unbound_by, IsMost, IsUnbound};
 ghost use Rattle.delay_bounds.specs.Claim.{flow_at, IsFlow};
 ghost use Rattle.delay_bounds.specs.Bounds.{AreBounds};
 ghost use Rattle.delay_bounds.specs.ForEver.{Recurs};
 ghost use Rattle.delay_bounds.specs.Line.{before_any};
 ghost use Rattle.delay_bounds.specs.Noted.{unseen};
 ghost use Rattle.delay_bounds.specs.Stuck.{before_of, first_refused, refused_of};
-ghost use Rattle.delay_bounds.specs.Walked.{answer_of, comes_again, frame_of, last_offset, look, walked};
+ghost use Rattle.delay_bounds.specs.Walked.{answer_of, frame_of};
 
 use crate::line::{Line, Stop};
+use crate::looking::{
+    Backlog, Look, Mark, followed, last_offset, look_back, look_from, no_backlog,
+};
 use crate::noting::{all_unseen, note};
 use crate::{Bound, Bounded, Flow, FlowFrame, Refused, Unbound};
 use gate_list::{Schedule, Visits};
 use list_position::Position;
 use std::alloc::Allocator;
 use wire_time::{CLASSES, MAX_MOMENT};
-
-/// A frame to look from: when it comes, and how many come before it.
-#[derive(Clone, Copy)]
-struct Mark {
-    since: u128,
-    earlier: u64,
-}
 
 /// What a walk has seen when its state has come again.
 #[derive(Clone, Copy)]
@@ -37,28 +34,6 @@ struct Seen {
     every: u128,
 }
 
-/// What comes of a look at a walk beside where it stood before.
-#[derive(Clone, Copy, PartialEq, Eq)]
-enum Look {
-    /// It stands as it did, some cycles later: all goes on so for ever.
-    Again,
-    /// Only the frames come as they did, or the first ones of all flows have come: it is better to look from here on.
-    FromHere,
-    /// Neither.
-    On,
-}
-
-// The latest first frame of all flows.
-fn last_offset(flows: &[Flow]) -> u128
-    ensures { result ≡ last_offset flows.now }
-{
-    let mut last = 0;
-    for flow in flows {
-        last = flow.offset.max(last);
-    }
-    last
-}
-
 // The flow at a place.
 fn flow_at(flows: &[Flow], place: usize) -> Flow
     requires { place < length flows.now }
@@ -66,64 +41,6 @@ fn flow_at(flows: &[Flow], place: usize) -> Flow
     ensures times { All IsFlow flows.now → IsFlow result }
 {
     flows[place]
-}
-
-// Whether the frames of a walk, whose next frame comes at `t`, come as those did of another one, whose next came at `since`, whole cycles before.
-fn comes_again<A: Allocator>(
-    line: &Line<A>,
-    base: &Line<A>,
-    since: u128,
-    t: u128,
-    cycle: u128,
-) -> bool
-    requires { 0 < cycle }
-    ensures { result ≡ comes_again cycle since t line.now.track base.now.track }
-{
-    since < t && (t - since) % cycle == 0 && line.comes_later(base, t - since)
-}
-
-// Looks at a walk whose next frame comes at `t`, beside where it stood when one came at `since`.
-fn look_back<A: Allocator>(
-    line: &Line<A>,
-    base: &Line<A>,
-    since: u128,
-    t: u128,
-    cycle: u128,
-    last: u128,
-) -> Look
-    requires { 0 < cycle }
-    ensures { result ≡ look cycle last since t line.now.track base.now.track }
-{
-    if comes_again(line, base, since, t, cycle) {
-        if line.is_later(base, t.saturating_sub(since)) {
-            return Look::Again;
-        }
-        return Look::FromHere;
-    }
-    if since < last && last <= t {
-        return Look::FromHere;
-    }
-    Look::On
-}
-
-// Looks from here on where that is better, or from where it looked before.
-fn look_from<A: Allocator>(
-    look: Look,
-    line: &Line<A>,
-    here: Mark,
-    base: &mut Line<A>,
-    mark: Mark,
-) -> Mark
-    requires places { length base.old.track.nexts ≡ length line.now.track.nexts }
-    requires room { base.old.room ≡ line.now.room }
-    ensures base { base.new ≡ (if is_from_here look then line.now else base.old) }
-    ensures mark { result ≡ (if is_from_here look then here else mark) }
-{
-    if look == Look::FromHere {
-        base.copy(line);
-        return here;
-    }
-    mark
 }
 
 // How many frames of a flow come before the one that comes at `t`.
@@ -201,6 +118,17 @@ fn unbound<A: Allocator>(
     }
 }
 
+// Why flows have no bounds, where so many frames were walked as may be.
+fn unended(backlog: Backlog) -> Unbound
+    ensures { result ≡ unended backlog }
+{
+    if backlog.grows {
+        Unbound::Overloaded
+    } else {
+        Unbound::Long
+    }
+}
+
 // Walks until the state comes again, at most so many frames.
 fn walk<A: Allocator>(
     schedule: &Schedule,
@@ -228,6 +156,7 @@ fn walk<A: Allocator>(
     let last = last_offset(flows);
     let (since, _) = base.next();
     let mut mark = Mark { since, earlier: 0 };
+    let mut backlog = no_backlog();
     let mut most = 0;
     let mut frames = 0;
     while frames < limit {
@@ -240,6 +169,7 @@ fn walk<A: Allocator>(
                 every: t - mark.since,
             });
         }
+        backlog = followed(backlog, look, line.taken(t), cycle);
         let here = Mark {
             since: t,
             earlier: frames,
@@ -257,7 +187,7 @@ fn walk<A: Allocator>(
         most = told.waiting.max(most);
         frames += 1;
     }
-    Err(Unbound::Long)
+    Err(unended(backlog))
 }
 
 /// The bounds of the flows of a class that a schedule keeps apart, for ever: the least and the greatest time from the arrival of each
@@ -270,7 +200,8 @@ fn walk<A: Allocator>(
 ///
 /// # Errors
 /// `Full` and `Never` tell of the first frame that finds no room, or that never starts, and then of the first that finds no room.
-/// `Long`: after `limit` frames it does not yet stand as it did. `Late`: a frame can't start before `MAX_MOMENT`. `Memory`: out of memory.
+/// `Overloaded`: within `limit` frames none found no room, but the backlog was seen to grow by a cycle, and does so again and again.
+/// `Long`: after `limit` frames it does not yet stand as it did, and no such growth was seen. `Late`: a frame can't start before `MAX_MOMENT`. `Memory`: out of memory.
 ///
 /// IEEE Std 802.1Q-2018, 8.6.8.4 and 8.6.9. `laws::answers` says what the answer is worth in every run.
 pub fn bound_flows<A: Allocator>(

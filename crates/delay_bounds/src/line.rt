@@ -4,6 +4,7 @@ ghost use Rattle.std.specs.Prelude.{◌≡◌, ◌<◌, ◌≤◌, ◌↔◌, �
 ghost use Rattle.wire_time.specs.Moment.{greatest_moment};
 ghost use Rattle.gate_list.specs.Gate.{IsSchedule, in_ps};
 ghost use Rattle.list_position.specs.Position.{IsPlaced};
+ghost use Rattle.delay_bounds.specs.Backlog.{taken_at};
 ghost use Rattle.delay_bounds.specs.Line.{before_any, when_come};
 ghost use Rattle.delay_bounds.specs.Claim.{earliest, offsets_of, IsFlow};
 ghost use Rattle.delay_bounds.specs.Bounds.{arrives, first_fit};
@@ -132,6 +133,13 @@ impl<A: Allocator> Line<A> {
             wait: at - t,
             waiting: self.starts.len(),
         })
+    }
+
+    /// For how long the wire is taken, from a moment on.
+    pub fn taken(&self, t: u128) -> u128
+        ensures { result ≡ taken_at t self.now.track }
+    {
+        self.free.saturating_sub(t)
     }
 
     /// For how many frames there is room.

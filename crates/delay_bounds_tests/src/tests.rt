@@ -195,6 +195,25 @@ fn a_window_that_is_too_short(rt: HostRuntime) -> Result<(), Fail> {
     Ok(())
 }
 
+/// Every 500 us one frame more comes than leaves. At frame 16 the backlog has risen by a cycle; frame 636 is the first without room.
+#[test]
+fn a_backlog_that_grows(rt: HostRuntime) -> Result<(), Fail> {
+    let schedule = schedule(26_000, 12_000, 199_000).ok_or("a schedule")?;
+    assert_eq!(rt;
+        why(&rt.alloc(), &schedule, 5, &CAMERA, 16),
+        Some(Unbound::Long)
+    );
+    assert_eq!(rt;
+        why(&rt.alloc(), &schedule, 5, &CAMERA, 17),
+        Some(Unbound::Overloaded)
+    );
+    assert_eq!(rt;
+        why(&rt.alloc(), &schedule, 5, &CAMERA, 636),
+        Some(Unbound::Overloaded)
+    );
+    Ok(())
+}
+
 #[test]
 fn a_frame_that_never_fits(rt: HostRuntime) -> Result<(), Fail> {
     let schedule = schedule(60_000, 800, 176_200).ok_or("a schedule")?;

@@ -59,6 +59,7 @@ class_line class room Verdicts.Shared = word_line class (codes " shared")
 class_line class room (Verdicts.Bounded most frames every) = bounded_line class room most frames every
 class_line class room (Verdicts.Full f) = place_line class (codes " full") f
 class_line class room (Verdicts.Stuck f) = place_line class (codes " stuck") f
+class_line class room Verdicts.Overloaded = word_line class (codes " overloaded")
 class_line class room Verdicts.Long = word_line class (codes " long")
 class_line class room Verdicts.Late = word_line class (codes " late")
 

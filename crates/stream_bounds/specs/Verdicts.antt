@@ -2,7 +2,8 @@
 --
 -- The claim: the answer about a class is `answer_of` (delay_bounds/specs/Walked.antt) for the flows of its streams in the schedule. What it is
 -- worth in every run of a port is delay_bounds/specs/Claim.antt, the law `delay_bounds::laws::answers`: bounds hold for ever, and each is reached;
--- of a class that is full that very frame is the first to be dropped, and of one that is stuck it is too, behind a frame that never starts.
+-- of a class that is full that very frame is the first to be dropped, and of one that is stuck it is too, behind a frame that never starts; and a class
+-- that is overloaded loses a frame at any room.
 use Rattle.std.specs.Prelude.{ℕ, ◌+◌, ◌-◌, ◌^◌, min, nat_le, Bool, true, false, List, [], ◌∷◌, drop, slice_get, slice_set, slice_index_or, Option, Some, None, unwrap_or, Result, Ok, Err, if◌then◌else◌}
 use Rattle.gate_list.specs.Gate.{keeps_apart}
 use Rattle.abstract_port.specs.AbstractPort.{plan_asked}
@@ -46,6 +47,7 @@ abbrev pub verdict_of : List ℕ → Result Answer Unbound → Verdict
 verdict_of ids (Ok a) = Verdicts.Bounded a.most a.frames a.every
 verdict_of ids (Err (Unbounds.Full f)) = Verdicts.Full (place_of ids f.place f.before f.moment)
 verdict_of ids (Err (Unbounds.Never f refused)) = stuck_at ids refused
+verdict_of ids (Err Unbounds.Overloaded) = Verdicts.Overloaded
 verdict_of ids (Err Unbounds.Long) = Verdicts.Long
 verdict_of ids (Err Unbounds.Late) = Verdicts.Late
 verdict_of ids (Err Unbounds.Memory) = Verdicts.Late
@@ -97,6 +99,7 @@ abbrev pub delay_by : ℕ → Verdict → Bound → Delay
 delay_by class (Verdicts.Bounded most frames every) b = Delays.Within class b
 delay_by class (Verdicts.Full f) b = Delays.Unbounded class
 delay_by class (Verdicts.Stuck f) b = Delays.Unbounded class
+delay_by class Verdicts.Overloaded b = Delays.Unbounded class
 delay_by class _ b = Delays.Unknown class
 
 abbrev pub delay_in : List ClassAnswer → ℕ → Delay

@@ -98,6 +98,7 @@ fn put_class<W: Write>(
         } => put_bounded(writer, class, room, most, frames, every),
         Verdict::Full(place) => put_place(writer, class, b" full", place),
         Verdict::Stuck(place) => put_place(writer, class, b" stuck", place),
+        Verdict::Overloaded => put_word(writer, class, b" overloaded"),
         Verdict::Long => put_word(writer, class, b" long"),
         Verdict::Late => put_word(writer, class, b" late"),
     }

@@ -34,6 +34,8 @@ pub enum Verdict {
     Full(Place),
     /// A frame never starts, nor does any behind it; and this is the first that then finds no room.
     Stuck(Place),
+    /// So many frames as may be were looked at, and the backlog grows for ever.
+    Overloaded,
     /// So many frames as may be were looked at.
     Long,
     /// A moment is after the greatest.
@@ -101,6 +103,7 @@ pub fn verdict_of(ids: &[u64], why: Unbound) -> Verdict
             Verdict::Full(place_of(ids, frame.place, frame.before, frame.moment))
         }
         Unbound::Never(_, refused) => stuck_at(ids, refused),
+        Unbound::Overloaded => Verdict::Overloaded,
         Unbound::Long => Verdict::Long,
         Unbound::Late | Unbound::Memory => Verdict::Late,
     }
@@ -112,7 +115,7 @@ pub fn delay_by(class: u8, verdict: Verdict, bound: Bound) -> Delay
 {
     match verdict {
         Verdict::Bounded { .. } => Delay::Within(class, bound),
-        Verdict::Full(_) | Verdict::Stuck(_) => Delay::Unbounded(class),
+        Verdict::Full(_) | Verdict::Stuck(_) | Verdict::Overloaded => Delay::Unbounded(class),
         Verdict::Idle | Verdict::Shared | Verdict::Long | Verdict::Late => Delay::Unknown(class),
     }
 }

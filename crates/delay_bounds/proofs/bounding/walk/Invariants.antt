@@ -11,7 +11,7 @@ invariant-loop-frames g l = record {
   base_room : l.base.room ≡ l.fn.line.room;
   earlier : l.mark.earlier ≤ l.frames;
   count : length l.bounds ≡ length l.flows;
-  answer : walked l.schedule l.class l.fn.line.room l.flows (l.limit - l.frames) (at l.frames l.line l.base l.mark l.bounds l.most) ≡ answer_of l.schedule l.class l.fn.line.room l.flows l.limit;
+  answer : walked l.schedule l.class l.fn.line.room l.flows (l.limit - l.frames) (at l.frames l.line l.base l.mark l.bounds l.most l.backlog) ≡ answer_of l.schedule l.class l.fn.line.room l.flows l.limit;
 }
 
 abbrev pub decreases-loop-frames : goal.decreases-loop-frames

@@ -1,6 +1,6 @@
 use Rattle.std.proofs.Common.{◌≡◌, max, drop}
 use Rattle.delay_bounds.specs.Walked.{last_offset}
-use Rattle.delay_bounds.proofs.bounding.last_offset.Given as goal
+use Rattle.delay_bounds.proofs.looking.last_offset.Given as goal
 
 -- the latest so far, and of those to come
 abbrev pub invariant-loop-flow : goal.invariant-loop-flow
