@@ -2,7 +2,8 @@
 some hyperperiods of the same table.
 
 Of a class with bounds each stream's least and greatest wait, and the most frames at once, are those of the run; of a full class the first frame that
-the run drops is the one that is told; and of a stuck class no frame starts any more."""
+the run drops is the one that is told; and of a stuck class no frame starts any more. And what is said with the greatest room for frames: a class that
+is overloaded then is full with less, and one that has bounds with less has the same."""
 import collections
 import math
 import os
@@ -18,8 +19,9 @@ UNITS = {100: 10**7, 1000: 10**6, 10000: 10**5}
 LENGTHS = [60, 60, 60, 64, 100, 100, 200, 500, 1000, 1514]
 PERIODS = [10, 20, 25, 40, 50, 60, 100]
 CYCLES = [20, 30, 40, 50, 60, 100]
-# Frames of a class that are looked at.
+# Frames of a class that are looked at, and the greatest room for frames: no queue is full after so many.
 FRAMES = 3000
+GREATEST_ROOM = 4096
 
 Stream = collections.namedtuple("Stream", "first_id priority len period offset tagged")
 World = collections.namedtuple("World", "rate room change cycle entries classes schedule streams")
@@ -177,6 +179,19 @@ def agrees_stuck(world, run, number, said):
     assert longest is not None and need > longest, (number, said, need, longest)
 
 
+def agrees_large(program, world, classes, bounds, folder):
+    """With the greatest room: a class that is overloaded is full with less, and one that has bounds with less has the same; what is told of each."""
+    large, same = told(program, world._replace(room=GREATEST_ROOM), folder)
+    for number, said in large.items():
+        if said[0] == "overloaded":
+            assert classes[number][0] == "full", (number, said, classes[number])
+        if classes[number][0] == "most":
+            assert said == [*classes[number][:3], str(GREATEST_ROOM), *classes[number][4:]], (number, said, classes[number])
+            of_class = [place for place, stream in enumerate(world.streams) if stream.priority == number]
+            assert [same[place] for place in of_class] == [bounds[place] for place in of_class], (number, same, bounds)
+    return [f"{said[0]} with room" for said in large.values()]
+
+
 def agrees(program, seed, folder):
     """A case; and what is told of its classes."""
     it = world(seed)
@@ -191,11 +206,11 @@ def agrees(program, seed, folder):
             first_drop(it, run, number, said)
             if said[0] == "stuck":
                 agrees_stuck(it, run, number, said)
-    return [said[0] for said in classes.values()]
+    return [*(said[0] for said in classes.values()), *agrees_large(program, it, classes, bounds, folder)]
 
 
 def agree(program, part):
-    """A quarter of the cases; each kind of class is among them, and few are too long to be looked at."""
+    """A quarter of the cases; each kind of class is among them, and few are too long to be looked at, with room too."""
     kinds = collections.Counter()
     with tempfile.TemporaryDirectory(prefix="taprio-bounds-") as folder:
         for seed in range(part * CASES, (part + 1) * CASES):
@@ -204,6 +219,7 @@ def agree(program, part):
             except Exception as fault:
                 raise AssertionError(f"seed {seed}: {world(seed).schedule}{table(world(seed)).decode()}{fault!r}") from fault
     assert kinds["most"] > 100 and kinds["full"] > 40 and kinds["stuck"] > 40 and kinds["shared"] > 20 and kinds["long"] < 10, kinds
+    assert kinds["overloaded with room"] > 20 and kinds["long with room"] < 10, kinds
 
 
 def case_bounds_are_those_of_runs_first_quarter(program):
