@@ -293,10 +293,15 @@ static const char machine_bounds[] =
 static void bounds(void) {
     struct call c = {BOUNDS, usual, whole, 0, TAPRIO_FRAMES, {0}, {0}};
     struct octets none = text(""), schedules = text(machine_schedules), unknown = text("tc qdisc del dev eth0 root\nclock 5\n");
+    struct octets half = text("tc qdisc replace dev eth0 root taprio num_tc 1 map 0 base-time 0 sched-entry S 01 50000 sched-entry S 00 50000\n");
     c.second = schedules;
     small("bounds of a machine", c, machine_streams, TAPRIO_DONE, machine_bounds, "");
     small("no streams", c, "", TAPRIO_DONE, "apart 5 6 7\napart 5 6 7\n", "");
     small("a stream without a period", c, "stream 1 7 60 0us 0us 1", TAPRIO_BAD_INPUT, "", "taprio_port: table line 1: BadNumber\n");
+    struct call few = c;
+    few.second = half;
+    few.frames = 26;
+    small("a backlog that grows", few, "stream 1 0 1514 20us 0us 1\n", TAPRIO_DONE, "apart 0\nclass 0 overloaded\nbound 1 class 0 none\n", "");
     struct call bad = c;
     bad.second = unknown;
     small("a fault of schedules", bad, "", TAPRIO_BAD_INPUT, "apart none\n", "taprio_port: script line 2: UnknownLine\n");
@@ -311,6 +316,7 @@ static void bounds(void) {
     free(none.at);
     free(schedules.at);
     free(unknown.at);
+    free(half.at);
 }
 
 /* null pointers with length 0, in the place of each slice: the calls ask for room, or do what they do without octets */

@@ -35,6 +35,8 @@ function classWords(line, write) {
   if (full) return `Class ${full[1]}: frame ${full[4]} of stream ${full[3]} is the first that finds the queue full, ${write(BigInt(full[2]))} after the schedule comes into force.`;
   const stuck = /^class (\d) stuck at (\d+) stream (\d+) frame (\d+)$/.exec(line);
   if (stuck) return `Class ${stuck[1]}: the queue is full at ${write(BigInt(stuck[2]))} (stream ${stuck[3]}, frame ${stuck[4]}), since a frame fits into no window.`;
+  const overloaded = /^class (\d) overloaded$/.exec(line);
+  if (overloaded) return `Class ${overloaded[1]} is overloaded: more frames come than leave, and no queue has room for them in the end.`;
   const shared = /^class (\d) shared$/.exec(line);
   if (shared) return `Class ${shared[1]} shares its gate with other classes: nothing is promised.`;
   return null;

@@ -296,8 +296,9 @@ class ClassVerdict:
     traffic_class: int
     verdict: str
     """"bounded" where each frame finds room and its wait has a bound; "full" where a frame finds its queue full; "stuck" where a frame
-    fits into no window, so that those behind it wait for ever; "shared" where the schedule doesn't keep the class apart; "long" where
-    more frames had to be looked at than was allowed; "late" where a moment is after the greatest."""
+    fits into no window, so that those behind it wait for ever; "overloaded" where no frame found its queue full yet, but the backlog
+    grows for ever; "shared" where the schedule doesn't keep the class apart; "long" where more frames had to be looked at than was
+    allowed; "late" where a moment is after the greatest."""
     most: int | None = None
     """The greatest number of frames that ever wait at once; for "bounded", as the following three."""
     room: int | None = None
@@ -539,7 +540,7 @@ def read_check(answers: Octets) -> Check:
 
 
 _CLASS = re.compile(
-    r"class (\d+) (?:(shared|long|late)|most (\d+) of (\d+) frames (\d+) every (\d+)|(full|stuck) at (\d+) stream (\d+) frame (\d+))"
+    r"class (\d+) (?:(shared|overloaded|long|late)|most (\d+) of (\d+) frames (\d+) every (\d+)|(full|stuck) at (\d+) stream (\d+) frame (\d+))"
 )
 _BOUND = re.compile(
     r"bound (\d+) (?:class (\d+) (?:(none|unknown)|wait (\d+) to (\d+) end (\d+) to (\d+))|dropped (\w+))"

@@ -237,6 +237,7 @@ tc-fault MissingWord map
 apart none
 class 4 long
 class 5 late
+class 6 overloaded
 """
 
     def test_kinds(self):
@@ -266,10 +267,10 @@ class 5 late
             (
                 results.Bounded(None, fault=results.Refused("IntervalTooShort", 0)),
                 results.Bounded(None, fault=results.TcFault("MissingWord", "map")),
-                results.Bounded((), (results.ClassVerdict(4, "long"), results.ClassVerdict(5, "late"))),
+                results.Bounded((), (results.ClassVerdict(4, "long"), results.ClassVerdict(5, "late"), results.ClassVerdict(6, "overloaded"))),
             ),
         )
-        self.assertEqual([row["schedule"] for row in found.class_rows()], [0, 0, 0, 0, 3, 3])
+        self.assertEqual([row["schedule"] for row in found.class_rows()], [0, 0, 0, 0, 3, 3, 3])
         self.assertEqual(
             found.rows()[1],
             {
