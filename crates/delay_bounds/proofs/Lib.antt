@@ -9,6 +9,7 @@ pub mod FullLaws
 pub mod NeverLaws
 pub mod StuckLaws
 pub mod LessLaws
+pub mod AnyMomentLaws
 pub mod OverloadLaws
 pub mod OverloadExample
 pub mod EveryRunLaws

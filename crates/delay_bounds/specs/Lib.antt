@@ -7,6 +7,7 @@ pub mod Waits
 pub mod Full
 pub mod Never
 pub mod Less
+pub mod AnyMoment
 pub mod Noted
 pub mod Stuck
 pub mod Overloaded

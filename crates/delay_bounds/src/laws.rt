@@ -1,4 +1,5 @@
 //! Laws of the definitions that the contracts cite. There is nothing to run here: a function's contract is its law.
+ghost use Rattle.delay_bounds.specs.AnyMoment.{AnyMomentLaw};
 ghost use Rattle.delay_bounds.specs.Bounds.{EveryRunLaw};
 ghost use Rattle.delay_bounds.specs.Claim.{AnswerLaw};
 ghost use Rattle.delay_bounds.specs.ForEver.{ForEverLaw};
@@ -63,4 +64,9 @@ pub fn overload()
 /// Frames that are left out, shorter or earlier, in their order, make no frame start later.
 pub fn less()
     ensures { LessLaw }
+{}
+
+/// A frame that comes at any moment, when no other of its class waits or is sent, starts within the longest wait of the schedule alone.
+pub fn any_moment()
+    ensures { AnyMomentLaw }
 {}
