@@ -1,4 +1,4 @@
-use Rattle.std.proofs.Common.{◌≡◌, [], ◌∷◌, ℕ, List, Ok, Err, rules, ap, ◌∙◌, subst}
+use Rattle.std.proofs.Common.{[], ◌∷◌, ℕ, List, Ok, Err, ap, ◌∙◌, subst}
 use Rattle.std.proofs.lemmas.Result.{err_from_is_err_and}
 use Rattle.abstract_port.specs.declared.Event.TheVariants.{Clock}
 use Rattle.replay.specs.Words.{Asks, lines_left, Timed, requests_of, counted_to, run_end, Answers, state}
