@@ -8,7 +8,7 @@ _taprio_port() {
     fi
     case ${COMP_WORDS[1]} in
         script) words='--rate --mtu --room --until --summary --help' values='--rate --mtu --room --until' ;;
-        replay) words='--rate --mtu --room --until --summary --progress --help' values='--rate --mtu --room --until' ;;
+        replay) words='--rate --mtu --room --until --stamp --summary --progress --help' values='--rate --mtu --room --until --stamp' ;;
         check) words='--rate --windows --script --help' values='--rate' ;;
         streams) words='--with --from --help' values='--with --from' ;;
         bounds) words='--rate --mtu --room --frames --strict --help' values='--rate --mtu --room --frames' ;;

@@ -1,6 +1,11 @@
 """Replays of captures that a rule makes: cut behind each octet, faulty, with odd frames, long, and without end."""
-from rows import Row, captured, run, run_fed
+import random
+import re
 
+from rows import Row, captured, run, run_fed, tagged
+
+# The last moment that a capture can say.
+END_OF_ALL = "4294967296000000000000"
 HEADER = bytes.fromhex("a1b2c3d4 0002 0004 00000000 00000000 00040000 00000001")
 # Big-endian, in microseconds: two frames of 60 octets of which 18 are captured, with priorities 3 and 5,
 # at 2 s and 500 microseconds and at 2 s and 400 microseconds.
@@ -422,3 +427,29 @@ def case_octets_are_kept_while_frames_wait_alone(program):
     assert (ran.status, ran.errors) == (0, b""), (ran.status, ran.errors)
     assert len(ran.files["out"]) == 24 + 100_000 * 1016
     assert ran.files["out"] == capture
+
+
+def random_replay(dice):
+    """A script with one schedule and perhaps a later line, a capture of up to 30 frames in 40 microseconds, and the last moment of both."""
+    entries = " ".join(f"sched-entry S {dice.randrange(256):02x} {dice.randrange(2, 20) * 1000}" for _ in range(dice.randint(1, 4)))
+    tc = f"tc qdisc replace dev eth0 root taprio num_tc 8 map 0 1 2 3 4 5 6 7 base-time {dice.randrange(60) * 1000} {entries}\n"
+    clock = dice.choice([0, dice.randrange(90_000_000)])
+    moments = sorted(dice.randrange(40_000) for _ in range(dice.randrange(30)))
+    records = [(moment, tagged(dice.randrange(8), 18), dice.choice([60, 400, 1514])) for moment in moments]
+    return f"{tc}clock {clock}\nquery\n".encode(), captured(records), max([clock, *(1000 * moment for moment in moments)])
+
+
+def case_a_run_without_a_moment_ends_with_its_last_frame(program):
+    """Without --until outputs are those of --until with the end of the last frame that starts, and so a run to the last moment of all starts no more."""
+    dice = random.Random(5)
+    for number in range(60):
+        script, capture, last = random_replay(dice)
+        files = {"script": script, "capture": capture}
+        room = ["--room", str(dice.choice([1, 4, 128]))]
+        ran = run(program, ["replay", "--summary", *room, "script", "capture", "out"], b"", files)
+        assert ran.status == 0, (number, ran)
+        ends = [int(end) for at, end in re.findall(rb"at (\d+) end (\d+)\n", ran.output) if int(at) >= last]
+        upto = run(program, ["replay", "--summary", "--until", str([last, *ends][-1]), *room, "script", "capture", "out"], b"", files)
+        assert (upto.output, upto.files["out"]) == (ran.output, ran.files["out"]), (number, ran.output, upto.output)
+        more = run(program, ["replay", "--until", END_OF_ALL, *room, "script", "capture", "out"], b"", files)
+        assert ran.output.startswith(more.output), (number, ran.output, more.output)

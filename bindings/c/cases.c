@@ -222,6 +222,36 @@ static void replays(const char *name, struct taprio_port_values values, struct o
     }
 }
 
+/* How long a record's frame takes to its last octet at 1000 Mb/s, in nanoseconds: preamble, frame and check sequence. */
+static uint32_t to_last_octet(const uint8_t *record) {
+    uint32_t original;
+    memcpy(&original, record + 12, sizeof original);
+    return 8 * (8 + (original < 60 ? 60 : original) + 4);
+}
+
+/* The departures with the moments of the last octets are those with the moments of the starts, each so much later. */
+static void stamped(struct taprio_port_values values, struct octets script, struct octets capture, struct octets departures) {
+    struct octets report = lent(1 << 16), left = lent(departures.length), fault = lent(64);
+    struct taprio_replay_ran ran;
+    taprio_replay_stamped(&values, TAPRIO_STAMP_END, script.at, script.length, capture.at, capture.length, report.at,
+                          report.length, left.at, left.length, fault.at, fault.length, &ran);
+    expect(ran.status == TAPRIO_DONE && ran.departures == departures.length, "the status", "taprio_replay_stamped");
+    for (size_t at = 24; at < departures.length;) {
+        uint32_t was, is, captured;
+        memcpy(&was, departures.at + at + 4, sizeof was);
+        memcpy(&is, left.at + at + 4, sizeof is);
+        memcpy(&captured, departures.at + at + 8, sizeof captured);
+        expect(is == was + to_last_octet(departures.at + at), "the moment of the last octet", "taprio_replay_stamped");
+        at += 16 + captured;
+    }
+    taprio_replay_stamped(&values, TAPRIO_STAMP_START, script.at, script.length, capture.at, capture.length, report.at,
+                          report.length, left.at, left.length, fault.at, fault.length, &ran);
+    expect(begins(left, departures), "the moment of the start", "taprio_replay_stamped");
+    free(report.at);
+    free(left.at);
+    free(fault.at);
+}
+
 static void machine(void) {
     struct octets script = file("machine.script"), capture = file("machine.pcap"), report = file("machine.report");
     struct octets summary = file("machine.summary"), departures = file("machine.departures.pcap"), none = text("");
@@ -234,6 +264,11 @@ static void machine(void) {
     memcpy(both.at + report.length, summary.at, summary.length);
     values.summary = 1;
     replays("machine.summary", values, script, capture, TAPRIO_DONE, both, departures, none);
+    values.has_until = 0;
+    values.summary = 0;
+    replays("machine.report, without a moment to run to", values, script, capture, TAPRIO_DONE, report, departures, none);
+    stamped(values, script, capture, departures);
+    values.has_until = 1;
     struct octets short_header = text("taprio_port: capture header: ShortHeader\n");
     struct octets cut = {capture.at, 23};
     replays("a cut header", values, script, cut, TAPRIO_BAD_INPUT, none, none, short_header);

@@ -63,7 +63,7 @@ struct taprio_port_values {
     uint32_t mtu;        /* octets, 68 to 9216 */
     uint32_t room;       /* frames a class, 1 to 4096 */
     uint32_t summary;    /* 0: none; else a summary is written at the end */
-    uint64_t has_until;  /* 0: no moment to run to after the input; else there is one */
+    uint64_t has_until;  /* 0: no moment to run to after the input, a replay until no frame can start; else there is one */
     uint64_t until_low;  /* that moment, in picoseconds: until_high * 2^64 + until_low, */
     uint64_t until_high; /* at most 9223372036854775807000; in a replay 4294967296000000000000 */
 };
@@ -144,6 +144,15 @@ void taprio_replay(const struct taprio_port_values *values, const uint8_t *scrip
                    const uint8_t *capture, size_t capture_length, uint8_t *report, size_t report_length, uint8_t *departures,
                    size_t departures_length, uint8_t *fault, size_t fault_length, struct taprio_replay_ran *ran);
 
+/* The same, with the moment that the records of the frames that leave have, as `--stamp` says: TAPRIO_STAMP_START, when the frame
+ * starts, or else when its last octet has been sent. taprio_replay is this call with TAPRIO_STAMP_START. */
+enum taprio_stamp { TAPRIO_STAMP_START = 0, TAPRIO_STAMP_END = 1 };
+
+void taprio_replay_stamped(const struct taprio_port_values *values, uint32_t stamp, const uint8_t *script, size_t script_length,
+                           const uint8_t *capture, size_t capture_length, uint8_t *report, size_t report_length,
+                           uint8_t *departures, size_t departures_length, uint8_t *fault, size_t fault_length,
+                           struct taprio_replay_ran *ran);
+
 /* A null pointer with length 0, as an empty std::string_view of C++ has it, is a slice without octets: a valid pointer takes its
  * place. The names of the calls stand for these functions from here on. */
 static inline const uint8_t *taprio_octets(const uint8_t *at) {
@@ -206,6 +215,16 @@ static inline void taprio_replay_or_null(const struct taprio_port_values *values
                   report_length, taprio_lent(departures), departures_length, taprio_lent(fault), fault_length, ran);
 }
 
+static inline void taprio_replay_stamped_or_null(const struct taprio_port_values *values, uint32_t stamp, const uint8_t *script,
+                                                 size_t script_length, const uint8_t *capture, size_t capture_length,
+                                                 uint8_t *report, size_t report_length, uint8_t *departures,
+                                                 size_t departures_length, uint8_t *fault, size_t fault_length,
+                                                 struct taprio_replay_ran *ran) {
+    taprio_replay_stamped(values, stamp, taprio_octets(script), script_length, taprio_octets(capture), capture_length,
+                          taprio_lent(report), report_length, taprio_lent(departures), departures_length, taprio_lent(fault),
+                          fault_length, ran);
+}
+
 #define taprio_run taprio_run_or_null
 #define taprio_check taprio_check_or_null
 #define taprio_streams taprio_streams_or_null
@@ -213,6 +232,7 @@ static inline void taprio_replay_or_null(const struct taprio_port_values *values
 #define taprio_bounds taprio_bounds_or_null
 #define taprio_draw taprio_draw_or_null
 #define taprio_replay taprio_replay_or_null
+#define taprio_replay_stamped taprio_replay_stamped_or_null
 
 /* A port that is driven call by call
  * ---------------------------------

@@ -89,7 +89,7 @@ _OF_PORT: dict[str, list[Any]] = {
 }
 
 # What a shared object lacks that was built before there were bounds, or ports that are driven.
-_LATER = ("taprio_streams_from", "taprio_bounds", *_OF_PORT)
+_LATER = ("taprio_streams_from", "taprio_bounds", "taprio_replay_stamped", *_OF_PORT)
 
 
 def _path() -> str:
@@ -124,6 +124,7 @@ def _typed(library: ctypes.CDLL) -> ctypes.CDLL:
         "taprio_bounds": [port, ctypes.c_uint64, *_OCTETS, *_OCTETS, *_LENT, *_LENT, ran],
         "taprio_draw": [port, picture, *_OCTETS, *_LENT, *_LENT, ran],
         "taprio_replay": [port, *_OCTETS, *_OCTETS, *_LENT, *_LENT, *_LENT, replay_ran],
+        "taprio_replay_stamped": [port, ctypes.c_uint32, *_OCTETS, *_OCTETS, *_LENT, *_LENT, *_LENT, replay_ran],
         **{name: [ctypes.c_void_p, *given] for name, given in _OF_PORT.items()},
     }
     for name, given in calls.items():
@@ -179,6 +180,13 @@ def _halves(moment: int | None, name: str) -> tuple[int, int, int]:
         return 0, 0, 0
     moment = number(moment, 128, name)
     return 1, moment & 0xFFFF_FFFF_FFFF_FFFF, moment >> 64
+
+
+def stamp_is_end(stamp: str) -> bool:
+    """Whether departures have the moment at which the last octet has been sent, and not that of the start."""
+    if stamp not in ("start", "end"):
+        raise BadValue("bad value of --stamp", "--stamp")
+    return stamp == "end"
 
 
 def _port(rate: int, mtu: int, room: int, until: int | None, summary: bool) -> _PortValues:
@@ -292,17 +300,22 @@ def replay(
     room: int = 128,
     until: int | None = None,
     summary: bool = False,
+    stamp: str = "start",
 ) -> Replay:
     """Replays a script and a capture (classic pcap), and gives a `Replay`: the report, and the capture of the frames that leave.
 
-    The values are those of `run`, but that `until` is at most 4294967296000000000000, the last moment that a capture can say.
+    The values are those of `run`, but that `until` is at most 4294967296000000000000, the last moment that a capture can say; where
+    it is None, the port runs on until no frame can start any more. The records of the frames that leave have the moment at which each
+    starts, or with `stamp="end"` the one at which its last octet has been sent.
     """
     script, capture = octets(script), octets(capture)
     given = [ctypes.byref(_port(rate, mtu, room, until, summary)), script, len(script), capture, len(capture)]
+    late = stamp_is_end(stamp)
     ran = _ReplayRan()
     names = ["report", "departures", "fault"]
     guess = 4 * len(script) + 2 * len(capture) + 4096
-    report, departures, text = _call("taprio_replay", given, ran, names, guess)
+    name, given = ("taprio_replay_stamped", [given[0], 1, *given[1:]]) if late else ("taprio_replay", given)
+    report, departures, text = _call(name, given, ran, names, guess)
     if ran.status:
         raise of_text(ran.status, text.decode(), Replay(report, departures))
     return Replay(report, departures)

@@ -11,7 +11,7 @@ from typing import Protocol, Union
 
 from . import library
 from .faults import BAD_INPUT, BAD_VALUE, LibraryMissing, Replay, TaprioError, of_text
-from .library import Library, Octets, number, octets
+from .library import Library, Octets, number, octets, stamp_is_end
 
 __all__ = ["Backend", "Chosen", "Program", "backend"]
 
@@ -57,6 +57,7 @@ class Backend(Protocol):
         room: int = 128,
         until: int | None = None,
         summary: bool = False,
+        stamp: str = "start",
     ) -> Replay:
         """The report of a replay, and the capture of what leaves."""
 
@@ -166,12 +167,12 @@ class Program:
         room: int = 128,
         until: int | None = None,
         summary: bool = False,
+        stamp: str = "start",
     ) -> Replay:
-        """Replays a script and a capture, as `taprio.replay` does, but that `until` has to be given."""
+        """Replays a script and a capture, as `taprio.replay` does."""
         script, capture = octets(script), octets(capture)
-        if until is None:
-            raise TypeError("the program replays to a moment: give `until`")
-        words = ["replay", *self._port(rate, mtu, room, until, summary), "script", "-", "departures"]
+        stamped = ["--stamp", "end"] if stamp_is_end(stamp) else []
+        words = ["replay", *self._port(rate, mtu, room, until, summary), *stamped, "script", "-", "departures"]
         with tempfile.TemporaryDirectory(prefix="taprio-") as folder:
             pathlib.Path(folder, "script").write_bytes(script)
             status, text, report = self._ran(words, capture, folder)

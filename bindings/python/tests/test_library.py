@@ -3,6 +3,7 @@
 import ctypes.util
 import os
 import pathlib
+import struct
 import tempfile
 import threading
 import unittest
@@ -124,6 +125,26 @@ class Examples:
         report, departures = self.port.replay(script, capture, until=2_000_000_000, summary=True)
         self.assertEqual(report, octets("machine.report") + octets("machine.summary"))
         self.assertEqual(departures, octets("machine.departures.pcap"))
+        self.assertEqual(self.port.replay(script, capture), got)
+
+    def test_a_replay_without_a_frame(self):
+        capture = octets("machine.pcap")[:24]
+        self.assertEqual(self.port.replay("", capture), (b"", octets("machine.departures.pcap")[:24]))
+
+    def test_departures_when_their_last_octet_has_been_sent(self):
+        script, capture = octets("machine.script"), octets("machine.pcap")
+        report, departures = self.port.replay(script, capture, stamp="end")
+        self.assertEqual(report, octets("machine.report"))
+        at, starts = 24, octets("machine.departures.pcap")
+        while at < len(starts):
+            seconds, nanoseconds, captured, original = struct.unpack_from("<IIII", starts, at)
+            sent = nanoseconds + 8 * (8 + max(original, 60) + 4)
+            self.assertEqual(struct.unpack_from("<IIII", departures, at), (seconds, sent, captured, original))
+            at += 16 + captured
+        self.assertEqual(len(departures), len(starts))
+        with self.assertRaises(taprio.BadValue) as raised:
+            self.port.replay(script, capture, stamp="middle")
+        self.assertEqual(raised.exception.option, "--stamp")
 
 
 class Faults:
@@ -223,9 +244,6 @@ class OverTheLibrary(Examples, Faults, Room, unittest.TestCase):
             with self.assertRaisesRegex(taprio.LibraryMissing, "no taprio_streams_from"):
                 taprio.streams("", from_=1)
 
-    def test_a_replay_without_until(self):
-        self.assertEqual(taprio.replay("", octets("machine.pcap")[:24]), (b"", octets("machine.departures.pcap")[:24]))
-
     def test_a_picture_that_runs_on(self):
         script = octets("first.script")
         self.assertEqual(taprio.draw(script, until=5_000_000, end=5_000_000), taprio.draw(script, end=5_000_000))
@@ -244,8 +262,6 @@ class OverTheProgram(Examples, Faults, Room, Bounds, unittest.TestCase):
     def test_what_it_can_not_do(self):
         with self.assertRaises(TypeError):
             self.port.draw("", until=5)
-        with self.assertRaises(TypeError):
-            self.port.replay("", octets("machine.pcap"))
 
     def test_no_program(self):
         with self.assertRaisesRegex(taprio.TaprioError, "the program can't be run"):

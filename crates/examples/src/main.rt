@@ -5,7 +5,7 @@
 #![tactic(auto)]
 
 use drawing::{DrawOptions, draw};
-use replay::{Unwatched, replay};
+use replay::{Stamp, Unwatched, replay};
 use schedule_check::{CheckSettings, check};
 use script::{Settings, run_script};
 use std::rt::Files;
@@ -160,6 +160,7 @@ fn replay_agrees<R: Files + AllocGlobal>(rt: &R, summary: bool) -> io::Result<bo
         &mut left,
         &mut told,
         settings,
+        Stamp::Start,
         &mut Unwatched,
     );
     Ok(

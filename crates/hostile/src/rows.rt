@@ -1,7 +1,7 @@
 //! What is fed: jobs over lines, replays, and settings.
 
 use capture::{CAPTURE_END, CaptureWriter};
-use replay::{ReplayFault, Unwatched, replay};
+use replay::{ReplayFault, Stamp, Unwatched, replay};
 use schedule_check::{CheckSettings, check};
 use script::{RunFault, Settings, run_script};
 use std::alloc::{Allocator, Global};
@@ -148,6 +148,7 @@ pub fn replay_in_memory(alloc: Global, capture: &[u8], settings: Settings) -> Re
         &mut written,
         &mut report,
         settings,
+        Stamp::Start,
         &mut Unwatched,
     );
     Replayed {
@@ -208,6 +209,7 @@ impl Replaying {
             departures,
             report,
             given.to_the_end,
+            Stamp::Start,
             &mut Unwatched,
         )
     }

@@ -3,7 +3,7 @@
 use super::rows::{Given, Job, Runs};
 use job::Ended;
 use refusing_heap::RefusingHeap;
-use replay::{Inputs, Outputs, Unwatched, answer_replay};
+use replay::{Inputs, Outputs, Stamp, Unwatched, answer_replay};
 use schedule_check::{CheckWords, answer_check};
 use script::{Settings, Values, answer_script};
 use std::alloc::Global;
@@ -101,6 +101,7 @@ fn replay_tells(alloc: Global, settings: Settings) -> io::Result<bool> {
     let (ended, report, departures) = answer_replay(
         &heap,
         settings,
+        Stamp::Start,
         inputs,
         outputs,
         &mut errors,

@@ -15,7 +15,7 @@ ghost use Rattle.tc_reader.specs.declared.fault.TcFault.{TcFault};
 use crate::answering::put_front;
 use crate::values::{PortValues, settings_at};
 use job::say_fault;
-use replay::{ReplayFault, Unwatched, replay};
+use replay::{ReplayFault, Stamp, Unwatched, replay};
 use script::{BadValue, Settings, say_value};
 use std::alloc::Allocator;
 
@@ -133,6 +133,7 @@ fn refuse_replay<A: Allocator>(
 fn replay_with<A: Allocator>(
     alloc: &A,
     settings: Settings,
+    stamp: Stamp,
     script: &[u8],
     capture: &[u8],
     report: &mut [u8],
@@ -140,7 +141,7 @@ fn replay_with<A: Allocator>(
     fault: &mut [u8],
 ) -> ReplayRan
     ensures { (read : List (List ℕ) → Result Command TcFault) → IsReader read → (records : Result (List Entry × End) CapFault) → ReadsAs capture.now records →
-        Replays (told_of_replay (outcome_of read settings script.now records)) result (outputs report.old departures.old fault.old) (outputs report.new departures.new fault.new) }
+        Replays (told_of_replay (outcome_of read settings stamp script.now records)) result (outputs report.old departures.old fault.old) (outputs report.new departures.new fault.new) }
 {
     let mut told = Vec::new(alloc);
     let mut left = Vec::new(alloc);
@@ -151,6 +152,7 @@ fn replay_with<A: Allocator>(
         &mut left,
         &mut told,
         settings,
+        stamp,
         &mut Unwatched,
     );
     end_replay(
@@ -167,11 +169,15 @@ fn replay_with<A: Allocator>(
 /// Replays a script and a capture with these values: both outputs, as `replay::replay` writes them, come into `report` and `departures`, and
 /// the text of a fault into `fault`, as the program writes it on its standard error.
 ///
+/// The records of the frames that leave carry the moment that `stamp` says. Without a moment to run to the port runs on until no frame can start
+/// any more.
+///
 /// Status 2 where a value is out of its limits, which for `until` is the last moment that a capture can say; 3 where the script or the capture has a fault.
 /// Nothing is written at a fault of the script or of the capture's header; at one of a record both outputs of the records before it, and of the whole script.
 pub fn replay_octets<A: Allocator>(
     alloc: &A,
     values: PortValues,
+    stamp: Stamp,
     script: &[u8],
     capture: &[u8],
     report: &mut [u8],
@@ -179,10 +185,12 @@ pub fn replay_octets<A: Allocator>(
     fault: &mut [u8],
 ) -> ReplayRan
     ensures { (read : List (List ℕ) → Result Command TcFault) → IsReader read → (records : Result (List Entry × End) CapFault) → ReadsAs capture.now records →
-        Replays (told_by_replay (λ settings. outcome_of read settings script.now records) (settings_at values)) result (outputs report.old departures.old fault.old) (outputs report.new departures.new fault.new) }
+        Replays (told_by_replay (λ settings. outcome_of read settings stamp script.now records) (settings_at values)) result (outputs report.old departures.old fault.old) (outputs report.new departures.new fault.new) }
 {
     match settings_at(values) {
-        Ok(settings) => replay_with(alloc, settings, script, capture, report, departures, fault),
+        Ok(settings) => replay_with(
+            alloc, settings, stamp, script, capture, report, departures, fault,
+        ),
         Err(value) => refuse_replay(alloc, value, report, departures, fault),
     }
 }

@@ -5,7 +5,7 @@ use crate::replays::{
 };
 use linked_list_allocator::LocalHeap;
 use refusing_heap::RefusingHeap;
-use replay::{ReplayFault, Unwatched, replay};
+use replay::{ReplayFault, Stamp, Unwatched, replay};
 use script::Settings;
 use std::alloc::Global;
 use std::io::Write;
@@ -158,6 +158,7 @@ fn replay_to<W: Write, V: Write>(
         written,
         report,
         settings,
+        Stamp::Start,
         &mut Unwatched,
     )
 }

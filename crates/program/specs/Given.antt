@@ -8,7 +8,9 @@ use Rattle.clap.specs.declared.parser.matches.Found.{Found}
 use Rattle.drawing.specs.Given.{DrawWords}
 use Rattle.drawing.specs.Options.{options_of}
 use Rattle.drawing.specs.declared.options.DrawOptions.{DrawOptions}
+use Rattle.replay.specs.Stamps.{stamp_given}
 use Rattle.replay.specs.Texts.{open_text}
+use Rattle.replay.specs.declared.stamps.Stamp.{Stamp}
 use Rattle.job.specs.Ending.{IsUnanswered}
 use Rattle.script.specs.Ending.{rate_given, settings_given}
 use Rattle.script.specs.Given.{GivenWords}
@@ -40,6 +42,10 @@ draw_words_in found = record { from = first_value found (codes "from"); to = fir
 -- the settings of the values that are given to the options, with a moment of at most `greatest`
 abbrev pub settings_in : ℕ → Found → Result Setup BadValue
 settings_in greatest found = settings_given greatest (words_in found)
+
+-- which moment the records of a replay carry, by the value that is given to its option
+abbrev pub stamp_in : Found → Option Stamp
+stamp_in found = stamp_given (first_value found (codes "stamp"))
 
 -- the rate of the value that is given to its option
 abbrev pub rate_in : Found → Result ℕ BadValue

@@ -89,8 +89,6 @@ pub(crate) fn checks_of<'a>(matches: &ArgMatches<'a>) -> CheckWords<'a>
 enum Given {
     /// As `--NAME VALUE`, or not at all.
     Value,
-    /// As `--NAME VALUE`.
-    NeededValue,
     /// As `--NAME`, or not at all.
     Flag,
     /// As the name of a file alone.
@@ -142,9 +140,16 @@ const UNTIL: Word = Word {
     help: "Run to this moment after the input: picoseconds, or a number with its unit, such as 2ms",
 };
 
-const UNTIL_NEEDED: Word = Word {
-    given: Given::NeededValue,
+const UNTIL_AFTER_BOTH: Word = Word {
+    help: "Run to this moment after the input, such as 2ms [default: until no frame can start any more]",
     ..UNTIL
+};
+
+const STAMP: Word = Word {
+    given: Given::Value,
+    name: "stamp",
+    value: "POINT",
+    help: "Which moment the records of OUT have: start, or end, when the last octet has been sent [default: start]",
 };
 
 const SUMMARY: Word = Word {
@@ -265,7 +270,8 @@ const JOBS: [Job; 6] = [
             RATE,
             MTU,
             ROOM,
-            UNTIL_NEEDED,
+            UNTIL_AFTER_BOTH,
+            STAMP,
             SUMMARY,
             PROGRESS,
             SCRIPT,
@@ -300,7 +306,6 @@ fn arg_of<'a>(alloc: Global, word: &Word) -> Arg<'a> {
     let arg = Arg::new(alloc, word.name).help(word.help);
     match word.given {
         Given::Value => arg.long(word.name).value_name(word.value),
-        Given::NeededValue => arg.long(word.name).value_name(word.value).required(true),
         Given::Flag => arg.long(word.name).action(ArgAction::SetTrue),
         Given::File => arg.value_name(word.value).required(true),
     }

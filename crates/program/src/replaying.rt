@@ -1,13 +1,14 @@
 //! A script and a capture from files through the port.
 
-ghost use Rattle.std.specs.Prelude.{◌≡◌, IfErr};
+ghost use Rattle.std.specs.Prelude.{◌≡◌, IfErr, IfNone, OnOk};
 ghost use Rattle.std.specs.Io.Buffered.{writer_contents};
 ghost use Rattle.clap.specs.Matches.{found_of};
-ghost use Rattle.program.specs.Given.{over_input_text, settings_in};
+ghost use Rattle.program.specs.Given.{over_input_text, settings_in, stamp_in};
 ghost use Rattle.capture.specs.declared.writer.TheConstants.{CAPTURE_END};
 ghost use Rattle.job.specs.Ending.{IsUnanswered};
 ghost use Rattle.job.specs.Texts.{IsTold};
 ghost use Rattle.script.specs.Ending.{IsRefusal};
+ghost use Rattle.replay.specs.Stamps.{stamp_text};
 ghost use Rattle.replay.specs.Texts.{open_text};
 
 use crate::end_without_memory;
@@ -17,7 +18,7 @@ use answer_text::{Part, put_parts};
 use capture::CAPTURE_END;
 use clap::ArgMatches;
 use job::{Ended, end_told};
-use replay::{Inputs, Outputs, Watch, answer_replay, say_unopened};
+use replay::{Inputs, Outputs, Stamp, Watch, answer_replay, say_stamp, say_unopened, stamp_given};
 use script::{Settings, end_with_value, settings_given};
 use std::alloc::{Allocator, Global};
 use std::fs;
@@ -150,6 +151,16 @@ fn end_over_input<B: Allocator, W: Write + Drop, E: Write>(
     end_told(say_over_input(path, errors), answers)
 }
 
+/// Reports that the word of a stamp is none, and gives the writer of the answers back. Nothing is answered.
+fn end_unstamped<B: Allocator, W: Write + Drop, E: Write>(
+    answers: BufWriter<W, B>,
+    errors: &mut E,
+) -> (Ended, W)
+    ensures { IsUnanswered 2 stamp_text result.0 (writer_contents W.contents answers) (W.contents result.1) (E.contents errors.old) (E.contents errors.new) }
+{
+    end_told(say_stamp(errors), answers)
+}
+
 /// Replays what is open, the capture from `reader` where that is the standard input.
 fn replay_opened<
     T: Read + Write + Drop,
@@ -161,6 +172,7 @@ fn replay_opened<
 >(
     alloc: Global,
     settings: Settings,
+    stamp: Stamp,
     opened: Opened<T>,
     reader: &mut R,
     answers: BufWriter<W, B>,
@@ -182,14 +194,14 @@ fn replay_opened<
     let (ended, writer, _out) = match capture {
         Some(capture) => {
             let inputs = Inputs { script, capture };
-            answer_replay(alloc, settings, inputs, outputs, errors, watch)
+            answer_replay(alloc, settings, stamp, inputs, outputs, errors, watch)
         }
         None => {
             let inputs = Inputs {
                 script,
                 capture: reader,
             };
-            answer_replay(alloc, settings, inputs, outputs, errors, watch)
+            answer_replay(alloc, settings, stamp, inputs, outputs, errors, watch)
         }
     };
     (ended, writer)
@@ -211,13 +223,20 @@ pub fn replay_given<F: Files, B: Allocator, R: Read, W: Write + Drop, E: Write, 
     ensures refused { IfErr (settings_in CAPTURE_END (found_of matches.now)) (λ value.
         IsRefusal value result.0 (writer_contents W.contents answers) (W.contents result.1) (E.contents errors.old) (E.contents errors.new)) }
     ensures unread { IfErr (settings_in CAPTURE_END (found_of matches.now)) (λ _. (reader.new ≡ reader.old) × (watch.new ≡ watch.old)) }
+    ensures unstamped { OnOk (settings_in CAPTURE_END (found_of matches.now)) (IfNone (stamp_in (found_of matches.now)) (
+        IsUnanswered 2 stamp_text result.0 (writer_contents W.contents answers) (W.contents result.1) (E.contents errors.old) (E.contents errors.new))) }
 {
     let settings = match settings_given(values_of(matches), CAPTURE_END) {
         Ok(settings) => settings,
         Err(value) => return end_with_value(value, answers, errors),
     };
+    let Some(stamp) = stamp_given(matches.get_str("stamp")) else {
+        return end_unstamped(answers, errors);
+    };
     match open_all(files, matches) {
-        Ok(opened) => replay_opened(alloc, settings, opened, reader, answers, errors, watch),
+        Ok(opened) => replay_opened(
+            alloc, settings, stamp, opened, reader, answers, errors, watch,
+        ),
         Err(Unopened::Path(path)) => end_unopened(path, answers, errors),
         Err(Unopened::Input(path)) => end_over_input(path, answers, errors),
     }

@@ -2,12 +2,12 @@
 use Rattle.std.proofs.Common.{◌≡◌, ◌<◌, ◌+◌, ◌++◌, ℕ, List, [], ◌∷◌, length, map, Option, Some, None, refl, sym, ap, ◌∙◌, append-nil, arith}
 use Rattle.std.proofs.Math.ListN.{set, get_or-map}
 use Rattle.std.proofs.lemmas.List.{map-set, map-append, length-append}
-use Rattle.replay.specs.Words.{Frame, AbstractPort, queue_of, IsSoundPort, Answer, Dropped, answer_lines, Entry, Kept, Stored, kept_at, Gave, answer_record, kept_in, output, IsTogether, Keeps, State}
+use Rattle.replay.specs.Words.{Frame, AbstractPort, queue_of, IsSoundPort, Answer, Dropped, answer_lines, Kept, Origin, Stored, kept_at, Gave, answer_record, kept_in, output, IsTogether, Keeps, State}
 use Rattle.abstract_port.specs.AbstractPort.{drop_in}
 use Rattle.replay.proofs.StartLaws.{length-at}
 
 -- an answer without a record
-pub one_answer : (es : List Entry) (a : Answer) → answer_record es a ≡ [] → output es (Gave a ∷ []) ≡ record { report = answer_lines a; departures = [] }
+pub one_answer : (es : Origin) (a : Answer) → answer_record es a ≡ [] → output es (Gave a ∷ []) ≡ record { report = answer_lines a; departures = [] }
 one_answer es a none =
     ap (λ (t : List ℕ). record { report = t; departures = answer_record es a ++ [] }) (append-nil (answer_lines a))
     ∙ ap (λ (t : List ℕ). record { report = answer_lines a; departures = t }) (append-nil (answer_record es a) ∙ none)
@@ -35,15 +35,17 @@ module _ (s t : State) (class : ℕ) (f : Frame) (k : Kept) (queues : t.port.que
     sound = sound;
   }
 
-  pub keeps-put : (es : List Entry) → kept_in es f.id ≡ k → Keeps es s → Keeps es t
-  keeps-put es is keeps =
-      let h : Frame → Kept = λ f. kept_in es f.id in
+  pub keeps-put : (es : Origin) → kept_in es.entries f.id ≡ k → t.stamping ≡ s.stamping → Keeps es s → Keeps es t
+  keeps-put es is how keeps =
+      let h : Frame → Kept = λ f. kept_in es.entries f.id in
       let g : List Frame → List Kept = λ fs. map h fs in
-      let at : kept_at s.store.kept class ≡ g (queue_of s.port class) = ap (λ ks. kept_at ks class) keeps ∙ get_or-map g s.port.queues class [] in
-      ap (λ (w : Stored). w.kept) put
-      ∙ ap (λ ks. set s.store.kept class (ks ++ k ∷ [])) at
-      ∙ ap (λ x. set s.store.kept class (g (queue_of s.port class) ++ x ∷ [])) (sym is)
-      ∙ ap (λ ks. set s.store.kept class ks) (sym (map-append h (queue_of s.port class) (f ∷ [])))
-      ∙ ap (λ kss. set kss class (g (queue_of s.port class ++ f ∷ []))) keeps
-      ∙ sym (map-set g s.port.queues class (queue_of s.port class ++ f ∷ []))
-      ∙ ap (λ qs. map g qs) (sym queues)
+      let at : kept_at s.store.kept class ≡ g (queue_of s.port class) = ap (λ ks. kept_at ks class) keeps.0 ∙ get_or-map g s.port.queues class [] in (
+        ap (λ (w : Stored). w.kept) put
+            ∙ ap (λ ks. set s.store.kept class (ks ++ k ∷ [])) at
+            ∙ ap (λ x. set s.store.kept class (g (queue_of s.port class) ++ x ∷ [])) (sym is)
+            ∙ ap (λ ks. set s.store.kept class ks) (sym (map-append h (queue_of s.port class) (f ∷ [])))
+            ∙ ap (λ kss. set kss class (g (queue_of s.port class ++ f ∷ []))) keeps.0
+            ∙ sym (map-set g s.port.queues class (queue_of s.port class ++ f ∷ []))
+            ∙ ap (λ qs. map g qs) (sym queues),
+        how ∙ keeps.1,
+      )

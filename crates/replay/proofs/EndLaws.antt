@@ -1,16 +1,22 @@
 -- The end of a replay, from what its parts leave.
-use Rattle.std.proofs.Common.{◌≡◌, ◌≤◌, ℕ, List, [], ◌++◌, length, false, Option, Some, None, Result, Ok, Err, refl, sym, ap, ◌∙◌, append_assoc, arith, subst}
-use Rattle.replay.specs.Words.{AbstractPort, settled, IsSoundPort, Entry, CapFault, End, Whole, Broken, CAPTURE_END, clock_after, Timed, all_requests, before_end, came_from, lines_after, requests_of, timed_from, EndsSo, Request, responses_of, BadLine, Observed, fault_of_stop, AppendsBoth, Ends, IsOpenFault, Outcome, end_fault, header, is_too_late, open_fault, refused, told_to_end, Got, Output, PutsBoth, SentBoth, joined, nothing, output, Answers, State, Fault, ReplayInput, Stop}
+use Rattle.std.proofs.Common.{◌≡◌, ◌+◌, ℕ, zero, suc, List, [], ◌∷◌, ◌++◌, length, Option, Some, None, Result, Ok, Err, refl, sym, ap, ◌∙◌, append_assoc, subst}
+use Rattle.replay.specs.Words.{AbstractPort, settled, starts_until, IsSoundPort, Entry, CapFault, End, Whole, Broken, CAPTURE_END, Timed, before_end, came_from, lines_after, merged, requests_of, timed_from, to_run_end, EndsSo, Asks, Request, events_of, responses_of, BadLine, Observed, fault_of_stop, AppendsBoth, Ends, IsOpenFault, Outcome, counted_to, end_fault, end_of, header, last_end, open_fault, refused, rest_moment, run_end, told_to_end, Got, Origin, Output, PutsBoth, SentBoth, joined, nothing, output, Answers, State, Fault, ReplayInput, Stop}
+use Rattle.abstract_port.specs.AbstractPort.{counters_of}
+use Rattle.abstract_port.specs.declared.Event.TheVariants.{Clock}
+use Rattle.abstract_port.specs.declared.Start.{Start}
+use Rattle.abstract_port.proofs.RunLaws.{IsTimely, timely-after, timely-settled, timely-sound}
+use Rattle.abstract_port.proofs.StartsLaws.{settled-starts}
 use Rattle.capture.specs.FileHeader.{IsHeaderFault}
 use Rattle.capture.specs.declared.fault.CapFault.TheVariants as CapFaults
-use Rattle.std.proofs.lemmas.Bool.{ltb-false}
 use Rattle.octet_writer.proofs.Fronts.{Appends-append, Appends-nil, sent_all}
-use Rattle.script.proofs.LeftLaws.{end-settled}
-use Rattle.replay.specs.Outcome.{end_of}
+use Rattle.script.proofs.LeftLaws.{left-settled}
+use Rattle.script.specs.Responses.{end_lines, left_from, left_lines}
+use Rattle.summary.specs.Lines.{class_text, classes_from, summary_lines, wire_text}
+use Rattle.summary.specs.Observed.{class_at}
 use Rattle.job.specs.declared.fault.Fault.TheVariants as Faults
 use Rattle.replay.specs.declared.faults.ReplayInput.TheVariants as Inputs
 use Rattle.replay.specs.declared.faults.Stop.TheVariants as Stops
-use Rattle.replay.proofs.RunLaws.{after, later_port, later_seen, parts}
+use Rattle.replay.proofs.RunLaws.{after, answers_exit, answers_then, later_port, later_seen, parts}
 use Rattle.replay.proofs.SeenLaws.{seen_of}
 use Rattle.replay.proofs.Sends.{both_exit, both_last, both_more, both_none, both_then}
 
@@ -21,36 +27,114 @@ joined-assoc x y z =
     ap (λ (t : List ℕ). record { report = t; departures = (x.departures ++ y.departures) ++ z.departures }) (append_assoc x.report y.report z.report)
     ∙ ap (λ (t : List ℕ). record { report = x.report ++ (y.report ++ z.report); departures = t }) (append_assoc x.departures y.departures z.departures)
 
-end-same : (q p : AbstractPort) (o : Option Observed) → q ≡ settled p → end_of q o ≡ end_of p o
-end-same q p o is = ap (λ (x : AbstractPort). end_of x o) is ∙ ap (λ (t : List ℕ). record { report = t; departures = [] }) (end-settled p o)
+-- what waits is the same at another moment
+pub left-now : (m : ℕ) (p : AbstractPort) → left_lines (record p { now = m }) ≡ left_lines p
+unfolding left_from
+left-now m p = refl
 
-module _ {T : Type 0} (r : Result T Stop) (es : List Entry) where
-  -- all is reported, and then what is left
-  pub told_whole : {U : Type 0} {x : U} (rs : List Request) (s u : State) (v : Got) → Answers {T = U} es (Ok x) rs s u → PutsBoth r u.got v (end_of u.port u.seen) → PutsBoth r s.got v (told_to_end es rs s.port s.seen)
-  told_whole rs s u v a n =
-      both_then r v (told_to_end es rs s.port s.seen) (end_of u.port u.seen)
-      (ap (λ (l : Output). joined (output es (responses_of rs s.port)) l) (sym (ap (λ o. end_of u.port o) a.seen ∙ end-same u.port (after rs s.port) (seen_of rs s.port s.seen) a.port)))
-      a.out n
+-- the lines of the end are the same in a settled port
+classes-still : (n class m : ℕ) (p : AbstractPort) (o : Observed) → classes_from n class (record (settled p) { now = m }) o ≡ classes_from n class (record p { now = m }) o
+unfolding classes_from
+classes-still zero class m p o = refl
+classes-still (suc n) class m p o = ap (λ text. class_text class (counters_of p class) (class_at o.classes class) ++ text) (classes-still n (class + 1) m p o)
+
+left-still : (m : ℕ) (p : AbstractPort) → left_lines (record (settled p) { now = m }) ≡ left_lines (record p { now = m })
+left-still m p = left-now m (settled p) ∙ left-settled p ∙ sym (left-now m p)
+
+lines-still : (m : ℕ) (p : AbstractPort) (o : Option Observed) → end_lines (record (settled p) { now = m }) o ≡ end_lines (record p { now = m }) o
+lines-still m p (Some o) =
+    ap (λ text. text ++ summary_lines (record (settled p) { now = m }) o) (left-still m p)
+    ∙ ap (λ text. left_lines (record p { now = m }) ++ (text ++ wire_text m o)) (classes-still 8 0 m p o)
+lines-still m p None = left-still m p
+
+end-still : (m : ℕ) (p : AbstractPort) (o : Option Observed) → end_of m (settled p) o ≡ end_of m p o
+end-still m p o = ap (λ (t : List ℕ). record { report = t; departures = [] }) (lines-still m p o)
+
+end-same : (m : ℕ) (q p : AbstractPort) (o : Option Observed) → q ≡ settled p → end_of m q o ≡ end_of m p o
+end-same m q p o is = ap (λ (x : AbstractPort). end_of m x o) is ∙ end-still m p o
+
+end-ports : (m : ℕ) (q p : AbstractPort) (o : Option Observed) → settled q ≡ settled p → end_of m q o ≡ end_of m p o
+end-ports m q p o is = sym (end-still m q o) ∙ end-same m (settled q) p o is
+
+-- nor does the moment at which no frame starts any more
+ends-settled : (m upto : ℕ) (p : AbstractPort) → IsTimely p → last_end m (starts_until (settled p) upto).0 ≡ last_end m (starts_until p upto).0
+ends-settled m upto p fit = ap (λ (starts : List Start). last_end m starts) (settled-starts p upto fit.rising fit.past)
+
+rest-ports : (q p : AbstractPort) → IsTimely q → IsTimely p → settled q ≡ settled p → rest_moment q ≡ rest_moment p
+rest-ports q p fit_q fit_p is =
+    sym (ends-settled q.now CAPTURE_END q fit_q) ∙ ap (λ (x : AbstractPort). rest_moment x) is ∙ ends-settled p.now CAPTURE_END p fit_p
+
+count-same : (until : Option ℕ) (p : AbstractPort) (n : ℕ) → counted_to until (last_end p.now (starts_until p (run_end until)).0) n ≡ counted_to until (rest_moment p) n
+count-same (Some m) p n = refl
+count-same None p n = refl
+
+-- the moment that a summary counts up to, by what was known of its parts
+pub counted : (until : Option ℕ) (p q : AbstractPort) (last upto from : ℕ) → last ≡ last_end from (starts_until p upto).0 → from ≡ p.now → upto ≡ run_end until
+    → counted_to until last q.now ≡ counted_to until (last_end p.now (starts_until p (run_end until)).0) q.now
+counted until p q last upto from ends begins runs =
+    ap (λ (l : ℕ). counted_to until l q.now) (ends ∙ ap (λ (m : ℕ). last_end m (starts_until p upto).0) begins ∙ ap (λ (m : ℕ). last_end p.now (starts_until p m).0) runs)
+
+module _ {T : Type 0} (r : Result T Stop) (es : Origin) (until : Option ℕ) where
+  -- the end after these requests, where no frame starts any more from this moment on
+  abbrev end_after : ℕ → List Request → AbstractPort → Option Observed → Output
+  end_after rest zs p o = let q = after zs p in end_of (counted_to until rest q.now) q (seen_of zs p o)
 
   -- the exit of a call that failed in what is reported
-  pub told_exit : {U : Type 0} {y : Stop} (rs : List Request) (s u : State) → r ≡ Err y → Answers {T = U} es (Err y) rs s u → PutsBoth r s.got u.got (told_to_end es rs s.port s.seen)
-  told_exit rs s u is a = both_exit r u.got (output es (responses_of rs s.port)) (end_of (after rs s.port) (seen_of rs s.port s.seen)) is (both_none s.got _) refl a.out
+  pub told_exit : {U : Type 0} {y : Stop} (xs : List Request) (s u : State) → r ≡ Err y → Answers {T = U} es (Err y) (to_run_end until xs) s u → PutsBoth r s.got u.got (told_to_end es xs until s.port s.seen)
+  told_exit xs s u is a =
+      both_exit r u.got (output es (responses_of (to_run_end until xs) s.port)) (end_after (rest_moment (after xs s.port)) (to_run_end until xs) s.port s.seen) is (both_none s.got _) refl a.out
+
+  -- of a call before the run to the end
+  pub told_fail : {U : Type 0} {y : Stop} (xs : List Request) (s t : State) → r ≡ Err y → Answers {T = U} es (Err y) xs s t → PutsBoth r s.got t.got (told_to_end es xs until s.port s.seen)
+  told_fail {U} {y} xs s t is a = told_exit {U = U} xs s t is (answers_exit {T = U} {U = U} (Err y) es xs (Asks (Clock (run_end until)) ∷ []) s t refl a)
+
+  -- all is reported, and then what is left
+  pub told_whole : (xs : List Request) (s t u : State) (v : Got) (moment : ℕ) → IsSoundPort s.port → Answers {T = Unit {0}} es (Ok tt) xs s t → Answers {T = Unit {0}} es (Ok tt) (Asks (Clock (run_end until)) ∷ []) t u
+      → moment ≡ counted_to until (last_end t.port.now (starts_until t.port (run_end until)).0) u.port.now → PutsBoth r u.got v (end_of moment u.port u.seen) → PutsBoth r s.got v (told_to_end es xs until s.port s.seen)
+  told_whole xs s t u v moment sound a b given n =
+      let zs : List Request = to_run_end until xs in
+      let p : AbstractPort = after xs s.port in
+      let q : AbstractPort = after zs s.port in
+      let upto : ℕ = run_end until in
+      let all : Answers {T = Unit {0}} es (Ok tt) zs s u = answers_then {U = Unit {0}} {y = tt} (Ok tt) es xs (Asks (Clock upto) ∷ []) s t u sound a b in
+      let same_moment : moment ≡ counted_to until (rest_moment p) q.now =
+      given
+      ∙ ap (λ (x : AbstractPort). counted_to until (last_end x.now (starts_until x upto).0) u.port.now) a.port
+      ∙ ap (λ (l : ℕ). counted_to until l u.port.now) (ends-settled p.now upto p (timely-after (events_of xs) s.port (timely-sound s.port sound)))
+      ∙ ap (λ (x : AbstractPort). counted_to until (last_end p.now (starts_until p upto).0) x.now) all.port
+      ∙ count-same until p q.now in
+      let same : end_of moment u.port u.seen ≡ end_of (counted_to until (rest_moment p) q.now) q (seen_of zs s.port s.seen) =
+      ap (λ o. end_of moment u.port o) all.seen
+      ∙ end-same moment u.port q (seen_of zs s.port s.seen) all.port
+      ∙ ap (λ (m : ℕ). end_of m q (seen_of zs s.port s.seen)) same_moment in
+      both_then r v (told_to_end es xs until s.port s.seen) (end_of moment u.port u.seen) (ap (λ (l : Output). joined (output es (responses_of zs s.port)) l) (sym same)) all.out n
 
   -- some is reported, and then more
-  pub told_then : {U : Type 0} {x : U} (xs ys : List Request) (s t : State) (v : Got) → IsSoundPort s.port → Answers {T = U} es (Ok x) xs s t → PutsBoth r t.got v (told_to_end es ys t.port t.seen) → PutsBoth r s.got v (told_to_end es (xs ++ ys) s.port s.seen)
-  told_then xs ys s t v sound a n =
-      both_then r v (told_to_end es (xs ++ ys) s.port s.seen) (told_to_end es ys t.port t.seen)
-      (ap (λ (o : Output). joined o (end_of (after (xs ++ ys) s.port) (seen_of (xs ++ ys) s.port s.seen))) (parts es s t sound xs ys a.port)
-      ∙ joined-assoc (output es (responses_of xs s.port)) (output es (responses_of ys t.port)) (end_of (after (xs ++ ys) s.port) (seen_of (xs ++ ys) s.port s.seen))
-      ∙ ap (λ (l : Output). joined (output es (responses_of xs s.port)) (joined (output es (responses_of ys t.port)) l)) (same_end))
+  pub told_then : {U : Type 0} {x : U} (xs ys : List Request) (s t : State) (v : Got) → IsSoundPort s.port → Answers {T = U} es (Ok x) xs s t → PutsBoth r t.got v (told_to_end es ys until t.port t.seen) → PutsBoth r s.got v (told_to_end es (xs ++ ys) until s.port s.seen)
+  told_then {U} {x} xs ys s t v sound a n =
+      let ws : List Request = to_run_end until ys in
+      let zs : List Request = xs ++ ws in
+      let p : AbstractPort = after (xs ++ ys) s.port in
+      let q' : AbstractPort = after ws t.port in
+      let q : AbstractPort = after zs s.port in
+      let rest : ℕ = rest_moment p in
+      let timely : IsTimely s.port = timely-sound s.port sound in
+      let P : AbstractPort → Type 0 = λ y. IsTimely y in
+      let fit : IsTimely t.port = subst P (sym a.port) (timely-settled (after xs s.port) (timely-after (events_of xs) s.port timely)) in
+      let same_rest : rest_moment (after ys t.port) ≡ rest =
+      rest-ports (after ys t.port) p (timely-after (events_of ys) t.port fit) (timely-after (events_of (xs ++ ys)) s.port timely) (later_port es s t sound xs ys a.port) in
+      let same_port : settled q' ≡ settled q = later_port es s t sound xs ws a.port in
+      let same : end_after (rest_moment (after ys t.port)) ws t.port t.seen ≡ end_after rest zs s.port s.seen =
+      ap (λ (m : ℕ). end_of (counted_to until m q'.now) q' (seen_of ws t.port t.seen)) same_rest
+      ∙ ap (λ (y : AbstractPort). end_of (counted_to until rest y.now) q' (seen_of ws t.port t.seen)) same_port
+      ∙ end-ports (counted_to until rest q.now) q' q (seen_of ws t.port t.seen) same_port
+      ∙ ap (λ o. end_of (counted_to until rest q.now) q o) (later_seen es s t sound xs ws a.port a.seen) in
+      both_then r v (told_to_end es (xs ++ ys) until s.port s.seen) (told_to_end es ys until t.port t.seen)
+      (ap (λ (rs : List Request). joined (output es (responses_of rs s.port)) (end_after rest rs s.port s.seen)) (append_assoc xs ys (Asks (Clock (run_end until)) ∷ []))
+      ∙ ap (λ (o : Output). joined o (end_after rest zs s.port s.seen)) (parts es s t sound xs ws a.port)
+      ∙ joined-assoc (output es (responses_of xs s.port)) (output es (responses_of ws t.port)) (end_after rest zs s.port s.seen)
+      ∙ ap (λ (l : Output). joined (output es (responses_of xs s.port)) (joined (output es (responses_of ws t.port)) l)) (sym same))
       a.out n
-    where
-      same_end : end_of (after (xs ++ ys) s.port) (seen_of (xs ++ ys) s.port s.seen) ≡ end_of (after ys t.port) (seen_of ys t.port t.seen)
-      same_end =
-          let o = seen_of (xs ++ ys) s.port s.seen in
-          sym (end-same (settled (after (xs ++ ys) s.port)) (after (xs ++ ys) s.port) o refl)
-          ∙ (ap (λ (p : AbstractPort). end_of p o) (sym (later_port es s t sound xs ys a.port)) ∙ end-same (settled (after ys t.port)) (after ys t.port) o refl)
-          ∙ sym (ap (λ n. end_of (after ys t.port) n) (later_seen es s t sound xs ys a.port a.seen))
 
 -- ---- the end
 
@@ -126,13 +210,6 @@ header_exit {T} {U} r y old mid o is p =
 
 -- ---- the beginning
 
-pub on_time : (until : Option ℕ) (m : ℕ) → until ≡ Some m → is_too_late until ≡ false → m ≤ CAPTURE_END
-on_time None m e late = absurd (cc)
-on_time (Some x) m e late =
-    let same : x ≡ m = cc in
-    let h : x ≤ CAPTURE_END = omega (arith, ltb-false CAPTURE_END x late) in
-    subst (λ (n : ℕ). n ≤ CAPTURE_END) same h
-
 pub opened : (known : Option (List ℕ)) (f : CapFault) → IsHeaderFault known f → IsOpenFault known (open_fault f)
 opened known CapFaults.ShortHeader h = (refl, h)
 opened known CapFaults.BadMagic h = (refl, h)
@@ -146,13 +223,10 @@ opened known CapFaults.Read h = tt
 opened known CapFaults.Write h = absurd h
 opened known CapFaults.Memory h = tt
 
--- all that is asked, in two parts
-pub asked_split : (script : List Request) (entries : List Entry) (until : Option ℕ) (left : List Timed) → left ≡ lines_after (timed_from 0 script) (came_from 0 0 entries)
-    → before_end (timed_from 0 script) (came_from 0 0 entries) ++ (requests_of left ++ clock_after until) ≡ all_requests script entries until
-asked_split script entries until left is =
-    let front = before_end (timed_from 0 script) (came_from 0 0 entries) in
-    ap (λ (ls : List Timed). front ++ (requests_of ls ++ clock_after until)) is
-    ∙ sym (append_assoc front (requests_of (lines_after (timed_from 0 script) (came_from 0 0 entries))) (clock_after until))
+-- all that is asked by both inputs, in two parts
+pub asked_split : (script : List Request) (entries : List Entry) (left : List Timed) → left ≡ lines_after (timed_from 0 script) (came_from 0 0 entries)
+    → before_end (timed_from 0 script) (came_from 0 0 entries) ++ requests_of left ≡ merged (timed_from 0 script) (came_from 0 0 entries)
+asked_split script entries left is = ap (λ (ls : List Timed). before_end (timed_from 0 script) (came_from 0 0 entries) ++ requests_of ls) is
 
 pub no_fault : (entries : List Entry) (last : End) (n : ℕ) → EndsSo entries last None → end_fault n last ≡ None
 no_fault entries Whole n e = refl

@@ -4,7 +4,7 @@ use Rattle.std.proofs.Common.{◌≡◌, ◌≢◌, ◌<◌, ◌+◌, ◌++◌, 
 use Rattle.std.proofs.Math.ListN.{get_or}
 use Rattle.std.proofs.Math.Seq.{get_or-append_seam}
 use Rattle.std.proofs.lemmas.List.{length-append}
-use Rattle.replay.specs.Words.{Left, Next, AreRecords, frame_of, Entry, MAX_RECORDS, CapFault, Format, End, Whole, Broken, Arrive, kept, Request, Asks, Came, Timed, before_end, came_from, lines_after, lines_by, lines_past, requests_of, kept_in, Comes, found, RunsRecords, Answers, Keeps, State, IsSoundPort, Stop}
+use Rattle.replay.specs.Words.{Left, Next, AreRecords, frame_of, Entry, MAX_RECORDS, CapFault, Format, End, Whole, Broken, Arrive, kept, Origin, Request, Asks, Came, Timed, before_end, came_from, lines_after, lines_by, lines_past, requests_of, kept_in, Comes, found, RunsRecords, Answers, Keeps, State, IsSoundPort, Stop}
 use Rattle.capture.specs.CaptureReader.{IsWanting, ReadsNext, again, octets_left}
 use Rattle.capture.specs.Records.{IsWithin, entry_at, fault_at, rest_after}
 use Rattle.capture.specs.declared.fault.CapFault.TheVariants.{ShortHeader, BadMagic, BadVersion, BadLink, ShortRecord, LongRecord, BadFraction, TooManyRecords, Read, Write, Memory}
@@ -75,14 +75,14 @@ module _ {R : Type 0} (remaining : R → Option (List ℕ)) (l after : Left R) (
 -- ---- the run so far
 
 -- So many records are taken, `rest` is still to come; and what is asked up to the last record is answered so far.
-pub record Stands {R : Type 0} (remaining : R → Option (List ℕ)) (es : List Entry) (last : End) (reader : Left R) (latest number : ℕ) (all lines : List Timed) (s t : State) : Type 0 where
+pub record Stands {R : Type 0} (remaining : R → Option (List ℕ)) (es : Origin) (last : End) (reader : Left R) (latest number : ℕ) (all lines : List Timed) (s t : State) : Type 0 where
   pub front : List Entry
   pub rest : List Entry
-  pub split : es ≡ front ++ rest
+  pub split : es.entries ≡ front ++ rest
   pub count : length front ≡ number
   pub comes : Comes remaining reader rest last
-  pub left : lines_after lines (came_from latest number rest) ≡ lines_after all (came_from 0 0 es)
-  pub run : Keeps es s → Done es s t (before_end lines (came_from latest number rest)) (before_end all (came_from 0 0 es))
+  pub left : lines_after lines (came_from latest number rest) ≡ lines_after all (came_from 0 0 es.entries)
+  pub run : Keeps es s → Done es s t (before_end lines (came_from latest number rest)) (before_end all (came_from 0 0 es.entries))
 
 -- the record of a number
 pub kept-at : (es front rest : List Entry) (e : Entry) (number : ℕ) → es ≡ front ++ e ∷ rest → length front ≡ number → kept_in es number ≡ kept e.original e.octets
@@ -91,7 +91,7 @@ kept-at es front rest e number split count =
     ap (λ (x : Entry). kept x.original x.octets) at
 
 -- what is answered, whatever the call answers
-same_ok : {T U : Type 0} {x : T} (y : U) (es : List Entry) (rs : List Request) (s t : State) → Answers {T = T} es (Ok x) rs s t → Answers {T = U} es (Ok y) rs s t
+same_ok : {T U : Type 0} {x : T} (y : U) (es : Origin) (rs : List Request) (s t : State) → Answers {T = T} es (Ok x) rs s t → Answers {T = U} es (Ok y) rs s t
 same_ok {T} {U} {x} y es rs s t a = record { port = a.port; keeps = a.keeps; seen = a.seen; out = record { left = a.out.left; sent = a.out.sent; all = a.out.all; short = λ w. cc } }
 
 module _ {R : Type 0} (remaining : R → Option (List ℕ)) (l after : Left R) (e : Entry) (begun : l.ended ≡ None) (p : Next remaining l (Ok (Some e)) after) where
@@ -111,7 +111,7 @@ module _ {R : Type 0} (remaining : R → Option (List ℕ)) (l after : Left R) (
 abbrev pub asked : List Timed → List Entry → List Request
 asked all es = before_end all (came_from 0 0 es)
 
-module _ {R : Type 0} (remaining : R → Option (List ℕ)) (es : List Entry) (last : End) (reader after : Left R) (latest number : ℕ) (all lines : List Timed) (s t : State) (sound : IsSoundPort s.port)
+module _ {R : Type 0} (remaining : R → Option (List ℕ)) (es : Origin) (last : End) (reader after : Left R) (latest number : ℕ) (all lines : List Timed) (s t : State) (sound : IsSoundPort s.port)
     (st : Stands remaining es last reader latest number all lines s t) (begun : reader.ended ≡ None) where
   -- a record is taken, after the lines up to its moment
   module _ (e : Entry) (p : Next remaining reader (Ok (Some e)) after) (m : ℕ) (is : m ≡ max latest e.moment) where
@@ -127,21 +127,21 @@ module _ {R : Type 0} (remaining : R → Option (List ℕ)) (es : List Entry) (l
         ≡ requests_of (lines_by m lines) ++ ((Asks (Clock m) ∷ Asks (Arrive (frame_of e number)) ∷ []) ++ before_end (lines_past m lines) (came_from m (number + 1) rest))
     before rest same = ap (λ (cs : List Came). before_end lines cs) (here rest same)
 
-    its_record : (rest : List Entry) → st.rest ≡ e ∷ rest → kept_in es number ≡ kept e.original e.octets
-    its_record rest same = kept-at es st.front rest e number (st.split ∙ ap (λ (xs : List Entry). st.front ++ xs) same) st.count
+    its_record : (rest : List Entry) → st.rest ≡ e ∷ rest → kept_in es.entries number ≡ kept e.original e.octets
+    its_record rest same = kept-at es.entries st.front rest e number (st.split ∙ ap (λ (xs : List Entry). st.front ++ xs) same) st.count
 
     lines_done : {T : Type 0} {x : T} (u : State) (rest : List Entry) → st.rest ≡ e ∷ rest → (Keeps es t → Answers {T = T} es (Ok x) (requests_of (lines_by m lines)) t u) → Keeps es s
-        → Done es s u ((Asks (Clock m) ∷ Asks (Arrive (frame_of e number)) ∷ []) ++ before_end (lines_past m lines) (came_from m (number + 1) rest)) (asked all es)
+        → Done es s u ((Asks (Clock m) ∷ Asks (Arrive (frame_of e number)) ∷ []) ++ before_end (lines_past m lines) (came_from m (number + 1) rest)) (asked all es.entries)
     lines_done u rest same a k = let d = st.run k in done_more sound u (requests_of (lines_by m lines)) _ d (before rest same) (a d.answers.keeps)
 
     -- both are answered
     pub stands_next : {T U : Type 0} {x : T} {y : U} (u v : State) (lines' : List Timed) → lines' ≡ lines_past m lines
         → (Keeps es t → Answers {T = T} es (Ok x) (requests_of (lines_by m lines)) t u)
-        → (kept_in es number ≡ kept e.original e.octets → Keeps es u → Answers {T = U} es (Ok y) (Asks (Clock m) ∷ Asks (Arrive (frame_of e number)) ∷ []) u v)
+        → (kept_in es.entries number ≡ kept e.original e.octets → Keeps es u → Answers {T = U} es (Ok y) (Asks (Clock m) ∷ Asks (Arrive (frame_of e number)) ∷ []) u v)
         → Stands remaining es last after m (number + 1) all lines' s v
     stands_next {T} {U} {x} {y} u v lines' left a b =
         let n = next in
-        let P : List Timed → Type 0 = λ ls. Done es s v (before_end ls (came_from m (number + 1) n.0)) (asked all es) in
+        let P : List Timed → Type 0 = λ ls. Done es s v (before_end ls (came_from m (number + 1) n.0)) (asked all es.entries) in
         record {
           front = st.front ++ e ∷ [];
           rest = n.0;
@@ -157,39 +157,39 @@ module _ {R : Type 0} (remaining : R → Option (List ℕ)) (es : List Entry) (l
         }
 
     -- the lines failed
-    pub lines_fail : {T U : Type 0} {y : Stop} (r : Result T Stop) (u : State) → r ≡ Err y → (Keeps es t → Answers {T = U} es (Err y) (requests_of (lines_by m lines)) t u) → Keeps es s → Answers es r (asked all es) s u
+    pub lines_fail : {T U : Type 0} {y : Stop} (r : Result T Stop) (u : State) → r ≡ Err y → (Keeps es t → Answers {T = U} es (Err y) (requests_of (lines_by m lines)) t u) → Keeps es s → Answers es r (asked all es.entries) s u
     lines_fail r u failed a k = let d = st.run k in done_exit sound r u (requests_of (lines_by m lines)) _ failed d (before next.0 next.1) (a d.answers.keeps)
 
     -- the record failed
     pub record_fails : {T U V : Type 0} {x : V} {y : Stop} (r : Result T Stop) (u v : State) → r ≡ Err y → (Keeps es t → Answers {T = V} es (Ok x) (requests_of (lines_by m lines)) t u)
-        → (kept_in es number ≡ kept e.original e.octets → Keeps es u → Answers {T = U} es (Err y) (Asks (Clock m) ∷ Asks (Arrive (frame_of e number)) ∷ []) u v)
-        → Keeps es s → Answers es r (asked all es) s v
+        → (kept_in es.entries number ≡ kept e.original e.octets → Keeps es u → Answers {T = U} es (Err y) (Asks (Clock m) ∷ Asks (Arrive (frame_of e number)) ∷ []) u v)
+        → Keeps es s → Answers es r (asked all es.entries) s v
     record_fails r u v failed a b k =
         let n = next in
         let d = lines_done u n.0 n.1 a k in
         done_exit sound r v (Asks (Clock m) ∷ Asks (Arrive (frame_of e number)) ∷ []) _ failed d refl (b (its_record n.0 n.1) d.answers.keeps)
 
   -- no record is left
-  nothing_left : st.rest ≡ [] → lines ≡ lines_after all (came_from 0 0 es)
+  nothing_left : st.rest ≡ [] → lines ≡ lines_after all (came_from 0 0 es.entries)
   nothing_left none = sym (ap (λ (xs : List Entry). lines_after lines (came_from latest number xs)) none) ∙ st.left
 
-  all_asked : {T : Type 0} (x : T) → st.rest ≡ [] → Keeps es s → Answers {T = T} es (Ok x) (asked all es) s t
-  all_asked x none k = same_ok x es (asked all es) s t (done_whole sound (st.run k) (ap (λ (xs : List Entry). before_end lines (came_from latest number xs)) none))
+  all_asked : {T : Type 0} (x : T) → st.rest ≡ [] → Keeps es s → Answers {T = T} es (Ok x) (asked all es.entries) s t
+  all_asked x none k = same_ok x es (asked all es.entries) s t (done_whole sound (st.run k) (ap (λ (xs : List Entry). before_end lines (came_from latest number xs)) none))
 
-  counted : st.rest ≡ [] → length es ≡ number
+  counted : st.rest ≡ [] → length es.entries ≡ number
   counted none = ap (λ (xs : List Entry). length xs) (st.split ∙ ap (λ (xs : List Entry). st.front ++ xs) none ∙ append-nil st.front) ∙ st.count
 
   -- the end was answered
   pub over_well : Next remaining reader (Ok None) after → RunsRecords es last all lines s t (Ok None)
   over_well p =
       let n = next_end remaining reader after st.rest last begun st.comes p in
-      record { ending = sym (ap (λ (x : End). ending es x) n.1); left = nothing_left n.0; answers = λ k. all_asked None n.0 k }
+      record { ending = sym (ap (λ (x : End). ending es.entries x) n.1); left = nothing_left n.0; answers = λ k. all_asked None n.0 k }
 
   over_fault : (f : CapFault) → f ≢ Read → Next remaining reader (Err f) after → RunsRecords es last all lines s t (Ok (Some (number, f)))
   over_fault f other p =
       let n = next_fault remaining reader after st.rest last begun st.comes f p other in
       record {
-        ending = sym (ap (λ (x : End). ending es x) n.1 ∙ ap (λ (k : ℕ). Some (k, f)) (counted n.0));
+        ending = sym (ap (λ (x : End). ending es.entries x) n.1 ∙ ap (λ (k : ℕ). Some (k, f)) (counted n.0));
         left = nothing_left n.0;
         answers = λ k. all_asked (Some (number, f)) n.0 k;
       }

@@ -2,7 +2,7 @@
 use Rattle.std.specs.List.{flat_map}
 use Rattle.std.proofs.Common.{◌≡◌, ℕ, List, [], ◌∷◌, ◌++◌, map, Result, Ok, Err, refl, sym, ap, ◌∙◌, append_assoc, append-nil, subst}
 use Rattle.std.proofs.lemmas.Grind.{flat_map-append}
-use Rattle.replay.specs.Words.{AbstractPort, settled, answers_to, port_after, IsSoundPort, Answer, Entry, Request, Asks, NoCommand, Gave, Response, events_of, responses_of, responses_to, PutsBoth, joined, nothing, output, response_record, Answers, Keeps, State, Stop}
+use Rattle.replay.specs.Words.{AbstractPort, settled, answers_to, port_after, IsSoundPort, Answer, Origin, Request, Asks, NoCommand, Gave, Response, events_of, responses_of, responses_to, PutsBoth, joined, nothing, output, response_record, Answers, Keeps, State, Stop}
 use Rattle.abstract_port.proofs.RunLaws.{IsTimely, same-event, settled-after, settled-current, timely-after, timely-settled, timely-sound}
 use Rattle.script.specs.Responses.{Faulted, response_lines}
 use Rattle.replay.specs.declared.faults.Stop.TheVariants as Stops
@@ -41,17 +41,17 @@ responses-settled (Asks event ∷ rest) p fit =
     (sym (responses-settled rest q there) ∙ (ap (λ (x : AbstractPort). responses_of rest x) here.port ∙ responses-settled rest (answers_to event p).1 here.fit))
 responses-settled (NoCommand fault ∷ rest) p fit = ap (λ (x : List Response). Faulted fault ∷ x) (responses-settled rest p fit)
 
-pub output-append : (es : List Entry) (xs ys : List Response) → output es (xs ++ ys) ≡ joined (output es xs) (output es ys)
+pub output-append : (es : Origin) (xs ys : List Response) → output es (xs ++ ys) ≡ joined (output es xs) (output es ys)
 output-append es xs ys =
     ap (λ (t : List ℕ). record { report = t; departures = flat_map (response_record es) (xs ++ ys) }) (flat_map-append response_lines xs ys)
     ∙ ap (λ (t : List ℕ). record { report = flat_map response_lines xs ++ flat_map response_lines ys; departures = t }) (flat_map-append (response_record es) xs ys)
 
 -- nothing is asked
-pub answers_none : {T : Type 0} (x : T) (es : List Entry) (s : State) → IsSoundPort s.port → Keeps es s → Answers {T = T} es (Ok x) [] s s
+pub answers_none : {T : Type 0} (x : T) (es : Origin) (s : State) → IsSoundPort s.port → Keeps es s → Answers {T = T} es (Ok x) [] s s
 answers_none x es s sound k = record { port = sym (settled-current s.port sound.current); keeps = k; seen = sym (seen-nil s.port s.seen); out = both_all x (both_none s.got nothing) refl }
 
 -- the parts of what is reported, where the port after the first is known
-module _ (es : List Entry) (s t : State) (sound : IsSoundPort s.port) (xs ys : List Request) (is : t.port ≡ settled (after xs s.port)) where
+module _ (es : Origin) (s t : State) (sound : IsSoundPort s.port) (xs ys : List Request) (is : t.port ≡ settled (after xs s.port)) where
   fit : IsTimely (after xs s.port)
   fit = timely-after (events_of xs) s.port (timely-sound s.port sound)
 
@@ -75,7 +75,7 @@ module _ (es : List Entry) (s t : State) (sound : IsSoundPort s.port) (xs ys : L
       ∙ ap (λ (x : List Response). joined (output es (responses_of xs s.port)) (output es x)) (sym later_responses)
 
 -- requests are answered, and then more
-pub answers_then : {T U : Type 0} {y : U} (r : Result T Stop) (es : List Entry) (xs ys : List Request) (s t u : State) → IsSoundPort s.port
+pub answers_then : {T U : Type 0} {y : U} (r : Result T Stop) (es : Origin) (xs ys : List Request) (s t u : State) → IsSoundPort s.port
     → Answers {T = U} es (Ok y) xs s t → Answers es r ys t u → Answers es r (xs ++ ys) s u
 answers_then r es xs ys s t u sound a b = record {
   port = on_ok_map r (λ e. e ∙ later_port es s t sound xs ys a.port) b.port;
@@ -85,7 +85,7 @@ answers_then r es xs ys s t u sound a b = record {
 }
 
 -- the exit of a call that failed in the first of them
-pub answers_exit : {T U : Type 0} {y : Stop} (r : Result T Stop) (es : List Entry) (xs ys : List Request) (s t : State)
+pub answers_exit : {T U : Type 0} {y : Stop} (r : Result T Stop) (es : Origin) (xs ys : List Request) (s t : State)
     → r ≡ Err y → Answers {T = U} es (Err y) xs s t → Answers es r (xs ++ ys) s t
 answers_exit r es xs ys s t is a = record {
   port = never _ is;
@@ -98,15 +98,15 @@ answers_exit r es xs ys s t is a = record {
 -- ---- a run so far
 
 -- of all that is asked so much is answered, and `left` is still to come
-pub record Done (es : List Entry) (s t : State) (left all : List Request) : Type 0 where
+pub record Done (es : Origin) (s t : State) (left all : List Request) : Type 0 where
   pub done : List Request
   pub parts : done ++ left ≡ all
   pub answers : Answers {T = Unit {0}} es (Ok tt) done s t
 
-pub done_none : (es : List Entry) (s : State) (all : List Request) → IsSoundPort s.port → Keeps es s → Done es s s all all
+pub done_none : (es : Origin) (s : State) (all : List Request) → IsSoundPort s.port → Keeps es s → Done es s s all all
 done_none es s all sound k = record { done = []; parts = refl; answers = answers_none tt es s sound k }
 
-module _ {es : List Entry} {s t : State} {all : List Request} (sound : IsSoundPort s.port) where
+module _ {es : Origin} {s t : State} {all : List Request} (sound : IsSoundPort s.port) where
   -- more of it
   pub done_more : {T : Type 0} {x : T} {left : List Request} (u : State) (xs rest : List Request) → Done es s t left all → left ≡ xs ++ rest → Answers {T = T} es (Ok x) xs t u → Done es s u rest all
   done_more {T} {x} {left} u xs rest d e a = record {

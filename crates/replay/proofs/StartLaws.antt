@@ -3,7 +3,7 @@ use Rattle.std.proofs.Common.{◌≡◌, ◌<◌, ◌≤◌, ◌+◌, ◌-◌, �
 use Rattle.std.specs.Prelude.{slice_get}
 use Rattle.std.proofs.Math.ListN.{get_or, set, get_or-map}
 use Rattle.std.proofs.lemmas.List.{map-set, length-drop}
-use Rattle.replay.specs.Words.{Frame, AbstractPort, queue_of, settled, starts_until, waiting, IsSoundPort, answer_lines, Entry, Kept, Stored, kept, kept_at, Gave, Observed, noted, noted_all, joined, kept_in, nothing, output, start_record, IsTogether, Keeps, State, first_kept}
+use Rattle.replay.specs.Words.{Frame, AbstractPort, queue_of, settled, starts_until, waiting, IsSoundPort, answer_lines, Kept, Origin, Stamping, Stored, kept, kept_at, Gave, Observed, noted, noted_all, joined, kept_in, last_end, nothing, output, stamped, start_record, IsTogether, Keeps, State, first_kept}
 use Rattle.wire_time.specs.Wire.{occupancy_of}
 use Rattle.abstract_port.specs.AbstractPort.{choice, next_start, scan, start_head, start_or}
 use Rattle.abstract_port.specs.declared.Start.{Start}
@@ -93,17 +93,23 @@ module _ (p q : AbstractPort) (upto : ℕ) (later : p.now ≤ upto) (after : q �
         ap (λ (x : List Start × AbstractPort). x.0) (starts_until-some p upto s e)
         ∙ ap (λ (x : List Start). s ∷ x) (sym (ap (λ (x : AbstractPort). (starts_until x upto).0) after ∙ settled-starts (next_start p upto).1 upto next_timely.rising next_timely.past))
 
-    pub starts-out : (es : List Entry) → output es (map Gave (map Answered.Start (starts_until p upto).0))
-        ≡ joined (record { report = answer_lines (Answered.Start s); departures = start_record s.at (kept_in es s.id) }) (output es (map Gave (map Answered.Start (starts_until q upto).0)))
+    pub starts-out : (es : Origin) → output es (map Gave (map Answered.Start (starts_until p upto).0))
+        ≡ joined (record { report = answer_lines (Answered.Start s); departures = start_record (stamped es.stamping s) (kept_in es.entries s.id) }) (output es (map Gave (map Answered.Start (starts_until q upto).0)))
     starts-out es = ap (λ (x : List Start). output es (map Gave (map Answered.Start x))) starts-more
+
+    pub starts-last : (m : ℕ) → last_end m (starts_until p upto).0 ≡ last_end s.«end» (starts_until q upto).0
+    starts-last m = ap (λ (x : List Start). last_end m x) starts-more
 
     pub starts-seen : (now : ℕ) (o : Option Observed) → noted_all now (map Answered.Start (starts_until p upto).0) o ≡ noted_all now (map Answered.Start (starts_until q upto).0) (noted now (Answered.Start s) o)
     starts-seen now o =
         ap (λ (x : List Start). noted_all now (map Answered.Start x) o) starts-more ∙ noted_all-cons now (Answered.Start s) (map Answered.Start (starts_until q upto).0) o
 
   module _ (e : (next_start p upto).0 ≡ None) where
-    pub no-starts-out : (es : List Entry) → output es (map Gave (map Answered.Start (starts_until p upto).0)) ≡ nothing
+    pub no-starts-out : (es : Origin) → output es (map Gave (map Answered.Start (starts_until p upto).0)) ≡ nothing
     no-starts-out es = ap (λ (x : List Start × AbstractPort). output es (map Gave (map Answered.Start x.0))) (starts_until-none p upto e)
+
+    pub no-starts-last : (m : ℕ) → last_end m (starts_until p upto).0 ≡ m
+    no-starts-last m = ap (λ (x : List Start × AbstractPort). last_end m x.0) (starts_until-none p upto e)
 
     pub no-starts-seen : (now : ℕ) (o : Option Observed) → noted_all now (map Answered.Start (starts_until p upto).0) o ≡ o
     no-starts-seen now o = ap (λ (x : List Start × AbstractPort). noted_all now (map Answered.Start x.0) o) (starts_until-none p upto e) ∙ noted_all-nil now o
@@ -120,6 +126,17 @@ module _ (p q : AbstractPort) (upto : ℕ) (later : p.now ≤ upto) (after : q �
     pub idle_room : q.room ≡ p.room
     idle_room = ap (λ (x : AbstractPort). x.room) after ∙ ap (λ (x : AbstractPort). x.room) idle
 
+no-time : (p : AbstractPort) (m left : ℕ) → left ≡ 0 → (scan p m left).0 ≡ None
+unfolding scan
+no-time p m left none = ap (λ (n : ℕ). (scan p m n).0) none
+
+-- nothing starts before a moment that is past
+pub none-before : (p : AbstractPort) (m last : ℕ) → m < p.now → last_end last (starts_until p m).0 ≡ last
+none-before p m last past =
+    let none : m - p.now ≡ 0 = omega arith in
+    let e : (next_start p m).0 ≡ None = no-time p p.now (m - p.now) none in
+    ap (λ (x : List Start × AbstractPort). last_end last x.0) (starts_until-none p m e)
+
 -- ---- the store beside the port
 
 -- what is together stays so where neither the queues nor the store change
@@ -130,9 +147,9 @@ still_together s t queues room same sound i = record {
   sound = sound;
 }
 
-pub still_keeps : (es : List Entry) (s t : State) → t.port.queues ≡ s.port.queues → t.store ≡ s.store → Keeps es s → Keeps es t
-still_keeps es s t queues same k =
-    ap (λ (w : Stored). w.kept) same ∙ k ∙ ap (λ (x : List (List Frame)). map (map (λ (f : Frame). kept_in es f.id)) x) (sym queues)
+pub still_keeps : (es : Origin) (s t : State) → t.port.queues ≡ s.port.queues → t.store ≡ s.store → t.stamping ≡ s.stamping → Keeps es s → Keeps es t
+still_keeps es s t queues same how k =
+    (ap (λ (w : Stored). w.kept) same ∙ k.0 ∙ ap (λ (x : List (List Frame)). map (map (λ (f : Frame). kept_in es.entries f.id)) x) (sym queues), how ∙ k.1)
 
 pub length-at : (s : State) (class : ℕ) → IsTogether s → length (kept_at s.store.kept class) ≡ length (queue_of s.port class)
 length-at s class i =
@@ -142,11 +159,11 @@ module _ (s : State) (q : AbstractPort) (x : Start) (is : Leaves s.port x q) whe
   pub has_first : IsTogether s → 0 < length (kept_at s.store.kept x.class)
   has_first i = omega (arith, length-at s x.class i, ap (λ (fs : List Frame). length fs) is.head)
 
-  at-class : (es : List Entry) → Keeps es s → kept_at s.store.kept x.class ≡ kept_in es is.frame.id ∷ map (λ (f : Frame). kept_in es f.id) is.rest
-  at-class es keeps = ap (λ ks. kept_at ks x.class) keeps ∙ get_or-map (λ (fs : List Frame). map (λ (f : Frame). kept_in es f.id) fs) s.port.queues x.class [] ∙ ap (λ fs. map (λ (f : Frame). kept_in es f.id) fs) is.head
+  at-class : (es : Origin) → Keeps es s → kept_at s.store.kept x.class ≡ kept_in es.entries is.frame.id ∷ map (λ (f : Frame). kept_in es.entries f.id) is.rest
+  at-class es keeps = ap (λ ks. kept_at ks x.class) keeps.0 ∙ get_or-map (λ (fs : List Frame). map (λ (f : Frame). kept_in es.entries f.id) fs) s.port.queues x.class [] ∙ ap (λ fs. map (λ (f : Frame). kept_in es.entries f.id) fs) is.head
 
-  first-kept : (es : List Entry) → Keeps es s → first_kept s.store x.class ≡ kept_in es x.id
-  first-kept es keeps = ap (λ ks. get_or ks 0 (kept 0 [])) (at-class es keeps) ∙ ap (λ n. kept_in es n) (sym is.name)
+  first-kept : (es : Origin) → Keeps es s → first_kept s.store x.class ≡ kept_in es.entries x.id
+  first-kept es keeps = ap (λ ks. get_or ks 0 (kept 0 [])) (at-class es keeps) ∙ ap (λ n. kept_in es.entries n) (sym is.name)
 
 module _ (s t : State) (x : Start) (is : Leaves s.port x t.port) (given : t.store ≡ record s.store { kept = set s.store.kept x.class (drop 1 (kept_at s.store.kept x.class)) }) where
   pub together-after : IsSoundPort t.port → IsTogether s → IsTogether t
@@ -158,22 +175,26 @@ module _ (s t : State) (x : Start) (is : Leaves s.port x t.port) (given : t.stor
     sound = sound;
   }
 
-  pub keeps-after : (es : List Entry) → Keeps es s → Keeps es t
-  keeps-after es keeps =
-      let g : List Frame → List Kept = λ fs. map (λ (f : Frame). kept_in es f.id) fs in
-      ap (λ (w : Stored). w.kept) given
-      ∙ ap (λ ks. set s.store.kept x.class (drop 1 ks)) (at-class s t.port x is es keeps)
-      ∙ ap (λ kss. set kss x.class (g is.rest)) keeps
-      ∙ sym (map-set g s.port.queues x.class is.rest)
-      ∙ ap (λ qs. map g qs) (sym is.after)
+  pub keeps-after : (es : Origin) → t.stamping ≡ s.stamping → Keeps es s → Keeps es t
+  keeps-after es how keeps =
+      let g : List Frame → List Kept = λ fs. map (λ (f : Frame). kept_in es.entries f.id) fs in (
+        ap (λ (w : Stored). w.kept) given
+            ∙ ap (λ ks. set s.store.kept x.class (drop 1 ks)) (at-class s t.port x is es keeps)
+            ∙ ap (λ kss. set kss x.class (g is.rest)) keeps.0
+            ∙ sym (map-set g s.port.queues x.class is.rest)
+            ∙ ap (λ qs. map g qs) (sym is.after),
+        how ∙ keeps.1,
+      )
 
 -- the outputs of the starts, of which the first is reported from the store
-pub starts-kept : (s : State) (q : AbstractPort) (upto : ℕ) (later : s.port.now ≤ upto) (after : q ≡ settled (next_start s.port upto).1) (sound : IsSoundPort s.port) (x : Start) (e : (next_start s.port upto).0 ≡ Some x) (es : List Entry) → Keeps es s
+pub starts-kept : (s : State) (q : AbstractPort) (upto : ℕ) (later : s.port.now ≤ upto) (after : q ≡ settled (next_start s.port upto).1) (sound : IsSoundPort s.port) (x : Start) (e : (next_start s.port upto).0 ≡ Some x) (es : Origin) → Keeps es s
     → output es (map Gave (map Answered.Start (starts_until s.port upto).0))
-    ≡ joined (record { report = answer_lines (Answered.Start x); departures = start_record x.at (first_kept s.store x.class) }) (output es (map Gave (map Answered.Start (starts_until q upto).0)))
+    ≡ joined (record { report = answer_lines (Answered.Start x); departures = start_record (stamped s.stamping x) (first_kept s.store x.class) }) (output es (map Gave (map Answered.Start (starts_until q upto).0)))
 starts-kept s q upto later after sound x e es k =
+    let rest = output es (map Gave (map Answered.Start (starts_until q upto).0)) in
     starts-out s.port q upto later after sound x e es
-    ∙ ap (λ (y : Kept). joined (record { report = answer_lines (Answered.Start x); departures = start_record x.at y }) (output es (map Gave (map Answered.Start (starts_until q upto).0))))
+    ∙ ap (λ (how : Stamping). joined (record { report = answer_lines (Answered.Start x); departures = start_record (stamped how x) (kept_in es.entries x.id) }) rest) (sym k.1)
+    ∙ ap (λ (y : Kept). joined (record { report = answer_lines (Answered.Start x); departures = start_record (stamped s.stamping x) y }) rest)
     (sym (first-kept s q x (leaves s.port q upto later after sound x e) es k))
 
 -- the first of a list

@@ -4,7 +4,7 @@ use Rattle.std.specs.List.{flat_map}
 use Rattle.std.specs.Io.KnownBytes.{Appends}
 use Rattle.std.proofs.Common.{◌≡◌, ◌<◌, ◌≤◌, ℕ, List, [], ◌∷◌, ◌++◌, map, Bool, true, false, Option, Some, None, Result, Ok, Err, refl, sym, ap, ◌∙◌, subst, append-nil, arith}
 use Rattle.std.proofs.lemmas.Bool.{lt-ltb, le-ltb}
-use Rattle.replay.specs.Words.{Frame, AbstractPort, after_arrival, settled, starts_until, answers_to, arrival_answer, port_after, IsSoundPort, Answer, Command, Dropped, Event, Arrive, answer_lines, Entry, CAPTURE_END, Stored, FallsShort, TcFault, Request, Asks, NoCommand, tc_request, Gave, Response, events_of, noted_by, responses_of, responses_to, Observed, noted, noted_all, Output, PutsBoth, answer_record, got, output, response_record, Answers, IsTogether, Keeps, State, Stop}
+use Rattle.replay.specs.Words.{Frame, AbstractPort, after_arrival, settled, starts_until, answers_to, arrival_answer, port_after, IsSoundPort, Answer, Command, Dropped, Event, Arrive, answer_lines, CAPTURE_END, Origin, Stamping, Stored, FallsShort, TcFault, Request, Asks, NoCommand, tc_request, Gave, Response, events_of, noted_by, responses_of, responses_to, Observed, noted, noted_all, Output, PutsBoth, answer_record, got, output, response_record, Answers, IsTogether, Keeps, State, Stop}
 use Rattle.wire_time.specs.Moment.{greatest_moment}
 use Rattle.abstract_port.specs.AbstractPort.{counters_of, installs, installs_by, refusal, verdict}
 use Rattle.abstract_port.specs.Answers.{command_answer}
@@ -20,7 +20,7 @@ use Rattle.replay.proofs.StartLaws.{still_keeps, still_together}
 use Rattle.replay.proofs.SeenLaws.{noted-one, seen-one, seen-told}
 
 -- an event with these answers
-pub answers_one : {T : Type 0} (r : Result T Stop) (es : List Entry) (event : Event) (s t : State) (told : List Answer) (q : AbstractPort) → answers_to event s.port ≡ (told, q)
+pub answers_one : {T : Type 0} (r : Result T Stop) (es : Origin) (event : Event) (s t : State) (told : List Answer) (q : AbstractPort) → answers_to event s.port ≡ (told, q)
     → OnOk r (t.port ≡ settled q) → OnOk r (Keeps es t) → OnOk r (t.seen ≡ noted_all s.port.now told s.seen) → PutsBoth r s.got t.got (output es (map Gave told)) → Answers es r (Asks event ∷ []) s t
 answers_one r es event s t told q is port keeps seen out = record {
   port = on_ok_map r (λ e. e ∙ ap (λ (x : List Answer × AbstractPort). settled x.1) (sym is)) port;
@@ -40,22 +40,22 @@ clock_on m p h within =
 -- ---- requests that change no queue, and start no frame
 
 -- what is reported of a request has no record, and no queue changes
-pub record IsSilent (es : List Entry) (r : Request) (p : AbstractPort) : Type 0 where
+pub record IsSilent (es : Origin) (r : Request) (p : AbstractPort) : Type 0 where
   pub told : flat_map (response_record es) (responses_to r p).0 ≡ []
   pub queues : (responses_to r p).1.queues ≡ p.queues
   pub room : (responses_to r p).1.room ≡ p.room
 
-pub silent_query : (es : List Entry) (p : AbstractPort) → IsSilent es (Asks Query) p
+pub silent_query : (es : Origin) (p : AbstractPort) → IsSilent es (Asks Query) p
 silent_query es p = record { told = refl; queues = refl; room = refl }
 
-pub silent_count : (es : List Entry) (class : ℕ) (p : AbstractPort) → IsSilent es (Asks (Count class)) p
+pub silent_count : (es : Origin) (class : ℕ) (p : AbstractPort) → IsSilent es (Asks (Count class)) p
 silent_count es class p = record { told = go (nat_lt class 8); queues = refl; room = refl }
   where
     go : (b : Bool) → flat_map (response_record es) (map Gave (if b then Answered.Counters class (counters_of p class) ∷ [] else Answered.BadClass ∷ [])) ≡ []
     go true = refl
     go false = refl
 
-installed_told : (es : List Entry) (r : Result ℕ Refused) → flat_map (response_record es) (Gave (command_answer r) ∷ []) ≡ []
+installed_told : (es : Origin) (r : Result ℕ Refused) → flat_map (response_record es) (Gave (command_answer r) ∷ []) ≡ []
 installed_told es (Ok change) = refl
 installed_told es (Err why) = refl
 
@@ -69,7 +69,7 @@ installed_room p command (Some why) = refl
 installed_room p Delete None = refl
 installed_room p (Replace change) None = refl
 
-pub silent_tc : (es : List Entry) (command : Result Command TcFault) (p : AbstractPort) → IsSilent es (tc_request command) p
+pub silent_tc : (es : Origin) (command : Result Command TcFault) (p : AbstractPort) → IsSilent es (tc_request command) p
 silent_tc es (Ok command) p = record {
   told = installed_told es (installs p command).0;
   queues = installed_queues p command (refusal p command);
@@ -82,27 +82,27 @@ one_after : (r : Request) (p : AbstractPort) → settled (responses_to r p).1 �
 one_after (Asks event) p = refl
 one_after (NoCommand fault) p = refl
 
--- a port, its store, what is seen of it and what was written
-abbrev pub at : AbstractPort → Stored → Option Observed → Option (List ℕ) → Option (List ℕ) → State
-at p w o report departures = record { port = p; store = w; seen = o; got = got report departures }
+-- a port, its store, what is seen of it, how its starts are stamped and what was written
+abbrev pub at : AbstractPort → Stored → Option Observed → Stamping → Option (List ℕ) → Option (List ℕ) → State
+at p w o how report departures = record { port = p; store = w; seen = o; stamping = how; got = got report departures }
 
-one_told : (es : List Entry) (r : Request) (p : AbstractPort) → IsSilent es r p → output es (responses_of (r ∷ []) p) ≡ record { report = lines_of (responses_to r p).0; departures = [] }
+one_told : (es : Origin) (r : Request) (p : AbstractPort) → IsSilent es r p → output es (responses_of (r ∷ []) p) ≡ record { report = lines_of (responses_to r p).0; departures = [] }
 one_told es r p silent =
     ap (λ (x : List Response). output es x) (append-nil (responses_to r p).0)
     ∙ ap (λ (t : List ℕ). record { report = lines_of (responses_to r p).0; departures = t }) silent.told
 
-module _ (es : List Entry) (r : Request) (p q : AbstractPort) (w : Stored) (n o : Option Observed) (a b c : Option (List ℕ)) (silent : IsSilent es r p) where
+module _ (es : Origin) (r : Request) (p q : AbstractPort) (w : Stored) (n o : Option Observed) (how : Stamping) (a b c : Option (List ℕ)) (silent : IsSilent es r p) where
   -- what is reported of it is written
-  pub told_line : {T : Type 0} (y : T) → Appends a b (lines_of (responses_to r p).0) → q ≡ settled (responses_to r p).1 → o ≡ noted_by r p n → Keeps es (at p w n a c) → Answers {T = T} es (Ok y) (r ∷ []) (at p w n a c) (at q w o b c)
+  pub told_line : {T : Type 0} (y : T) → Appends a b (lines_of (responses_to r p).0) → q ≡ settled (responses_to r p).1 → o ≡ noted_by r p n → Keeps es (at p w n how a c) → Answers {T = T} es (Ok y) (r ∷ []) (at p w n how a c) (at q w o how b c)
   told_line {T} y text port seen keeps = record {
     port = port ∙ one_after r p;
-    keeps = still_keeps es (at p w n a c) (at q w o b c) (ap (λ (x : AbstractPort). x.queues) port ∙ silent.queues) refl keeps;
+    keeps = still_keeps es (at p w n how a c) (at q w o how b c) (ap (λ (x : AbstractPort). x.queues) port ∙ silent.queues) refl refl keeps;
     seen = seen ∙ seen-one r p n;
     out = subst (λ (x : Output). PutsBoth {T = T} (Ok y) (got a c) (got b c) x) (sym (one_told es r p silent)) (report_whole y c text);
   }
 
   -- a prefix of it is
-  pub told_short : {T : Type 0} {y : Stop} (x : Result T Stop) → x ≡ Err y → FallsShort a b (lines_of (responses_to r p).0) → Answers {T = T} es x (r ∷ []) (at p w n a c) (at q w o b c)
+  pub told_short : {T : Type 0} {y : Stop} (x : Result T Stop) → x ≡ Err y → FallsShort a b (lines_of (responses_to r p).0) → Answers {T = T} es x (r ∷ []) (at p w n how a c) (at q w o how b c)
   told_short x is text = record {
     port = never _ is;
     keeps = never _ is;
@@ -110,17 +110,17 @@ module _ (es : List Entry) (r : Request) (p q : AbstractPort) (w : Stored) (n o 
     out = subst (λ (z : Output). PutsBoth x (got a c) (got b c) z) (sym (one_told es r p silent)) (report_short x c [] is text);
   }
 
-  pub told_together : q ≡ settled (responses_to r p).1 → IsSoundPort q → IsTogether (at p w n a c) → IsTogether (at q w o b c)
+  pub told_together : q ≡ settled (responses_to r p).1 → IsSoundPort q → IsTogether (at p w n how a c) → IsTogether (at q w o how b c)
   told_together port sound i =
-      still_together (at p w n a c) (at q w o b c) (ap (λ (x : AbstractPort). x.queues) port ∙ silent.queues) (ap (λ (x : AbstractPort). x.room) port ∙ silent.room) refl sound i
+      still_together (at p w n how a c) (at q w o how b c) (ap (λ (x : AbstractPort). x.queues) port ∙ silent.queues) (ap (λ (x : AbstractPort). x.room) port ∙ silent.room) refl sound i
 
 -- ---- an arrival
 
-arrival_record : (es : List Entry) (f : Frame) (v : Result ℕ Dropped) → answer_record es (arrival_answer f v) ≡ []
+arrival_record : (es : Origin) (f : Frame) (v : Result ℕ Dropped) → answer_record es (arrival_answer f v) ≡ []
 arrival_record es f (Ok class) = refl
 arrival_record es f (Err why) = refl
 
-pub arrival_told : {T : Type 0} (r : Result T Stop) (es : List Entry) (f : Frame) (v : Result ℕ Dropped) (s t : State) → v ≡ verdict s.port f
+pub arrival_told : {T : Type 0} (r : Result T Stop) (es : Origin) (f : Frame) (v : Result ℕ Dropped) (s t : State) → v ≡ verdict s.port f
     → OnOk r (t.port ≡ settled (after_arrival s.port f v)) → OnOk r (Keeps es t) → OnOk r (t.seen ≡ noted s.port.now (arrival_answer f v) s.seen) → PutsBoth r s.got t.got (record { report = answer_lines (arrival_answer f v); departures = [] })
     → Answers es r (Asks (Arrive f) ∷ []) s t
 arrival_told r es f v s t is port keeps seen out =

@@ -16,6 +16,7 @@ use Rattle.replay.specs.Texts.{replay_telling}
 use Rattle.job.specs.declared.fault.Fault.{Fault}
 use Rattle.job.specs.declared.fault.Fault.TheVariants as Faults
 use Rattle.replay.specs.declared.faults.ReplayInput.{ReplayInput}
+use Rattle.replay.specs.declared.stamps.Stamp.{Stamp}
 
 -- what two writers got, and then what no write let out
 abbrev pub with_unwritten : Got → Output → Got
@@ -37,7 +38,7 @@ pub record AreLetOut (run : Result (Unit {0}) (Fault ReplayInput)) (got : Got) (
 
 -- The end of a replay: what the writers got, with what no write let out, is what definitions over the octets of both inputs say, or after a fault of a
 -- call's a prefix of each.
-abbrev pub IsReplayEnding : (s : Setup) (script capture : Option (List ℕ)) → Ended → (old got : Got) (errors_old errors_new : Option (List ℕ)) → Type 0
-IsReplayEnding s script capture ended old got errors_old errors_new =
+abbrev pub IsReplayEnding : (s : Setup) (stamp : Stamp) (script capture : Option (List ℕ)) → Ended → (old got : Got) (errors_old errors_new : Option (List ℕ)) → Type 0
+IsReplayEnding s stamp script capture ended old got errors_old errors_new =
     IsRunEnding replay_telling (λ run. AreLetOut run got (λ out. (read : List (List ℕ) → Result Command TcFault) → IsReader read → IfSome script (λ lines. IfSome capture (λ octets.
-    (records : Result (List Entry × End) CapFault) → ReadsAs octets records → EndsOut run old out (outcome_of read s lines records))))) ended errors_old errors_new
+    (records : Result (List Entry × End) CapFault) → ReadsAs octets records → EndsOut run old out (outcome_of read s stamp lines records))))) ended errors_old errors_new

@@ -2,8 +2,10 @@ pub mod Faults
 pub mod Lines
 pub mod KeptScript
 pub mod Keeping
+pub mod RunEnd
 pub mod Merge
 pub mod Sources
+pub mod Stamps
 pub mod Outputs
 pub mod Running
 pub mod LinesLeft

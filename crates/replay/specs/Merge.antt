@@ -3,8 +3,8 @@ use Rattle.std.specs.Prelude.{◌++◌, ◌+◌, nat_le, max, ℕ, List, [], ◌
 use Rattle.abstract_port.specs.declared.Event.TheVariants.{Arrive, Clock, Install, Query, Count}
 use Rattle.capture.specs.Record.{frame_of}
 use Rattle.capture.specs.Records.{Entry}
-use Rattle.script.specs.Outcome.{clock_after}
 use Rattle.script.specs.Requests.{Request, Asks, NoCommand}
+use Rattle.replay.specs.RunEnd.{run_end}
 
 -- a request with its moment
 pub record Timed : Type 0 where
@@ -65,6 +65,10 @@ lines_after lines (c ∷ cs) = lines_after (lines_past c.moment lines) cs
 abbrev pub merged : List Timed → List Came → List Request
 merged lines records = before_end lines records ++ requests_of (lines_after lines records)
 
--- all that is asked by a script without a fault and by a capture's records, and then the clock event after them, if one is given
+-- what is asked, and then the clock event at the end of the run
+abbrev pub to_run_end : Option ℕ → List Request → List Request
+to_run_end until requests = requests ++ Asks (Clock (run_end until)) ∷ []
+
+-- all that is asked by a script without a fault and by a capture's records, to the end of the run
 abbrev pub all_requests : List Request → List Entry → Option ℕ → List Request
-all_requests script entries until = merged (timed_from 0 script) (came_from 0 0 entries) ++ clock_after until
+all_requests script entries until = to_run_end until (merged (timed_from 0 script) (came_from 0 0 entries))

@@ -23,12 +23,15 @@ use Rattle.summary.specs.Observed.{Observed}
 use Rattle.summary.specs.Wanted.{noted_after, watched}
 use Rattle.tc_reader.specs.declared.fault.TcFault.{TcFault}
 use Rattle.replay.specs.Lines.{reading_of}
-use Rattle.replay.specs.Merge.{all_requests}
-use Rattle.replay.specs.Outputs.{Got, Output, SentBoth, joined, nothing, output}
+use Rattle.replay.specs.Merge.{came_from, merged, timed_from, to_run_end}
+use Rattle.replay.specs.Outputs.{Got, Origin, Output, SentBoth, joined, nothing, output}
+use Rattle.replay.specs.RunEnd.{counted_to, rest_moment}
+use Rattle.replay.specs.Stamps.{stamping_at}
 use Rattle.job.specs.declared.fault.Fault.{Fault}
 use Rattle.job.specs.declared.fault.Fault.TheVariants as Faults
 use Rattle.replay.specs.declared.faults.ReplayInput.{ReplayInput}
 use Rattle.replay.specs.declared.faults.ReplayInput.TheVariants as Inputs
+use Rattle.replay.specs.declared.stamps.Stamp.{Stamp}
 
 -- 1. What a capture says
 
@@ -52,14 +55,16 @@ refused fault = record { output = nothing; fault = Some fault }
 abbrev pub header : Output
 header = record { report = []; departures = written_header }
 
--- how many frames each class still has, and the summary where one is wanted
-abbrev pub end_of : AbstractPort → Option Observed → Output
-end_of p o = record { report = end_lines p o; departures = [] }
+-- how many frames each class still has, and the summary up to a moment where one is wanted
+abbrev pub end_of : ℕ → AbstractPort → Option Observed → Output
+end_of moment p o = record { report = end_lines (record p { now = moment }) o; departures = [] }
 
--- what is reported of requests, and then how many frames are left, and the summary
-abbrev pub told_to_end : List Entry → List Request → AbstractPort → Option Observed → Output
-told_to_end entries requests p o =
-    let events = events_of requests in joined (output entries (responses_of requests p)) (end_of (port_after events p) (noted_after events p o))
+-- what is reported of requests and of the run to its end, and then how many frames are left, and the summary
+abbrev pub told_to_end : Origin → List Request → Option ℕ → AbstractPort → Option Observed → Output
+told_to_end origin requests until p o =
+    let asked = to_run_end until requests in
+    let q = port_after (events_of asked) p in
+    joined (output origin (responses_of asked p)) (end_of (counted_to until (rest_moment (port_after (events_of requests) p)) q.now) q (noted_after (events_of asked) p o))
 
 -- the fault with which the records of a capture end, if they do; there are so many
 abbrev pub end_fault : ℕ → End → Option ReplayInput
@@ -68,17 +73,19 @@ end_fault number (Broken fault) = Some (Inputs.Capture number fault)
 
 -- what is reported of all that a script asks and of the records, from a new port: the header, the answers, how many frames are left, and the
 -- summary where one is wanted
-abbrev pub outcome_whole : Setup → List Request → List Entry → End → Outcome
-outcome_whole s script entries last =
+abbrev pub outcome_whole : Setup → Stamp → List Request → List Entry → End → Outcome
+outcome_whole s stamp script entries last =
+    let origin : Origin = record { entries = entries; stamping = stamping_at stamp s.rate } in
+    let requests = merged (timed_from 0 script) (came_from 0 0 entries) in
     record {
-      output = joined header (told_to_end entries (all_requests script entries s.until) (new_port s.rate s.mtu s.room) (watched s.summary s.room));
+      output = joined header (told_to_end origin requests s.until (new_port s.rate s.mtu s.room) (watched s.summary s.room));
       fault = end_fault (length entries) last;
     }
 
 -- the outcome by what was read of the capture, whose header may have a fault
-abbrev pub outcome_read : Setup → List Request → Result (List Entry × End) CapFault → Outcome
-outcome_read s script (Ok records) = outcome_whole s script records.0 records.1
-outcome_read s script (Err fault) = refused (Inputs.Capture 0 fault)
+abbrev pub outcome_read : Setup → Stamp → List Request → Result (List Entry × End) CapFault → Outcome
+outcome_read s stamp script (Ok records) = outcome_whole s stamp script records.0 records.1
+outcome_read s stamp script (Err fault) = refused (Inputs.Capture 0 fault)
 
 -- the fault of a replay whose capture is not opened
 abbrev pub open_fault : CapFault → Fault ReplayInput
@@ -96,20 +103,20 @@ IsOpenFault known (Faults.Input Inputs.Until) = ⊥
 IsOpenFault known (Faults.Input (Inputs.Script bad)) = ⊥
 
 -- the outcome by what was read of both inputs: a fault of the script comes first
-abbrev pub outcome_said : Setup → List Request → Option BadLine → Result (List Entry × End) CapFault → Outcome
-outcome_said s script None capture = outcome_read s script capture
-outcome_said s script (Some fault) capture = refused (Inputs.Script fault)
+abbrev pub outcome_said : Setup → Stamp → List Request → Option BadLine → Result (List Entry × End) CapFault → Outcome
+outcome_said s stamp script None capture = outcome_read s stamp script capture
+outcome_said s stamp script (Some fault) capture = refused (Inputs.Script fault)
 
 -- a moment after the last that a capture can say
 abbrev pub is_too_late : Option ℕ → Bool
 is_too_late None = false
 is_too_late (Some moment) = nat_lt CAPTURE_END moment
 
--- the outcome of a script and a capture, on a new port
-abbrev pub outcome_of : (List (List ℕ) → Result Command TcFault) → Setup → List ℕ → Result (List Entry × End) CapFault → Outcome
-outcome_of read s script capture =
+-- the outcome of a script and a capture, on a new port, whose departures are stamped so
+abbrev pub outcome_of : (List (List ℕ) → Result Command TcFault) → Setup → Stamp → List ℕ → Result (List Entry × End) CapFault → Outcome
+outcome_of read s stamp script capture =
     if is_too_late s.until then refused Inputs.Until
-    else let reading = reading_of read (script_of script) in outcome_said s reading.requests reading.fault capture
+    else let reading = reading_of read (script_of script) in outcome_said s stamp reading.requests reading.fault capture
 
 -- both outputs were written whole
 pub record AppendsBoth (old new : Got) (whole : Output) : Type 0 where

@@ -8,8 +8,10 @@ use Rattle.capture.specs.Records.{Entry}
 use Rattle.octet_store.specs.Stored.{Kept, kept}
 use Rattle.octet_writer.specs.Writes.{Sent}
 use Rattle.script.specs.Responses.{Response, Gave, Faulted, lines_of}
+use Rattle.replay.specs.Stamps.{stamped}
 use Rattle.replay.specs.declared.faults.Stop.{Stop}
 use Rattle.replay.specs.declared.faults.Stop.TheVariants as Stops
+use Rattle.replay.specs.declared.stamps.Stamping.{Stamping}
 
 -- 1. What is reported, as two outputs
 
@@ -34,23 +36,28 @@ no_entry = record { moment = 0; captured = 0; original = 0; octets = [] }
 abbrev pub kept_in : List Entry → ℕ → Kept
 kept_in entries number = let e = slice_index_or entries number no_entry in kept e.original e.octets
 
--- what is written of a frame that starts at a moment
+-- what departures are made of: the records of the capture, and how those of starts are stamped
+pub record Origin : Type 0 where
+  pub entries : List Entry
+  pub stamping : Stamping
+
+-- what is written of a frame that starts, with this moment
 abbrev pub start_record : ℕ → Kept → List ℕ
-start_record at k = written_record at k.original k.octets
+start_record moment k = written_record moment k.original k.octets
 
 -- a start writes the record whose number is its name; another answer writes none
-abbrev pub answer_record : List Entry → Answer → List ℕ
-answer_record entries (Answered.Start s) = start_record s.at (kept_in entries s.id)
-answer_record entries _ = []
+abbrev pub answer_record : Origin → Answer → List ℕ
+answer_record origin (Answered.Start s) = start_record (stamped origin.stamping s) (kept_in origin.entries s.id)
+answer_record origin _ = []
 
 -- the record that a response gives the capture of departures, if any
-abbrev pub response_record : List Entry → Response → List ℕ
-response_record entries (Gave answer) = answer_record entries answer
-response_record entries (Faulted fault) = []
+abbrev pub response_record : Origin → Response → List ℕ
+response_record origin (Gave answer) = answer_record origin answer
+response_record origin (Faulted fault) = []
 
 -- the lines of what is reported, and the records of its starts
-abbrev pub output : List Entry → List Response → Output
-output entries responses = record { report = lines_of responses; departures = flat_map (response_record entries) responses }
+abbrev pub output : Origin → List Response → Output
+output origin responses = record { report = lines_of responses; departures = flat_map (response_record origin) responses }
 
 -- 2. What calls that may fail leave in two writers
 

@@ -4,27 +4,26 @@ use Rattle.std.specs.List.{flat_map}
 use Rattle.abstract_port.specs.AbstractPort.{AbstractPort}
 use Rattle.abstract_port.specs.declared.Event.{Event}
 use Rattle.answer_text.specs.Lines.{answer_lines}
-use Rattle.capture.specs.Records.{Entry}
 use Rattle.separation.specs.Separation.{IsKeptApart, Noted, concerning, noted}
 use Rattle.script.specs.Requests.{Request}
 use Rattle.script.specs.Responses.{events_of}
 use Rattle.script.specs.Separated.{only_asked}
-use Rattle.replay.specs.Outputs.{Output, answer_record}
+use Rattle.replay.specs.Outputs.{Origin, Output, answer_record}
 
 -- the lines of noted answers, and the records of their starts
-abbrev pub output_of : List Entry → List Noted → Output
-output_of entries notes = record {
+abbrev pub output_of : Origin → List Noted → Output
+output_of origin notes = record {
   report = flat_map (λ n. answer_lines n.answer) notes;
-  departures = flat_map (λ n. answer_record entries n.answer) notes;
+  departures = flat_map (λ n. answer_record origin n.answer) notes;
 }
 
 -- both outputs of the answers that concern a class
-abbrev pub output_concerning : List Entry → ℕ → List Event → AbstractPort → Output
-output_concerning entries class events p = output_of entries (concerning class (noted events p))
+abbrev pub output_concerning : Origin → ℕ → List Event → AbstractPort → Output
+output_concerning origin class events p = output_of origin (concerning class (noted events p))
 
 -- Of what a script and a capture ask of a port: where the events keep the class apart, what concerns it in both outputs is that of the same
 -- without the other classes' arrivals. The clock events before those arrivals stay.
-abbrev pub IsSeparatedBy : List Entry → List Request → AbstractPort → Type 0
-IsSeparatedBy entries requests p =
+abbrev pub IsSeparatedBy : Origin → List Request → AbstractPort → Type 0
+IsSeparatedBy origin requests p =
     (class : ℕ) → class < 8 → IsKeptApart class (events_of requests) p
-    → output_concerning entries class (events_of requests) p ≡ output_concerning entries class (events_of (only_asked class requests p)) p
+    → output_concerning origin class (events_of requests) p ≡ output_concerning origin class (events_of (only_asked class requests p)) p

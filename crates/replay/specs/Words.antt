@@ -31,7 +31,7 @@ pub use Rattle.capture.specs.declared.writer.TheConstants.{CAPTURE_END}
 pub use Rattle.octet_store.specs.Stored.{Kept, Stored, kept, kept_at, new_store}
 pub use Rattle.summary.specs.Observed.{Observed}
 pub use Rattle.summary.specs.Wanted.{noted, noted_all, watched}
-pub use Rattle.script.specs.Outcome.{IsFaithful, Reading, bad_line, clock_after}
+pub use Rattle.script.specs.Outcome.{IsFaithful, Reading, bad_line}
 pub use Rattle.script.specs.Requests.{Asks, NoCommand, Request, tc_request}
 pub use Rattle.script.specs.Responses.{Gave, Response, events_of, noted_by, responses_of, responses_to}
 pub use Rattle.script.specs.Setup.{Setup}
@@ -42,16 +42,20 @@ pub use Rattle.replay.specs.Keeping.{GivesScript, IsScriptFault, ReadsRest}
 pub use Rattle.replay.specs.KeptScript.{AreKept, IsKept, IsKept-prop, kept_clock, kept_request, kept_requests}
 pub use Rattle.replay.specs.Lines.{IsEarly, begins_with_frame, line_in, line_request, line_said, reading_of, request_in}
 pub use Rattle.replay.specs.LinesLeft.{lines_left}
-pub use Rattle.replay.specs.Merge.{Came, Timed, all_requests, before_end, came_from, latest_clock, lines_after, lines_by, lines_past, requests_of, timed_from}
-pub use Rattle.replay.specs.Outcome.{AppendsBoth, Ends, IsOpenFault, Outcome, ReadsAs, end_fault, header, is_too_late, open_fault, outcome_of, refused, told_to_end}
-pub use Rattle.replay.specs.Outputs.{Got, Output, PutsBoth, SentBoth, answer_record, got, joined, kept_in, nothing, output, response_record, start_record}
+pub use Rattle.replay.specs.Merge.{Came, Timed, all_requests, before_end, came_from, latest_clock, lines_after, lines_by, lines_past, merged, requests_of, timed_from, to_run_end}
+pub use Rattle.replay.specs.Outcome.{AppendsBoth, Ends, IsOpenFault, Outcome, ReadsAs, end_fault, end_of, header, is_too_late, open_fault, outcome_of, refused, told_to_end}
+pub use Rattle.replay.specs.Outputs.{Got, Origin, Output, PutsBoth, SentBoth, answer_record, got, joined, kept_in, nothing, output, response_record, start_record}
 pub use Rattle.replay.specs.RecordsLeft.{Comes, EndsSo, found}
 pub use Rattle.replay.specs.RecordsRun.{RunsRecords}
+pub use Rattle.replay.specs.RunEnd.{counted_to, last_end, rest_moment, run_end}
 pub use Rattle.replay.specs.Running.{Answers, AnswersStarts, IsTogether, Keeps, State, first_kept, state}
 pub use Rattle.replay.specs.Separated.{IsSeparatedBy}
 pub use Rattle.replay.specs.Sources.{MergeLaw}
+pub use Rattle.replay.specs.Stamps.{gap_of, stamp_given, stamp_text, stamped, stamping_at}
 pub use Rattle.replay.specs.Texts.{capture_fault_name, capture_status, capture_text, header_text, open_text, record_text, replay_telling}
 pub use Rattle.replay.specs.declared.faults.ReplayInput.{ReplayInput}
 pub use Rattle.replay.specs.declared.faults.Stop.{Stop}
 pub use Rattle.replay.specs.declared.kept_script.KeptLine.{KeptLine}
 pub use Rattle.replay.specs.declared.kept_script.KeptLine.TheVariants.{Tc}
+pub use Rattle.replay.specs.declared.stamps.Stamp.{Stamp}
+pub use Rattle.replay.specs.declared.stamps.Stamping.{Stamping}

@@ -1,7 +1,7 @@
 //! Laws of replays. The functions run nothing: the contract of each is its law.
 
 ghost use Rattle.std.specs.Prelude.{◌≤◌, List};
-ghost use Rattle.replay.specs.Words.{new_port, Entry, IsFaithful, Request, Setup, MIN_MTU, MIN_PS_PER_OCTET, all_requests, IsSeparatedBy, MergeLaw};
+ghost use Rattle.replay.specs.Words.{new_port, Entry, IsFaithful, Origin, Request, Setup, MIN_MTU, MIN_PS_PER_OCTET, all_requests, IsSeparatedBy, MergeLaw};
 
 use separation::separation;
 
@@ -23,8 +23,8 @@ pub fn merge_law()
 /// class): what concerns the class in both outputs, the answer lines of the report and the records of its starts, is that of the same requests
 /// without the other classes' arrivals; the clock events at their moments stay.
 pub fn separated()
-    ensures { (s : Setup) (script : List Request) (entries : List Entry) → MIN_PS_PER_OCTET ≤ s.rate → MIN_MTU ≤ s.mtu
-        → IsSeparatedBy entries (all_requests script entries s.until) (new_port s.rate s.mtu s.room) }
+    ensures { (s : Setup) (script : List Request) (origin : Origin) → MIN_PS_PER_OCTET ≤ s.rate → MIN_MTU ≤ s.mtu
+        → IsSeparatedBy origin (all_requests script origin.entries s.until) (new_port s.rate s.mtu s.room) }
 {
     separation();
 }

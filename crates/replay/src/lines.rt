@@ -1,7 +1,7 @@
 //! The lines of a kept script, as their turn comes.
 
 ghost use Rattle.std.specs.Prelude.{◌≡◌, ◌∷◌, [], ℕ, List, Result, OnOk};
-ghost use Rattle.replay.specs.Words.{Command, Entry, IsReader, TcFault, IsKept, kept_clock, kept_request, lines_left, lines_by, lines_past, requests_of, Answers, IsTogether, Keeps, state};
+ghost use Rattle.replay.specs.Words.{Command, IsReader, Origin, TcFault, IsKept, kept_clock, kept_request, lines_left, lines_by, lines_past, requests_of, Answers, IsTogether, Keeps, state};
 
 use crate::cursor::Cursor;
 use crate::faults::Stop;
@@ -26,8 +26,8 @@ fn put_line<A: Allocator, B: Allocator, W: Write, V: Write>(
     requires together { IsTogether (state sending.old (V.contents report.old) (W.contents departures.old)) }
     ensures together { OnOk result (IsTogether (state sending.new (V.contents report.new) (W.contents departures.new))) }
     ensures answers { (read : List (List ℕ) → Result Command TcFault) → IsReader read
-        → (entries : List Entry) → Keeps entries (state sending.old (V.contents report.old) (W.contents departures.old)) →
-        Answers entries result (kept_request read script.now.octets.items line ∷ []) (state sending.old (V.contents report.old) (W.contents departures.old)) (state sending.new (V.contents report.new) (W.contents departures.new)) }
+        → (origin : Origin) → Keeps origin (state sending.old (V.contents report.old) (W.contents departures.old)) →
+        Answers origin result (kept_request read script.now.octets.items line ∷ []) (state sending.old (V.contents report.old) (W.contents departures.old)) (state sending.new (V.contents report.new) (W.contents departures.new)) }
 {
     one_reader();
     match line {
@@ -81,8 +81,8 @@ pub(crate) fn run_lines<A: Allocator, B: Allocator, W: Write, V: Write>(
     ensures left { (read : List (List ℕ) → Result Command TcFault) → IsReader read →
         OnOk result (lines_left read script.now cursor.new ≡ lines_past upto (lines_left read script.now cursor.old)) }
     ensures answers { (read : List (List ℕ) → Result Command TcFault) → IsReader read
-        → (entries : List Entry) → Keeps entries (state sending.old (V.contents report.old) (W.contents departures.old)) →
-        Answers entries result (requests_of (lines_by upto (lines_left read script.now cursor.old))) (state sending.old (V.contents report.old) (W.contents departures.old)) (state sending.new (V.contents report.new) (W.contents departures.new)) }
+        → (origin : Origin) → Keeps origin (state sending.old (V.contents report.old) (W.contents departures.old)) →
+        Answers origin result (requests_of (lines_by upto (lines_left read script.now cursor.old))) (state sending.old (V.contents report.old) (W.contents departures.old)) (state sending.new (V.contents report.new) (W.contents departures.new)) }
 {
     let lines = script.lines.as_slice();
     while cursor.at < lines.len() {

@@ -1,7 +1,7 @@
 //! The records of a capture, each after the lines up to its moment.
 
 ghost use Rattle.std.specs.Prelude.{◌≡◌, ◌≤◌, ◌∷◌, [], ℕ, List, Option, None, Result, OnOk, length, max};
-ghost use Rattle.replay.specs.Words.{Command, left, entry, frame_of, Entry, End, CAPTURE_END, MAX_RECORD_OCTETS, kept, Asks, IsReader, TcFault, lines_left, kept_in, Comes, found, RunsRecords, Answers, IsTogether, Keeps, state};
+ghost use Rattle.replay.specs.Words.{Command, left, entry, frame_of, End, Origin, CAPTURE_END, MAX_RECORD_OCTETS, kept, Asks, IsReader, TcFault, lines_left, kept_in, Comes, found, RunsRecords, Answers, IsTogether, Keeps, state};
 ghost use Rattle.abstract_port.specs.declared.Event.TheVariants as Events;
 
 use crate::cursor::Cursor;
@@ -28,9 +28,9 @@ fn take_record<A: Allocator + Clone, W: Write, V: Write>(
     requires size { length record.now.octets.now ≤ MAX_RECORD_OCTETS }
     requires together { IsTogether (state sending.old (V.contents report.old) (W.contents departures.old)) }
     ensures together { OnOk result (IsTogether (state sending.new (V.contents report.new) (W.contents departures.new))) }
-    ensures answers { (entries : List Entry) → kept_in entries number ≡ kept record.now.original record.now.octets.now
-        → Keeps entries (state sending.old (V.contents report.old) (W.contents departures.old)) →
-        Answers entries result (Asks (Events.Clock moment) ∷ Asks (Events.Arrive (frame_of (entry record.now) number)) ∷ []) (state sending.old (V.contents report.old) (W.contents departures.old)) (state sending.new (V.contents report.new) (W.contents departures.new)) }
+    ensures answers { (origin : Origin) → kept_in origin.entries number ≡ kept record.now.original record.now.octets.now
+        → Keeps origin (state sending.old (V.contents report.old) (W.contents departures.old)) →
+        Answers origin result (Asks (Events.Clock moment) ∷ Asks (Events.Arrive (frame_of (entry record.now) number)) ∷ []) (state sending.old (V.contents report.old) (W.contents departures.old)) (state sending.new (V.contents report.new) (W.contents departures.new)) }
 {
     put_clock(sending, moment, departures, report)?;
     let frame = frame_of(record, u64::from(number));
@@ -71,8 +71,8 @@ pub(crate) fn run_records<
     requires first { (left records.old).number ≡ 0 }
     ensures together { OnOk result (IsTogether (state sending.new (V.contents report.new) (W.contents departures.new))) }
     ensures records { (read : List (List ℕ) → Result Command TcFault) → IsReader read
-        → (entries : List Entry) (last : End) → Comes R.remaining (left records.old) entries last →
-        RunsRecords entries last (lines_left read script.now cursor.old) (lines_left read script.now cursor.new) (state sending.old (V.contents report.old) (W.contents departures.old)) (state sending.new (V.contents report.new) (W.contents departures.new)) result }
+        → (origin : Origin) (last : End) → Comes R.remaining (left records.old) origin.entries last →
+        RunsRecords origin last (lines_left read script.now cursor.old) (lines_left read script.now cursor.new) (state sending.old (V.contents report.old) (W.contents departures.old)) (state sending.new (V.contents report.new) (W.contents departures.new)) result }
 {
     let mut latest = 0u128;
     let mut number = 0u32;

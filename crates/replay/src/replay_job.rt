@@ -8,6 +8,7 @@ ghost use Rattle.replay.specs.Words.{IsReplayEnding, got};
 
 use crate::faults::ReplayFault;
 use crate::replay_run::replay;
+use crate::stamps::Stamp;
 use crate::watch::Watch;
 use job::{Ended, say_run};
 use script::Settings;
@@ -71,12 +72,13 @@ pub fn answer_replay<
 >(
     alloc: A,
     settings: Settings,
+    stamp: Stamp,
     inputs: Inputs<R, S>,
     mut outputs: Outputs<W, V, B, C>,
     errors: &mut E,
     watch: &mut P,
 ) -> (Ended, W, V)
-    ensures { IsReplayEnding settings (R.remaining inputs.script) (S.remaining inputs.capture) result.0
+    ensures { IsReplayEnding settings stamp (R.remaining inputs.script) (S.remaining inputs.capture) result.0
         (got (writer_contents W.contents outputs.report) (writer_contents V.contents outputs.departures)) (got (W.contents result.1) (V.contents result.2))
         (E.contents errors.old) (E.contents errors.new) }
 {
@@ -87,6 +89,7 @@ pub fn answer_replay<
         &mut outputs.departures,
         &mut outputs.report,
         settings,
+        stamp,
         watch,
     );
     let run = let_out(run, &mut outputs.report, &mut outputs.departures);

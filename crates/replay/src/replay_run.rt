@@ -1,21 +1,23 @@
 //! Runs a script and a capture.
 
-ghost use Rattle.std.specs.Prelude.{◌≡◌, ◌++◌, ℕ, List, None, Option, Result, OnOk, IfOk, IfErr, IfSome, Err, false, true, length};
-ghost use Rattle.replay.specs.Words.{new_port, IsSoundPort, Command, IsNewReader, left, Entry, CapFault, End, clock_after, IsReader, TcFault, lines_left, new_store, kept_requests, all_requests, requests_of, Ends, IsOpenFault, ReadsAs, end_fault, header, is_too_late, open_fault, outcome_of, told_to_end, PutsBoth, got, Comes, Answers, IsTogether, Keeps, state};
+ghost use Rattle.std.specs.Prelude.{◌≡◌, ℕ, List, None, Option, Result, IfOk, IfErr, IfSome, Err, false, true, length};
+ghost use Rattle.replay.specs.Words.{new_port, IsSoundPort, Command, IsNewReader, left, Entry, CapFault, End, IsReader, TcFault, lines_left, new_store, kept_requests, merged, came_from, timed_from, requests_of, Ends, IsOpenFault, ReadsAs, end_fault, header, is_too_late, open_fault, outcome_of, stamping_at, told_to_end, Origin, PutsBoth, got, Comes, IsTogether, Keeps, state};
 ghost use Rattle.job.specs.declared.fault.Fault.TheVariants as Faults;
 ghost use Rattle.replay.specs.declared.faults.ReplayInput.TheVariants as Inputs;
 
 use crate::cursor::Cursor;
+use crate::ending::{put_end, run_end};
 use crate::faults::{ReplayFault, ReplayInput, Stop};
 use crate::keeping::read_script;
 use crate::kept_script::KeptScript;
 use crate::lines::run_lines;
 use crate::records::run_records;
-use crate::sending::{Sending, put_clock};
+use crate::sending::{Leaving, Sending, put_clock};
+use crate::stamps::{Stamp, stamping_at};
 use crate::watch::Watch;
 use capture::{CAPTURE_END, CapFault, CaptureReader, CaptureWriter};
 use octet_store::OctetStore;
-use script::{RunningPort, Settings, put_end};
+use script::{RunningPort, Settings};
 use std::alloc::Allocator;
 use std::io::{Read, Write};
 use summary::{Summary, summary_wanted};
@@ -30,27 +32,7 @@ fn is_too_late(until: Option<u128>) -> bool
     }
 }
 
-/// Runs to a moment, if there is one.
-fn run_to<A: Allocator, W: Write, V: Write>(
-    sending: &mut Sending<A>,
-    until: Option<u128>,
-    departures: &mut W,
-    report: &mut V,
-) -> Result<(), Stop>
-    requires until { is_too_late until ≡ false }
-    requires together { IsTogether (state sending.old (V.contents report.old) (W.contents departures.old)) }
-    ensures together { OnOk result (IsTogether (state sending.new (V.contents report.new) (W.contents departures.new))) }
-    ensures answers { (entries : List Entry) → Keeps entries (state sending.old (V.contents report.old) (W.contents departures.old)) →
-        Answers entries result (clock_after until) (state sending.old (V.contents report.old) (W.contents departures.old)) (state sending.new (V.contents report.new) (W.contents departures.new)) }
-{
-    match until {
-        None => Ok(()),
-        Some(moment) => put_clock(sending, moment, departures, report),
-    }
-}
-
-/// Answers the lines that are left, runs to the moment after the input, if there is one, and writes how many frames are left, and the
-/// summary where one is wanted.
+/// Answers the lines that are left, runs on, and writes how many frames are left, and the summary where one is wanted.
 fn finish<A: Allocator, B: Allocator, W: Write, V: Write>(
     sending: &mut Sending<A>,
     script: &KeptScript<B>,
@@ -62,13 +44,16 @@ fn finish<A: Allocator, B: Allocator, W: Write, V: Write>(
     requires until { is_too_late until ≡ false }
     requires together { IsTogether (state sending.old (V.contents report.old) (W.contents departures.old)) }
     ensures { (read : List (List ℕ) → Result Command TcFault) → IsReader read
-        → (entries : List Entry) → Keeps entries (state sending.old (V.contents report.old) (W.contents departures.old)) →
+        → (origin : Origin) → Keeps origin (state sending.old (V.contents report.old) (W.contents departures.old)) →
         PutsBoth result (got (V.contents report.old) (W.contents departures.old)) (got (V.contents report.new) (W.contents departures.new))
-        (told_to_end entries (requests_of (lines_left read script.now cursor.old) ++ clock_after until) sending.old.port.port sending.old.summary) }
+        (told_to_end origin (requests_of (lines_left read script.now cursor.old)) until sending.old.port.port sending.old.summary) }
 {
     run_lines(sending, script, cursor, CAPTURE_END, departures, report)?;
-    run_to(sending, until, departures, report)?;
-    put_end(&sending.port, &sending.summary, report)?;
+    let from = sending.port.now();
+    sending.leaving.last = from;
+    let upto = run_end(until);
+    put_clock(sending, upto, departures, report)?;
+    put_end(sending, until, report)?;
     Ok(())
 }
 
@@ -87,10 +72,10 @@ fn run<A: Allocator + Clone, B: Allocator, C: Allocator, R: Read, W: Write, V: W
     requires begun { (left records.old).ended ≡ None }
     requires first { (left records.old).number ≡ 0 }
     ensures { (read : List (List ℕ) → Result Command TcFault) → IsReader read
-        → (entries : List Entry) (last : End) → Comes R.remaining (left records.old) entries last
-        → Keeps entries (state sending.old (V.contents report.old) (W.contents departures.old)) →
+        → (origin : Origin) (last : End) → Comes R.remaining (left records.old) origin.entries last
+        → Keeps origin (state sending.old (V.contents report.old) (W.contents departures.old)) →
         Ends result (got (V.contents report.old) (W.contents departures.old)) (got (V.contents report.new) (W.contents departures.new))
-        (record { output = told_to_end entries (all_requests (kept_requests read script.now.octets.items script.now.lines.items) entries until) sending.old.port.port sending.old.summary; fault = end_fault (length entries) last }) }
+        (record { output = told_to_end origin (merged (timed_from 0 (kept_requests read script.now.octets.items script.now.lines.items)) (came_from 0 0 origin.entries)) until sending.old.port.port sending.old.summary; fault = end_fault (length origin.entries) last }) }
 {
     let mut cursor = Cursor { at: 0, clock: 0 };
     let broken = run_records(
@@ -138,12 +123,14 @@ fn open<A: Allocator, R: Read + Drop>(
 fn begin<A: Allocator + Clone, W: Write>(
     alloc: &A,
     settings: Settings,
+    stamp: Stamp,
     summary: Option<Summary<A>>,
     departures: &mut W,
 ) -> Result<Sending<A>, Stop>
     ensures port { IfOk result (λ s. s.port.port ≡ new_port settings.rate settings.mtu settings.room) }
     ensures store { IfOk result (λ s. s.store ≡ new_store settings.room) }
     ensures seen { IfOk result (λ s. s.summary ≡ summary) }
+    ensures stamping { IfOk result (λ s. s.leaving.stamping ≡ stamping_at stamp settings.rate) }
     ensures sound { IfOk result (λ s. IsSoundPort s.port.port) }
     ensures out { (report : Option (List ℕ)) → PutsBoth result (got report (W.contents departures.old)) (got report (W.contents departures.new)) header }
 {
@@ -157,13 +144,18 @@ fn begin<A: Allocator + Clone, W: Write>(
     };
     // For the prover: a call on a port says what holds of every port.
     let _now = port.now();
+    let stamping = stamping_at(stamp, rate);
     let store = OctetStore::new(alloc, room)?;
     match CaptureWriter::begin(departures) {
         Ok(writer) => Ok(Sending {
             port,
             summary,
             store,
-            writer,
+            leaving: Leaving {
+                writer,
+                stamping,
+                last: 0,
+            },
         }),
         Err(_) => Err(Stop::Write),
     }
@@ -175,8 +167,9 @@ fn begin<A: Allocator + Clone, W: Write>(
 /// The memory of a summary is taken first. Then the script is read whole, and nothing is written where it has a fault; then the file header of the capture, and nothing is
 /// written where that has one. Then come its records, each taken when its turn comes, after the lines up to its moment, which is the
 /// greater of its own and that of the record before. After the last record, also one after which the capture ends with a fault, come
-/// the other lines, the moment to run to, where the settings have one, how many frames each class still has, and a summary where the
-/// settings want one.
+/// the other lines. Then the port runs on, to the moment of the settings, or where they have none until no frame can start any more; how many
+/// frames each class still has comes last, and a summary where the settings want one. The records of the frames that start carry the moment
+/// that `stamp` says.
 ///
 /// A read or a write that fails, or takes nothing, isn't tried again. Nothing that is kept grows with the capture: of a script its
 /// lines are kept, and of a capture the octets of the frames that wait, and where a summary is wanted when they came. Who watches is called for
@@ -188,11 +181,12 @@ pub fn replay<A: Allocator, R: Read + Drop, S: Read + Drop, W: Write, V: Write, 
     departures: &mut W,
     report: &mut V,
     settings: Settings,
+    stamp: Stamp,
     watch: &mut P,
 ) -> Result<(), ReplayFault>
     ensures replay { (read : List (List ℕ) → Result Command TcFault) → IsReader read → IfSome (R.remaining script) (λ lines. IfSome (S.remaining capture) (λ octets.
         (records : Result (List Entry × End) CapFault) → ReadsAs octets records →
-        Ends result (got (V.contents report.old) (W.contents departures.old)) (got (V.contents report.new) (W.contents departures.new)) (outcome_of read settings lines records))) }
+        Ends result (got (V.contents report.old) (W.contents departures.old)) (got (V.contents report.new) (W.contents departures.new)) (outcome_of read settings stamp lines records))) }
     ensures late { is_too_late settings.until ≡ true → (result ≡ Err (Faults.Input Inputs.Until)) × (departures.new ≡ departures.old) × (report.new ≡ report.old) }
 {
     let until = settings.until();
@@ -203,7 +197,7 @@ pub fn replay<A: Allocator, R: Read + Drop, S: Read + Drop, W: Write, V: Write, 
     let summary = summary_wanted(&alloc, settings.summary(), settings.room())?;
     let script = read_script(&alloc, script)?;
     let mut records = open(alloc, capture)?;
-    let mut sending = begin(&alloc, settings, summary, departures)?;
+    let mut sending = begin(&alloc, settings, stamp, summary, departures)?;
     run(
         &mut sending,
         &script,

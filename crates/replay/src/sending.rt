@@ -1,12 +1,14 @@
 //! A port that runs, beside it the octets of the frames that wait, what is seen of it, and the capture of what leaves.
 
 ghost use Rattle.std.specs.Prelude.{◌≡◌, ◌≤◌, ◌<◌, ◌∷◌, ◌⊎◌, [], ℕ, List, None, Option, length, drop, IfErr, OnOk, slice_set};
-ghost use Rattle.replay.specs.Words.{arrival_answer, answer_lines, CAPTURE_END, MAX_RECORD_OCTETS, Entry, kept, kept_at, Writes, Asks, PutsBoth, kept_in, start_record, Answers, AnswersStarts, IsTogether, Keeps, first_kept, state, noted};
+ghost use Rattle.abstract_port.specs.AbstractPort.{starts_until};
+ghost use Rattle.replay.specs.Words.{arrival_answer, answer_lines, CAPTURE_END, MAX_RECORD_OCTETS, kept, kept_at, last_end, Writes, Asks, Origin, PutsBoth, kept_in, stamped, start_record, Answers, AnswersStarts, IsTogether, Keeps, first_kept, state, noted};
 ghost use Rattle.abstract_port.specs.declared.Answer.TheVariants as Answered;
 ghost use Rattle.abstract_port.specs.declared.Event.TheVariants as Events;
 ghost use Rattle.replay.specs.declared.faults.Stop.TheVariants as Stops;
 
 use crate::faults::Stop;
+use crate::stamps::{Stamping, stamped};
 use abstract_port::{Answer, Dropped, Start};
 use answer_text::{WriteFault, put_answer};
 use capture::CaptureWriter;
@@ -16,6 +18,17 @@ use std::alloc::{Allocator, Global};
 use std::io::Write;
 use summary::{Summary, note, note_start, note_verdict};
 use wire_time::Frame;
+
+/// The capture that frames leave for.
+#[derive(Drop)]
+pub(crate) struct Leaving {
+    /// Its writer.
+    pub writer: CaptureWriter,
+    /// Which moment its records carry.
+    pub stamping: Stamping,
+    /// The end of the frame that has started last, or a moment after which none has, in picoseconds.
+    pub last: u128,
+}
 
 /// A port that runs, with the octets of the frames that wait in it, and the capture that they leave for.
 #[derive(Drop)]
@@ -27,7 +40,7 @@ pub(crate) struct Sending<A: Allocator = Global> {
     /// The octets of the frames that wait in it.
     pub store: OctetStore<A>,
     /// The output capture.
-    pub writer: CaptureWriter,
+    pub leaving: Leaving,
 }
 
 /// Writes an answer to an event that is taken at this moment, noted where a summary is wanted. At a fault a prefix of it is written.
@@ -87,14 +100,18 @@ fn put_record<A: Allocator, W: Write>(
     requires early { start.at < CAPTURE_END }
     ensures port { sending.new.port ≡ sending.old.port }
     ensures seen { sending.new.summary ≡ sending.old.summary }
+    ensures stamping { sending.new.leaving.stamping ≡ sending.old.leaving.stamping }
+    ensures last { sending.new.leaving.last ≡ sending.old.leaving.last }
     ensures store { sending.new.store ≡ record sending.old.store { kept = slice_set sending.old.store.kept start.class (drop 1 (kept_at sending.old.store.kept start.class)) } }
-    ensures out { Writes result (W.contents departures.old) (W.contents departures.new) (start_record start.at (first_kept sending.old.store start.class)) }
+    ensures out { Writes result (W.contents departures.old) (W.contents departures.new) (start_record (stamped sending.old.leaving.stamping start) (first_kept sending.old.store start.class)) }
     ensures fault { IfErr result (λ fault. fault ≡ Stops.Write) }
 {
+    let moment = stamped(sending.leaving.stamping, start);
     let first = sending.store.first(start.class);
     let put = sending
+        .leaving
         .writer
-        .put(departures, start.at, first.original, first.octets);
+        .put(departures, moment, first.original, first.octets);
     sending.store.give_up(start.class);
     match put {
         Ok(()) => Ok(()),
@@ -116,12 +133,15 @@ fn put_start<A: Allocator, W: Write, V: Write>(
     requires early { start.at < CAPTURE_END }
     ensures port { sending.new.port ≡ sending.old.port }
     ensures seen { sending.new.summary ≡ noted now (Answered.Start start) sending.old.summary }
+    ensures stamping { sending.new.leaving.stamping ≡ sending.old.leaving.stamping }
+    ensures last { OnOk result (sending.new.leaving.last ≡ start.«end») }
     ensures store { OnOk result (sending.new.store ≡ record sending.old.store { kept = slice_set sending.old.store.kept start.class (drop 1 (kept_at sending.old.store.kept start.class)) }) }
     ensures out { PutsBoth result (record { report = V.contents report.old; departures = W.contents departures.old }) (record { report = V.contents report.new; departures = W.contents departures.new })
-        (record { report = answer_lines (Answered.Start start); departures = start_record start.at (first_kept sending.old.store start.class) }) }
+        (record { report = answer_lines (Answered.Start start); departures = start_record (stamped sending.old.leaving.stamping start) (first_kept sending.old.store start.class) }) }
     ensures fault { IfErr result (λ fault. fault ≡ Stops.Write) }
 {
     put_noted_start(&mut sending.summary, now, &start, report)?;
+    sending.leaving.last = start.end;
     put_record(sending, start, departures)
 }
 
@@ -136,8 +156,9 @@ fn put_starts<A: Allocator, W: Write, V: Write>(
     requires within { until ≤ CAPTURE_END }
     requires together { IsTogether (state sending.old (V.contents report.old) (W.contents departures.old)) }
     ensures together { OnOk result (IsTogether (state sending.new (V.contents report.new) (W.contents departures.new))) }
-    ensures starts { (entries : List Entry) → Keeps entries (state sending.old (V.contents report.old) (W.contents departures.old)) →
-        AnswersStarts entries result until (state sending.old (V.contents report.old) (W.contents departures.old)) (state sending.new (V.contents report.new) (W.contents departures.new)) }
+    ensures starts { (origin : Origin) → Keeps origin (state sending.old (V.contents report.old) (W.contents departures.old)) →
+        AnswersStarts origin result until (state sending.old (V.contents report.old) (W.contents departures.old)) (state sending.new (V.contents report.new) (W.contents departures.new)) }
+    ensures last { OnOk result (sending.new.leaving.last ≡ last_end sending.old.leaving.last (starts_until sending.old.port.port until).0) }
     ensures fault { IfErr result (λ fault. fault ≡ Stops.Write) }
 {
     let now = sending.port.now();
@@ -159,8 +180,9 @@ pub(crate) fn put_clock<A: Allocator, W: Write, V: Write>(
     requires within { moment ≤ CAPTURE_END }
     requires together { IsTogether (state sending.old (V.contents report.old) (W.contents departures.old)) }
     ensures together { OnOk result (IsTogether (state sending.new (V.contents report.new) (W.contents departures.new))) }
-    ensures answers { (entries : List Entry) → Keeps entries (state sending.old (V.contents report.old) (W.contents departures.old)) →
-        Answers entries result (Asks (Events.Clock moment) ∷ []) (state sending.old (V.contents report.old) (W.contents departures.old)) (state sending.new (V.contents report.new) (W.contents departures.new)) }
+    ensures answers { (origin : Origin) → Keeps origin (state sending.old (V.contents report.old) (W.contents departures.old)) →
+        Answers origin result (Asks (Events.Clock moment) ∷ []) (state sending.old (V.contents report.old) (W.contents departures.old)) (state sending.new (V.contents report.new) (W.contents departures.new)) }
+    ensures last { OnOk result (sending.new.leaving.last ≡ last_end sending.old.leaving.last (starts_until sending.old.port.port moment).0) }
     ensures fault { IfErr result (λ fault. fault ≡ Stops.Write) }
 {
     let now = sending.port.now();
@@ -183,9 +205,9 @@ pub(crate) fn put_arrival<A: Allocator + Clone, V: Write>(
     requires together { IsTogether (state sending.old (V.contents report.old) None) }
     requires size { length octets.now ≤ MAX_RECORD_OCTETS }
     ensures together { OnOk result (IsTogether (state sending.new (V.contents report.new) None)) }
-    ensures answers { (entries : List Entry) (captured : Option (List ℕ)) → kept_in entries frame.id ≡ kept original octets.now
-        → Keeps entries (state sending.old (V.contents report.old) captured) →
-        Answers entries result (Asks (Events.Arrive frame) ∷ []) (state sending.old (V.contents report.old) captured) (state sending.new (V.contents report.new) captured) }
+    ensures answers { (origin : Origin) (captured : Option (List ℕ)) → kept_in origin.entries frame.id ≡ kept original octets.now
+        → Keeps origin (state sending.old (V.contents report.old) captured) →
+        Answers origin result (Asks (Events.Arrive frame) ∷ []) (state sending.old (V.contents report.old) captured) (state sending.new (V.contents report.new) captured) }
     ensures fault { IfErr result (λ fault. (fault ≡ Stops.Write) ⊎ (fault ≡ Stops.Memory)) }
 {
     let came = sending.port.now();

@@ -2,12 +2,18 @@
 use Rattle.std.specs.Prelude.{ℕ, ◌+◌, ◌*◌, ◌^◌, nat_lt, Bool, Option, Some, None, if◌then◌else◌}
 use Rattle.in_memory.specs.declared.pictures.PictureValues.{PictureValues}
 use Rattle.in_memory.specs.declared.values.PortValues.{PortValues}
+use Rattle.replay.specs.declared.stamps.Stamp.{Stamp}
+use Rattle.replay.specs.declared.stamps.Stamp.TheVariants as Stamps
 use Rattle.taprio_c.specs.declared.values.CPictureValues.{CPictureValues}
 use Rattle.taprio_c.specs.declared.values.CPortValues.{CPortValues}
 
 -- 0 no, else yes
 abbrev pub is_wanted : ℕ → Bool
 is_wanted value = nat_lt 0 value
+
+-- which moment the records of a replay carry: 0 that of the start, else that at which the last octet has been sent
+abbrev pub stamp_of : ℕ → Stamp
+stamp_of value = if is_wanted value then Stamps.End else Stamps.Start
 
 -- the moment of two halves
 abbrev pub moment_of : ℕ → ℕ → ℕ

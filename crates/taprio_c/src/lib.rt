@@ -16,21 +16,23 @@ ghost use Rattle.in_memory.specs.Pictures.{DrawsWith, options_at};
 ghost use Rattle.in_memory.specs.Slices.{Answers, slices, told_by, told_of};
 ghost use Rattle.in_memory.specs.Values.{from_at, rate_at, settings_at, streams_told_by};
 ghost use Rattle.replay.specs.Outcome.{ReadsAs, outcome_of as replay_outcome_of};
+ghost use Rattle.replay.specs.declared.stamps.Stamp.TheVariants as Stamps;
 ghost use Rattle.schedule_check.specs.Checked.{whole_check};
 ghost use Rattle.schedule_check.specs.Windows.{IsTeller, Teller};
 ghost use Rattle.script.specs.Outcome.{outcome_of};
 ghost use Rattle.stream_bounds.specs.Outcome.{outcome_of as bounds_outcome_of};
-ghost use Rattle.taprio_c.specs.FromC.{is_wanted, moment_of, picture_values, port_values};
+ghost use Rattle.taprio_c.specs.FromC.{is_wanted, moment_of, picture_values, port_values, stamp_of};
 ghost use Rattle.tc_reader.specs.Reader.{IsReader};
 ghost use Rattle.tc_reader.specs.declared.fault.TcFault.{TcFault};
 ghost use Rattle.traffic.specs.Faults.{streams_telling};
 ghost use Rattle.traffic.specs.Outcome.{outcome_of as streams_outcome_of};
 
-use crate::values::{is_wanted, moment_of, picture_values, port_values};
+use crate::values::{is_wanted, moment_of, picture_values, port_values, stamp_of};
 use in_memory::{
     Ran, ReplayRan, bounds_octets, check_octets, draw_octets, replay_octets, run_octets,
     streams_octets,
 };
+use replay::Stamp;
 use std::alloc::Global;
 pub use values::{CPictureValues, CPortValues};
 
@@ -157,11 +159,41 @@ pub extern "C" fn taprio_replay(
     ran: &mut ReplayRan,
 )
     ensures { (read : List (List ℕ) → Result Command TcFault) → IsReader read → (records : Result (List Entry × End) CapFault) → ReadsAs capture.now records →
-        Replays (told_by_replay (λ settings. replay_outcome_of read settings script.now records) (settings_at (port_values values.now))) ran.new (outputs report.old departures.old fault.old) (outputs report.new departures.new fault.new) }
+        Replays (told_by_replay (λ settings. replay_outcome_of read settings Stamps.Start script.now records) (settings_at (port_values values.now))) ran.new (outputs report.old departures.old fault.old) (outputs report.new departures.new fault.new) }
 {
     *ran = replay_octets(
         &alloc,
         port_values(values),
+        Stamp::Start,
+        script,
+        capture,
+        report,
+        departures,
+        fault,
+    );
+}
+
+/// The same, whose departures carry the moment that `stamp` says: 0 that at which a frame starts, else that at which its last octet has been sent.
+#[unsafe(no_mangle)]
+pub extern "C" fn taprio_replay_stamped(
+    alloc: Global,
+    values: &CPortValues,
+    stamp: u32,
+    script: &[u8],
+    capture: &[u8],
+    report: &mut [u8],
+    departures: &mut [u8],
+    fault: &mut [u8],
+    ran: &mut ReplayRan,
+)
+    ensures { (read : List (List ℕ) → Result Command TcFault) → IsReader read → (records : Result (List Entry × End) CapFault) → ReadsAs capture.now records →
+        Replays (told_by_replay (λ settings. replay_outcome_of read settings (stamp_of stamp) script.now records) (settings_at (port_values values.now))) ran.new (outputs report.old departures.old fault.old) (outputs report.new departures.new fault.new) }
+{
+    let stamp = stamp_of(stamp);
+    *ran = replay_octets(
+        &alloc,
+        port_values(values),
+        stamp,
         script,
         capture,
         report,

@@ -1,9 +1,10 @@
 //! Values as C hands them over: fields of a fixed size, none of which has a value that is no value.
 
 ghost use Rattle.std.specs.Prelude.{◌≡◌};
-ghost use Rattle.taprio_c.specs.FromC.{is_wanted, moment_of, moment_where, picture_values, port_values};
+ghost use Rattle.taprio_c.specs.FromC.{is_wanted, moment_of, moment_where, picture_values, port_values, stamp_of};
 
 use in_memory::{PictureValues, PortValues};
+use replay::Stamp;
 
 /// 2^64.
 const TWO_TO_64: u128 = 0x1_0000_0000_0000_0000;
@@ -53,6 +54,17 @@ pub fn is_wanted(value: u32) -> bool
     ensures { result ≡ is_wanted value }
 {
     value != 0
+}
+
+/// Which moment the records of a replay carry.
+pub fn stamp_of(value: u32) -> Stamp
+    ensures { result ≡ stamp_of value }
+{
+    if is_wanted(value) {
+        Stamp::End
+    } else {
+        Stamp::Start
+    }
 }
 
 /// The moment of two halves.

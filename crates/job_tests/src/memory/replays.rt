@@ -2,6 +2,7 @@
 
 use crate::memory::lent::{DOTS, USUAL, has, room_for};
 use in_memory::{PortValues, ReplayRan, replay_octets};
+use replay::Stamp;
 use std::alloc::Global;
 use test_streams::{BOTH_LEFT, BOTH_TOLD, FIRST_LEFT, FIRST_TOLD, TWO_RECORDS};
 
@@ -17,6 +18,7 @@ fn is_replayed(alloc: Global) -> bool {
     let ran = replay_octets(
         &alloc,
         VALUES,
+        Stamp::Start,
         b"",
         &TWO_RECORDS,
         &mut report,
@@ -46,6 +48,7 @@ fn is_told(alloc: Global, lacking: u8) -> bool {
     let ran = replay_octets(
         &alloc,
         VALUES,
+        Stamp::Start,
         b"",
         &TWO_RECORDS[..91],
         &mut report[..room_for(FIRST_TOLD, lacking == 0)],

@@ -2,7 +2,7 @@ use Rattle.std.proofs.Common.{Ok, [], ◌∷◌, rules, sym, subst}
 use Rattle.std.specs.Prelude.{slice_range}
 use Rattle.std.proofs.lemmas.Result.{err_from_is_err_and}
 use Rattle.abstract_port.specs.declared.Event.TheVariants as Events
-use Rattle.replay.specs.Words.{Asks, tc_request, words_of, IsKept, kept_request, Answers, state, KeptLine}
+use Rattle.replay.specs.Words.{Asks, tc_request, words_of, IsKept, kept_request, Answers, Origin, state, KeptLine}
 use Rattle.replay.proofs.Sends.{never}
 use Rattle.replay.proofs.TellLaws.{at, silent_count, silent_query, silent_tc, told_line, told_short, told_together}
 use Rattle.replay.proofs.lines.put_line.Goals as goal
@@ -20,25 +20,26 @@ returns-in_err-put_answers-in-Query-clause-answers g c = λ read is es k.
     let e = err_from_is_err_and r c.from_residual.ensures.1 in
     let s = state c.args.sending.now (g.V.Write.contents c.args.report.now) (g.W.Write.contents c.args.departures.now) in
     let p = s.port in
-    let t = at c.put_answers.new.port.port s.store c.put_answers.new.summary (g.V.Write.contents c.put_answers.new.writer) (g.W.Write.contents c.args.departures.now) in
+    let t = at c.put_answers.new.port.port s.store c.put_answers.new.summary s.stamping (g.V.Write.contents c.put_answers.new.writer) (g.W.Write.contents c.args.departures.now) in
     let P : KeptLine → Type 0 = λ l. Answers es r (kept_request read c.args.script.now.octets.items l ∷ []) s t in
     subst P (sym c.in-Query.is)
-    (told_short es (Asks Events.Query) p t.port s.store s.seen t.seen (g.V.Write.contents c.args.report.now) (g.V.Write.contents c.put_answers.new.writer) (g.W.Write.contents c.args.departures.now) (silent_query es p) r e.1 (c.in_err-put_answers-in-Query.ensures.text))
+    (told_short es (Asks Events.Query) p t.port s.store s.seen t.seen s.stamping (g.V.Write.contents c.args.report.now) (g.V.Write.contents c.put_answers.new.writer) (g.W.Write.contents c.args.departures.now) (silent_query es p) r e.1 (c.in_err-put_answers-in-Query.ensures.text))
 
 pub returns-in_ok-put_answers-in-Query-clause-answers : goal.returns-in_ok-put_answers-in-Query-clause-answers
 returns-in_ok-put_answers-in-Query-clause-answers g c = λ read is es k.
     let s = state c.args.sending.now (g.V.Write.contents c.args.report.now) (g.W.Write.contents c.args.departures.now) in
     let p = s.port in
-    let t = at c.put_answers.new.port.port s.store c.put_answers.new.summary (g.V.Write.contents c.put_answers.new.writer) (g.W.Write.contents c.args.departures.now) in
+    let t = at c.put_answers.new.port.port s.store c.put_answers.new.summary s.stamping (g.V.Write.contents c.put_answers.new.writer) (g.W.Write.contents c.args.departures.now) in
     let P : KeptLine → Type 0 = λ l. Answers {T = Unit {0}} es (Ok tt) (kept_request read c.args.script.now.octets.items l ∷ []) s t in
     subst P (sym c.in-Query.is)
-    (told_line es (Asks Events.Query) p t.port s.store s.seen t.seen (g.V.Write.contents c.args.report.now) (g.V.Write.contents c.put_answers.new.writer) (g.W.Write.contents c.args.departures.now) (silent_query es p) tt (c.in_ok-put_answers-in-Query.ensures.text) (c.in_ok-put_answers-in-Query.ensures.port) (c.in_ok-put_answers-in-Query.ensures.seen) k)
+    (told_line es (Asks Events.Query) p t.port s.store s.seen t.seen s.stamping (g.V.Write.contents c.args.report.now) (g.V.Write.contents c.put_answers.new.writer) (g.W.Write.contents c.args.departures.now) (silent_query es p) tt (c.in_ok-put_answers-in-Query.ensures.text) (c.in_ok-put_answers-in-Query.ensures.port) (c.in_ok-put_answers-in-Query.ensures.seen) k)
 
 pub returns-in_ok-put_answers-in-Query-clause-together : goal.returns-in_ok-put_answers-in-Query-clause-together
 returns-in_ok-put_answers-in-Query-clause-together g c =
     let s = state c.args.sending.now (g.V.Write.contents c.args.report.now) (g.W.Write.contents c.args.departures.now) in
     let p = s.port in
-    told_together [] (Asks Events.Query) p c.put_answers.new.port.port s.store _ _ _ _ _ (silent_query [] p) (c.in_ok-put_answers-in-Query.ensures.port) c.in_ok-put_answers-in-Query.ensures.sound c.requires.together
+    let es : Origin = record { entries = []; stamping = s.stamping } in
+    told_together es (Asks Events.Query) p c.put_answers.new.port.port s.store _ _ _ _ _ _ (silent_query es p) (c.in_ok-put_answers-in-Query.ensures.port) c.in_ok-put_answers-in-Query.ensures.sound c.requires.together
 
 pub returns-in_err-put_answers-in-Count-clause-answers : goal.returns-in_err-put_answers-in-Count-clause-answers
 returns-in_err-put_answers-in-Count-clause-answers g c = λ read is es k.
@@ -46,25 +47,26 @@ returns-in_err-put_answers-in-Count-clause-answers g c = λ read is es k.
     let e = err_from_is_err_and r c.from_residual-in_err-put_answers-in-Count.ensures.1 in
     let s = state c.args.sending.now (g.V.Write.contents c.args.report.now) (g.W.Write.contents c.args.departures.now) in
     let p = s.port in
-    let t = at c.put_answers-in-Count.new.port.port s.store c.put_answers-in-Count.new.summary (g.V.Write.contents c.put_answers-in-Count.new.writer) (g.W.Write.contents c.args.departures.now) in
+    let t = at c.put_answers-in-Count.new.port.port s.store c.put_answers-in-Count.new.summary s.stamping (g.V.Write.contents c.put_answers-in-Count.new.writer) (g.W.Write.contents c.args.departures.now) in
     let P : KeptLine → Type 0 = λ l. Answers es r (kept_request read c.args.script.now.octets.items l ∷ []) s t in
     subst P (sym c.in-Count.is)
-    (told_short es (Asks (Events.Count c.in-Count.class)) p t.port s.store s.seen t.seen (g.V.Write.contents c.args.report.now) (g.V.Write.contents c.put_answers-in-Count.new.writer) (g.W.Write.contents c.args.departures.now) (silent_count es c.in-Count.class p) r e.1 (c.in_err-put_answers-in-Count.ensures.text))
+    (told_short es (Asks (Events.Count c.in-Count.class)) p t.port s.store s.seen t.seen s.stamping (g.V.Write.contents c.args.report.now) (g.V.Write.contents c.put_answers-in-Count.new.writer) (g.W.Write.contents c.args.departures.now) (silent_count es c.in-Count.class p) r e.1 (c.in_err-put_answers-in-Count.ensures.text))
 
 pub returns-in_ok-put_answers-in-Count-clause-answers : goal.returns-in_ok-put_answers-in-Count-clause-answers
 returns-in_ok-put_answers-in-Count-clause-answers g c = λ read is es k.
     let s = state c.args.sending.now (g.V.Write.contents c.args.report.now) (g.W.Write.contents c.args.departures.now) in
     let p = s.port in
-    let t = at c.put_answers-in-Count.new.port.port s.store c.put_answers-in-Count.new.summary (g.V.Write.contents c.put_answers-in-Count.new.writer) (g.W.Write.contents c.args.departures.now) in
+    let t = at c.put_answers-in-Count.new.port.port s.store c.put_answers-in-Count.new.summary s.stamping (g.V.Write.contents c.put_answers-in-Count.new.writer) (g.W.Write.contents c.args.departures.now) in
     let P : KeptLine → Type 0 = λ l. Answers {T = Unit {0}} es (Ok tt) (kept_request read c.args.script.now.octets.items l ∷ []) s t in
     subst P (sym c.in-Count.is)
-    (told_line es (Asks (Events.Count c.in-Count.class)) p t.port s.store s.seen t.seen (g.V.Write.contents c.args.report.now) (g.V.Write.contents c.put_answers-in-Count.new.writer) (g.W.Write.contents c.args.departures.now) (silent_count es c.in-Count.class p) tt (c.in_ok-put_answers-in-Count.ensures.text) (c.in_ok-put_answers-in-Count.ensures.port) (c.in_ok-put_answers-in-Count.ensures.seen) k)
+    (told_line es (Asks (Events.Count c.in-Count.class)) p t.port s.store s.seen t.seen s.stamping (g.V.Write.contents c.args.report.now) (g.V.Write.contents c.put_answers-in-Count.new.writer) (g.W.Write.contents c.args.departures.now) (silent_count es c.in-Count.class p) tt (c.in_ok-put_answers-in-Count.ensures.text) (c.in_ok-put_answers-in-Count.ensures.port) (c.in_ok-put_answers-in-Count.ensures.seen) k)
 
 pub returns-in_ok-put_answers-in-Count-clause-together : goal.returns-in_ok-put_answers-in-Count-clause-together
 returns-in_ok-put_answers-in-Count-clause-together g c =
     let s = state c.args.sending.now (g.V.Write.contents c.args.report.now) (g.W.Write.contents c.args.departures.now) in
     let p = s.port in
-    told_together [] (Asks (Events.Count c.in-Count.class)) p c.put_answers-in-Count.new.port.port s.store _ _ _ _ _ (silent_count [] c.in-Count.class p) (c.in_ok-put_answers-in-Count.ensures.port) c.in_ok-put_answers-in-Count.ensures.sound c.requires.together
+    let es : Origin = record { entries = []; stamping = s.stamping } in
+    told_together es (Asks (Events.Count c.in-Count.class)) p c.put_answers-in-Count.new.port.port s.store _ _ _ _ _ _ (silent_count es c.in-Count.class p) (c.in_ok-put_answers-in-Count.ensures.port) c.in_ok-put_answers-in-Count.ensures.sound c.requires.together
 
 pub returns-in_err-put_tc-in-Tc-clause-answers : goal.returns-in_err-put_tc-in-Tc-clause-answers
 returns-in_err-put_tc-in-Tc-clause-answers g c = λ read is es k.
@@ -72,26 +74,27 @@ returns-in_err-put_tc-in-Tc-clause-answers g c = λ read is es k.
     let e = err_from_is_err_and r c.from_residual-in_err-put_tc-in-Tc.ensures.1 in
     let s = state c.args.sending.now (g.V.Write.contents c.args.report.now) (g.W.Write.contents c.args.departures.now) in
     let p = s.port in
-    let t = at c.put_tc.new.port.port s.store c.put_tc.new.summary (g.V.Write.contents c.put_tc.new.writer) (g.W.Write.contents c.args.departures.now) in
+    let t = at c.put_tc.new.port.port s.store c.put_tc.new.summary s.stamping (g.V.Write.contents c.put_tc.new.writer) (g.W.Write.contents c.args.departures.now) in
     let P : KeptLine → Type 0 = λ l. Answers es r (kept_request read c.args.script.now.octets.items l ∷ []) s t in
     subst P (sym c.in-Tc.is)
-    (told_short es (tc_request (read (words_of (slice_range c.args.script.now.octets.items c.in-Tc.start c.in-Tc.end)))) p t.port s.store s.seen t.seen (g.V.Write.contents c.args.report.now) (g.V.Write.contents c.put_tc.new.writer) (g.W.Write.contents c.args.departures.now) (silent_tc es (read (words_of (slice_range c.args.script.now.octets.items c.in-Tc.start c.in-Tc.end))) p) r e.1 (rw c.deref.ensures.value at (c.in_err-put_tc-in-Tc.ensures.answered read is).text))
+    (told_short es (tc_request (read (words_of (slice_range c.args.script.now.octets.items c.in-Tc.start c.in-Tc.end)))) p t.port s.store s.seen t.seen s.stamping (g.V.Write.contents c.args.report.now) (g.V.Write.contents c.put_tc.new.writer) (g.W.Write.contents c.args.departures.now) (silent_tc es (read (words_of (slice_range c.args.script.now.octets.items c.in-Tc.start c.in-Tc.end))) p) r e.1 (rw c.deref.ensures.value at (c.in_err-put_tc-in-Tc.ensures.answered read is).text))
 
 pub returns-in_ok-put_tc-in-Tc-clause-answers : goal.returns-in_ok-put_tc-in-Tc-clause-answers
 returns-in_ok-put_tc-in-Tc-clause-answers g c = λ read is es k.
     let s = state c.args.sending.now (g.V.Write.contents c.args.report.now) (g.W.Write.contents c.args.departures.now) in
     let p = s.port in
-    let t = at c.put_tc.new.port.port s.store c.put_tc.new.summary (g.V.Write.contents c.put_tc.new.writer) (g.W.Write.contents c.args.departures.now) in
+    let t = at c.put_tc.new.port.port s.store c.put_tc.new.summary s.stamping (g.V.Write.contents c.put_tc.new.writer) (g.W.Write.contents c.args.departures.now) in
     let P : KeptLine → Type 0 = λ l. Answers {T = Unit {0}} es (Ok tt) (kept_request read c.args.script.now.octets.items l ∷ []) s t in
     subst P (sym c.in-Tc.is)
-    (told_line es (tc_request (read (words_of (slice_range c.args.script.now.octets.items c.in-Tc.start c.in-Tc.end)))) p t.port s.store s.seen t.seen (g.V.Write.contents c.args.report.now) (g.V.Write.contents c.put_tc.new.writer) (g.W.Write.contents c.args.departures.now) (silent_tc es (read (words_of (slice_range c.args.script.now.octets.items c.in-Tc.start c.in-Tc.end))) p) tt (rw c.deref.ensures.value at (c.in_ok-put_tc-in-Tc.ensures.answered read is).text) (rw c.deref.ensures.value at (c.in_ok-put_tc-in-Tc.ensures.answered read is).port) (rw c.deref.ensures.value at (c.in_ok-put_tc-in-Tc.ensures.answered read is).seen) k)
+    (told_line es (tc_request (read (words_of (slice_range c.args.script.now.octets.items c.in-Tc.start c.in-Tc.end)))) p t.port s.store s.seen t.seen s.stamping (g.V.Write.contents c.args.report.now) (g.V.Write.contents c.put_tc.new.writer) (g.W.Write.contents c.args.departures.now) (silent_tc es (read (words_of (slice_range c.args.script.now.octets.items c.in-Tc.start c.in-Tc.end))) p) tt (rw c.deref.ensures.value at (c.in_ok-put_tc-in-Tc.ensures.answered read is).text) (rw c.deref.ensures.value at (c.in_ok-put_tc-in-Tc.ensures.answered read is).port) (rw c.deref.ensures.value at (c.in_ok-put_tc-in-Tc.ensures.answered read is).seen) k)
 
 pub returns-in_ok-put_tc-in-Tc-clause-together : goal.returns-in_ok-put_tc-in-Tc-clause-together
 returns-in_ok-put_tc-in-Tc-clause-together g c =
     let s = state c.args.sending.now (g.V.Write.contents c.args.report.now) (g.W.Write.contents c.args.departures.now) in
     let some = c.one_reader.ensures.some in
     let command = some.0 (words_of (slice_range c.args.script.now.octets.items c.in-Tc.start c.in-Tc.end)) in
-    told_together [] (tc_request command) s.port c.put_tc.new.port.port s.store _ _ _ _ _ (silent_tc [] command s.port) (rw c.deref.ensures.value at (c.in_ok-put_tc-in-Tc.ensures.answered some.0 some.1).port) c.in_ok-put_tc-in-Tc.ensures.sound c.requires.together
+    let es : Origin = record { entries = []; stamping = s.stamping } in
+    told_together es (tc_request command) s.port c.put_tc.new.port.port s.store _ _ _ _ _ _ (silent_tc es command s.port) (rw c.deref.ensures.value at (c.in_ok-put_tc-in-Tc.ensures.answered some.0 some.1).port) c.in_ok-put_tc-in-Tc.ensures.sound c.requires.together
 
 pub returns-in-Clock-clause-together : goal.returns-in-Clock-clause-together
 returns-in-Clock-clause-together g c = c.put_clock.ensures.together

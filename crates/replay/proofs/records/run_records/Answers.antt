@@ -14,7 +14,7 @@ records-init g c = record {
   going = c.requires.begun;
   numbered = c.requires.first;
   early = omega arith;
-  stands = λ read is es last comes. record { front = []; rest = es; split = refl; count = refl; comes = comes; left = refl; run = λ k. done_none es _ _ c.requires.together.sound k };
+  stands = λ read is es last comes. record { front = []; rest = es.entries; split = refl; count = refl; comes = comes; left = refl; run = λ k. done_none es _ _ c.requires.together.sound k };
 }
 
 pub records-smaller : goal.records-smaller

@@ -12,7 +12,7 @@ returns g c =
     let report = c.let_out-run.new.report in
     let departures = c.let_out-run.new.departures in
     let unwritten : Output = record { report = writer_buffer report; departures = writer_buffer departures } in
-    replay_ending c.args.settings c.say_run-ended.result
+    replay_ending c.args.settings c.args.stamp c.say_run-ended.result
     (got (writer_contents w c.args.outputs.report) (writer_contents v c.args.outputs.departures))
     (got (writer_contents w c.replay-run.new.report) (writer_contents v c.replay-run.new.departures))
     (got (writer_contents w report) (writer_contents v departures))

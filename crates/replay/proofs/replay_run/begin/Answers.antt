@@ -1,6 +1,6 @@
 use Rattle.std.proofs.Common.{◌≡◌, Err, refl, sym, ap, ◌∙◌}
 use Rattle.std.proofs.lemmas.Result.{IfOk-from_err, err_from_is_err_and}
-use Rattle.replay.specs.Words.{PortState}
+use Rattle.replay.specs.Words.{PortState, stamping_at}
 use Rattle.replay.specs.declared.faults.Stop.TheVariants as Stops
 use Rattle.replay.proofs.Sends.{both_none, both_stop, capture_short, capture_whole}
 use Rattle.replay.proofs.replay_run.begin.Goals as goal
@@ -85,3 +85,18 @@ returns-in-Err-clause-seen g c = tt
 
 pub returns-in-Err-clause-sound : goal.returns-in-Err-clause-sound
 returns-in-Err-clause-sound g c = tt
+
+pub returns-in_err-clone-clause-stamping : goal.returns-in_err-clone-clause-stamping
+returns-in_err-clone-clause-stamping g c = IfOk-from_err c.from_residual.result _ c.from_residual.ensures.0
+
+pub returns-in_err-store-clause-stamping : goal.returns-in_err-store-clause-stamping
+returns-in_err-store-clause-stamping g c = IfOk-from_err c.from_residual-in_err-store.result _ c.from_residual-in_err-store.ensures.0
+
+pub returns-in_default-clause-stamping : goal.returns-in_default-clause-stamping
+returns-in_default-clause-stamping g c = tt
+
+pub returns-in-Err-clause-stamping : goal.returns-in-Err-clause-stamping
+returns-in-Err-clause-stamping g c = tt
+
+pub returns-in-Ok-begin-clause-stamping : goal.returns-in-Ok-begin-clause-stamping
+returns-in-Ok-begin-clause-stamping g c = c.stamping_at-stamping.ensures ∙ ap (λ ps. stamping_at c.args.stamp ps) c.rate-rate.ensures

@@ -8,6 +8,7 @@ use Rattle.replay.specs.declared.faults.Stop.TheVariants as Stops
 use Rattle.replay.proofs.ArrivalLaws.{one_answer}
 use Rattle.replay.proofs.SeenLaws.{noted-one}
 use Rattle.replay.proofs.Sends.{never, of_error, report_short, report_whole}
+use Rattle.replay.proofs.StartLaws.{none-before}
 use Rattle.replay.proofs.TellLaws.{answers_one, clock_back, clock_on}
 use Rattle.replay.proofs.sending.put_clock.Goals as goal
 
@@ -15,7 +16,7 @@ pub returns-in_err-put_noted-clause-answers : goal.returns-in_err-put_noted-clau
 returns-in_err-put_noted-clause-answers g c = λ es k.
     let p = err_from_is_err_and c.from_residual.result c.from_residual.ensures.1 in
     let s = state c.args.sending.now (g.V.Write.contents c.args.report.now) (g.W.Write.contents c.args.departures.now) in
-    let t : State = record { port = s.port; store = s.store; seen = c.put_noted.new.summary; got = record { report = g.V.Write.contents c.put_noted.new.report; departures = g.W.Write.contents c.args.departures.now } } in
+    let t : State = record { port = s.port; store = s.store; seen = c.put_noted.new.summary; stamping = s.stamping; got = record { report = g.V.Write.contents c.put_noted.new.report; departures = g.W.Write.contents c.args.departures.now } } in
     let P : ℕ → Type 0 = λ n. c.args.moment < n in
     let back = clock_back c.args.moment s.port (subst P c.now-now.ensures.now c.if-moment-now.true) in
     let out = report_short c.from_residual.result (g.W.Write.contents c.args.departures.now) [] p.1 c.in_err-put_noted.ensures.text in
@@ -25,7 +26,7 @@ returns-in_err-put_noted-clause-answers g c = λ es k.
 pub returns-then-moment-now-clause-answers : goal.returns-then-moment-now-clause-answers
 returns-then-moment-now-clause-answers g c = λ es k.
     let s = state c.args.sending.now (g.V.Write.contents c.args.report.now) (g.W.Write.contents c.args.departures.now) in
-    let t : State = record { port = s.port; store = s.store; seen = c.put_noted.new.summary; got = record { report = g.V.Write.contents c.put_noted.new.report; departures = g.W.Write.contents c.args.departures.now } } in
+    let t : State = record { port = s.port; store = s.store; seen = c.put_noted.new.summary; stamping = s.stamping; got = record { report = g.V.Write.contents c.put_noted.new.report; departures = g.W.Write.contents c.args.departures.now } } in
     let P : ℕ → Type 0 = λ n. c.args.moment < n in
     let back = clock_back c.args.moment s.port (subst P c.now-now.ensures.now c.if-moment-now.true) in
     answers_one (Ok tt) es (Events.Clock c.args.moment) s t (Answered.Backward ∷ []) s.port back (sym (settled-current s.port c.requires.together.sound.current)) k
@@ -67,3 +68,15 @@ pub put_starts-requires : goal.put_starts-requires
 put_starts-requires g c =
     let P : ℕ → Type 0 = λ n. n ≤ c.args.moment in
     (search, (subst P c.now-now.ensures.now c.if-moment-now.false, (c.requires.within, c.requires.together)))
+
+pub returns-in_err-put_noted-clause-last : goal.returns-in_err-put_noted-clause-last
+returns-in_err-put_noted-clause-last g c = never _ (err_from_is_err_and c.from_residual.result c.from_residual.ensures.1).1
+
+pub returns-then-moment-now-clause-last : goal.returns-then-moment-now-clause-last
+returns-then-moment-now-clause-last g c =
+    let p = c.args.sending.now.port.port in
+    let P : ℕ → Type 0 = λ n. c.args.moment < n in
+    sym (none-before p c.args.moment c.args.sending.now.leaving.last (subst P c.now-now.ensures.now c.if-moment-now.true))
+
+pub returns-clause-last : goal.returns-clause-last
+returns-clause-last g c = c.put_starts.ensures.last

@@ -40,3 +40,15 @@ returns-in_err-put_noted_start-clause-store g c = never _ (err_from_is_err_and c
 
 pub put_record-requires : goal.put_record-requires
 put_record-requires g c = (search, (c.requires.class, (c.requires.waits, c.requires.early)))
+
+pub returns-in_err-put_noted_start-clause-stamping : goal.returns-in_err-put_noted_start-clause-stamping
+returns-in_err-put_noted_start-clause-stamping g c = refl
+
+pub returns-in_err-put_noted_start-clause-last : goal.returns-in_err-put_noted_start-clause-last
+returns-in_err-put_noted_start-clause-last g c = never _ (err_from_is_err_and c.from_residual.result c.from_residual.ensures.1).1
+
+pub returns-clause-stamping : goal.returns-clause-stamping
+returns-clause-stamping g c = c.put_record.ensures.stamping
+
+pub returns-clause-last : goal.returns-clause-last
+returns-clause-last g c = always c.put_record.result c.put_record.ensures.last

@@ -1,0 +1,76 @@
+//! Which moment of a frame on the wire the record of its departure carries.
+
+ghost use Rattle.std.specs.Prelude.{◌≡◌, ◌<◌};
+ghost use Rattle.script.specs.Given.{octets_of};
+ghost use Rattle.replay.specs.Words.{CAPTURE_END, IsTold, stamp_given, stamp_text, stamped, stamping_at};
+
+use abstract_port::Start;
+use answer_text::put;
+use capture::CAPTURE_END;
+use job::Ended;
+use std::io::Write;
+use wire_time::Rate;
+
+/// Which moment of a frame on the wire the record of its departure carries.
+#[derive(Clone, Copy, Debug, PartialEq, Eq)]
+pub enum Stamp {
+    /// That at which the frame starts.
+    Start,
+    /// That at which its last octet has been sent: its end without the gap after it. A moment that no capture can say is the last that one can.
+    End,
+}
+
+/// How departures are stamped at a line rate.
+#[derive(Clone, Copy, Debug, PartialEq, Eq)]
+pub(crate) struct Stamping {
+    /// Which moment their records carry.
+    pub stamp: Stamp,
+    /// How long the gap after a frame is, in picoseconds.
+    pub gap: u128,
+}
+
+/// The octets of the gap after a frame (IEEE Std 802.3).
+const GAP_OCTETS: u128 = 12;
+
+/// How departures are stamped at this rate.
+pub(crate) fn stamping_at(stamp: Stamp, rate: Rate) -> Stamping
+    ensures { result ≡ stamping_at stamp rate }
+{
+    let gap = GAP_OCTETS * rate.ps_per_octet();
+    Stamping { stamp, gap }
+}
+
+/// The moment that the record of a start carries, in picoseconds.
+pub(crate) fn stamped(stamping: Stamping, start: Start) -> u128
+    requires early { start.at < CAPTURE_END }
+    ensures moment { result ≡ stamped stamping start }
+    ensures early { result < CAPTURE_END }
+{
+    match stamping.stamp {
+        Stamp::Start => start.at,
+        Stamp::End => start.end.saturating_sub(stamping.gap).min(CAPTURE_END - 1),
+    }
+}
+
+/// The stamp of a word, `start` or `end`, if it is one; `start` where none is given.
+pub fn stamp_given(word: Option<&str>) -> Option<Stamp>
+    ensures { result ≡ stamp_given (octets_of word.entry) }
+{
+    let word = word.unwrap_or("start");
+    if word == "start" {
+        return Some(Stamp::Start);
+    }
+    if word == "end" {
+        return Some(Stamp::End);
+    }
+    None
+}
+
+/// Writes the text of a word that is no stamp. The exit status that goes with it is 2, also where that write fails.
+pub fn say_stamp<W: Write>(writer: &mut W) -> Ended
+    ensures status { result.status ≡ 2 }
+    ensures told { IsTold result.told (W.contents writer.old) (W.contents writer.new) stamp_text }
+{
+    let told = put(writer, b"taprio_port: bad value of --stamp\n").is_ok();
+    Ended { status: 2, told }
+}
