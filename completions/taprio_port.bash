@@ -3,7 +3,7 @@ _taprio_port() {
     local current=${COMP_WORDS[COMP_CWORD]} previous=${COMP_WORDS[COMP_CWORD-1]} words values
     COMPREPLY=()
     if [ "$COMP_CWORD" -eq 1 ]; then
-        COMPREPLY=($(compgen -W 'script replay check streams bounds draw help --help --version' -- "$current"))
+        COMPREPLY=($(compgen -W 'script replay check streams bounds draw frames help --help --version' -- "$current"))
         return
     fi
     case ${COMP_WORDS[1]} in
@@ -13,6 +13,7 @@ _taprio_port() {
         streams) words='--with --from --help' values='--with --from' ;;
         bounds) words='--rate --mtu --room --frames --strict --help' values='--rate --mtu --room --frames' ;;
         draw) words='--rate --mtu --room --from --to --width --help' values='--rate --mtu --room --from --to --width' ;;
+        frames) words='--rate --mtu --room --until --help' values='--rate --mtu --room --until' ;;
         *) return ;;
     esac
     case " $values " in

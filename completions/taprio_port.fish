@@ -43,3 +43,10 @@ complete -c taprio_port -n '__fish_seen_subcommand_from draw' -l to -x -d 'The m
 complete -c taprio_port -n '__fish_seen_subcommand_from draw' -l width -x -d 'Its width, 400 to 2400 pixels [default: 1200]'
 complete -c taprio_port -n '__fish_seen_subcommand_from draw' -l help -d 'Print help'
 complete -c taprio_port -n '__fish_seen_subcommand_from draw' -f
+complete -c taprio_port -n __fish_use_subcommand -f -a frames -d 'Writes a table of the frames of a script on standard input, as CSV: times, waits and fates'
+complete -c taprio_port -n '__fish_seen_subcommand_from frames' -l rate -x -d 'The line rate, in Mb/s [default: 1000]'
+complete -c taprio_port -n '__fish_seen_subcommand_from frames' -l mtu -x -d 'The greatest service data unit, 68 to 9216 octets [default: 1500]'
+complete -c taprio_port -n '__fish_seen_subcommand_from frames' -l room -x -d 'How many frames a class holds, 1 to 4096 [default: 128]'
+complete -c taprio_port -n '__fish_seen_subcommand_from frames' -l until -x -d 'Run to this moment after the input: picoseconds, or a number with its unit, such as 2ms'
+complete -c taprio_port -n '__fish_seen_subcommand_from frames' -l help -d 'Print help'
+complete -c taprio_port -n '__fish_seen_subcommand_from frames' -f

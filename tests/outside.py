@@ -24,6 +24,7 @@ LONG_ANSWERS = [
     (["script"], BROKEN),
     (["check"], b"tc qdisc del dev eth0 root\n"),
     (["draw"], b"frame 1 0 60\n"),
+    (["frames"], b"frame 1 0 13\n"),
     (["streams"], b"stream 1 5 60 250us 0ns 2\n"),
     (["bounds", "script"], b"tc qdisc del dev eth0 root\n"),
     (REPLAY, TWO_RECORDS),
@@ -118,8 +119,10 @@ def case_a_file_as_the_standard_output(program):
         assert output.read() == b"before\nqueued 1 class 0\nstart 1 class 0 at 0 end 672000\n"
 
 
+# What a job writes before it reads anything.
+HEADS = {"frames": b"id,class,len,arrival_ps,start_ps,end_ps,wait_ps,fate\n"}
 # Each job that reads the standard input.
-READING = [["script"], ["check"], ["draw"], ["streams"], ["bounds", "script"], ["replay", "--until", "1", "script", "-", "out"]]
+READING = [["script"], ["frames"], ["check"], ["draw"], ["streams"], ["bounds", "script"], ["replay", "--until", "1", "script", "-", "out"]]
 
 
 def case_a_standard_input_that_fails_once(program):
@@ -130,7 +133,7 @@ def case_a_standard_input_that_fails_once(program):
         ours.send(b"unread")
         theirs.close()
         with ours:
-            wants(run(program, words, None, SCRIPT, stdin=ours), 4, b"", READ_FAILED)
+            wants(run(program, words, None, SCRIPT, stdin=ours), 4, HEADS.get(words[0], b""), READ_FAILED)
 
 
 def case_a_folder_as_the_standard_input(program):
@@ -138,7 +141,7 @@ def case_a_folder_as_the_standard_input(program):
     for words in READING:
         folder = os.open("/", os.O_RDONLY)
         try:
-            wants(run(program, words, None, SCRIPT, stdin=folder), 4, b"", READ_FAILED)
+            wants(run(program, words, None, SCRIPT, stdin=folder), 4, HEADS.get(words[0], b""), READ_FAILED)
         finally:
             os.close(folder)
 
@@ -146,7 +149,7 @@ def case_a_folder_as_the_standard_input(program):
 def case_a_closed_standard_input(program):
     """It can't be read, by the jobs that open no file."""
     for words in READING[:-2]:
-        wants(run_without(program, "<&-", words), 4, b"", READ_FAILED)
+        wants(run_without(program, "<&-", words), 4, HEADS.get(words[0], b""), READ_FAILED)
 
 
 def case_a_file_without_the_right_to_read(program):

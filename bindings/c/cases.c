@@ -88,7 +88,7 @@ static int begins(struct octets slice, struct octets with) {
     return slice.length >= with.length && memcmp(slice.at, with.at, with.length) == 0 && is_untouched(slice, with.length);
 }
 
-enum job { RUN, CHECK, STREAMS, STREAMS_FROM, BOUNDS, DRAW };
+enum job { RUN, FRAMES, CHECK, STREAMS, STREAMS_FROM, BOUNDS, DRAW };
 
 struct call {
     enum job job;
@@ -104,6 +104,9 @@ static struct taprio_ran call(const struct call *c, struct octets output, struct
     switch (c->job) {
     case RUN:
         taprio_run(&c->values, c->input.at, c->input.length, output.at, output.length, fault.at, fault.length, &ran);
+        break;
+    case FRAMES:
+        taprio_frames(&c->values, c->input.at, c->input.length, output.at, output.length, fault.at, fault.length, &ran);
         break;
     case CHECK:
         taprio_check(c->values.rate, c->windows, c->input.at, c->input.length, output.at, output.length, fault.at, fault.length,
@@ -281,6 +284,24 @@ static void machine(void) {
         free(all[at].at);
 }
 
+#define HEAD "id,class,len,arrival_ps,start_ps,end_ps,wait_ps,fate\n"
+
+static void frames(void) {
+    struct call c = {FRAMES, usual, whole, 0, 0, {0}, {0}};
+    small("frames of a script", c, "frame 1 0 60\nframe 2 5 60\nframe 3 16 60\nclock 672000\n", TAPRIO_DONE,
+          HEAD "3,,60,0,,,,NoClass\n2,5,60,0,0,672000,0,sent\n1,0,60,0,,,,left\n", "");
+    small("no frames", c, "", TAPRIO_DONE, HEAD, "");
+    small("a line that is none", c, "frame 1 0 60\nframe 2 0 13\nclok 5", TAPRIO_BAD_INPUT, HEAD "2,0,13,0,,,,Runt\n",
+          "taprio_port: script line 3: UnknownLine\n");
+    struct call on = c;
+    on.values.has_until = 1;
+    on.values.until_low = 672001;
+    small("frames to a moment", on, "frame 1 0 60\nframe 2 0 60\n", TAPRIO_DONE,
+          HEAD "1,0,60,0,0,672000,0,sent\n2,0,60,0,672000,1344000,672000,sent\n", "");
+    on.values.room = 0;
+    small("frames without room", on, "", TAPRIO_BAD_VALUE, "", "taprio_port: bad value of --room\n");
+}
+
 /* a machine: a drive and a brake in class 7, a camera in class 5, and the rest */
 static const char machine_streams[] =
     "# A machine: a drive and a brake in class 7, a camera in class 5, and the rest.\n"
@@ -373,6 +394,8 @@ static void nulls(void) {
     expect(ran.status == TAPRIO_NO_ROOM && ran.output == 13, "null pointers", "taprio_streams_from");
     taprio_bounds(&usual, 1, NULL, 0, NULL, 0, NULL, 0, NULL, 0, &ran);
     expect(ran.status == TAPRIO_DONE && ran.output == 0, "null pointers", "taprio_bounds");
+    taprio_frames(&usual, NULL, 0, NULL, 0, NULL, 0, &ran);
+    expect(ran.status == TAPRIO_NO_ROOM && ran.output == strlen(HEAD), "null pointers", "taprio_frames");
     taprio_draw(&usual, &whole, NULL, 0, NULL, 0, NULL, 0, &ran);
     expect(ran.status == TAPRIO_NO_ROOM && ran.output > 100, "null pointers", "taprio_draw");
     struct taprio_replay_ran replayed;
@@ -616,6 +639,7 @@ int main(int count, char **words) {
     later.shown.from_high = 500;
     small("a late moment", later, "stream", TAPRIO_BAD_VALUE, "", "taprio_port: bad value of --from\n");
     bounds();
+    frames();
     struct call draw = {DRAW, usual, whole, 0, 0, {0}, {0}};
     of_files(draw, "first.script", NULL, "first.svg");
     of_files(draw, "priorities.script", NULL, "priorities.svg");

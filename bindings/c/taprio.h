@@ -17,7 +17,8 @@
  *
  * What lies behind the text in a slice stays as it was. The texts of faults are those that the program writes on its standard
  * error: they begin with "taprio_port: " and end with a newline, without a NUL. Formats: docs/reference/script.md, docs/reference/tc.md,
- * docs/reference/check.md, docs/reference/streams.md, docs/reference/bounds.md, docs/reference/draw.md, docs/reference/replay.md.
+ * docs/reference/frames.md, docs/reference/check.md, docs/reference/streams.md, docs/reference/bounds.md, docs/reference/draw.md,
+ * docs/reference/replay.md.
  *
  * What a caller has to keep
  * -------------------------
@@ -104,6 +105,12 @@ struct taprio_replay_ran {
 void taprio_run(const struct taprio_port_values *values, const uint8_t *script, size_t script_length, uint8_t *output,
                 size_t output_length, uint8_t *fault, size_t fault_length, struct taprio_ran *ran);
 
+/* Runs a script, as `taprio_port frames` does, and writes a table of its frames: comma-separated values with a head, a row a frame.
+ * `summary` of the values changes nothing. At TAPRIO_BAD_INPUT the output is the head and the rows of the lines before the fault,
+ * without the frames that still wait there. */
+void taprio_frames(const struct taprio_port_values *values, const uint8_t *script, size_t script_length, uint8_t *output,
+                   size_t output_length, uint8_t *fault, size_t fault_length, struct taprio_ran *ran);
+
 /* Reports what schedule commands promise, as `taprio_port check` does, at a rate in Mb/s; `windows` other than 0 also reports what
  * each class gets. At TAPRIO_BAD_INPUT the output is what is reported of the lines before the fault. */
 void taprio_check(uint32_t rate, uint32_t windows, const uint8_t *schedules, size_t schedules_length, uint8_t *output,
@@ -172,6 +179,13 @@ static inline void taprio_run_or_null(const struct taprio_port_values *values, c
                ran);
 }
 
+static inline void taprio_frames_or_null(const struct taprio_port_values *values, const uint8_t *script, size_t script_length,
+                                         uint8_t *output, size_t output_length, uint8_t *fault, size_t fault_length,
+                                         struct taprio_ran *ran) {
+    taprio_frames(values, taprio_octets(script), script_length, taprio_lent(output), output_length, taprio_lent(fault),
+                  fault_length, ran);
+}
+
 static inline void taprio_check_or_null(uint32_t rate, uint32_t windows, const uint8_t *schedules, size_t schedules_length,
                                         uint8_t *output, size_t output_length, uint8_t *fault, size_t fault_length,
                                         struct taprio_ran *ran) {
@@ -226,6 +240,7 @@ static inline void taprio_replay_stamped_or_null(const struct taprio_port_values
 }
 
 #define taprio_run taprio_run_or_null
+#define taprio_frames taprio_frames_or_null
 #define taprio_check taprio_check_or_null
 #define taprio_streams taprio_streams_or_null
 #define taprio_streams_from taprio_streams_from_or_null

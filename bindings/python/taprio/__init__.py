@@ -13,8 +13,8 @@ They stand on the shared object that `bindings/c/build` makes, which is loaded a
 calls over the program. `Port` is a port that is driven call by call, over the shared object. Calls may be made from several threads: they share nothing, and the interpreter goes on meanwhile.
 
 Nothing else here needs the shared object: `taprio.schedules` reads and writes schedules (times in nanoseconds), `Stream` is a stream of
-frames (times in nanoseconds), `run_streams` runs both, `bounds` tells how long the frames wait for ever, `read_run`, `read_check` and
-`read_bounds` give what the jobs answer as objects, and `read_capture` reads a capture.
+frames (times in nanoseconds), `run_streams` runs both, `frames` gives the frames of a script, `bounds` tells how long the frames of streams
+wait for ever, `read_run`, `read_frames`, `read_check` and `read_bounds` give what the jobs answer as objects, and `read_capture` reads a capture.
 """
 
 from .captures import read_capture
@@ -34,9 +34,9 @@ from .library import Library, check, draw, replay, run, streams
 from .plotting import plot
 from .port import Port
 from .program import Backend, Program, backend
-from .results import read_bounds, read_check, read_run
+from .results import read_bounds, read_check, read_frames, read_run
 from .schedules import Schedule
-from .traffic import Stream, bounds, run_streams, table
+from .traffic import Stream, bounds, frames, run_streams, table
 
 __version__ = "0.1.0"
 
@@ -62,10 +62,12 @@ __all__ = [
     "bounds",
     "check",
     "draw",
+    "frames",
     "plot",
     "read_bounds",
     "read_capture",
     "read_check",
+    "read_frames",
     "read_run",
     "replay",
     "run",

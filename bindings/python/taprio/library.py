@@ -26,6 +26,7 @@ __all__ = [
     "bounds",
     "check",
     "draw",
+    "frames",
     "replay",
     "run",
     "streams",
@@ -118,6 +119,7 @@ def _typed(library: ctypes.CDLL) -> ctypes.CDLL:
     ran, replay_ran = ctypes.POINTER(_Ran), ctypes.POINTER(_ReplayRan)
     calls: dict[str, list[Any]] = {
         "taprio_run": [port, *_OCTETS, *_LENT, *_LENT, ran],
+        "taprio_frames": [port, *_OCTETS, *_LENT, *_LENT, ran],
         "taprio_check": [ctypes.c_uint32, ctypes.c_uint32, *_OCTETS, *_LENT, *_LENT, ran],
         "taprio_streams": [*_OCTETS, *_OCTETS, *_LENT, *_LENT, ran],
         "taprio_streams_from": [ctypes.c_uint64, ctypes.c_uint64, *_OCTETS, *_OCTETS, *_LENT, *_LENT, ran],
@@ -233,6 +235,16 @@ def run(
     return _one("taprio_run", given, 4 * len(script) + 4096)
 
 
+def frames(script: Octets, rate: int = 1000, mtu: int = 1500, room: int = 128, until: int | None = None) -> bytes:
+    """Runs a script, and gives a table of its frames: comma-separated values with a head, a row a frame.
+
+    The values are those of `run`. `taprio.read_frames` reads the table, and `taprio.frames` does both.
+    """
+    script = octets(script)
+    given = [ctypes.byref(_port(rate, mtu, room, until, False)), script, len(script)]
+    return _one("taprio_frames", given, 6 * len(script) + 4096)
+
+
 def check(schedules: Octets, rate: int = 1000, windows: bool = False) -> bytes:
     """Tells of each schedule command which classes it keeps apart, with `windows` also what it gives each class."""
     schedules = octets(schedules)
@@ -325,6 +337,7 @@ class Library:
     """The calls of this module as one object, which can be handed on in the place of a `taprio.Program`."""
 
     run = staticmethod(run)
+    frames = staticmethod(frames)
     check = staticmethod(check)
     streams = staticmethod(streams)
     bounds = staticmethod(bounds)

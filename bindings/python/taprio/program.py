@@ -24,6 +24,9 @@ class Backend(Protocol):
     ) -> bytes:
         """The answers of a script."""
 
+    def frames(self, script: Octets, rate: int = 1000, mtu: int = 1500, room: int = 128, until: int | None = None) -> bytes:
+        """The table of the frames of a script, as comma-separated values."""
+
     def check(self, schedules: Octets, rate: int = 1000, windows: bool = False) -> bytes:
         """What schedules keep apart, and their windows."""
 
@@ -109,6 +112,11 @@ class Program:
         """Runs a script, as `taprio.run` does."""
         script = octets(script)
         return self._one(["script", *self._port(rate, mtu, room, until, summary)], script)
+
+    def frames(self, script: Octets, rate: int = 1000, mtu: int = 1500, room: int = 128, until: int | None = None) -> bytes:
+        """Runs a script, and gives a table of its frames, as `taprio.library.frames` does."""
+        script = octets(script)
+        return self._one(["frames", *self._port(rate, mtu, room, until, False)], script)
 
     def check(self, schedules: Octets, rate: int = 1000, windows: bool = False) -> bytes:
         """Tells of each schedule command what it keeps apart, as `taprio.check` does."""

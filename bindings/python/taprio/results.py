@@ -1,5 +1,5 @@
-"""What the jobs answer, as objects: `read_run` reads the answers of a script or the report of a replay, `read_check` those of a check, and
-`read_bounds` those of bounds.
+"""What the jobs answer, as objects: `read_run` reads the answers of a script or the report of a replay, `read_frames` a table of frames,
+`read_check` the answers of a check, and `read_bounds` those of bounds.
 
 Moments and times are whole picoseconds, sizes are octets. `rows()` gives dicts, for `pandas.DataFrame` or whatever else takes them."""
 
@@ -41,6 +41,7 @@ __all__ = [
     "WireSummary",
     "read_bounds",
     "read_check",
+    "read_frames",
     "read_run",
     "rows",
 ]
@@ -189,7 +190,7 @@ class Frame:
 
     id: int
     traffic_class: int | None
-    """None of a dropped frame."""
+    """None of a dropped frame in a run; in a table of frames that of its priority, where it has one."""
     arrived: int | None
     """Known where the script is."""
     start: int | None
@@ -506,6 +507,39 @@ def _frames(answers: list[Answer], arrivals: list[tuple[int, int, int, int]] | N
             one = found[at]
             wait = None if one.arrived is None else answer.start - one.arrived
             found[at] = dataclasses.replace(one, start=answer.start, end=answer.end, wait=wait)
+    return tuple(found)
+
+
+_HEAD = "id,class,len,arrival_ps,start_ps,end_ps,wait_ps,fate"
+_ROW = re.compile(r"(\d+),(\d?),(\d+),(\d+),(?:(\d+),(\d+),(\d+),sent|,,,(left|[A-Z]\w*))")
+
+
+def read_frames(table: Octets) -> tuple[Frame, ...]:
+    """The frames of a table that `frames` writes, in its order: a dropped frame stands where it came, one that was sent where it started, and
+    those that are left at the end. A text that is no such table raises `BadAnswer`."""
+    lines = octets(table).decode("utf-8", "replace").splitlines()
+    if not lines or lines[0] != _HEAD:
+        raise BadAnswer(f"line 1: expected the head of a table of frames, found {(lines or [''])[0][:60]!r}", 1)
+    found: list[Frame] = []
+    for number, line in enumerate(lines[1:], 2):
+        row = _ROW.fullmatch(line)
+        if not row:
+            raise BadAnswer(f"line {number}: expected a row of a table of frames, found {line[:60]!r}", number)
+        id, class_, length, arrived, start, end, wait, fate = row.groups()
+        dropped = None if fate == "left" else fate
+        found.append(
+            Frame(
+                int(id),
+                _number(class_ or None),
+                int(arrived),
+                _number(start),
+                _number(end),
+                _number(wait),
+                dropped,
+                None,
+                int(length),
+            )
+        )
     return tuple(found)
 
 

@@ -1,4 +1,4 @@
-"""Streams of frames, a run of a schedule with them, and the bounds of their waits under it."""
+"""Streams of frames, a run of a schedule with them, the frames of a run, and the bounds of their waits under a schedule."""
 
 from __future__ import annotations
 
@@ -9,10 +9,10 @@ from typing import Union
 from .faults import BadValue
 from .library import Octets, octets
 from .program import Chosen, backend
-from .results import Bounds, Run, read_bounds, read_run
+from .results import Bounds, Frame, Run, read_bounds, read_frames, read_run
 from .schedules import Schedule
 
-__all__ = ["Stream", "bounds", "run_streams", "table"]
+__all__ = ["Stream", "bounds", "frames", "run_streams", "table"]
 
 GREATEST = 9_223_372_036_854_775_807
 """The greatest moment, in nanoseconds."""
@@ -112,6 +112,17 @@ def run_streams(
     script = chosen.streams(_table(streams), b"" if schedule is None else _lines(schedule), from_=1000 * from_ns)
     answers = chosen.run(script, rate=rate, mtu=mtu, room=room, until=1000 * until_ns, summary=True)
     return read_run(answers, script)
+
+
+def frames(
+    script: Octets, *, rate: int = 1000, mtu: int = 1500, room: int = 128, until: int | None = None, port: Chosen = None
+) -> tuple[Frame, ...]:
+    """The frames of a script, each with its class, its length, when it came, started and ended, and how long it waited; or why it was
+    dropped. One that is left has no start. `pandas.DataFrame(taprio.results.rows(frames))` makes a table of them.
+
+    They stand in the order of their fate: a dropped frame where it came, one that was sent where it started, and those that are left at the
+    end. The values are those of `run`, and moments are picoseconds. What runs the script is `port`, as `taprio.backend` says."""
+    return read_frames(backend(port).frames(script, rate=rate, mtu=mtu, room=room, until=until))
 
 
 def bounds(

@@ -25,11 +25,14 @@ if PROGRAM:
     os.environ["TAPRIO_PORT"] = PROGRAM
 HAS_LIBRARY = taprio.library.is_there()
 HAS_BOUNDS = HAS_LIBRARY and taprio.library.has("taprio_bounds")
+HAS_FRAMES = HAS_LIBRARY and taprio.library.has("taprio_frames")
 
 wants_library = unittest.skipUnless(HAS_LIBRARY, "bindings/c/out/libtaprio.so isn't there: bindings/c/build makes it")
 wants_program = unittest.skipUnless(PROGRAM, "there is no program: name one in TAPRIO_PORT")
 BOUNDS = PROGRAM or ("library" if HAS_BOUNDS else None)
 wants_bounds = unittest.skipUnless(BOUNDS, "there is neither a program nor a library with bounds")
+FRAMES = PROGRAM or ("library" if HAS_FRAMES else None)
+wants_frames = unittest.skipUnless(FRAMES, "there is neither a program nor a library with tables of frames")
 wants_port = unittest.skipUnless(HAS_LIBRARY or PROGRAM, "there is neither bindings/c/out/libtaprio.so nor a program")
 
 

@@ -26,6 +26,28 @@ bound 1 class 1 wait 190000000 to 190000000 end 190672000 to 190672000 deadline 
 """
 
 
+class Frames:
+    """What is asked of the library where it has the call, and of the program."""
+
+    HEAD = b"id,class,len,arrival_ps,start_ps,end_ps,wait_ps,fate\n"
+
+    def test_frames(self):
+        script = "frame 1 0 60\nframe 2 16 60\nframe 3 0 60\n"
+        self.assertEqual(self.port.frames(script), self.HEAD + b"2,,60,0,,,,NoClass\n1,0,60,0,,,,left\n3,0,60,0,,,,left\n")
+        told = self.port.frames(bytearray(script, "ascii"), 100, 1000, 1, 6_720_000)
+        self.assertEqual(told, self.port.frames(script, rate=100, mtu=1000, room=1, until=6_720_000))
+        self.assertEqual(told, self.HEAD + b"2,,60,0,,,,NoClass\n3,0,60,0,,,,Full\n1,0,60,0,0,6720000,0,sent\n")
+        self.assertEqual(self.port.frames(""), self.HEAD)
+        self.assertEqual(self.port.frames("frame 1 0 13\n" * 3000).count(b"\n1,0,13,0,,,,Runt"), 3000)
+
+    def test_faults_of_frames(self):
+        with self.assertRaises(taprio.BadInput) as caught:
+            self.port.frames("frame 1 0 13\nframe 2 0 60\nclok\n")
+        self.assertEqual(caught.exception.output, self.HEAD + b"1,0,13,0,,,,Runt\n")
+        with self.assertRaises(taprio.BadValue):
+            self.port.frames("", room=0)
+
+
 class Bounds:
     """What is asked of the library where it has the call, and of the program."""
 
@@ -255,8 +277,14 @@ class BoundsOverTheLibrary(Bounds, unittest.TestCase):
     port = taprio.Library()
 
 
+@support.wants_library
+@unittest.skipUnless(support.HAS_FRAMES, "the library has no tables of frames: bindings/c/build makes it anew")
+class FramesOverTheLibrary(Frames, unittest.TestCase):
+    port = taprio.Library()
+
+
 @support.wants_program
-class OverTheProgram(Examples, Faults, Room, Bounds, unittest.TestCase):
+class OverTheProgram(Examples, Faults, Room, Bounds, Frames, unittest.TestCase):
     port = taprio.Program(support.PROGRAM or "taprio_port")
 
     def test_what_it_can_not_do(self):

@@ -219,6 +219,48 @@ class Checks(unittest.TestCase):
                 taprio.read_check(text)
 
 
+class Frames(unittest.TestCase):
+    """A table of frames holds what a run's answers tell of each frame, and reads so."""
+
+    @support.wants_frames
+    def test_a_script(self):
+        found = taprio.frames("frame 1 0 60\nframe 2 16 60\nclock 5\nframe 3 0 60\n", until=672_001, port=support.FRAMES)
+        self.assertEqual(
+            found,
+            (
+                results.Frame(2, None, 0, None, None, None, "NoClass", None, 60),
+                results.Frame(1, 0, 0, 0, 672_000, 0, None, None, 60),
+                results.Frame(3, 0, 5, 672_000, 1_344_000, 671_995, None, None, 60),
+            ),
+        )
+        self.assertEqual(results.rows(found)[1]["start"], 0)
+        with self.assertRaises(taprio.BadInput):
+            taprio.frames("clok\n", port=support.FRAMES)
+
+    @support.wants_frames
+    def test_examples(self):
+        """In each example the frames of the table are those of the answers, in the order of their fate."""
+        for path in sorted(support.EXAMPLES.glob("*.script")):
+            with self.subTest(path.name):
+                script = path.read_bytes()
+                run = taprio.read_run(taprio.backend(support.FRAMES).run(script, until=9 * 10**21), script)
+                told = taprio.frames(script, until=9 * 10**21, port=support.FRAMES)
+                self.assertEqual(sorted(map(known, told)), sorted(map(known, run.frames)))
+
+    def test_what_is_no_table(self):
+        head = "id,class,len,arrival_ps,start_ps,end_ps,wait_ps,fate\n"
+        self.assertEqual(taprio.read_frames(head), ())
+        for text, line in (("", 1), ("id,class\n", 1), (f"{head}1,0,60,0,,,,\n", 2), (f"{head}1,0,60,0,,,,left\n1,0,60\n", 3)):
+            with self.subTest(text), self.assertRaisesRegex(taprio.BadAnswer, f"^line {line}: "):
+                taprio.read_frames(text)
+
+
+def known(frame):
+    """What both a table of frames and a run tell of a frame."""
+    class_ = -1 if frame.dropped or frame.traffic_class is None else frame.traffic_class
+    return frame.id, frame.arrived, frame.length, class_, frame.start or -1, frame.end or -1, frame.dropped or ""
+
+
 class Bounds(unittest.TestCase):
     ANSWERS = b"""\
 apart 1 2 3

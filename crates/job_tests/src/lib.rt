@@ -8,6 +8,8 @@ mod checks;
 #[cfg(test)]
 mod failing;
 #[cfg(test)]
+mod frames;
+#[cfg(test)]
 mod memory;
 #[cfg(test)]
 mod pictures;

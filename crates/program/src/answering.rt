@@ -6,6 +6,7 @@ ghost use Rattle.clap.specs.Matches.{found_of};
 ghost use Rattle.schedule_check.specs.Checked.{whole_check};
 ghost use Rattle.schedule_check.specs.Windows.{IsTeller, Teller};
 ghost use Rattle.drawing.specs.Ending.{IsDrawEnding};
+ghost use Rattle.frame_table.specs.Outcome.{whole_frames};
 ghost use Rattle.std.specs.Prelude.{codes};
 ghost use Rattle.program.specs.Given.{draws_in, flag_in, rate_in, settings_in};
 ghost use Rattle.script.specs.Ending.{IsEnding, whole_script};
@@ -20,6 +21,7 @@ use crate::streaming::streams_given;
 use clap::error::ErrorKind;
 use clap::{ArgMatches, Error};
 use drawing::answer_draw;
+use frame_table::answer_frames;
 use job::Ended;
 use schedule_check::answer_check;
 use script::answer_script;
@@ -83,6 +85,22 @@ pub fn draw_given<B: Allocator, R: Read, W: Write + Drop, E: Write>(
         answers,
         errors,
     )
+}
+
+/// Writes the table of the frames of the script that `reader` gives, by the values that the words give to the options, through `answers`, with
+/// the text of a fault on `errors`; and gives the writer of the answers back.
+pub fn frames_given<B: Allocator, R: Read, W: Write + Drop, E: Write>(
+    alloc: Global,
+    matches: &ArgMatches<'_>,
+    reader: &mut R,
+    answers: BufWriter<W, B>,
+    errors: &mut E,
+) -> (Ended, W)
+    ensures ending { IsEnding whole_frames (settings_in greatest_moment (found_of matches.now))
+        (R.remaining reader.old) result.0 (writer_contents W.contents answers) (W.contents result.1) (E.contents errors.old) (E.contents errors.new) }
+    ensures unread { IfErr (settings_in greatest_moment (found_of matches.now)) (λ _. reader.new ≡ reader.old) }
+{
+    answer_frames(alloc, values_of(matches), reader, answers, errors)
 }
 
 /// Whether a text is written whole and let out.
@@ -149,6 +167,9 @@ fn answer_job<
     if let Some(draw) = matches.subcommand_matches("draw") {
         return draw_given(alloc, draw, reader, answers, errors);
     }
+    if let Some(frames) = matches.subcommand_matches("frames") {
+        return frames_given(alloc, frames, reader, answers, errors);
+    }
     if let Some(streams) = matches.subcommand_matches("streams") {
         return streams_given(files, alloc, streams, reader, answers, errors);
     }
@@ -163,7 +184,7 @@ fn answer_job<
 }
 
 /// Answers the words of the program, the first of which is its name: a script, a replay of files, the check of schedules, the script of a
-/// table of streams, the bounds of its delays, a picture, help, or why they are refused. What is answered goes through `answers`, whose writer is given back, and the text of a fault to `errors`; how far
+/// table of streams, the bounds of its delays, a picture, a table of frames, help, or why they are refused. What is answered goes through `answers`, whose writer is given back, and the text of a fault to `errors`; how far
 /// a replay has come is said through `progress`, where the words ask for it.
 pub fn answer_words<
     F: Files,

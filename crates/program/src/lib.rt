@@ -15,7 +15,7 @@ mod replaying;
 mod same_file;
 mod streaming;
 
-pub use answering::{answer_given, answer_words, check_given, draw_given};
+pub use answering::{answer_given, answer_words, check_given, draw_given, frames_given};
 pub use bounding::bounds_given;
 use job::{Ended, say_fault};
 use options::reads_input;

@@ -257,7 +257,7 @@ const WIDTH: Word = Word {
     help: "Its width, 400 to 2400 pixels [default: 1200]",
 };
 
-const JOBS: [Job; 6] = [
+const JOBS: [Job; 7] = [
     Job {
         name: "script",
         about: "Answers the lines of a script on standard input",
@@ -298,6 +298,11 @@ const JOBS: [Job; 6] = [
         name: "draw",
         about: "Draws the run of a script on standard input, as an SVG picture",
         words: &[RATE, MTU, ROOM, FROM, TO, WIDTH],
+    },
+    Job {
+        name: "frames",
+        about: "Writes a table of the frames of a script on standard input, as CSV: times, waits and fates",
+        words: &[RATE, MTU, ROOM, UNTIL],
     },
 ];
 

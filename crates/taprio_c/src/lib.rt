@@ -10,6 +10,7 @@ ghost use Rattle.abstract_port.specs.declared.Command.{Command};
 ghost use Rattle.capture.specs.Records.{Entry};
 ghost use Rattle.capture.specs.declared.fault.CapFault.{CapFault};
 ghost use Rattle.capture.specs.declared.reader.End.{End};
+ghost use Rattle.frame_table.specs.Outcome.{frames_of};
 ghost use Rattle.in_memory.specs.Bounds.{bounds_settings_at, bounds_told_by};
 ghost use Rattle.in_memory.specs.Captures.{Replays, outputs, told_by_replay};
 ghost use Rattle.in_memory.specs.Pictures.{DrawsWith, options_at};
@@ -29,8 +30,8 @@ ghost use Rattle.traffic.specs.Outcome.{outcome_of as streams_outcome_of};
 
 use crate::values::{is_wanted, moment_of, picture_values, port_values, stamp_of};
 use in_memory::{
-    Ran, ReplayRan, bounds_octets, check_octets, draw_octets, replay_octets, run_octets,
-    streams_octets,
+    Ran, ReplayRan, bounds_octets, check_octets, draw_octets, frames_octets, replay_octets,
+    run_octets, streams_octets,
 };
 use replay::Stamp;
 use std::alloc::Global;
@@ -50,6 +51,22 @@ pub extern "C" fn taprio_run(
         Answers (told_by (λ settings. outcome_of read settings script.now) (settings_at (port_values values.now))) ran.new (slices output.old fault.old) (slices output.new fault.new) }
 {
     *ran = run_octets(&alloc, port_values(values), script, output, fault);
+}
+
+/// Writes the table of the frames of a script, as comma-separated values.
+#[unsafe(no_mangle)]
+pub extern "C" fn taprio_frames(
+    alloc: Global,
+    values: &CPortValues,
+    script: &[u8],
+    output: &mut [u8],
+    fault: &mut [u8],
+    ran: &mut Ran,
+)
+    ensures { (read : List (List ℕ) → Result Command TcFault) → IsReader read →
+        Answers (told_by (λ settings. frames_of read settings script.now) (settings_at (port_values values.now))) ran.new (slices output.old fault.old) (slices output.new fault.new) }
+{
+    *ran = frames_octets(&alloc, port_values(values), script, output, fault);
 }
 
 /// Checks schedule commands at a line rate in Mb/s, with windows unless `windows` is 0.

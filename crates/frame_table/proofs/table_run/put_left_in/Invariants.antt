@@ -1,0 +1,7 @@
+use Rattle.std.proofs.Common.{drop, map}
+use Rattle.frame_table.specs.Words.{Sent, left_row, rows_text, waiting_in}
+use Rattle.frame_table.proofs.table_run.put_left_in.Given as goal
+
+abbrev pub invariant-loop-place : goal.invariant-loop-place
+invariant-loop-place g l =
+    Sent (g.W.Write.contents l.fn.writer) (g.W.Write.contents l.writer) (rows_text (map (left_row l.class) (waiting_in l.arrivals l.class))) (rows_text (drop l.place (map (left_row l.class) (waiting_in l.arrivals l.class))))

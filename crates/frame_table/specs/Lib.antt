@@ -1,0 +1,6 @@
+pub mod Waiting
+pub mod RowText
+pub mod Rows
+pub mod Outcome
+pub mod Once
+pub mod Words

@@ -1,0 +1,57 @@
+-- The text of a table: comma-separated values with a head. A field that a frame lacks is empty.
+use Rattle.std.specs.Prelude.{ℕ, ◌-◌, List, [], ◌∷◌, Option, Some, None, decimal, codes}
+use Rattle.std.specs.List.{concat, flat_map}
+use Rattle.answer_text.specs.Names.{dropped_name}
+use Rattle.frame_table.specs.declared.rows.Fate.{Fate}
+use Rattle.frame_table.specs.declared.rows.Fate.TheVariants.{Sent, Left, Lost}
+use Rattle.frame_table.specs.declared.rows.Row.{Row}
+
+-- the names of the columns
+abbrev pub head_line : List ℕ
+head_line = codes "id,class,len,arrival_ps,start_ps,end_ps,wait_ps,fate\n"
+
+-- a class, if there is one
+abbrev pub class_text : Option ℕ → List ℕ
+class_text None = []
+class_text (Some class) = decimal class
+
+-- when a frame started
+abbrev pub start_text : Fate → List ℕ
+start_text (Sent s) = decimal s.at
+start_text Left = []
+start_text (Lost why) = []
+
+-- from when on the wire was free after it
+abbrev pub end_text : Fate → List ℕ
+end_text (Sent s) = decimal s.«end»
+end_text Left = []
+end_text (Lost why) = []
+
+-- how long it waited from the moment at which it came
+abbrev pub wait_text : ℕ → Fate → List ℕ
+wait_text came (Sent s) = decimal (s.at - came)
+wait_text came Left = []
+wait_text came (Lost why) = []
+
+-- what became of it; of a drop the reason
+abbrev pub fate_text : Fate → List ℕ
+fate_text (Sent s) = codes "sent"
+fate_text Left = codes "left"
+fate_text (Lost why) = dropped_name why
+
+-- a row
+abbrev pub row_line : Row → List ℕ
+row_line r = concat (
+    decimal r.arrival.id
+    ∷ codes "," ∷ class_text r.class
+    ∷ codes "," ∷ decimal r.arrival.len
+    ∷ codes "," ∷ decimal r.arrival.at
+    ∷ codes "," ∷ start_text r.fate
+    ∷ codes "," ∷ end_text r.fate
+    ∷ codes "," ∷ wait_text r.arrival.at r.fate
+    ∷ codes "," ∷ fate_text r.fate
+    ∷ codes "\n" ∷ [])
+
+-- rows, one after another
+abbrev pub rows_text : List Row → List ℕ
+rows_text rows = flat_map row_line rows

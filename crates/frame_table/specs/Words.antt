@@ -1,0 +1,31 @@
+-- The words of contracts and proofs, from one place.
+pub use Rattle.wire_time.specs.Moment.{greatest_moment}
+pub use Rattle.abstract_port.specs.AbstractPort.{AbstractPort, settled}
+pub use Rattle.abstract_port.specs.Answers.{answers_to}
+pub use Rattle.abstract_port.specs.Laws.{starts_in}
+pub use Rattle.abstract_port.specs.Sound.{IsSoundPort}
+pub use Rattle.abstract_port.specs.declared.Command.{Command}
+pub use Rattle.abstract_port.specs.declared.Event.{Event}
+pub use Rattle.abstract_port.specs.declared.Event.TheVariants.{Arrive, Clock, Count, Install, Query}
+pub use Rattle.words.specs.Words.{words_of}
+pub use Rattle.octet_writer.specs.Writes.{FallsShort, Sent, Writes}
+pub use Rattle.line_reader.specs.LineReader.{Advances, most_lines, script_left}
+pub use Rattle.line_reader.specs.Script.{Script}
+pub use Rattle.tc_reader.specs.Reader.{IsReader}
+pub use Rattle.tc_reader.specs.declared.fault.TcFault.{TcFault}
+pub use Rattle.job.specs.Outcome.{Outcome, Runs}
+pub use Rattle.job.specs.declared.fault.Fault.{Fault}
+pub use Rattle.script.specs.Ending.{IsEnding, settings_given}
+pub use Rattle.script.specs.Given.{words_of_values}
+pub use Rattle.script.specs.Outcome.{Reading, asked_in, bad_line, long_line, reading_of}
+pub use Rattle.script.specs.Requests.{Asks, NoCommand, Request, request_of, said_in, tc_request}
+pub use Rattle.script.specs.Responses.{events_of, responses_to}
+pub use Rattle.script.specs.declared.faults.BadLine.{BadLine}
+pub use Rattle.script.specs.declared.faults.ScriptFault.{ScriptFault}
+pub use Rattle.frame_table.specs.Outcome.{IsAfter, ending_text, frames_of, rows_told, table_after, table_by, table_from, table_unless, whole_frames, with_head}
+pub use Rattle.frame_table.specs.RowText.{head_line, row_line, rows_text}
+pub use Rattle.frame_table.specs.Rows.{arrival_at, arrives, departs, left_row, left_rows, rows_at, rows_of, sent_row, table_of}
+unfoldable pub use Rattle.frame_table.specs.Rows.{left_from}
+pub use Rattle.frame_table.specs.Waiting.{comes, first_came, goes, none_wait, waiting_in}
+pub use Rattle.frame_table.specs.declared.rows.Arrival.{Arrival}
+pub use Rattle.frame_table.specs.declared.rows.Row.{Row}

@@ -1,0 +1,143 @@
+//! The rows of a table, and their text.
+
+ghost use Rattle.std.specs.Prelude.{◌≡◌};
+ghost use Rattle.octet_writer.specs.Writes.{Writes};
+ghost use Rattle.answer_text.specs.Names.{dropped_name};
+ghost use Rattle.answer_text.specs.Part.{text_of};
+ghost use Rattle.frame_table.specs.RowText.{class_text, end_text, fate_text, head_line, row_line, start_text, wait_text};
+
+use abstract_port::{Dropped, Start};
+use answer_text::{Part, WriteFault, put, put_parts};
+use std::io::Write;
+
+/// A frame that came.
+#[derive(Clone, Copy, Debug, PartialEq, Eq)]
+pub struct Arrival {
+    /// The sender's name for the frame.
+    pub id: u64,
+    /// Its octets, as `Frame::len` counts them.
+    pub len: u32,
+    /// The moment at which it came, in picoseconds.
+    pub at: u128,
+}
+
+/// What became of a frame.
+#[derive(Clone, Copy, Debug, PartialEq, Eq)]
+pub enum Fate {
+    /// It started.
+    Sent(Start),
+    /// It still waits at the end of the run.
+    Left,
+    /// It was dropped when it came.
+    Lost(Dropped),
+}
+
+/// A row of the table: a frame, and what became of it.
+#[derive(Clone, Copy, Debug, PartialEq, Eq)]
+pub struct Row {
+    /// The frame.
+    pub arrival: Arrival,
+    /// Its class, where its priority has one: 0 to 7.
+    pub class: Option<u8>,
+    /// What became of it.
+    pub fate: Fate,
+}
+
+fn class_part<'a>(class: Option<u8>) -> Part<'a>
+    ensures { text_of result ≡ class_text class }
+{
+    match class {
+        None => Part::Text(b""),
+        Some(class) => Part::Number(u128::from(class)),
+    }
+}
+
+/// The moment at which a frame started, in picoseconds, if it did.
+fn start_part<'a>(fate: &Fate) -> Part<'a>
+    ensures { text_of result ≡ start_text fate.now }
+{
+    match fate {
+        Fate::Sent(start) => Part::Number(start.at),
+        Fate::Left | Fate::Lost(_) => Part::Text(b""),
+    }
+}
+
+/// The moment from which the wire was free after it, in picoseconds.
+fn end_part<'a>(fate: &Fate) -> Part<'a>
+    ensures { text_of result ≡ end_text fate.now }
+{
+    match fate {
+        Fate::Sent(start) => Part::Number(start.end),
+        Fate::Left | Fate::Lost(_) => Part::Text(b""),
+    }
+}
+
+/// How long it waited from the moment at which it came, in picoseconds.
+fn wait_part<'a>(came: u128, fate: &Fate) -> Part<'a>
+    ensures { text_of result ≡ wait_text came fate.now }
+{
+    match fate {
+        Fate::Sent(start) => Part::Number(start.at.saturating_sub(came)),
+        Fate::Left | Fate::Lost(_) => Part::Text(b""),
+    }
+}
+
+/// Why a frame was dropped.
+fn dropped_name(why: Dropped) -> &'static [u8]
+    ensures { result.now ≡ dropped_name why }
+{
+    match why {
+        Dropped::NoClass => b"NoClass",
+        Dropped::Runt => b"Runt",
+        Dropped::TooLong => b"TooLong",
+        Dropped::OverSdu => b"OverSdu",
+        Dropped::Full => b"Full",
+    }
+}
+
+fn fate_name(fate: &Fate) -> &'static [u8]
+    ensures { result.now ≡ fate_text fate.now }
+{
+    match fate {
+        Fate::Sent(_) => b"sent",
+        Fate::Left => b"left",
+        Fate::Lost(why) => dropped_name(*why),
+    }
+}
+
+/// Writes the names of the columns. At a fault a prefix of them is written.
+pub(crate) fn put_head<W: Write>(writer: &mut W) -> Result<(), WriteFault>
+    ensures { Writes result (W.contents writer.old) (W.contents writer.new) head_line }
+{
+    put(
+        writer,
+        b"id,class,len,arrival_ps,start_ps,end_ps,wait_ps,fate\n",
+    )
+}
+
+/// Writes a row. At a fault a prefix of it is written.
+pub(crate) fn put_row<W: Write>(writer: &mut W, row: &Row) -> Result<(), WriteFault>
+    ensures { Writes result (W.contents writer.old) (W.contents writer.new) (row_line row.now) }
+{
+    put_parts(
+        writer,
+        &[
+            Part::Number(u128::from(row.arrival.id)),
+            Part::Text(b","),
+            class_part(row.class),
+            Part::Text(b","),
+            Part::Number(u128::from(row.arrival.len)),
+            Part::Text(b","),
+            Part::Number(row.arrival.at),
+            Part::Text(b","),
+            start_part(&row.fate),
+            Part::Text(b","),
+            end_part(&row.fate),
+            Part::Text(b","),
+            wait_part(row.arrival.at, &row.fate),
+            Part::Text(b","),
+            Part::Text(fate_name(&row.fate)),
+            Part::Text(b"\n"),
+        ],
+    )
+}

@@ -1,0 +1,284 @@
+//! Runs a script, and writes the table of its frames.
+
+ghost use Rattle.std.specs.Prelude.{◌≡◌, ◌<◌, ◌≤◌, ℕ, IfSome, List, Result, map};
+ghost use Rattle.frame_table.specs.Words.{Arrive, Clock, Command, IsAfter, IsReader, IsSoundPort, Runs, TcFault, Writes, ending_text, first_came, frames_of, goes, greatest_moment, left_row, left_rows, responses_to, rows_at, rows_told, rows_text, script_left, sent_row, settled, table_from, tc_request, waiting_in, with_head, words_of};
+
+use crate::arrivals::Arrivals;
+use crate::rows::{Arrival, Fate, Row, put_head, put_row};
+use abstract_port::{Event, Start};
+use answer_text::WriteFault;
+use line_reader::LineReader;
+use script::{BadLine, RunFault, RunningPort, Said, Settings, read_line, read_tc};
+use separation::settling;
+use std::alloc::Allocator;
+use std::io::{Read, Write};
+use wire_time::{Frame, MAX_MOMENT};
+
+/// Takes a frame that comes: it waits from now on, or it is dropped, and its row is written.
+fn take_frame<A: Allocator + Clone, W: Write>(
+    port: &mut RunningPort<A>,
+    arrivals: &mut Arrivals<A>,
+    frame: &Frame,
+    writer: &mut W,
+) -> Result<(), RunFault>
+    ensures text { Runs result (W.contents writer.old) (W.contents writer.new) (rows_told (Arrive frame.now) port.old.port arrivals.old) }
+    ensures after { IsAfter (Arrive frame.now) result port.old.port arrivals.old port.new.port arrivals.new }
+{
+    let now = port.now();
+    let arrival = Arrival {
+        id: frame.id,
+        len: frame.len,
+        at: now,
+    };
+    let class = port.class_for(frame.priority);
+    let verdict = port.arrive(*frame);
+    match verdict {
+        Ok(joined) => {
+            arrivals.put(joined, arrival)?;
+            Ok(())
+        }
+        Err(why) => {
+            let fate = Fate::Lost(why);
+            put_row(
+                writer,
+                &Row {
+                    arrival,
+                    class,
+                    fate,
+                },
+            )?;
+            Ok(())
+        }
+    }
+}
+
+/// Writes the row of a frame that starts: the first of its class that waits.
+fn put_sent<A: Allocator, W: Write>(
+    arrivals: &mut Arrivals<A>,
+    start: &Start,
+    writer: &mut W,
+) -> Result<(), WriteFault>
+    ensures text { Writes result (W.contents writer.old) (W.contents writer.new) (rows_text (sent_row start.now (first_came start.now.class arrivals.old))) }
+    ensures waiting { arrivals.new ≡ goes start.now.class arrivals.old }
+{
+    match arrivals.take(start.class) {
+        None => Ok(()),
+        Some(arrival) => put_row(
+            writer,
+            &Row {
+                arrival,
+                class: Some(start.class),
+                fate: Fate::Sent(*start),
+            },
+        ),
+    }
+}
+
+/// Runs to a moment that is not refused, in picoseconds, and writes the rows of the starts before it as the port finds them.
+fn take_starts<A: Allocator, W: Write>(
+    port: &mut RunningPort<A>,
+    arrivals: &mut Arrivals<A>,
+    until: u128,
+    writer: &mut W,
+) -> Result<(), WriteFault>
+    requires later { port.old.port.now ≤ until }
+    requires within { until ≤ greatest_moment }
+    ensures text { Writes result (W.contents writer.old) (W.contents writer.new) (rows_text (rows_at (Clock until) port.old.port arrivals.old).0) }
+    ensures after { IsAfter (Clock until) result port.old.port arrivals.old port.new.port arrivals.new }
+{
+    // For the prover: a call on a port says what holds of every port.
+    let _now = port.now();
+    while let Some(start) = port.step(until) {
+        put_sent(arrivals, &start, writer)?;
+    }
+    Ok(())
+}
+
+/// Takes a clock event, with its moment in picoseconds. Where the clock would go back, nothing happens.
+fn take_clock<A: Allocator, W: Write>(
+    port: &mut RunningPort<A>,
+    arrivals: &mut Arrivals<A>,
+    until: u128,
+    writer: &mut W,
+) -> Result<(), WriteFault>
+    ensures text { Writes result (W.contents writer.old) (W.contents writer.new) (rows_text (rows_at (Clock until) port.old.port arrivals.old).0) }
+    ensures after { IsAfter (Clock until) result port.old.port arrivals.old port.new.port arrivals.new }
+{
+    if port.now() <= until && until <= MAX_MOMENT {
+        take_starts(port, arrivals, until, writer)
+    } else {
+        Ok(())
+    }
+}
+
+/// Takes an event, and writes the rows of the frames whose fate it decides. At a fault a prefix of them is written.
+fn take_event<A: Allocator + Clone, W: Write>(
+    port: &mut RunningPort<A>,
+    arrivals: &mut Arrivals<A>,
+    event: &Event<'_>,
+    writer: &mut W,
+) -> Result<(), RunFault>
+    ensures text { Runs result (W.contents writer.old) (W.contents writer.new) (rows_told event.now port.old.port arrivals.old) }
+    ensures after { IsAfter event.now result port.old.port arrivals.old port.new.port arrivals.new }
+{
+    // For the prover: a call on a port says what holds of every port.
+    let _now = port.now();
+    match event {
+        Event::Arrive(frame) => take_frame(port, arrivals, frame, writer),
+        Event::Clock(until) => {
+            take_clock(port, arrivals, *until, writer)?;
+            Ok(())
+        }
+        Event::Install(command) => {
+            let _ = port.install(command);
+            Ok(())
+        }
+        Event::Query | Event::Count(_) => Ok(()),
+    }
+}
+
+/// Gives the port the command that a line which begins with `tc` is, if it is one.
+fn take_tc<A: Allocator>(port: &mut RunningPort<A>, line: &[u8])
+    ensures port { (read : List (List ℕ) → Result Command TcFault) → IsReader read →
+        port.new.port ≡ settled (responses_to (tc_request (read (words_of line.now))) port.old.port).1 }
+    ensures sound { IsSoundPort port.new.port }
+{
+    // For the prover: a call on a port says what holds of every port.
+    let _now = port.now();
+    match read_tc(line) {
+        Err(_) => {}
+        Ok(command) => {
+            let _ = port.install(&command);
+        }
+    }
+}
+
+/// Writes the rows of the frames of a class that still wait.
+fn put_left_in<A: Allocator, W: Write>(
+    arrivals: &Arrivals<A>,
+    class: u8,
+    writer: &mut W,
+) -> Result<(), WriteFault>
+    requires { class < 8 }
+    ensures { Writes result (W.contents writer.old) (W.contents writer.new) (rows_text (map (left_row class) (waiting_in arrivals.now class))) }
+{
+    for place in 0..arrivals.len(class) {
+        let arrival = arrivals.get(class, place);
+        put_row(
+            writer,
+            &Row {
+                arrival,
+                class: Some(class),
+                fate: Fate::Left,
+            },
+        )?;
+    }
+    Ok(())
+}
+
+/// Writes the rows of the frames that still wait, class by class.
+fn put_all_left<A: Allocator, W: Write>(
+    arrivals: &Arrivals<A>,
+    writer: &mut W,
+) -> Result<(), WriteFault>
+    ensures { Writes result (W.contents writer.old) (W.contents writer.new) (rows_text (left_rows arrivals.now)) }
+{
+    for class in 0..8u8 {
+        put_left_in(arrivals, class, writer)?;
+    }
+    Ok(())
+}
+
+/// Runs to the moment after the input, if there is one, and writes the rows that end the table.
+fn put_end<A: Allocator, W: Write>(
+    port: &mut RunningPort<A>,
+    arrivals: &mut Arrivals<A>,
+    until: Option<u128>,
+    writer: &mut W,
+) -> Result<(), WriteFault>
+    ensures { Writes result (W.contents writer.old) (W.contents writer.new) (ending_text until port.old.port arrivals.old) }
+{
+    match until {
+        None => put_all_left(arrivals, writer),
+        Some(moment) => {
+            take_clock(port, arrivals, moment, writer)?;
+            put_all_left(arrivals, writer)
+        }
+    }
+}
+
+/// Runs the lines that are to come, and the end.
+fn run_lines<A: Allocator + Clone, B: Allocator, R: Read + Drop, W: Write>(
+    port: &mut RunningPort<A>,
+    arrivals: &mut Arrivals<A>,
+    lines: &mut LineReader<R, B>,
+    until: Option<u128>,
+    writer: &mut W,
+) -> Result<(), RunFault>
+    ensures { (read : List (List ℕ) → Result Command TcFault) → IsReader read → IfSome (script_left R.remaining lines.old) (λ script.
+        Runs result (W.contents writer.old) (W.contents writer.new) (table_from read until script port.old.port arrivals.old)) }
+{
+    settling();
+    // For the prover: a call on a port says what holds of every port.
+    let _now = port.now();
+    'lines: while lines.advance()? {
+        let line = lines.line();
+        match read_line(line) {
+            Ok(None) => {}
+            Ok(Some(Said::Asked(event))) => take_event(port, arrivals, &event, writer)?,
+            Ok(Some(Said::Tc)) => take_tc(port, line),
+            Err(fault) => return Err(RunFault::Input(BadLine::new(lines.line_number(), fault))),
+        }
+    }
+    put_end(port, arrivals, until, writer)?;
+    Ok(())
+}
+
+/// Writes the head of the table, and then the table of the lines that are to come.
+fn put_table<A: Allocator + Clone, B: Allocator, R: Read + Drop, W: Write>(
+    port: &mut RunningPort<A>,
+    arrivals: &mut Arrivals<A>,
+    lines: &mut LineReader<R, B>,
+    until: Option<u128>,
+    writer: &mut W,
+) -> Result<(), RunFault>
+    ensures { (read : List (List ℕ) → Result Command TcFault) → IsReader read → IfSome (script_left R.remaining lines.old) (λ script.
+        Runs result (W.contents writer.old) (W.contents writer.new) (with_head (table_from read until script port.old.port arrivals.old))) }
+{
+    put_head(writer)?;
+    run_lines(port, arrivals, lines, until, writer)
+}
+
+/// Reads a script to its end, and writes a table of its frames: a head, and a row for each frame as soon as its fate is known. A frame that
+/// is dropped has its row when it comes, one that starts when it starts, and one that still waits at the end of the run after all others.
+///
+/// A malformed line ends the run after the rows of the lines before it; what waits then has no row. A read or a write that fails, or
+/// takes nothing, isn't tried again. Of the frames only those that wait are kept.
+pub fn run_frames<A: Allocator, R: Read + Drop, W: Write>(
+    alloc: A,
+    reader: R,
+    writer: &mut W,
+    settings: Settings,
+) -> Result<(), RunFault>
+    ensures { (read : List (List ℕ) → Result Command TcFault) → IsReader read → IfSome (R.remaining reader) (λ input.
+        Runs result (W.contents writer.old) (W.contents writer.new) (frames_of read settings input)) }
+{
+    let rate = settings.rate();
+    // For the prover: the getter says within which limits a rate lies.
+    let _ps = rate.ps_per_octet();
+    let mtu = settings.mtu();
+    let Ok(mut port) = RunningPort::new(&alloc, rate, mtu, settings.room()) else {
+        return Err(RunFault::Memory);
+    };
+    let Ok(mut arrivals) = Arrivals::new(&&alloc) else {
+        return Err(RunFault::Memory);
+    };
+    let mut lines = LineReader::new(&alloc, reader)?;
+    put_table(
+        &mut port,
+        &mut arrivals,
+        &mut lines,
+        settings.until(),
+        writer,
+    )
+}

@@ -1,0 +1,51 @@
+//! A table of frames in memory.
+
+ghost use Rattle.std.specs.Prelude.{List, ℕ, Result};
+ghost use Rattle.abstract_port.specs.declared.Command.{Command};
+ghost use Rattle.frame_table.specs.Outcome.{frames_of};
+ghost use Rattle.in_memory.specs.Slices.{Answers, slices, told_by, told_of};
+ghost use Rattle.in_memory.specs.Values.{settings_at};
+ghost use Rattle.script.specs.Texts.{script_telling};
+ghost use Rattle.tc_reader.specs.Reader.{IsReader};
+ghost use Rattle.tc_reader.specs.declared.fault.TcFault.{TcFault};
+
+use crate::answering::{Ran, end_in_memory, refuse_value};
+use crate::values::{PortValues, settings_at};
+use frame_table::run_frames;
+use script::Settings;
+use std::alloc::Allocator;
+
+/// Writes the table of a script with settings.
+fn frames_with<A: Allocator>(
+    alloc: &A,
+    settings: Settings,
+    script: &[u8],
+    output: &mut [u8],
+    fault: &mut [u8],
+) -> Ran
+    ensures { (read : List (List ℕ) → Result Command TcFault) → IsReader read → Answers (told_of script_telling (frames_of read settings script.now)) result (slices output.old fault.old) (slices output.new fault.new) }
+{
+    let mut written = Vec::new(alloc);
+    let run = run_frames(alloc, script, &mut written, settings);
+    end_in_memory(alloc, run, written.as_slice(), output, fault)
+}
+
+/// Runs a script with these values: the table of its frames, as `frame_table::run_frames` writes it, comes into `output`, and the text of a
+/// fault into `fault`, as the program writes it on its standard error.
+///
+/// Status 2 where a value is out of its limits, 3 where a line has a fault, after the rows of the lines before it.
+pub fn frames_octets<A: Allocator>(
+    alloc: &A,
+    values: PortValues,
+    script: &[u8],
+    output: &mut [u8],
+    fault: &mut [u8],
+) -> Ran
+    ensures { (read : List (List ℕ) → Result Command TcFault) → IsReader read →
+        Answers (told_by (λ settings. frames_of read settings script.now) (settings_at values)) result (slices output.old fault.old) (slices output.new fault.new) }
+{
+    match settings_at(values) {
+        Ok(settings) => frames_with(alloc, settings, script, output, fault),
+        Err(value) => refuse_value(alloc, value, output, fault),
+    }
+}

@@ -1,0 +1,90 @@
+//! Tables of frames: readers, writers and heaps that fail.
+
+use frame_table::run_frames;
+use refusing_heap::RefusingHeap;
+use script::{RunFault, Settings};
+use std::alloc::Global;
+use std::process::Abort;
+use std::test::Fail;
+use test_streams::{Narrow, Pieces};
+use wire_time::Rate;
+
+/// A frame that is sent, three that wait in one class, and one that is dropped.
+const SCRIPT: &[u8] =
+    b"frame 1 7 60\nclock 1\nframe 2 0 60\nframe 3 0 60\nframe 4 0 60\nframe 5 16 60\n";
+
+/// Their table.
+const TABLE: &[u8] = b"id,class,len,arrival_ps,start_ps,end_ps,wait_ps,fate\n\
+1,7,60,0,0,672000,0,sent\n5,,60,1,,,,NoClass\n2,0,60,1,,,,left\n3,0,60,1,,,,left\n4,0,60,1,,,,left\n";
+
+/// The settings that a test has: 1000 Mb/s, an mtu of 1500 octets and room for 128 frames a class.
+fn usual(rt: &impl Abort) -> Settings {
+    let rate = Rate::from_mbps(1000).expect(rt, "a rate");
+    Settings::new(rate, 1500, 128, None).expect(rt, "settings")
+}
+
+/// Whether a run whose read of this number fails reports that, behind a prefix of the table; or has no such read.
+fn is_read(alloc: Global, settings: Settings, at: u32) -> bool {
+    let mut failing = Pieces::new(SCRIPT, 9);
+    failing.fails_at = at;
+    let mut got = Vec::new(alloc);
+    let run = run_frames(alloc, failing, &mut got, settings);
+    if run.is_ok() {
+        return got.as_slice() == TABLE;
+    }
+    run == Err(RunFault::Read) && TABLE.starts_with(got.as_slice())
+}
+
+/// Whether a writer with room for so many octets, and no more, gets a prefix of the table.
+fn is_written(alloc: Global, settings: Settings, room: usize) -> bool {
+    let mut narrow = Narrow {
+        got: Vec::new(alloc),
+        piece: 7,
+        room,
+        fails: room % 2 == 0,
+        recovers: true,
+    };
+    let run = run_frames(alloc, SCRIPT, &mut narrow, settings);
+    run == Err(RunFault::Write) && TABLE.starts_with(narrow.got.as_slice())
+}
+
+/// Whether a growth of this number is refused, which is reported behind a prefix of the table; or it isn't asked for. None where it comes out
+/// otherwise.
+fn is_refused(alloc: Global, settings: Settings, number: u64) -> Option<bool> {
+    let heap = RefusingHeap::new(alloc, number, true);
+    let mut got = Vec::new(alloc);
+    let run = run_frames(&heap, SCRIPT, &mut got, settings);
+    if heap.asked() > number {
+        (run == Err(RunFault::Memory) && TABLE.starts_with(got.as_slice())).then_some(true)
+    } else {
+        (run == Ok(()) && got.as_slice() == TABLE).then_some(false)
+    }
+}
+
+/// Each read fails in turn, and a writer that takes no more gets a prefix.
+#[test]
+fn failed_reads_and_writes_end_it(rt: HostRuntime) -> Result<(), Fail> {
+    let settings = usual(&rt);
+    for at in 0..16u32 {
+        assert!(rt; is_read(rt.alloc(), settings, at), "read {at}");
+    }
+    for room in 0..TABLE.len() {
+        assert!(rt; is_written(rt.alloc(), settings, room), "at {room}");
+    }
+    Ok(())
+}
+
+/// Each growth is refused in turn, also that of a class whose frames wait: none is asked for anew, and no frame is lost without a word.
+#[test]
+fn memory_is_wanting_only_where_it_is_refused(rt: HostRuntime) {
+    let settings = usual(&rt);
+    let mut refused = 0u32;
+    for number in 0..64u64 {
+        let met = is_refused(rt.alloc(), settings, number);
+        assert!(rt; met.is_some(), "growth {number}");
+        if met == Some(true) {
+            refused = refused.saturating_add(1);
+        }
+    }
+    assert!(rt; 4 < refused && refused < 64);
+}
