@@ -7,13 +7,13 @@ _taprio_port() {
         return
     fi
     case ${COMP_WORDS[1]} in
-        script) words='--rate --mtu --room --until --summary --help' values='--rate --mtu --room --until' ;;
-        replay) words='--rate --mtu --room --until --stamp --summary --progress --help' values='--rate --mtu --room --until --stamp' ;;
-        check) words='--rate --windows --script --help' values='--rate' ;;
-        streams) words='--with --from --help' values='--with --from' ;;
-        bounds) words='--rate --mtu --room --frames --strict --help' values='--rate --mtu --room --frames' ;;
-        draw) words='--rate --mtu --room --from --to --width --help' values='--rate --mtu --room --from --to --width' ;;
-        frames) words='--rate --mtu --room --until --help' values='--rate --mtu --room --until' ;;
+        script) words='--rate --mtu --room --until --summary --strict --explain --help' values='--rate --mtu --room --until' ;;
+        replay) words='--rate --mtu --room --until --stamp --summary --progress --explain --help' values='--rate --mtu --room --until --stamp' ;;
+        check) words='--rate --windows --script --strict --explain --help' values='--rate' ;;
+        streams) words='--with --from --explain --help' values='--with --from' ;;
+        bounds) words='--rate --mtu --room --frames --strict --explain --help' values='--rate --mtu --room --frames' ;;
+        draw) words='--rate --mtu --room --from --to --width --explain --help' values='--rate --mtu --room --from --to --width' ;;
+        frames) words='--rate --mtu --room --until --explain --help' values='--rate --mtu --room --until' ;;
         *) return ;;
     esac
     case " $values " in

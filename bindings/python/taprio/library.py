@@ -89,8 +89,8 @@ _OF_PORT: dict[str, list[Any]] = {
     "taprio_port_free": [],
 }
 
-# What a shared object lacks that was built before there were bounds, or ports that are driven.
-_LATER = ("taprio_streams_from", "taprio_bounds", "taprio_replay_stamped", *_OF_PORT)
+# What a shared object lacks that was built before there were bounds, tables of frames, or ports that are driven.
+_LATER = ("taprio_streams_from", "taprio_bounds", "taprio_frames", "taprio_replay_stamped", *_OF_PORT)
 
 
 def _path() -> str:

@@ -5,9 +5,9 @@
 #![tactic(auto)]
 
 use drawing::{DrawOptions, draw};
-use replay::{Stamp, Unwatched, replay};
+use replay::{Stamp, replay};
 use schedule_check::{CheckSettings, check};
-use script::{Settings, run_script};
+use script::{Settings, Unwatched, run_script};
 use std::rt::Files;
 use std::{fs, io};
 use traffic::write_streams;
@@ -84,7 +84,8 @@ fn answers_with<R: AllocGlobal>(rt: &R, script: &[u8], answers: &[u8], summary: 
     };
     let settings = settings.with_summary(summary);
     let mut got = Vec::new(rt.alloc());
-    run_script(rt.alloc(), script, &mut got, settings).is_ok() && got.as_slice() == answers
+    run_script(rt.alloc(), script, &mut got, settings, &mut Unwatched).is_ok()
+        && got.as_slice() == answers
 }
 
 /// Runs an example.
@@ -117,7 +118,13 @@ fn check_agrees<R: Files + AllocGlobal>(
         script: false,
     };
     let mut got = Vec::new(rt.alloc());
-    let checked = check(rt.alloc(), schedules.as_bytes(), &mut got, settings);
+    let checked = check(
+        rt.alloc(),
+        schedules.as_bytes(),
+        &mut got,
+        settings,
+        &mut Unwatched,
+    );
     Ok(checked.is_ok() && got.as_slice() == answers.as_bytes())
 }
 
@@ -133,6 +140,7 @@ fn streams_agree<R: Files + AllocGlobal>(rt: &R) -> io::Result<bool> {
         schedule.as_slice(),
         &mut got,
         0,
+        &mut Unwatched,
     );
     Ok(written.is_ok() && got.as_slice() == script.as_slice())
 }

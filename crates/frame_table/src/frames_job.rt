@@ -6,7 +6,7 @@ ghost use Rattle.frame_table.specs.Words.{IsEnding, greatest_moment, settings_gi
 
 use crate::table_run::run_frames;
 use job::{Ended, end_run};
-use script::{Values, end_with_value, settings_given};
+use script::{Values, Watch, end_with_value, settings_given};
 use std::alloc::Allocator;
 use std::io::{BufWriter, Read, Write};
 use wire_time::MAX_MOMENT;
@@ -14,12 +14,13 @@ use wire_time::MAX_MOMENT;
 /// Writes the table of the frames of the script that `reader` gives, by these values, through `answers`, with the text of a fault on
 /// `errors`; and gives the writer of the answers back. What was written is let out before a fault is reported; after a failed write no
 /// other is tried. Where a value is bad nothing is read.
-pub fn answer_frames<A: Allocator, B: Allocator, R: Read, W: Write + Drop, E: Write>(
+pub fn answer_frames<A: Allocator, B: Allocator, R: Read, W: Write + Drop, E: Write, H: Watch>(
     alloc: A,
     values: Values<'_>,
     reader: &mut R,
     mut answers: BufWriter<W, B>,
     errors: &mut E,
+    watch: &mut H,
 ) -> (Ended, W)
     ensures ending { IsEnding whole_frames (settings_given greatest_moment (words_of_values values.entry))
         (R.remaining reader.old) result.0 (writer_contents W.contents answers) (W.contents result.1) (E.contents errors.old) (E.contents errors.new) }
@@ -27,7 +28,7 @@ pub fn answer_frames<A: Allocator, B: Allocator, R: Read, W: Write + Drop, E: Wr
 {
     match settings_given(values, MAX_MOMENT) {
         Ok(settings) => {
-            let run = run_frames(alloc, reader, &mut answers, settings);
+            let run = run_frames(alloc, reader, &mut answers, settings, watch);
             end_run(run, answers, errors)
         }
         Err(value) => end_with_value(value, answers, errors),

@@ -8,7 +8,7 @@ use crate::rows::{Arrival, Fate, Row, put_head, put_row};
 use abstract_port::{Event, Start};
 use answer_text::WriteFault;
 use line_reader::LineReader;
-use script::{BadLine, RunFault, RunningPort, Said, Settings, read_line, read_tc};
+use script::{BadLine, RunFault, RunningPort, Said, Settings, Watch, read_line, read_tc};
 use separation::settling;
 use std::alloc::Allocator;
 use std::io::{Read, Write};
@@ -208,12 +208,13 @@ fn put_end<A: Allocator, W: Write>(
 }
 
 /// Runs the lines that are to come, and the end.
-fn run_lines<A: Allocator + Clone, B: Allocator, R: Read + Drop, W: Write>(
+fn run_lines<A: Allocator + Clone, B: Allocator, R: Read + Drop, W: Write, H: Watch>(
     port: &mut RunningPort<A>,
     arrivals: &mut Arrivals<A>,
     lines: &mut LineReader<R, B>,
     until: Option<u128>,
     writer: &mut W,
+    watch: &mut H,
 ) -> Result<(), RunFault>
     ensures { (read : List (List ℕ) → Result Command TcFault) → IsReader read → IfSome (script_left R.remaining lines.old) (λ script.
         Runs result (W.contents writer.old) (W.contents writer.new) (table_from read until script port.old.port arrivals.old)) }
@@ -227,7 +228,10 @@ fn run_lines<A: Allocator + Clone, B: Allocator, R: Read + Drop, W: Write>(
             Ok(None) => {}
             Ok(Some(Said::Asked(event))) => take_event(port, arrivals, &event, writer)?,
             Ok(Some(Said::Tc)) => take_tc(port, line),
-            Err(fault) => return Err(RunFault::Input(BadLine::new(lines.line_number(), fault))),
+            Err(fault) => {
+                watch.line_failed(line);
+                return Err(RunFault::Input(BadLine::new(lines.line_number(), fault)));
+            }
         }
     }
     put_end(port, arrivals, until, writer)?;
@@ -235,30 +239,32 @@ fn run_lines<A: Allocator + Clone, B: Allocator, R: Read + Drop, W: Write>(
 }
 
 /// Writes the head of the table, and then the table of the lines that are to come.
-fn put_table<A: Allocator + Clone, B: Allocator, R: Read + Drop, W: Write>(
+fn put_table<A: Allocator + Clone, B: Allocator, R: Read + Drop, W: Write, H: Watch>(
     port: &mut RunningPort<A>,
     arrivals: &mut Arrivals<A>,
     lines: &mut LineReader<R, B>,
     until: Option<u128>,
     writer: &mut W,
+    watch: &mut H,
 ) -> Result<(), RunFault>
     ensures { (read : List (List ℕ) → Result Command TcFault) → IsReader read → IfSome (script_left R.remaining lines.old) (λ script.
         Runs result (W.contents writer.old) (W.contents writer.new) (with_head (table_from read until script port.old.port arrivals.old))) }
 {
     put_head(writer)?;
-    run_lines(port, arrivals, lines, until, writer)
+    run_lines(port, arrivals, lines, until, writer, watch)
 }
 
 /// Reads a script to its end, and writes a table of its frames: a head, and a row for each frame as soon as its fate is known. A frame that
 /// is dropped has its row when it comes, one that starts when it starts, and one that still waits at the end of the run after all others.
 ///
 /// A malformed line ends the run after the rows of the lines before it; what waits then has no row. A read or a write that fails, or
-/// takes nothing, isn't tried again. Of the frames only those that wait are kept.
-pub fn run_frames<A: Allocator, R: Read + Drop, W: Write>(
+/// takes nothing, isn't tried again. Of the frames only those that wait are kept. Who watches is called for a malformed line.
+pub fn run_frames<A: Allocator, R: Read + Drop, W: Write, H: Watch>(
     alloc: A,
     reader: R,
     writer: &mut W,
     settings: Settings,
+    watch: &mut H,
 ) -> Result<(), RunFault>
     ensures { (read : List (List ℕ) → Result Command TcFault) → IsReader read → IfSome (R.remaining reader) (λ input.
         Runs result (W.contents writer.old) (W.contents writer.new) (frames_of read settings input)) }
@@ -280,5 +286,6 @@ pub fn run_frames<A: Allocator, R: Read + Drop, W: Write>(
         &mut lines,
         settings.until(),
         writer,
+        watch,
     )
 }

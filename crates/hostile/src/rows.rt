@@ -1,9 +1,9 @@
 //! What is fed: jobs over lines, replays, and settings.
 
 use capture::{CAPTURE_END, CaptureWriter};
-use replay::{ReplayFault, Stamp, Unwatched, replay};
+use replay::{ReplayFault, Stamp, replay};
 use schedule_check::{CheckSettings, check};
-use script::{RunFault, Settings, run_script};
+use script::{RunFault, Settings, Unwatched, run_script};
 use std::alloc::{Allocator, Global};
 use std::io::{self, Read, Write};
 use test_streams::{BOTH_LEFT, BOTH_TOLD, TWO_RECORDS};
@@ -78,8 +78,8 @@ impl Job {
         writer: &mut W,
     ) -> Result<(), RunFault> {
         match self {
-            Job::TwoSchedules => check(alloc, reader, writer, given.checked),
-            _ => run_script(alloc, reader, writer, given.settings),
+            Job::TwoSchedules => check(alloc, reader, writer, given.checked, &mut Unwatched),
+            _ => run_script(alloc, reader, writer, given.settings, &mut Unwatched),
         }
     }
 }

@@ -3,9 +3,9 @@
 use super::rows::{Given, Job, Runs};
 use job::Ended;
 use refusing_heap::RefusingHeap;
-use replay::{Inputs, Outputs, Stamp, Unwatched, answer_replay};
+use replay::{Inputs, Outputs, Stamp, answer_replay};
 use schedule_check::{CheckWords, answer_check};
-use script::{Settings, Values, answer_script};
+use script::{Settings, Unwatched, Values, answer_script};
 use std::alloc::Global;
 use std::io::{self, BufWriter};
 use test_streams::TWO_RECORDS;
@@ -48,7 +48,14 @@ fn script_tells(alloc: Global) -> io::Result<bool> {
     let heap = no_heap(alloc);
     let mut errors = Vec::new(alloc);
     let mut reader = Job::OneFrame.input();
-    let (ended, written) = answer_script(&heap, NO_VALUES, &mut reader, answers, &mut errors);
+    let (ended, written) = answer_script(
+        &heap,
+        NO_VALUES,
+        &mut reader,
+        answers,
+        &mut errors,
+        &mut Unwatched,
+    );
     Ok(is_told(ended, &errors, &written))
 }
 
@@ -65,7 +72,14 @@ fn check_tells(alloc: Global) -> io::Result<bool> {
     let heap = no_heap(alloc);
     let mut errors = Vec::new(alloc);
     let mut reader = Job::TwoSchedules.input();
-    let (ended, written) = answer_check(&heap, WINDOWS, &mut reader, answers, &mut errors);
+    let (ended, written) = answer_check(
+        &heap,
+        WINDOWS,
+        &mut reader,
+        answers,
+        &mut errors,
+        &mut Unwatched,
+    );
     Ok(is_told(ended, &errors, &written))
 }
 
@@ -82,6 +96,7 @@ fn table_tells(alloc: Global) -> io::Result<bool> {
         NO_SCRIPT,
         answers,
         &mut errors,
+        &mut Unwatched,
     );
     Ok(is_told(ended, &errors, &written))
 }

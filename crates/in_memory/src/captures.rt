@@ -15,8 +15,8 @@ ghost use Rattle.tc_reader.specs.declared.fault.TcFault.{TcFault};
 use crate::answering::put_front;
 use crate::values::{PortValues, settings_at};
 use job::say_fault;
-use replay::{ReplayFault, Stamp, Unwatched, replay};
-use script::{BadValue, Settings, say_value};
+use replay::{ReplayFault, Stamp, replay};
+use script::{BadValue, Settings, Unwatched, say_value};
 use std::alloc::Allocator;
 
 /// How a replay ended, and how many octets there are of what it reports. C sees it as it stands.

@@ -13,6 +13,7 @@ ghost use Rattle.tc_reader.specs.declared.fault.TcFault.{TcFault};
 use crate::answering::{Ran, end_in_memory, refuse_value};
 use crate::values::rate_at;
 use schedule_check::{CheckSettings, check};
+use script::Unwatched;
 use std::alloc::Allocator;
 use wire_time::Rate;
 
@@ -33,7 +34,7 @@ fn check_at<A: Allocator>(
         windows,
         script: false,
     };
-    let run = check(alloc, schedules, &mut written, settings);
+    let run = check(alloc, schedules, &mut written, settings, &mut Unwatched);
     end_in_memory(alloc, run, written.as_slice(), output, fault)
 }
 

@@ -12,7 +12,7 @@ ghost use Rattle.tc_reader.specs.declared.fault.TcFault.{TcFault};
 use crate::answering::{Ran, end_in_memory, refuse_value};
 use crate::values::{PortValues, settings_at};
 use frame_table::run_frames;
-use script::Settings;
+use script::{Settings, Unwatched};
 use std::alloc::Allocator;
 
 /// Writes the table of a script with settings.
@@ -26,7 +26,7 @@ fn frames_with<A: Allocator>(
     ensures { (read : List (List ℕ) → Result Command TcFault) → IsReader read → Answers (told_of script_telling (frames_of read settings script.now)) result (slices output.old fault.old) (slices output.new fault.new) }
 {
     let mut written = Vec::new(alloc);
-    let run = run_frames(alloc, script, &mut written, settings);
+    let run = run_frames(alloc, script, &mut written, settings, &mut Unwatched);
     end_in_memory(alloc, run, written.as_slice(), output, fault)
 }
 

@@ -11,7 +11,7 @@ ghost use Rattle.tc_reader.specs.declared.fault.TcFault.{TcFault};
 
 use crate::answering::{Ran, end_in_memory, refuse_value};
 use crate::values::{PortValues, settings_at};
-use script::{Settings, run_script};
+use script::{Settings, Unwatched, run_script};
 use std::alloc::Allocator;
 
 /// Runs a script with settings.
@@ -25,7 +25,7 @@ fn run_with<A: Allocator>(
     ensures { (read : List (List ℕ) → Result Command TcFault) → IsReader read → Answers (told_of script_telling (outcome_of read settings script.now)) result (slices output.old fault.old) (slices output.new fault.new) }
 {
     let mut written = Vec::new(alloc);
-    let run = run_script(alloc, script, &mut written, settings);
+    let run = run_script(alloc, script, &mut written, settings, &mut Unwatched);
     end_in_memory(alloc, run, written.as_slice(), output, fault)
 }
 

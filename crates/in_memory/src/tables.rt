@@ -9,6 +9,7 @@ ghost use Rattle.wire_time.specs.Moment.{greatest_moment};
 
 use crate::answering::{Ran, end_in_memory, refuse_value};
 use crate::values::from_at;
+use script::Unwatched;
 use std::alloc::Allocator;
 use traffic::write_streams;
 
@@ -25,7 +26,7 @@ fn streams_from<A: Allocator>(
     ensures { Answers (told_of streams_telling (outcome_of from table.now script.now)) result (slices output.old fault.old) (slices output.new fault.new) }
 {
     let mut written = Vec::new(alloc);
-    let run = write_streams(alloc, table, script, &mut written, from);
+    let run = write_streams(alloc, table, script, &mut written, from, &mut Unwatched);
     end_in_memory(alloc, run, written.as_slice(), output, fault)
 }
 

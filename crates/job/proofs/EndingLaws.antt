@@ -34,29 +34,42 @@ front_kept a b c text (left, s) k = (left, sent_kept a b c text left s k)
 
 -- 2. What a run has written, through a buffer
 
+-- what a run leaves that lets out nothing before its end
+pub runs_out : {I T : Type 0} (r : Result T (Fault I)) (old new : Option (List ℕ)) (whole : Outcome I) → Runs r old new whole → RunsOut r old new whole
+runs_out (Ok x) old new whole w = w
+runs_out (Err (Faults.Input fault)) old new whole w = w
+runs_out (Err Faults.Read) old new whole w = w
+runs_out (Err Faults.Write) old new whole (left, some, s) = (left, s)
+runs_out (Err Faults.Memory) old new whole w = w
+
+-- and where the octets of an input are known
+pub input_out : {I T X : Type 0} (input : Option X) (whole : X → Outcome I) (r : Result T (Fault I)) (old new : Option (List ℕ)) → IfSome input (λ x. Runs r old new (whole x)) → IfSome input (λ x. RunsOut r old new (whole x))
+input_out None whole r old new w = tt
+input_out (Some x) whole r old new w = runs_out r old new (whole x) w
+
 module _ {I : Type 0} (old mid out : Option (List ℕ)) (whole : Outcome I) (k : Keeps mid out) where
-  same_out : (r : Result (Unit {0}) (Fault I)) → Runs r old mid whole → RunsOut r old out whole
+  same_out : (r : Result (Unit {0}) (Fault I)) → RunsOut r old mid whole → RunsOut r old out whole
   same_out (Ok x) w = (w.0, appends_kept old mid out whole.text w.1 k)
   same_out (Err (Faults.Input fault)) w = (w.0, appends_kept old mid out whole.text w.1 k)
   same_out (Err Faults.Read) w = front_kept old mid out whole.text w k
-  same_out (Err Faults.Write) (left, some, s) = (left, sent_kept old mid out whole.text left s k)
+  same_out (Err Faults.Write) w = front_kept old mid out whole.text w k
   same_out (Err Faults.Memory) w = front_kept old mid out whole.text w k
 
-  front_out : (r : Result (Unit {0}) (Fault I)) → Runs r old mid whole → AppendsFront old out whole.text
+  front_out : (r : Result (Unit {0}) (Fault I)) → RunsOut r old mid whole → AppendsFront old out whole.text
   front_out (Ok x) w = front_kept old mid out whole.text (front_of_all old mid whole.text w.1) k
   front_out (Err (Faults.Input fault)) w = front_kept old mid out whole.text (front_of_all old mid whole.text w.1) k
   front_out (Err Faults.Read) w = front_kept old mid out whole.text w k
-  front_out (Err Faults.Write) (left, some, s) = (left, sent_kept old mid out whole.text left s k)
+  front_out (Err Faults.Write) w = front_kept old mid out whole.text w k
   front_out (Err Faults.Memory) w = front_kept old mid out whole.text w k
 
   -- what a run has written is so too once it is let out, by the run's result or that of a last write that failed
-  pub out_by : (before run : Result (Unit {0}) (Fault I)) → IsOrFails run before → Runs before old mid whole → RunsOut run old out whole
+  pub out_by : (before run : Result (Unit {0}) (Fault I)) → IsOrFails run before → RunsOut before old mid whole → RunsOut run old out whole
   out_by before run (inl same) w = subst (λ r. RunsOut r old out whole) (sym same) (same_out before w)
   out_by before run (inr failed) w = subst (λ r. RunsOut r old out whole) (sym failed) (front_out before w)
 
 -- where the octets of an input are known, what a run has written is let out, by the run's result or that of a last write that failed
 pub out_of_input : {I X : Type 0} (input : Option X) (whole : X → Outcome I) (old mid out : Option (List ℕ)) (before run : Result (Unit {0}) (Fault I)) → Keeps mid out → IsOrFails run before
-    → IfSome input (λ octets. Runs before old mid (whole octets)) → IfSome input (λ octets. RunsOut run old out (whole octets))
+    → IfSome input (λ octets. RunsOut before old mid (whole octets)) → IfSome input (λ octets. RunsOut run old out (whole octets))
 out_of_input None whole old mid out before run k same w = tt
 out_of_input (Some octets) whole old mid out before run k same w = out_by old mid out (whole octets) k before run same w
 
@@ -64,7 +77,7 @@ out_of_input (Some octets) whole old mid out before run k same w = out_by old mi
 pub out_of_inputs : {I X Y : Type 0} (first : Option X) (second : Option Y) (whole : X → Y → Outcome I) (old mid out : Option (List ℕ)) (before run : Result (Unit {0}) (Fault I)) → Keeps mid out → IsOrFails run before
     → IfSome first (λ x. IfSome second (λ y. Runs before old mid (whole x y))) → IfSome first (λ x. IfSome second (λ y. RunsOut run old out (whole x y)))
 out_of_inputs None second whole old mid out before run k same w = tt
-out_of_inputs (Some x) second whole old mid out before run k same w = out_of_input second (whole x) old mid out before run k same w
+out_of_inputs (Some x) second whole old mid out before run k same w = out_of_input second (whole x) old mid out before run k same (input_out second (whole x) before old mid w)
 
 -- 3. The end of a run, by what each of its results leaves
 

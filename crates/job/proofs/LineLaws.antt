@@ -1,16 +1,17 @@
 -- Runs that answer the lines of an input one after another: one line more, and the ends.
 use Rattle.std.proofs.Common.{◌≡◌, ℕ, List, [], ◌++◌, Option, Some, None, Result, Ok, Err, true, false, refl, sym, ap, ◌∙◌, subst, append-nil}
-use Rattle.std.specs.Prelude.{IfSome, option_map}
-use Rattle.std.specs.Io.KnownBytes.{Appends}
+use Rattle.std.specs.Prelude.{IfSome}
+use Rattle.std.specs.Io.KnownBytes.{Appends, Keeps}
 use Rattle.octet_writer.specs.Writes.{FallsShort, Sent}
 use Rattle.octet_writer.proofs.Fronts.{sent_none, sent_more, sent_short, sent_all}
-use Rattle.line_reader.specs.Script.{Script, End, Broken, Line, script_of}
+use Rattle.line_reader.specs.Script.{Script, End, Broken, Line}
 use Rattle.line_reader.specs.LineReader.{Advances}
 use Rattle.line_reader.specs.declared.lines.Limit.{Limit}
 use Rattle.line_reader.specs.declared.lines.LineFault.{LineFault}
 use Rattle.line_reader.specs.declared.lines.LineFault.TheVariants as LineFaults
-use Rattle.job.specs.Lines.{fault_of_line}
-use Rattle.job.specs.Outcome.{Outcome, Runs}
+use Rattle.job.specs.Lines.{Steps, fault_of_line}
+use Rattle.job.specs.Outcome.{Outcome, Runs, RunsOut}
+use Rattle.job.proofs.EndingLaws.{input_out, sent_kept}
 use Rattle.job.specs.declared.fault.Fault.{Fault}
 use Rattle.job.specs.declared.fault.Fault.TheVariants as Faults
 
@@ -37,6 +38,21 @@ module _ {I S : Type 0} (limited : ℕ → Limit → I) (outcome : S → Script 
   pub begun : (first : S) (all : Option Script) (old : Option (List ℕ)) → Goes first all old old first all
   begun first None old = tt
   begun first (Some script) old = (sent_none old (outcome first script).text, refl)
+
+  module _ (first state : S) (old now : Option (List ℕ)) where
+    -- what was written is let out
+    pub goes_kept : (new : Option (List ℕ)) (all s : Option Script) → Goes first all old now state s → Keeps now new → Goes first all old new state s
+    goes_kept new None s g k = tt
+    goes_kept new (Some all) None g k = absurd g
+    goes_kept new (Some all) (Some script) g k = (sent_kept old now new _ _ g.0 k, g.1)
+
+    -- what was written can't be let out
+    pub held_back : {T : Type 0} {f : Result T (Fault I)} (all s : Option Script) → Goes first all old now state s → f ≡ Err Faults.Write → IfSome all (λ script. RunsOut f old now (outcome first script))
+    held_back None s g h = tt
+    held_back (Some all) None g h = absurd g
+    held_back {T} {f} (Some all) (Some script) g h =
+        let P : Result T (Fault I) → Type 0 = λ x. RunsOut x old now (outcome first all) in
+        subst P (sym h) ((outcome state script).text, g.0)
 
   module _ (number : ℕ) (line : List ℕ) (first state : S) (old now : Option (List ℕ)) where
     -- a line gives nothing
@@ -112,17 +128,21 @@ module _ {I S : Type 0} (limited : ℕ → Limit → I) (outcome : S → Script 
         let P : Result T (Fault I) → Type 0 = λ x. Runs x old now (outcome first all) in
         subst P (sym h) ((outcome state script).text, g.0)
 
-  -- what holds of the lines of a known input
-  pub of_input : {T : Type 0} (f : Result T (Fault I)) (first : S) (old new : Option (List ℕ)) (input : Option (List ℕ)) (lines : Option Script) → lines ≡ option_map script_of input
-      → IfSome lines (λ script. Runs f old new (outcome first script)) → IfSome input (λ octets. Runs f old new (outcome first (script_of octets)))
-  of_input f first old new None lines e h = tt
-  of_input {T} f first old new (Some octets) lines e h =
-      let Q : Option Script → Type 0 = λ o. IfSome o (λ script. Runs f old new (outcome first script)) in
-      subst Q e h
+    -- the lines stop, or what was written can't be let out before more is read
+    pub stops_before : {T : Type 0} {f : Result T (Fault I)} (fault : Fault I) (all s t : Option Script) → Goes first all old now state s → Steps limited s (Err fault) number line t
+        → ((n : ℕ) (limit : Limit) → outcome state (Broken n limit) ≡ faulty (limited n limit)) → f ≡ Err fault → IfSome all (λ script. RunsOut f old now (outcome first script))
+    stops_before {T} {f} (Faults.Input fault) all s t g (n, limit, same, a) e h =
+        input_out all (outcome first) f old now (stops (LineFaults.Limit n limit) all s t g a e (h ∙ ap (λ x. Err (Faults.Input x)) same))
+    stops_before {T} {f} Faults.Read all s t g a e h = input_out all (outcome first) f old now (stops LineFaults.Read all s t g a e h)
+    stops_before Faults.Write all s t g a e h = held_back first state old now all s g h
+    stops_before Faults.Memory all s t g a e h = absurd a
 
 -- nothing is written where out of memory before anything is read
-pub memory_exit : {I T X : Type 0} {f : Result T (Fault I)} (whole : X → Outcome I) (input : Option X) (old : Option (List ℕ)) → f ≡ Err Faults.Memory → IfSome input (λ octets. Runs f old old (whole octets))
-memory_exit whole None old e = tt
-memory_exit {I} {T} {X} {f} whole (Some octets) old e =
+pub memory_left : {I T X : Type 0} {f : Result T (Fault I)} (whole : X → Outcome I) (input : Option X) (old : Option (List ℕ)) → f ≡ Err Faults.Memory → IfSome input (λ octets. Runs f old old (whole octets))
+memory_left whole None old e = tt
+memory_left {I} {T} {X} {f} whole (Some octets) old e =
     let P : Result T (Fault I) → Type 0 = λ x. Runs x old old (whole octets) in
     subst P (sym e) ((whole octets).text, sent_none old (whole octets).text)
+
+pub memory_exit : {I T X : Type 0} {f : Result T (Fault I)} (whole : X → Outcome I) (input : Option X) (old : Option (List ℕ)) → f ≡ Err Faults.Memory → IfSome input (λ octets. RunsOut f old old (whole octets))
+memory_exit {f = f} whole input old e = input_out input whole f old old (memory_left whole input old e)

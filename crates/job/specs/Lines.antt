@@ -1,5 +1,7 @@
 -- Faults of runs on inputs that are read line by line.
-use Rattle.std.specs.Prelude.{ℕ}
+use Rattle.std.specs.Prelude.{◌≡◌, ℕ, List, Bool, Option, Result, Ok, Err}
+use Rattle.line_reader.specs.LineReader.{Advances}
+use Rattle.line_reader.specs.Script.{Script}
 use Rattle.line_reader.specs.declared.lines.Limit.{Limit}
 use Rattle.line_reader.specs.declared.lines.LineFault.{LineFault}
 use Rattle.line_reader.specs.declared.lines.LineFault.TheVariants as LineFaults
@@ -10,3 +12,12 @@ use Rattle.job.specs.declared.fault.Fault.TheVariants as Faults
 abbrev pub fault_of_line : {I : Type 0} → (ℕ → Limit → I) → LineFault → Fault I
 fault_of_line limited (LineFaults.Limit number limit) = Faults.Input (limited number limit)
 fault_of_line limited LineFaults.Read = Faults.Read
+
+-- A step to the next line, where what was written is let out first: a step of the lines, or nothing could be let out.
+abbrev pub Steps : {I : Type 0} → (ℕ → Limit → I) → Option Script → Result Bool (Fault I) → ℕ → List ℕ → Option Script → Type 0
+Steps limited old (Ok more) number line new = Advances old (Ok more) number line new
+Steps limited old (Err (Faults.Input fault)) number line new =
+    (n : ℕ) × (limit : Limit) × (fault ≡ limited n limit) × Advances old (Err (LineFaults.Limit n limit)) number line new
+Steps limited old (Err Faults.Read) number line new = Advances old (Err LineFaults.Read) number line new
+Steps limited old (Err Faults.Write) number line new = Unit {0}
+Steps limited old (Err Faults.Memory) number line new = ⊥

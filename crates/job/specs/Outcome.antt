@@ -19,8 +19,8 @@ Runs (Err Faults.Read) old new whole = AppendsFront old new whole.text
 Runs (Err Faults.Write) old new whole = FallsShort old new whole.text
 Runs (Err Faults.Memory) old new whole = AppendsFront old new whole.text
 
--- What is written by a run whose output goes through a buffer: as of any run, but after a failed write a prefix, whose last octets the
--- buffer still has.
+-- What is written by a run that lets out its output before its end, or whose output goes through a buffer: as of any run, but after a failed
+-- write a prefix, whose last octets the buffer still has.
 abbrev pub RunsOut : {I T : Type 0} → Result T (Fault I) → Option (List ℕ) → Option (List ℕ) → Outcome I → Type 0
 RunsOut (Ok x) old new whole = (whole.fault ≡ None) × Appends old new whole.text
 RunsOut (Err (Faults.Input fault)) old new whole = (whole.fault ≡ Some fault) × Appends old new whole.text

@@ -8,9 +8,11 @@
 mod ending;
 mod fault;
 mod input;
+mod step;
 mod telling;
 
 pub use ending::{end_run, end_told};
 pub use fault::Fault;
 pub use input::{InputFault, LineInput};
+pub use step::next_line;
 pub use telling::{Ended, say_fault, say_run};

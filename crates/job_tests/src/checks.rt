@@ -2,7 +2,7 @@
 
 use linked_list_allocator::LocalHeap;
 use schedule_check::{CheckSettings, check};
-use script::RunFault;
+use script::{RunFault, Unwatched};
 use std::alloc::{Allocator, Global};
 use std::io::{Read, Write};
 use test_streams::{Narrow, Pieces};
@@ -53,6 +53,7 @@ fn check_of<A: Allocator, R: Read + Drop, W: Write>(
             windows,
             script: false,
         },
+        &mut Unwatched,
     )
 }
 

@@ -5,8 +5,8 @@ use crate::replays::{
 };
 use linked_list_allocator::LocalHeap;
 use refusing_heap::RefusingHeap;
-use replay::{ReplayFault, Stamp, Unwatched, replay};
-use script::Settings;
+use replay::{ReplayFault, Stamp, replay};
+use script::{Settings, Unwatched};
 use std::alloc::Global;
 use std::io::Write;
 use std::test::Fail;

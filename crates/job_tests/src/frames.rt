@@ -2,7 +2,7 @@
 
 use frame_table::run_frames;
 use refusing_heap::RefusingHeap;
-use script::{RunFault, Settings};
+use script::{RunFault, Settings, Unwatched};
 use std::alloc::Global;
 use std::process::Abort;
 use std::test::Fail;
@@ -28,7 +28,7 @@ fn is_read(alloc: Global, settings: Settings, at: u32) -> bool {
     let mut failing = Pieces::new(SCRIPT, 9);
     failing.fails_at = at;
     let mut got = Vec::new(alloc);
-    let run = run_frames(alloc, failing, &mut got, settings);
+    let run = run_frames(alloc, failing, &mut got, settings, &mut Unwatched);
     if run.is_ok() {
         return got.as_slice() == TABLE;
     }
@@ -44,7 +44,7 @@ fn is_written(alloc: Global, settings: Settings, room: usize) -> bool {
         fails: room % 2 == 0,
         recovers: true,
     };
-    let run = run_frames(alloc, SCRIPT, &mut narrow, settings);
+    let run = run_frames(alloc, SCRIPT, &mut narrow, settings, &mut Unwatched);
     run == Err(RunFault::Write) && TABLE.starts_with(narrow.got.as_slice())
 }
 
@@ -53,7 +53,7 @@ fn is_written(alloc: Global, settings: Settings, room: usize) -> bool {
 fn is_refused(alloc: Global, settings: Settings, number: u64) -> Option<bool> {
     let heap = RefusingHeap::new(alloc, number, true);
     let mut got = Vec::new(alloc);
-    let run = run_frames(&heap, SCRIPT, &mut got, settings);
+    let run = run_frames(&heap, SCRIPT, &mut got, settings, &mut Unwatched);
     if heap.asked() > number {
         (run == Err(RunFault::Memory) && TABLE.starts_with(got.as_slice())).then_some(true)
     } else {

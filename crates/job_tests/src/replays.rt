@@ -1,8 +1,8 @@
 //! Two frames, and what comes out.
 
 use job::{Ended, say_fault};
-use replay::{ReplayFault, ReplayInput, Stamp, Unwatched, Watch, replay};
-use script::Settings;
+use replay::{ReplayFault, ReplayInput, Stamp, replay};
+use script::{Settings, Unwatched, Watch};
 use std::alloc::{Allocator, Global};
 use std::io::{self, Read};
 use std::test::Fail;

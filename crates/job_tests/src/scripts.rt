@@ -2,7 +2,7 @@
 
 use job::{Ended, say_fault};
 use linked_list_allocator::LocalHeap;
-use script::{RunFault, Settings, Values, answer_script, run_script};
+use script::{RunFault, Settings, Unwatched, Values, answer_script, run_script};
 use std::alloc::Global;
 use std::io::{self, BufWriter, Write};
 use std::process::Abort;
@@ -61,7 +61,7 @@ fn is_enough(
 ) -> Option<bool> {
     let heap = LocalHeap::new(alloc, octets).ok()?;
     let mut got = Vec::new(alloc);
-    match run_script(&heap, script, &mut got, settings) {
+    match run_script(&heap, script, &mut got, settings, &mut Unwatched) {
         Ok(()) => is_front_and(&got, answers, summary).then_some(true),
         Err(fault) => (fault == RunFault::Memory && got.is_empty()).then_some(false),
     }
@@ -85,7 +85,7 @@ fn is_read(alloc: Global, settings: Settings, fails_at: u32) -> bool {
     let mut reader = Pieces::new(SCRIPT, 1);
     reader.fails_at = fails_at;
     let mut got = Vec::new(alloc);
-    let outcome = run_script(alloc, reader, &mut got, settings);
+    let outcome = run_script(alloc, reader, &mut got, settings, &mut Unwatched);
     if fails_at > 27 {
         outcome == Ok(()) && got.as_slice() == ANSWERS
     } else {
@@ -110,7 +110,7 @@ fn is_written(alloc: Global, settings: Settings, room: usize, piece: usize, fail
         fails,
         recovers: false,
     };
-    let outcome = run_script(alloc, SCRIPT, &mut writer, settings);
+    let outcome = run_script(alloc, SCRIPT, &mut writer, settings, &mut Unwatched);
     let want = (room < 49).then_some(RunFault::Write);
     outcome.err() == want && ANSWERS.starts_with(&writer.got) && writer.got.len() == room.min(49)
 }
@@ -198,7 +198,14 @@ fn is_failed_read_told(alloc: Global) -> io::Result<bool> {
     reader.fails_at = 14;
     let writer = BufWriter::new(alloc, Vec::new(alloc))?;
     let mut errors = Vec::new(alloc);
-    let (ended, got) = answer_script(alloc, NONE, &mut reader, writer, &mut errors);
+    let (ended, got) = answer_script(
+        alloc,
+        NONE,
+        &mut reader,
+        writer,
+        &mut errors,
+        &mut Unwatched,
+    );
     Ok(
         ended == FAILED
             && got.as_slice() == b"queued 1 class 0\n".as_slice()
@@ -216,7 +223,14 @@ fn is_failed_write_told(alloc: Global) -> io::Result<bool> {
     };
     let writer = BufWriter::new(alloc, narrow)?;
     let mut errors = Vec::new(alloc);
-    let (ended, once) = answer_script(alloc, NONE, &mut reader, writer, &mut errors);
+    let (ended, once) = answer_script(
+        alloc,
+        NONE,
+        &mut reader,
+        writer,
+        &mut errors,
+        &mut Unwatched,
+    );
     Ok(
         ended == FAILED
             && once.calls == 1
@@ -239,7 +253,8 @@ fn is_told_at_once(alloc: Global, settings: Settings) -> bool {
     reader.fails_at = 0;
     reader.recovers = true;
     let mut got = Vec::new(alloc);
-    run_script(alloc, reader, &mut got, settings) == Err(RunFault::Read) && got.is_empty()
+    run_script(alloc, reader, &mut got, settings, &mut Unwatched) == Err(RunFault::Read)
+        && got.is_empty()
 }
 
 /// A read that fails once is not tried again, though it would work then.

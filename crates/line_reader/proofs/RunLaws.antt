@@ -1,11 +1,11 @@
 -- A run of octets that are no line feed.
-use Rattle.std.proofs.Common.{◌≡◌, ◌≤◌, ◌<◌, ◌+◌, ◌++◌, ℕ, zero, suc, Bool, true, false, eqb, List, [], ◌∷◌, Option, Some, None, length, take, refl, sym, ap, ◌∙◌, append_assoc, drop, Ok, arith}
+use Rattle.std.proofs.Common.{◌≡◌, ◌≤◌, ◌<◌, ◌+◌, ◌++◌, ℕ, zero, suc, Bool, true, false, eqb, List, [], ◌∷◌, Option, Some, None, length, take, refl, sym, ap, ◌∙◌, append_assoc, append-nil, drop, Ok, arith, if◌then◌else◌}
 use Rattle.std.proofs.lemmas.List.{at_drop_more, length-take-le, take-append-drop}
-use Rattle.std.specs.Prelude.{not, ◌&&◌, ◌==◌, option_map}
+use Rattle.std.specs.Prelude.{not, ◌&&◌, ◌==◌, get_or, option_map}
 use Rattle.std.specs.List.{list_all}
 use Rattle.memchr.specs.Find.{Nowhere, Passes, is_byte}
-use Rattle.line_reader.specs.Script.{fresh, script_from}
-use Rattle.line_reader.specs.LineReader.{Advances, EndsLine}
+use Rattle.line_reader.specs.Script.{fresh, joins, script_from}
+use Rattle.line_reader.specs.LineReader.{Advances, EndsLine, ends_in}
 use Rattle.line_reader.specs.declared.lines.TheConstants.{MAX_LINE_OCTETS, MAX_LINES}
 use Rattle.line_reader.proofs.SpellingLaws.{line_end, run_within}
 
@@ -34,11 +34,44 @@ after_run (Some xs) tail octets run back front first breaks parts unbroken short
     ∙ ap (script_from (record { octets = octets; first = first; breaks = breaks })) (append_assoc run back (tail xs))
     ∙ run_within octets run (back ++ tail xs) first breaks unbroken short few))
 
--- the line and what comes after its line feed
-line_parts : (n : ℕ) (octets : List ℕ) → EndsLine octets n → octets ≡ take n octets ++ (10 ∷ drop (n + 1) octets)
-line_parts n octets is =
+-- the octets before a line feed, and what comes after it
+line_parts : (n : ℕ) (octets : List ℕ) → n < length octets → get_or octets n 0 ≡ 10 → octets ≡ take n octets ++ (10 ∷ drop (n + 1) octets)
+line_parts n octets within ended =
     sym (take-append-drop n octets)
-    ∙ ap (λ t. take n octets ++ t) (at_drop_more (λ (l : List ℕ). l) octets n 0 is.within ∙ ap (λ b. b ∷ drop (n + 1) octets) is.ended)
+    ∙ ap (λ t. take n octets ++ t) (at_drop_more (λ (l : List ℕ). l) octets n 0 within ∙ ap (λ b. b ∷ drop (n + 1) octets) ended)
+
+rules_out : true ≡ false → ⊥
+rules_out e = cc
+
+-- whether a line ends among octets, one octet on
+by_feed : (t : Bool) (x y : Bool) → t ≡ false → (if t then x else y) ≡ y
+by_feed false x y e = refl
+by_feed true x y e = absurd (rules_out e)
+
+first_not : (t u : Bool) → (not t && u) ≡ true → t ≡ false
+first_not false u e = refl
+first_not true u e = absurd (rules_out (sym e))
+
+second_too : (t u : Bool) → (not t && u) ≡ true → u ≡ true
+second_too false u e = e
+second_too true u e = absurd (rules_out (sym e))
+
+-- octets without a line feed end no line
+pub no_feed : (line hay : List ℕ) → list_all (λ octet. not (octet == 10)) hay ≡ true → ends_in line hay ≡ false
+no_feed line [] e = refl
+no_feed line (b ∷ bs) e = by_feed (b == 10) _ _ (first_not (b == 10) _ e) ∙ no_feed (line ++ b ∷ []) bs (second_too (b == 10) _ e)
+
+-- they are of the physical line that stands before a feed
+past_front : (line front rest : List ℕ) → list_all (λ octet. not (octet == 10)) front ≡ true → ends_in line (front ++ rest) ≡ ends_in (line ++ front) rest
+past_front line [] rest e = ap (λ l. ends_in l rest) (sym (append-nil line))
+past_front line (b ∷ bs) rest e =
+    by_feed (b == 10) _ _ (first_not (b == 10) _ e)
+    ∙ (past_front (line ++ b ∷ []) bs rest (second_too (b == 10) _ e) ∙ ap (λ l. ends_in l rest) (append_assoc line (b ∷ []) bs))
+
+-- the first line feed ends a line, or joins the next physical one
+pub at_feed : (n : ℕ) (hay : List ℕ) → n < length hay → get_or hay n 0 ≡ 10 → list_all (λ octet. not (octet == 10)) (take n hay) ≡ true
+    → ends_in [] hay ≡ (if joins (take n hay) then ends_in [] (drop (n + 1) hay) else true)
+at_feed n hay within feed unbroken = ap (ends_in []) (line_parts n hay within feed) ∙ past_front [] (take n hay) (10 ∷ drop (n + 1) hay) unbroken
 
 -- a line that stands whole in hand is the next one
 pub whole_line : (known : Option (List ℕ)) (tail : List ℕ → List ℕ) (n breaks : ℕ) (octets : List ℕ) → EndsLine octets n → n ≤ MAX_LINE_OCTETS → breaks < MAX_LINES
@@ -51,7 +84,7 @@ whole_line (Some xs) tail n breaks octets is short few =
     let long : length line ≡ n = length-take-le n octets (omega (arith, is.within)) in (
       script_from (fresh (breaks + 1)) rest,
       refl,
-      ap (λ f. script_from (fresh breaks) (f ++ tail xs)) (line_parts n octets is)
+      ap (λ f. script_from (fresh breaks) (f ++ tail xs)) (line_parts n octets is.within is.ended)
           ∙ ap (script_from (fresh breaks)) (append_assoc line (10 ∷ drop (n + 1) octets) (tail xs))
           ∙ run_within [] line (10 ∷ rest) (breaks + 1) breaks is.unbroken (omega arith) few
           ∙ line_end line rest (breaks + 1) breaks is.unjoined few,

@@ -111,7 +111,7 @@ pub struct LineReader<R, A: Allocator = Global> {
 }
 
 impl<R: Read + Drop, A: Allocator> LineReader<R, A> {
-    ghost use Rattle.line_reader.specs.LineReader.{script_ahead, script_behind, script_within, script_left, Advances, most_lines, current_line, current_number, in_hand, how_ended, next_number, EndsLine, IsAtEnd};
+    ghost use Rattle.line_reader.specs.LineReader.{script_ahead, script_behind, script_within, script_left, Advances, most_lines, current_line, current_number, in_hand, how_ended, next_number, EndsLine, IsAtEnd, ends_in};
 
     /// Makes both buffers, and reads nothing.
     pub fn new(alloc: A, reader: R) -> Result<LineReader<R, A>, AllocError>
@@ -151,6 +151,21 @@ impl<R: Read + Drop, A: Allocator> LineReader<R, A> {
         ensures { result.now ≡ in_hand self.now }
     {
         self.source.buffer()
+    }
+
+    /// Whether a line stands whole in hand, with the LF that ends it. Where none does, `advance` may have to read.
+    pub fn has_line(&self) -> bool
+        ensures { result ≡ ends_in [] (in_hand self.now) }
+    {
+        let mut rest = self.source.buffer();
+        'feeds: while let Some(end) = memchr(b'\n', rest) {
+            if !joins(&rest[..end]) {
+                return true;
+            }
+            let (_, behind) = rest.split_at(end + 1);
+            rest = behind;
+        }
+        false
     }
 
     /// Goes past a line of so many octets that stands whole in hand, with the LF after it, without taking it: what the reader stands

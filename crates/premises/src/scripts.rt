@@ -4,10 +4,10 @@ ghost use Rattle.std.specs.Prelude.{◌≡◌, ◌++◌, ℕ, List, Result, Some
 ghost use Rattle.abstract_port.specs.declared.Command.{Command};
 ghost use Rattle.tc_reader.specs.Reader.{IsReader};
 ghost use Rattle.tc_reader.specs.declared.fault.TcFault.{TcFault};
-ghost use Rattle.job.specs.Outcome.{Runs};
+ghost use Rattle.job.specs.Outcome.{RunsOut};
 ghost use Rattle.script.specs.Outcome.{IsFaithfulTo, outcome_of};
 
-use script::{RunFault, Settings, run_script};
+use script::{RunFault, Settings, Unwatched, run_script};
 use std::alloc::Global;
 
 /// Answers a script whose octets lie in memory. What is appended is the output of these octets: the lines of the abstract port's
@@ -20,8 +20,8 @@ pub fn answered(
     output: &mut Vec<u8>,
 ) -> Result<(), RunFault>
     ensures output { OnOk result ((read : List (List ℕ) → Result Command TcFault) → IsReader read → output.new.items ≡ output.old.items ++ (outcome_of read settings input.now).text) }
-    ensures run { (read : List (List ℕ) → Result Command TcFault) → IsReader read → Runs result (Some output.old.items) (Some output.new.items) (outcome_of read settings input.now) }
+    ensures run { (read : List (List ℕ) → Result Command TcFault) → IsReader read → RunsOut result (Some output.old.items) (Some output.new.items) (outcome_of read settings input.now) }
     ensures faithful { (read : List (List ℕ) → Result Command TcFault) → IsFaithfulTo read settings input.now }
 {
-    run_script(alloc, input, output, settings)
+    run_script(alloc, input, output, settings, &mut Unwatched)
 }

@@ -14,9 +14,11 @@ ghost use Rattle.wire_time.specs.Moment.{greatest_moment};
 
 use crate::bounding::bounds_given;
 use crate::end_without_memory;
-use crate::options::{checks_of, command, draws_of, values_of};
+use crate::onlooker::{FaultText, Onlooker};
+use crate::options::{JOBS, checks_of, command, draws_of, is_given, looks_of, values_of};
+use crate::piped::Piped;
 use crate::progress::Progress;
-use crate::replaying::replay_given;
+use crate::replaying::{first_octets, replay_given};
 use crate::streaming::streams_given;
 use clap::error::ErrorKind;
 use clap::{ArgMatches, Error};
@@ -24,7 +26,7 @@ use drawing::answer_draw;
 use frame_table::answer_frames;
 use job::Ended;
 use schedule_check::answer_check;
-use script::answer_script;
+use script::{Watch, answer_script};
 use std::alloc::{Allocator, Global};
 use std::io::{BufWriter, Read, Write};
 use std::rt::Files;
@@ -32,35 +34,37 @@ use std::time::Clock;
 
 /// Answers the script that `reader` gives, by the values that the words give to the options, through `answers`, with the text of
 /// a fault on `errors`; and gives the writer of the answers back.
-pub fn answer_given<B: Allocator, R: Read, W: Write + Drop, E: Write>(
+pub fn answer_given<B: Allocator, R: Read, W: Write + Drop, E: Write, H: Watch>(
     alloc: Global,
     matches: &ArgMatches<'_>,
     reader: &mut R,
     answers: BufWriter<W, B>,
     errors: &mut E,
+    watch: &mut H,
 ) -> (Ended, W)
     ensures ending { IsEnding whole_script (settings_in greatest_moment (found_of matches.now))
         (R.remaining reader.old) result.0 (writer_contents W.contents answers) (W.contents result.1) (E.contents errors.old) (E.contents errors.new) }
     ensures unread { IfErr (settings_in greatest_moment (found_of matches.now)) (λ _. reader.new ≡ reader.old) }
 {
-    answer_script(alloc, values_of(matches), reader, answers, errors)
+    answer_script(alloc, values_of(matches), reader, answers, errors, watch)
 }
 
 /// Checks the schedules that `reader` gives, by the value that the words give to the rate, with windows where they ask for them, and of a script
 /// where they say so,
 /// through `answers`, with the text of a fault on `errors`; and gives the writer of the answers back.
-pub fn check_given<B: Allocator, R: Read, W: Write + Drop, E: Write>(
+pub fn check_given<B: Allocator, R: Read, W: Write + Drop, E: Write, H: Watch>(
     alloc: Global,
     matches: &ArgMatches<'_>,
     reader: &mut R,
     answers: BufWriter<W, B>,
     errors: &mut E,
+    watch: &mut H,
 ) -> (Ended, W)
     ensures ending { (tell : Teller) → IsTeller tell → IsEnding (whole_check tell (flag_in (codes "windows") (found_of matches.now)) (flag_in (codes "script") (found_of matches.now))) (rate_in (found_of matches.now))
         (R.remaining reader.old) result.0 (writer_contents W.contents answers) (W.contents result.1) (E.contents errors.old) (E.contents errors.new) }
     ensures unread { IfErr (rate_in (found_of matches.now)) (λ _. reader.new ≡ reader.old) }
 {
-    answer_check(alloc, checks_of(matches), reader, answers, errors)
+    answer_check(alloc, checks_of(matches), reader, answers, errors, watch)
 }
 
 /// Draws the run of the script that `reader` gives, by the values that the words give to the options, through `answers`, with the text of
@@ -89,18 +93,19 @@ pub fn draw_given<B: Allocator, R: Read, W: Write + Drop, E: Write>(
 
 /// Writes the table of the frames of the script that `reader` gives, by the values that the words give to the options, through `answers`, with
 /// the text of a fault on `errors`; and gives the writer of the answers back.
-pub fn frames_given<B: Allocator, R: Read, W: Write + Drop, E: Write>(
+pub fn frames_given<B: Allocator, R: Read, W: Write + Drop, E: Write, H: Watch>(
     alloc: Global,
     matches: &ArgMatches<'_>,
     reader: &mut R,
     answers: BufWriter<W, B>,
     errors: &mut E,
+    watch: &mut H,
 ) -> (Ended, W)
     ensures ending { IsEnding whole_frames (settings_in greatest_moment (found_of matches.now))
         (R.remaining reader.old) result.0 (writer_contents W.contents answers) (W.contents result.1) (E.contents errors.old) (E.contents errors.new) }
     ensures unread { IfErr (settings_in greatest_moment (found_of matches.now)) (λ _. reader.new ≡ reader.old) }
 {
-    answer_frames(alloc, values_of(matches), reader, answers, errors)
+    answer_frames(alloc, values_of(matches), reader, answers, errors, watch)
 }
 
 /// Whether a text is written whole and let out.
@@ -134,8 +139,30 @@ fn answer_refusal<B: Allocator, W: Write + Drop, E: Write>(
     (ended, writer)
 }
 
-/// Answers a job and its options, as the words give them.
-fn answer_job<
+/// Answers a job by its name and its options, as the words give them.
+fn answer_job<F: Files, B: Allocator, R: Read, W: Write + Drop, E: Write, H: Watch>(
+    files: &F,
+    alloc: Global,
+    name: &str,
+    matches: &ArgMatches<'_>,
+    reader: &mut R,
+    answers: BufWriter<W, B>,
+    errors: &mut E,
+    watch: &mut H,
+) -> (Ended, W) {
+    match name {
+        "script" => answer_given(alloc, matches, reader, answers, errors, watch),
+        "replay" => replay_given(files, alloc, matches, reader, answers, errors, watch),
+        "check" => check_given(alloc, matches, reader, answers, errors, watch),
+        "draw" => draw_given(alloc, matches, reader, answers, errors),
+        "frames" => frames_given(alloc, matches, reader, answers, errors, watch),
+        "streams" => streams_given(files, alloc, matches, reader, answers, errors, watch),
+        _ => bounds_given(files, alloc, matches, reader, answers, errors),
+    }
+}
+
+/// Answers a job, and reports on standard error how it ended, but not where nobody reads the answers any more.
+fn answer_watched<
     F: Files,
     B: Allocator,
     R: Read,
@@ -146,47 +173,40 @@ fn answer_job<
 >(
     files: &F,
     alloc: Global,
+    name: &str,
     matches: &ArgMatches<'_>,
     reader: &mut R,
-    answers: BufWriter<W, B>,
+    answers: BufWriter<Piped<W>, B>,
     errors: &mut E,
     progress: &mut Progress<'_, C, P>,
-) -> (Ended, W) {
-    if let Some(script) = matches.subcommand_matches("script") {
-        return answer_given(alloc, script, reader, answers, errors);
+    terminal: bool,
+) -> (Ended, Piped<W>) {
+    if is_given(matches, "progress") {
+        progress.start();
     }
-    if let Some(replay) = matches.subcommand_matches("replay") {
-        if replay.get_flag("progress") {
-            progress.start();
-        }
-        return replay_given(files, alloc, replay, reader, answers, errors, progress);
+    let mut text = FaultText::new();
+    let mut onlooker = Onlooker::new(progress, errors, looks_of(matches, terminal));
+    let (ended, writer) = answer_job(
+        files,
+        alloc,
+        name,
+        matches,
+        reader,
+        answers,
+        &mut text,
+        &mut onlooker,
+    );
+    if ended.status != 4 || !writer.is_closed() {
+        let capture = first_octets(files, matches);
+        onlooker.report(&text, capture.as_slice());
     }
-    if let Some(check) = matches.subcommand_matches("check") {
-        return check_given(alloc, check, reader, answers, errors);
-    }
-    if let Some(draw) = matches.subcommand_matches("draw") {
-        return draw_given(alloc, draw, reader, answers, errors);
-    }
-    if let Some(frames) = matches.subcommand_matches("frames") {
-        return frames_given(alloc, frames, reader, answers, errors);
-    }
-    if let Some(streams) = matches.subcommand_matches("streams") {
-        return streams_given(files, alloc, streams, reader, answers, errors);
-    }
-    if let Some(bounds) = matches.subcommand_matches("bounds") {
-        return bounds_given(files, alloc, bounds, reader, answers, errors);
-    }
-    let ended = Ended {
-        status: 2,
-        told: true,
-    };
-    (ended, answers.into_parts().0)
+    (onlooker.judged(ended), writer)
 }
 
-/// Answers the words of the program, the first of which is its name: a script, a replay of files, the check of schedules, the script of a
-/// table of streams, the bounds of its delays, a picture, a table of frames, help, or why they are refused. What is answered goes through `answers`, whose writer is given back, and the text of a fault to `errors`; how far
-/// a replay has come is said through `progress`, where the words ask for it.
-pub fn answer_words<
+/// Answers the words of the program, the first of which is its name: a job, help, or why they are refused. What is answered goes through
+/// `answers`, whose writer is given back, and the text of a fault to `errors`, which may be a terminal; how far a replay has come is said
+/// through `progress`, where the words ask for it.
+pub(crate) fn answer_words<
     F: Files,
     B: Allocator,
     R: Read,
@@ -199,16 +219,29 @@ pub fn answer_words<
     alloc: Global,
     words: &[String],
     reader: &mut R,
-    answers: BufWriter<W, B>,
+    answers: BufWriter<Piped<W>, B>,
     errors: &mut E,
     progress: &mut Progress<'_, C, P>,
-) -> (Ended, W) {
+    terminal: bool,
+) -> (Ended, Piped<W>) {
     let Ok(command) = command(alloc) else {
         let ended = end_without_memory(errors);
         return (ended, answers.into_parts().0);
     };
-    match command.try_get_matches_from(words) {
-        Ok(matches) => answer_job(files, alloc, &matches, reader, answers, errors, progress),
-        Err(error) => answer_refusal(alloc, &error, answers, errors),
+    let matches = match command.try_get_matches_from(words) {
+        Ok(matches) => matches,
+        Err(error) => return answer_refusal(alloc, &error, answers, errors),
+    };
+    for job in &JOBS {
+        if let Some(given) = matches.subcommand_matches(job.name) {
+            return answer_watched(
+                files, alloc, job.name, given, reader, answers, errors, progress, terminal,
+            );
+        }
     }
+    let ended = Ended {
+        status: 2,
+        told: true,
+    };
+    (ended, answers.into_parts().0)
 }

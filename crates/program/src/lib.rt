@@ -9,17 +9,21 @@
 
 mod answering;
 mod bounding;
+mod onlooker;
 mod options;
+mod piped;
 mod progress;
 mod replaying;
 mod same_file;
 mod streaming;
 
-pub use answering::{answer_given, answer_words, check_given, draw_given, frames_given};
+use answering::answer_words;
+pub use answering::{answer_given, check_given, draw_given, frames_given};
 pub use bounding::bounds_given;
 use job::{Ended, say_fault};
 use options::reads_input;
 pub use options::values_of;
+use piped::Piped;
 pub use progress::Progress;
 pub use replaying::replay_given;
 use script::RunFault;
@@ -46,11 +50,12 @@ pub fn run(rt: &HostRuntime) -> ExitCode {
     let Ok(words) = args.collect::<Vec<String>>(rt.alloc()) else {
         return ExitCode::from(end_without_memory(&mut errors).status);
     };
-    let Ok(answers) = BufWriter::new(rt.alloc(), rt.stdout()) else {
+    let Ok(answers) = BufWriter::new(rt.alloc(), Piped::new(rt.stdout())) else {
         return ExitCode::from(end_without_memory(&mut errors).status);
     };
     let mut progress = Progress::new(rt, rt.stderr());
-    if errors.is_terminal() {
+    let terminal = errors.is_terminal();
+    if terminal {
         progress.start();
     }
     if rt.stdin().is_terminal() && reads_input(words.as_slice()) {
@@ -64,6 +69,7 @@ pub fn run(rt: &HostRuntime) -> ExitCode {
         answers,
         &mut errors,
         &mut progress,
+        terminal,
     );
     ExitCode::from(ended.status)
 }

@@ -6,6 +6,7 @@ ghost use Rattle.drawing.specs.Given.{words_of_draws};
 ghost use Rattle.script.specs.Given.{octets_of, words_of_values};
 ghost use Rattle.program.specs.Given.{draw_words_in, flag_in, words_in};
 
+use crate::onlooker::Looks;
 use clap::{Arg, ArgAction, ArgMatches, Command};
 use drawing::DrawValues;
 use schedule_check::CheckWords;
@@ -25,7 +26,7 @@ pub(crate) fn reads_input(words: &[String]) -> bool {
 }
 
 /// Whether a subcommand is given a flag.
-fn is_given(matches: &ArgMatches<'_>, name: &str) -> bool
+pub(crate) fn is_given(matches: &ArgMatches<'_>, name: &str) -> bool
     ensures { result ≡ flag_in name.now (found_of matches.now) }
 {
     match matches.get_str(name) {
@@ -71,6 +72,14 @@ pub(crate) fn bounds_of<'a>(matches: &ArgMatches<'a>) -> BoundsWords<'a>
     }
 }
 
+/// What a subcommand is asked to look at, where the standard error is a terminal or isn't.
+pub(crate) fn looks_of(matches: &ArgMatches<'_>, terminal: bool) -> Looks {
+    Looks {
+        explain: terminal || is_given(matches, "explain"),
+        strict: is_given(matches, "strict"),
+    }
+}
+
 /// The rate that a check is given, and what it is asked for.
 pub(crate) fn checks_of<'a>(matches: &ArgMatches<'a>) -> CheckWords<'a>
     ensures rate { octets_of result.rate ≡ first_value (found_of matches.now) (codes "rate") }
@@ -106,8 +115,8 @@ struct Word {
 
 /// A job of the program, with the words that it understands, in the order in which its help lists them.
 #[derive(Clone, Copy)]
-struct Job {
-    name: &'static str,
+pub(crate) struct Job {
+    pub name: &'static str,
     about: &'static str,
     words: &'static [Word],
 }
@@ -236,6 +245,20 @@ const STRICT: Word = Word {
     help: "End with status 1 where a deadline is missed or unknown, or a command is refused",
 };
 
+const STRICT_COMMANDS: Word = Word {
+    given: Given::Flag,
+    name: "strict",
+    value: "",
+    help: "End with status 1 where a tc line is no command, or its command is refused",
+};
+
+const EXPLAIN: Word = Word {
+    given: Given::Flag,
+    name: "explain",
+    value: "",
+    help: "Report with a fault its line and what was expected, also where standard error is no terminal",
+};
+
 const TABLE: Word = Word {
     given: Given::File,
     name: "table",
@@ -257,11 +280,11 @@ const WIDTH: Word = Word {
     help: "Its width, 400 to 2400 pixels [default: 1200]",
 };
 
-const JOBS: [Job; 7] = [
+pub(crate) const JOBS: [Job; 7] = [
     Job {
         name: "script",
         about: "Answers the lines of a script on standard input",
-        words: &[RATE, MTU, ROOM, UNTIL, SUMMARY],
+        words: &[RATE, MTU, ROOM, UNTIL, SUMMARY, STRICT_COMMANDS, EXPLAIN],
     },
     Job {
         name: "replay",
@@ -274,6 +297,7 @@ const JOBS: [Job; 7] = [
             STAMP,
             SUMMARY,
             PROGRESS,
+            EXPLAIN,
             SCRIPT,
             CAPTURE,
             OUT,
@@ -282,27 +306,27 @@ const JOBS: [Job; 7] = [
     Job {
         name: "check",
         about: "Reports which classes the schedule commands on standard input keep apart",
-        words: &[RATE, WINDOWS, SCRIPT_LINES],
+        words: &[RATE, WINDOWS, SCRIPT_LINES, STRICT_COMMANDS, EXPLAIN],
     },
     Job {
         name: "streams",
         about: "Writes a script with the frames of the streams in a table on standard input",
-        words: &[LINES, OFFSETS_FROM],
+        words: &[LINES, OFFSETS_FROM, EXPLAIN],
     },
     Job {
         name: "bounds",
         about: "Reports how long the frames of the streams in a table can ever wait, by the schedule commands on standard input",
-        words: &[RATE, MTU, ROOM, FRAMES, STRICT, TABLE],
+        words: &[RATE, MTU, ROOM, FRAMES, STRICT, EXPLAIN, TABLE],
     },
     Job {
         name: "draw",
         about: "Draws the run of a script on standard input, as an SVG picture",
-        words: &[RATE, MTU, ROOM, FROM, TO, WIDTH],
+        words: &[RATE, MTU, ROOM, FROM, TO, WIDTH, EXPLAIN],
     },
     Job {
         name: "frames",
         about: "Writes a table of the frames of a script on standard input, as CSV: times, waits and fates",
-        words: &[RATE, MTU, ROOM, UNTIL],
+        words: &[RATE, MTU, ROOM, UNTIL, EXPLAIN],
     },
 ];
 

@@ -1,6 +1,6 @@
 //! Lines that say how far a long replay has come.
 
-use replay::Watch;
+use script::Watch;
 use std::io::{self, Write};
 use std::time::{Clock, Duration, Instant};
 

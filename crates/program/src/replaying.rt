@@ -15,11 +15,12 @@ use crate::end_without_memory;
 use crate::options::values_of;
 use crate::same_file::is_same_file;
 use answer_text::{Part, put_parts};
+use arrayvec::ArrayVec;
 use capture::CAPTURE_END;
 use clap::ArgMatches;
 use job::{Ended, end_told};
-use replay::{Inputs, Outputs, Stamp, Watch, answer_replay, say_stamp, say_unopened, stamp_given};
-use script::{Settings, end_with_value, settings_given};
+use replay::{Inputs, Outputs, Stamp, answer_replay, say_stamp, say_unopened, stamp_given};
+use script::{Settings, Watch, end_with_value, settings_given};
 use std::alloc::{Allocator, Global};
 use std::fs;
 use std::io::{BufWriter, Read, Write};
@@ -41,6 +42,23 @@ pub(crate) fn open<'a, F: Files>(files: &F, path: &'a str) -> Result<F::File, &'
         Ok(file) => Ok(file),
         Err(_) => Err(path),
     }
+}
+
+/// How many octets of a capture are looked at.
+const FRONT: usize = 24;
+
+/// The first octets of a capture in a file, to say what the file is: none where the words name no such file or it can't be read.
+pub(crate) fn first_octets<F: Files>(files: &F, matches: &ArgMatches<'_>) -> ArrayVec<u8, FRONT> {
+    let mut front = ArrayVec::new();
+    let Ok(mut file) = open(files, path_of(matches, "capture")) else {
+        return front;
+    };
+    let mut octets = [0u8; FRONT];
+    if let Ok(count) = file.read(&mut octets) {
+        let (read, _) = octets.split_at(count.min(FRONT));
+        let _ = front.try_extend_from_slice(read);
+    }
+    front
 }
 
 /// Makes the file of a path, or empties it, or gives the path back. `-` is no file: one of that name is reached as `./-`.

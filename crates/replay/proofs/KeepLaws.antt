@@ -34,7 +34,7 @@ pub still-kept : (octets more : List ℕ) (line : KeptLine) → IsKept octets li
 still-kept octets more (Clock m) is = is
 still-kept octets more Query is = tt
 still-kept octets more (Count class) is = tt
-still-kept octets more (Tc start finish) is = (is.0, omega (arith, is.1, length-append octets more))
+still-kept octets more (Tc start finish number) is = (is.0, omega (arith, is.1, length-append octets more))
 
 pub are-still-kept : (octets more : List ℕ) (lines : List KeptLine) → AreKept octets lines → AreKept (octets ++ more) lines
 are-still-kept octets more lines are = λ k d below. still-kept octets more _ (are k d below)
@@ -43,7 +43,7 @@ same-request : (read : List (List ℕ) → Result Command TcFault) (octets more 
 same-request read octets more (Clock m) is = refl
 same-request read octets more Query is = refl
 same-request read octets more (Count class) is = refl
-same-request read octets more (Tc start finish) is = ap (λ (t : List ℕ). tc_request (read (words_of t))) (range-append octets more start finish is.0 is.1)
+same-request read octets more (Tc start finish number) is = ap (λ (t : List ℕ). tc_request (read (words_of t))) (range-append octets more start finish is.0 is.1)
 
 pub same-requests : (read : List (List ℕ) → Result Command TcFault) (octets more : List ℕ) (lines : List KeptLine) → AreKept octets lines
     → kept_requests read (octets ++ more) lines ≡ kept_requests read octets lines
@@ -52,8 +52,8 @@ same-requests read octets more (line ∷ lines) are =
     ap (λ (r : Request). r ∷ kept_requests read (octets ++ more) lines) (same-request read octets more line (All-head (IsKept octets) line lines are))
     ∙ ap (λ (rs : List Request). kept_request read octets line ∷ rs) (same-requests read octets more lines (All-tail (IsKept octets) line lines are))
 
-pub last-request : (read : List (List ℕ) → Result Command TcFault) (octets more : List ℕ) → kept_request read (octets ++ more) (Tc (length octets) (length (octets ++ more))) ≡ tc_request (read (words_of more))
-last-request read octets more = ap (λ (t : List ℕ). tc_request (read (words_of t))) (range-last octets more)
+pub last-request : (read : List (List ℕ) → Result Command TcFault) (octets more : List ℕ) (number : ℕ) → kept_request read (octets ++ more) (Tc (length octets) (length (octets ++ more)) number) ≡ tc_request (read (words_of more))
+last-request read octets more number = ap (λ (t : List ℕ). tc_request (read (words_of t))) (range-last octets more)
 
 -- ---- the lines of a reader
 

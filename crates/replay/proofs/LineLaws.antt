@@ -17,13 +17,13 @@ pub clock-kept : (read : List (List ℕ) → Result Command TcFault) (octets : L
 clock-kept read octets clock (Clock m) = refl
 clock-kept read octets clock Query = refl
 clock-kept read octets clock (Count class) = refl
-clock-kept read octets clock (Tc start finish) = tc-clock clock (read (words_of (slice_range octets start finish)))
+clock-kept read octets clock (Tc start finish number) = tc-clock clock (read (words_of (slice_range octets start finish)))
 
 pub clock-early : (octets : List ℕ) (clock : ℕ) (line : KeptLine) → IsKept octets line → clock ≤ CAPTURE_END → kept_clock clock line ≤ CAPTURE_END
 clock-early octets clock (Clock m) is h = omega arith
 clock-early octets clock Query is h = h
 clock-early octets clock (Count class) is h = h
-clock-early octets clock (Tc start finish) is h = h
+clock-early octets clock (Tc start finish number) is h = h
 
 module _ (read : List (List ℕ) → Result Command TcFault) (octets : List ℕ) where
   -- the first of lines

@@ -15,14 +15,14 @@ abbrev pub IsKept : List ℕ → KeptLine → Type 0
 IsKept octets (Clock m) = m ≤ CAPTURE_END
 IsKept octets Query = Unit {0}
 IsKept octets (Count class) = Unit {0}
-IsKept octets (Tc start finish) = (start ≤ finish) × (finish ≤ length octets)
+IsKept octets (Tc start finish number) = (start ≤ finish) × (finish ≤ length octets)
 
 -- in one way
 pub IsKept-prop : (octets : List ℕ) (line : KeptLine) → IsProp (IsKept octets line)
 IsKept-prop octets (Clock m) = le_prop
 IsKept-prop octets Query = Unit-prop
 IsKept-prop octets (Count class) = Unit-prop
-IsKept-prop octets (Tc start finish) = ×_prop le_prop le_prop
+IsKept-prop octets (Tc start finish number) = ×_prop le_prop le_prop
 
 -- each line is kept among these octets
 abbrev pub AreKept : List ℕ → List KeptLine → Type 0
@@ -33,7 +33,7 @@ abbrev pub kept_request : (List (List ℕ) → Result Command TcFault) → List 
 kept_request read octets (Clock m) = Asks (Events.Clock m)
 kept_request read octets Query = Asks Events.Query
 kept_request read octets (Count class) = Asks (Events.Count class)
-kept_request read octets (Tc start finish) = tc_request (read (words_of (slice_range octets start finish)))
+kept_request read octets (Tc start finish number) = tc_request (read (words_of (slice_range octets start finish)))
 
 -- what lines ask
 abbrev pub kept_requests : (List (List ℕ) → Result Command TcFault) → List ℕ → List KeptLine → List Request
@@ -44,4 +44,4 @@ abbrev pub kept_clock : ℕ → KeptLine → ℕ
 kept_clock clock (Clock m) = max clock m
 kept_clock clock Query = clock
 kept_clock clock (Count class) = clock
-kept_clock clock (Tc start finish) = clock
+kept_clock clock (Tc start finish number) = clock

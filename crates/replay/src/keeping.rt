@@ -7,23 +7,24 @@ use crate::faults::{ReplayFault, ReplayInput};
 use crate::kept_script::{KeptLine, KeptScript};
 use crate::line_beside::{Line, read_line_beside};
 use line_reader::LineReader;
-use script::BadLine;
+use script::{BadLine, Watch};
 use std::alloc::{AllocError, Allocator};
 use std::io::Read;
 
-/// Puts the octets of a line after those that are kept, and says where they lie.
+/// Puts the octets of the line of a number after those that are kept, and says where they lie.
 fn keep_octets<A: Allocator>(
     script: &mut KeptScript<A>,
     octets: &[u8],
+    number: u32,
 ) -> Result<KeptLine, AllocError>
     ensures lines { script.new.lines.items ≡ script.old.lines.items }
     ensures kept { OnOk result (script.new.octets.items ≡ script.old.octets.items ++ octets.now) }
-    ensures place { IfOk result (λ line. line ≡ KeptLine.Tc (length script.old.octets.items) (length script.new.octets.items)) }
+    ensures place { IfOk result (λ line. line ≡ KeptLine.Tc (length script.old.octets.items) (length script.new.octets.items) number) }
 {
     let start = script.octets.len();
     script.octets.extend_from_slice(octets)?;
     let end = script.octets.len();
-    Ok(KeptLine::Tc { start, end })
+    Ok(KeptLine::Tc { start, end, number })
 }
 
 /// What is kept of a line, whose octets are kept only where it begins with `tc`.
@@ -31,6 +32,7 @@ fn kept_line<A: Allocator>(
     script: &mut KeptScript<A>,
     line: Line,
     octets: &[u8],
+    number: u32,
 ) -> Result<KeptLine, AllocError>
     requires { IsEarly line }
     ensures lines { script.new.lines.items ≡ script.old.lines.items }
@@ -42,29 +44,31 @@ fn kept_line<A: Allocator>(
         Line::Clock(moment) => Ok(KeptLine::Clock(moment)),
         Line::Query => Ok(KeptLine::Query),
         Line::Count(class) => Ok(KeptLine::Count(class)),
-        Line::Tc => keep_octets(script, octets),
+        Line::Tc => keep_octets(script, octets, number),
     }
 }
 
-/// Keeps a line.
+/// Keeps the line of a number.
 fn keep<A: Allocator>(
     script: &mut KeptScript<A>,
     line: Line,
     octets: &[u8],
+    number: u32,
 ) -> Result<(), AllocError>
     requires { IsEarly line }
     ensures { (read : List (List ℕ) → Result Command TcFault) → OnOk result (kept_requests read script.new.octets.items script.new.lines.items
         ≡ kept_requests read script.old.octets.items script.old.lines.items ++ line_request (read (words_of octets.now)) line ∷ []) }
 {
-    let kept = kept_line(script, line, octets)?;
+    let kept = kept_line(script, line, octets, number)?;
     script.lines.push(kept)?;
     Ok(())
 }
 
 /// Keeps the lines that are to come, up to the first fault.
-fn keep_lines<A: Allocator, B: Allocator, R: Read + Drop>(
+fn keep_lines<A: Allocator, B: Allocator, R: Read + Drop, P: Watch>(
     script: &mut KeptScript<A>,
     lines: &mut LineReader<R, B>,
+    watch: &mut P,
 ) -> Result<(), ReplayFault>
     ensures { (read : List (List ℕ) → Result Command TcFault) → IsReader read → IfSome (script_left R.remaining lines.old) (λ rest.
         ReadsRest result (kept_requests read script.old.octets.items script.old.lines.items) (reading_of read rest) (kept_requests read script.new.octets.items script.new.lines.items)) }
@@ -73,8 +77,9 @@ fn keep_lines<A: Allocator, B: Allocator, R: Read + Drop>(
         let octets = lines.line();
         match read_line_beside(octets) {
             Ok(None) => {}
-            Ok(Some(line)) => keep(script, line, octets)?,
+            Ok(Some(line)) => keep(script, line, octets, lines.line_number())?,
             Err(fault) => {
+                watch.line_failed(octets);
                 return Err(ReplayFault::Input(ReplayInput::Script(BadLine::new(
                     lines.line_number(),
                     fault,
@@ -86,9 +91,10 @@ fn keep_lines<A: Allocator, B: Allocator, R: Read + Drop>(
 }
 
 /// Reads a script to its end, or to its first fault.
-pub(crate) fn read_script<A: Allocator + Clone, R: Read + Drop>(
+pub(crate) fn read_script<A: Allocator + Clone, R: Read + Drop, P: Watch>(
     alloc: &A,
     reader: R,
+    watch: &mut P,
 ) -> Result<KeptScript<A>, ReplayFault>
     ensures { (read : List (List ℕ) → Result Command TcFault) → IsReader read → IfSome (R.remaining reader) (λ input.
         GivesScript read result (reading_of read (script_of input))) }
@@ -98,6 +104,6 @@ pub(crate) fn read_script<A: Allocator + Clone, R: Read + Drop>(
         lines: Vec::new(alloc.clone()?),
         octets: Vec::new(alloc.clone()?),
     };
-    keep_lines(&mut script, &mut lines)?;
+    keep_lines(&mut script, &mut lines, watch)?;
     Ok(script)
 }

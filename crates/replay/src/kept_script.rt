@@ -19,6 +19,8 @@ pub(crate) enum KeptLine {
         start: usize,
         /// Where they end.
         end: usize,
+        /// The number of the line in the script, from 1.
+        number: u32,
     },
 }
 

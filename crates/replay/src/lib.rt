@@ -18,11 +18,9 @@ mod replay_run;
 mod sending;
 mod stamps;
 mod texts;
-mod watch;
 
 pub use faults::{ReplayFault, ReplayInput};
 pub use replay_job::{Inputs, Outputs, answer_replay};
 pub use replay_run::replay;
 pub use stamps::{Stamp, say_stamp, stamp_given};
 pub use texts::say_unopened;
-pub use watch::{Unwatched, Watch};

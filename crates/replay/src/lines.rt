@@ -8,7 +8,7 @@ use crate::faults::Stop;
 use crate::kept_script::{KeptLine, KeptScript};
 use crate::sending::{Sending, put_clock};
 use abstract_port::Event;
-use script::{put_answers, put_tc};
+use script::{Unwatched, put_answers, put_tc};
 use std::alloc::Allocator;
 use std::io::Write;
 use tc_reader::laws::one_reader;
@@ -44,12 +44,14 @@ fn put_line<A: Allocator, B: Allocator, W: Write, V: Write>(
             &Event::Count(class),
             report,
         )?,
-        KeptLine::Tc { start, end } => {
+        KeptLine::Tc { start, end, number } => {
             put_tc(
                 &mut sending.port,
                 &mut sending.summary,
+                number,
                 &script.octets[start..end],
                 report,
+                &mut Unwatched,
             )?;
         }
     }

@@ -9,8 +9,8 @@ use crate::faults::Stop;
 use crate::kept_script::KeptScript;
 use crate::lines::run_lines;
 use crate::sending::{Sending, put_arrival, put_clock};
-use crate::watch::Watch;
 use capture::{CapFault, CaptureReader, Record, frame_of};
+use script::Watch;
 use std::alloc::Allocator;
 use std::io::{Read, Write};
 

@@ -9,9 +9,8 @@ ghost use Rattle.replay.specs.Words.{IsReplayEnding, got};
 use crate::faults::ReplayFault;
 use crate::replay_run::replay;
 use crate::stamps::Stamp;
-use crate::watch::Watch;
 use job::{Ended, say_run};
-use script::Settings;
+use script::{Settings, Watch};
 use std::alloc::Allocator;
 use std::io::{BufWriter, Read, Write};
 

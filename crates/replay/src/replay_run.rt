@@ -14,10 +14,9 @@ use crate::lines::run_lines;
 use crate::records::run_records;
 use crate::sending::{Leaving, Sending, put_clock};
 use crate::stamps::{Stamp, stamping_at};
-use crate::watch::Watch;
 use capture::{CAPTURE_END, CapFault, CaptureReader, CaptureWriter};
 use octet_store::OctetStore;
-use script::{RunningPort, Settings};
+use script::{RunningPort, Settings, Watch};
 use std::alloc::Allocator;
 use std::io::{Read, Write};
 use summary::{Summary, summary_wanted};
@@ -173,7 +172,7 @@ fn begin<A: Allocator + Clone, W: Write>(
 ///
 /// A read or a write that fails, or takes nothing, isn't tried again. Nothing that is kept grows with the capture: of a script its
 /// lines are kept, and of a capture the octets of the frames that wait, and where a summary is wanted when they came. Who watches is called for
-/// each record once it is taken.
+/// each record once it is taken, and for a malformed line of the script.
 pub fn replay<A: Allocator, R: Read + Drop, S: Read + Drop, W: Write, V: Write, P: Watch>(
     alloc: A,
     script: R,
@@ -195,7 +194,7 @@ pub fn replay<A: Allocator, R: Read + Drop, S: Read + Drop, W: Write, V: Write, 
     }
     let alloc = &alloc;
     let summary = summary_wanted(&alloc, settings.summary(), settings.room())?;
-    let script = read_script(&alloc, script)?;
+    let script = read_script(&alloc, script, watch)?;
     let mut records = open(alloc, capture)?;
     let mut sending = begin(&alloc, settings, stamp, summary, departures)?;
     run(

@@ -16,7 +16,7 @@ pub use Rattle.line_reader.specs.LineReader.{current_number, script_left}
 pub use Rattle.tc_reader.specs.Reader.{IsReader}
 pub use Rattle.tc_reader.specs.declared.fault.TcFault.{TcFault}
 pub use Rattle.answer_text.specs.Part.{text_of}
-pub use Rattle.job.specs.Outcome.{Runs}
+pub use Rattle.job.specs.Outcome.{RunsOut}
 pub use Rattle.script.specs.Ending.{IsEnding, rate_given}
 pub use Rattle.script.specs.Given.{octets_of}
 pub use Rattle.script.specs.Outcome.{bad_line, long_line}

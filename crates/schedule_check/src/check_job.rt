@@ -7,7 +7,7 @@ ghost use Rattle.schedule_check.specs.Words.{whole_check, IsTeller, Teller, IsEn
 use crate::checking::check;
 use crate::settings::CheckSettings;
 use job::{Ended, end_run};
-use script::{end_with_value, rate_given};
+use script::{Watch, end_with_value, rate_given};
 use std::alloc::Allocator;
 use std::io::{BufWriter, Read, Write};
 
@@ -25,12 +25,13 @@ pub struct CheckWords<'a> {
 /// Checks the schedules that `reader` gives, at the rate of this value and as these words ask for it, through
 /// `answers`, with the text of a fault on `errors`; and gives the writer of the answers back. What was reported is let out before a fault is; after a failed
 /// write no other is tried. Where the value is bad nothing is read.
-pub fn answer_check<A: Allocator, B: Allocator, R: Read, W: Write + Drop, E: Write>(
+pub fn answer_check<A: Allocator, B: Allocator, R: Read, W: Write + Drop, E: Write, H: Watch>(
     alloc: A,
     words: CheckWords<'_>,
     reader: &mut R,
     mut answers: BufWriter<W, B>,
     errors: &mut E,
+    watch: &mut H,
 ) -> (Ended, W)
     ensures ending { (tell : Teller) → IsTeller tell → IsEnding (whole_check tell words.entry.windows words.entry.script) (rate_given (octets_of words.entry.rate))
         (R.remaining reader.old) result.0 (writer_contents W.contents answers) (W.contents result.1) (E.contents errors.old) (E.contents errors.new) }
@@ -43,7 +44,7 @@ pub fn answer_check<A: Allocator, B: Allocator, R: Read, W: Write + Drop, E: Wri
                 windows: words.windows,
                 script: words.script,
             };
-            let run = check(alloc, reader, &mut answers, settings);
+            let run = check(alloc, reader, &mut answers, settings, watch);
             end_run(run, answers, errors)
         }
         Err(value) => end_with_value(value, answers, errors),

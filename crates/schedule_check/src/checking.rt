@@ -1,13 +1,14 @@
 //! The lines of schedule commands, one after another.
 
 ghost use Rattle.std.specs.Prelude.{◌≡◌, ℕ, List, Result, IfSome};
-ghost use Rattle.schedule_check.specs.Words.{Command, verdict_lines, checked_in, checked_of, is_command, IsTeller, Teller, current_number, script_left, Runs, bad_line, IsReader, TcFault, words_of};
+ghost use Rattle.schedule_check.specs.Words.{Command, verdict_lines, checked_in, checked_of, is_command, IsTeller, Teller, current_number, script_left, RunsOut, bad_line, IsReader, TcFault, words_of};
 ghost use Rattle.job.specs.declared.fault.Fault.TheVariants as Faults;
 
 use crate::settings::CheckSettings;
 use crate::telling::put_line;
+use job::next_line;
 use line_reader::LineReader;
-use script::{BadLine, RunFault, ScriptFault};
+use script::{BadLine, RunFault, ScriptFault, Watch};
 use std::alloc::Allocator;
 use std::io::{Read, Write};
 use words::Words;
@@ -45,21 +46,25 @@ fn fault_here<A: Allocator, R: Read + Drop>(
 }
 
 /// Reports on the lines that are to come.
-fn check_lines<A: Allocator, R: Read + Drop, W: Write>(
+fn check_lines<A: Allocator, R: Read + Drop, W: Write, H: Watch>(
     lines: &mut LineReader<R, A>,
     writer: &mut W,
     settings: &CheckSettings,
+    watch: &mut H,
 ) -> Result<(), RunFault>
     ensures { (tell : Teller) → IsTeller tell → (read : List (List ℕ) → Result Command TcFault) → IsReader read
         → IfSome (script_left R.remaining lines.old) (λ script.
-        Runs result (W.contents writer.old) (W.contents writer.new) (checked_in settings.now.script read (verdict_lines tell settings.now) script)) }
+        RunsOut result (W.contents writer.old) (W.contents writer.new) (checked_in settings.now.script read (verdict_lines tell settings.now) script)) }
 {
-    'lines: while lines.advance()? {
+    'lines: while next_line::<BadLine, _, _, _>(lines, writer)? {
         let line = lines.line();
         match is_command(line, settings.script) {
             Ok(false) => {}
-            Ok(true) => put_line(writer, *settings, line)?,
-            Err(fault) => return Err(fault_here(lines, fault)),
+            Ok(true) => put_line(writer, *settings, lines.line_number(), line, watch)?,
+            Err(fault) => {
+                watch.line_failed(line);
+                return Err(fault_here(lines, fault));
+            }
         }
     }
     Ok(())
@@ -71,17 +76,19 @@ fn check_lines<A: Allocator, R: Read + Drop, W: Write>(
 /// follows for each of these classes that the schedule ever opens, of what it gives the class.
 ///
 /// Lines without words and comments are skipped, and other lines too where they are those of a script; else any other line is an `UnknownLine`, which ends the call after what is reported of the
-/// lines before it. A read or a write that fails, or takes nothing, isn't tried again.
-pub fn check<A: Allocator, R: Read + Drop, W: Write>(
+/// lines before it. What was reported is let out before more input is waited for. A read or a write that fails, or takes nothing, isn't tried again. Who watches is called for such a line, and for each command
+/// that is malformed or refused.
+pub fn check<A: Allocator, R: Read + Drop, W: Write, H: Watch>(
     alloc: A,
     reader: R,
     writer: &mut W,
     settings: CheckSettings,
+    watch: &mut H,
 ) -> Result<(), RunFault>
     ensures { (tell : Teller) → IsTeller tell → (read : List (List ℕ) → Result Command TcFault) → IsReader read
         → IfSome (R.remaining reader) (λ input.
-        Runs result (W.contents writer.old) (W.contents writer.new) (checked_of settings.script read (verdict_lines tell settings) input)) }
+        RunsOut result (W.contents writer.old) (W.contents writer.new) (checked_of settings.script read (verdict_lines tell settings) input)) }
 {
     let mut lines = LineReader::new(&alloc, reader)?;
-    check_lines(&mut lines, writer, &settings)
+    check_lines(&mut lines, writer, &settings, watch)
 }

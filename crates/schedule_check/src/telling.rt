@@ -11,7 +11,7 @@ use answer_text::{Part, WriteFault, put, put_answer, put_parts, put_tc_fault};
 use arrayvec::ArrayVec;
 use class_map::ClassMap;
 use gate_list::Schedule;
-use script::read_tc;
+use script::{Failure, Watch, read_tc};
 use std::io::Write;
 use tc_reader::TcFault;
 use wire_time::CLASSES;
@@ -104,11 +104,14 @@ fn put_schedule<W: Write>(
     put_asked(writer, settings, change, count)
 }
 
-/// Reports on a change: the refusal of its schedule, or what the schedule promises.
-fn put_change<W: Write>(
+/// Reports on the change that the line of this number asks: the refusal of its schedule, or what the schedule promises.
+fn put_change<W: Write, H: Watch>(
     writer: &mut W,
     settings: CheckSettings,
+    number: u32,
+    line: &[u8],
     change: &Change,
+    watch: &mut H,
 ) -> Result<(), WriteFault>
     ensures { (tell : Teller) → IsTeller tell →
         Writes result (W.contents writer.old) (W.contents writer.new) (change_lines tell settings change.now) }
@@ -122,34 +125,47 @@ fn put_change<W: Write>(
     );
     match schedule {
         Ok(schedule) => put_schedule(writer, settings, change, &schedule),
-        Err(fault) => put_answer(writer, &Answer::Refused(Refused::Schedule(fault))),
+        Err(fault) => {
+            let why = Refused::Schedule(fault);
+            watch.command_failed(number, line, Failure::Refused(why));
+            put_answer(writer, &Answer::Refused(why))
+        }
     }
 }
 
-/// Writes what is reported of a command, or of a line that is none.
-fn put_verdict<W: Write>(
+/// Writes what is reported of the command that the line of this number is, or why it is none.
+fn put_verdict<W: Write, H: Watch>(
     writer: &mut W,
     settings: CheckSettings,
+    number: u32,
+    line: &[u8],
     read: Result<Command, TcFault>,
+    watch: &mut H,
 ) -> Result<(), WriteFault>
     ensures { (tell : Teller) → IsTeller tell →
         Writes result (W.contents writer.old) (W.contents writer.new) (verdict_lines tell settings read) }
 {
     match read {
-        Ok(Command::Replace(change)) => put_change(writer, settings, &change),
+        Ok(Command::Replace(change)) => put_change(writer, settings, number, line, &change, watch),
         Ok(Command::Delete) => put_apart(writer, &[]),
-        Err(fault) => put_tc_fault(writer, fault),
+        Err(fault) => {
+            watch.command_failed(number, line, Failure::Malformed(fault));
+            put_tc_fault(writer, fault)
+        }
     }
 }
 
-/// Writes what is reported of a line that begins with `tc`, by settings. At a fault a prefix of that is written.
-pub(crate) fn put_line<W: Write>(
+/// Writes what is reported of the line of this number, which begins with `tc`, by settings. Who watches is called where it is no command
+/// or its schedule is refused. At a fault a prefix of that is written.
+pub(crate) fn put_line<W: Write, H: Watch>(
     writer: &mut W,
     settings: CheckSettings,
+    number: u32,
     line: &[u8],
+    watch: &mut H,
 ) -> Result<(), WriteFault>
     ensures { (tell : Teller) → IsTeller tell → (read : List (List ℕ) → Result Command TcFault) → IsReader read →
         Writes result (W.contents writer.old) (W.contents writer.new) (verdict_lines tell settings (read (words_of line.now))) }
 {
-    put_verdict(writer, settings, read_tc(line))
+    put_verdict(writer, settings, number, line, read_tc(line), watch)
 }

@@ -2,17 +2,17 @@
 use Rattle.std.proofs.Common.{◌≡◌, ◌≤◌, ℕ, List, [], ◌∷◌, ◌++◌, map, Option, Some, None, Result, Ok, Err, true, false, refl, sym, ap, ◌∙◌, subst}
 use Rattle.std.specs.Prelude.{IfSome}
 use Rattle.std.proofs.lemmas.List.{append-nil}
-use Rattle.std.specs.Io.KnownBytes.{Appends}
-use Rattle.script.specs.Words.{AbstractPort, settled, answers_to, IsSoundPort, Event, Clock, Command, TcFault, Script, Advances, Runs, Fault, IsAnswered, Request, Asks, NoCommand, request_of, Gave, end_lines, lines_of, noted_by, responses_to, bad_line, ending_text, long_line, outcome_after, outcome_from, reading_of, ScriptFault, BadLine, Observed, seen_all, noted_after, noted_at}
+use Rattle.std.specs.Io.KnownBytes.{Appends, Keeps}
+use Rattle.script.specs.Words.{AbstractPort, settled, answers_to, IsSoundPort, Event, Clock, Command, TcFault, Script, Advances, Fault, IsAnswered, Request, Asks, NoCommand, request_of, Gave, end_lines, lines_of, noted_by, responses_to, bad_line, ending_text, long_line, outcome_after, outcome_from, reading_of, ScriptFault, BadLine, Observed, seen_all, noted_after, noted_at}
 use Rattle.separation.specs.Settling.{IsPossible, IsSettling}
 use Rattle.octet_writer.specs.Writes.{FallsShort}
 use Rattle.line_reader.specs.Script.{Line}
-use Rattle.line_reader.specs.declared.lines.LineFault.{LineFault}
-use Rattle.job.specs.Lines.{fault_of_line}
-use Rattle.job.specs.Outcome.{Outcome}
+use Rattle.job.specs.Lines.{Steps}
+use Rattle.job.specs.Outcome.{Outcome, RunsOut}
 use Rattle.job.specs.declared.fault.Fault.TheVariants as Faults
 use Rattle.job.proofs.LineLaws as Lines
 use Rattle.job.proofs.LineLaws.{behind}
+use Rattle.job.proofs.EndingLaws.{input_out}
 use Rattle.script.specs.Outcome.{with_line}
 use Rattle.script.proofs.OutputLaws.{outcome-more}
 use Rattle.script.proofs.StartsLaws.{settled-sound}
@@ -110,6 +110,10 @@ module _ (read : List (List ℕ) → Result Command TcFault) (until : Option ℕ
   pub is_begun : (q : AbstractPort) (o : Option Observed) (all : Option Script) (old : Option (List ℕ)) → IsSoundPort q → IsRunning (record { port = q; seen = o }) all old old all q o
   is_begun q o all old sound = record { ideal = q; stands = stands_for_itself q sound; goes = Lines.begun long_line told (record { port = q; seen = o }) all old }
 
+  -- what was written is let out
+  pub kept : (first : Place) (all : Option Script) (old now new : Option (List ℕ)) (s : Option Script) (q : AbstractPort) (o : Option Observed) → IsRunning first all old now s q o → Keeps now new → IsRunning first all old new s q o
+  kept first all old now new s q o i k = record { ideal = i.ideal; stands = i.stands; goes = Lines.goes_kept long_line told first (record { port = i.ideal; seen = o }) old now new all s i.goes k }
+
   module _ (first : Place) (number : ℕ) (line : List ℕ) (q : AbstractPort) (o : Option Observed) (all : Option Script) (old now : Option (List ℕ)) (s t : Option Script) (i : IsRunning first all old now s q o) where
     abbrev here : Place
     here = record { port = i.ideal; seen = o }
@@ -141,26 +145,26 @@ module _ (read : List (List ℕ) → Result Command TcFault) (until : Option ℕ
     module _ {T : Type 0} {f : Result T (Fault BadLine)} where
       -- a prefix of the answers to a line is written
       pub goes_no_further : IsSettling → (new : Option (List ℕ)) (r : Request) → Advances s (Ok true) number line t → request_of read line ≡ Ok (Some r)
-          → FallsShort now new (lines_of (responses_to r q).0) → f ≡ Err Faults.Write → IfSome all (λ script. Runs f old new (told first script))
+          → FallsShort now new (lines_of (responses_to r q).0) → f ≡ Err Faults.Write → IfSome all (λ script. RunsOut f old new (told first script))
       goes_no_further law new r a e w h =
           let P : List ℕ → Type 0 = λ text. FallsShort now new text in
-          Lines.goes_no_further long_line told number line first here old now (after r here) new (lines_of (responses_to r i.ideal).0) all s t i.goes a (by_one r e) (subst P (same-text law q i.ideal i.stands r) w) h
+          input_out all (told first) f old new (Lines.goes_no_further long_line told number line first here old now (after r here) new (lines_of (responses_to r i.ideal).0) all s t i.goes a (by_one r e) (subst P (same-text law q i.ideal i.stands r) w) h)
 
       -- a line with a fault
-      pub goes_wrong : (fault : ScriptFault) → Advances s (Ok true) number line t → request_of read line ≡ Err fault → f ≡ Err (Faults.Input (bad_line number fault)) → IfSome all (λ script. Runs f old now (told first script))
-      goes_wrong fault a e h = Lines.goes_wrong long_line told number line first here old now (bad_line number fault) all s t i.goes a (by_request (Err fault) e) h
+      pub goes_wrong : (fault : ScriptFault) → Advances s (Ok true) number line t → request_of read line ≡ Err fault → f ≡ Err (Faults.Input (bad_line number fault)) → IfSome all (λ script. RunsOut f old now (told first script))
+      goes_wrong fault a e h = input_out all (told first) f old now (Lines.goes_wrong long_line told number line first here old now (bad_line number fault) all s t i.goes a (by_request (Err fault) e) h)
 
       -- the ending
-      pub ends_early : IsSettling → (new : Option (List ℕ)) → Advances s (Ok false) number line t → FallsShort now new (ending_text until q o) → f ≡ Err Faults.Write → IfSome all (λ script. Runs f old new (told first script))
+      pub ends_early : IsSettling → (new : Option (List ℕ)) → Advances s (Ok false) number line t → FallsShort now new (ending_text until q o) → f ≡ Err Faults.Write → IfSome all (λ script. RunsOut f old new (told first script))
       ends_early law new a w h =
           let P : List ℕ → Type 0 = λ text. FallsShort now new text in
-          Lines.ends_short long_line told number line first here old now new (ending_text until i.ideal o) all s t i.goes a refl (subst P (same-ending law q i.ideal i.stands until o) w) h
+          input_out all (told first) f old new (Lines.ends_short long_line told number line first here old now new (ending_text until i.ideal o) all s t i.goes a refl (subst P (same-ending law q i.ideal i.stands until o) w) h)
 
-      pub ends_well : IsSettling → (x : T) (new : Option (List ℕ)) → Advances s (Ok false) number line t → Appends now new (ending_text until q o) → f ≡ Ok x → IfSome all (λ script. Runs f old new (told first script))
+      pub ends_well : IsSettling → (x : T) (new : Option (List ℕ)) → Advances s (Ok false) number line t → Appends now new (ending_text until q o) → f ≡ Ok x → IfSome all (λ script. RunsOut f old new (told first script))
       ends_well law x new a w h =
           let P : List ℕ → Type 0 = λ text. Appends now new text in
-          Lines.ends long_line told number line first here old now x new (ending_text until i.ideal o) all s t i.goes a refl (subst P (same-ending law q i.ideal i.stands until o) w) h
+          input_out all (told first) f old new (Lines.ends long_line told number line first here old now x new (ending_text until i.ideal o) all s t i.goes a refl (subst P (same-ending law q i.ideal i.stands until o) w) h)
 
-      -- the lines stop
-      pub stops : (fault : LineFault) → Advances s (Err fault) number line t → f ≡ Err (fault_of_line long_line fault) → IfSome all (λ script. Runs f old now (told first script))
-      stops fault a h = Lines.stops long_line told number line first here old now fault all s t i.goes a (λ n limit. refl) h
+      -- there is no next line, or what was written can't be let out before more is read
+      pub stops : (fault : Fault BadLine) → Steps long_line s (Err fault) number line t → f ≡ Err fault → IfSome all (λ script. RunsOut f old now (told first script))
+      stops fault a h = Lines.stops_before long_line told number line first here old now fault all s t i.goes a (λ n limit. refl) h

@@ -19,7 +19,7 @@ pub use Rattle.line_reader.specs.Script.{Script, script_of}
 pub use Rattle.tc_reader.specs.Reader.{IsReader}
 pub use Rattle.tc_reader.specs.declared.fault.TcFault.{TcFault}
 pub use Rattle.answer_text.specs.Lines.{answer_lines}
-pub use Rattle.job.specs.Outcome.{Runs}
+pub use Rattle.job.specs.Outcome.{RunsOut}
 pub use Rattle.job.specs.Texts.{IsTold}
 pub use Rattle.job.specs.declared.fault.Fault.{Fault}
 pub use Rattle.summary.specs.Lines.{class_text, summary_lines, wire_text}

@@ -5,7 +5,8 @@ ghost use Rattle.script.specs.Words.{queue_of, IsSoundPort, Command, Writes, IsA
 ghost use Rattle.abstract_port.specs.declared.Event.TheVariants as Events;
 
 use crate::script_line::read_tc_into;
-use abstract_port::{Command, Event};
+use crate::watch::{Failure, Watch};
+use abstract_port::{Command, Event, Refused};
 use answer_text::{
     WriteFault, put_answer, put_arrival, put_installation, put_left, put_start, put_tc_fault,
 };
@@ -94,18 +95,29 @@ fn put_each<A: Allocator, W: Write>(
     Ok(())
 }
 
-/// Gives a command to the port, and writes the answer.
-fn put_install<A: Allocator, W: Write>(
+/// Calls who watches where the command of the line of this number is refused.
+fn tell_refusal<H: Watch>(watch: &mut H, number: u32, line: &[u8], answer: Result<u128, Refused>) {
+    if let Err(why) = answer {
+        watch.command_failed(number, line, Failure::Refused(why));
+    }
+}
+
+/// Gives the command of the line of this number to the port, and writes the answer. Who watches is called where it is refused.
+fn put_install<A: Allocator, W: Write, H: Watch>(
     port: &mut RunningPort<A>,
     summary: &mut Option<Summary<A>>,
+    number: u32,
+    line: &[u8],
     command: &Command,
     writer: &mut W,
+    watch: &mut H,
 ) -> Result<(), WriteFault>
     ensures { IsAnswered (Asks (Events.Install command.entry)) result (W.contents writer.old) (W.contents writer.new) port.old.port port.new.port summary.old summary.new }
 {
     // For the prover: a call on a port says what holds of every port.
     let _now = port.now();
     let answer = port.install(command);
+    tell_refusal(watch, number, line, answer);
     put_installation(writer, answer)
 }
 
@@ -140,36 +152,43 @@ pub fn put_answers<A: Allocator, W: Write>(
     match event {
         Event::Arrive(frame) => put_frame(port, summary, frame, writer),
         Event::Clock(until) => put_clock(port, summary, *until, writer),
-        Event::Install(command) => put_install(port, summary, command, writer),
         _ => put_each(port, summary, event, writer),
     }
 }
 
-/// Gives a command to the port and writes its answer, or writes why there is none.
-fn put_command<A: Allocator, W: Write>(
+/// Gives the command that the line of this number is to the port and writes its answer, or writes why there is none.
+fn put_command<A: Allocator, W: Write, H: Watch>(
     port: &mut RunningPort<A>,
     summary: &mut Option<Summary<A>>,
+    number: u32,
+    line: &[u8],
     read: &Result<Command, TcFault>,
     writer: &mut W,
+    watch: &mut H,
 ) -> Result<(), WriteFault>
     ensures { IsAnswered (tc_request read.now) result (W.contents writer.old) (W.contents writer.new) port.old.port port.new.port summary.old summary.new }
 {
     // For the prover: a call on a port says what holds of every port.
     let _now = port.now();
     match read {
-        Ok(command) => put_answers(port, summary, &Event::Install(command), writer),
-        Err(fault) => put_tc_fault(writer, *fault),
+        Ok(command) => put_install(port, summary, number, line, command, writer, watch),
+        Err(fault) => {
+            watch.command_failed(number, line, Failure::Malformed(*fault));
+            put_tc_fault(writer, *fault)
+        }
     }
 }
 
-/// Takes a line that begins with `tc`, and writes what is reported of it. At a fault a prefix of that is written. Apart, since its
-/// locals are large.
+/// Takes a line that begins with `tc`, with its number, and writes what is reported of it. At a fault a prefix of that is written.
+/// Who watches is called where the line changes nothing. Apart, since its locals are large.
 #[inline(never)]
-pub fn put_tc<A: Allocator, W: Write>(
+pub fn put_tc<A: Allocator, W: Write, H: Watch>(
     port: &mut RunningPort<A>,
     summary: &mut Option<Summary<A>>,
+    number: u32,
     line: &[u8],
     writer: &mut W,
+    watch: &mut H,
 ) -> Result<(), WriteFault>
     ensures answered { (read : List (List ℕ) → Result Command TcFault) → IsReader read →
         IsAnswered (tc_request (read (words_of line.now))) result (W.contents writer.old) (W.contents writer.new) port.old.port port.new.port summary.old summary.new }
@@ -177,7 +196,7 @@ pub fn put_tc<A: Allocator, W: Write>(
 {
     let mut answer = Ok(closed_command());
     read_tc_into(line, &mut answer);
-    put_command(port, summary, &answer, writer)
+    put_command(port, summary, number, line, &answer, writer, watch)
 }
 
 /// Writes how many frames a class still has, where it has some.

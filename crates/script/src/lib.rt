@@ -14,6 +14,7 @@ mod script_job;
 mod script_line;
 mod script_run;
 mod settings;
+mod watch;
 
 pub use answers::{RunningPort, put_all_left, put_answers, put_tc};
 pub use ending::put_end;
@@ -24,3 +25,4 @@ pub use script_job::{Values, answer_script, end_with_value, rate_given, settings
 pub use script_line::{Said, read_line, read_tc};
 pub use script_run::run_script;
 pub use settings::{BadValue, Settings};
+pub use watch::{Failure, Unwatched, Watch};

@@ -7,6 +7,7 @@ ghost use Rattle.script.specs.Words.{greatest_moment, octets_of, words_of_values
 use crate::faults::say_value;
 use crate::script_run::run_script;
 use crate::settings::{BadValue, Settings, read_rate};
+use crate::watch::Watch;
 use job::{Ended, end_run, end_told};
 use std::alloc::Allocator;
 use std::io::{BufWriter, Read, Write};
@@ -85,12 +86,14 @@ pub fn end_with_value<B: Allocator, W: Write + Drop, E: Write>(
 
 /// Answers the script that `reader` gives, by these values, through `answers`, with the text of a fault on `errors`; and gives
 /// the writer of the answers back. What was answered is let out before a fault is reported; after a failed write no other is tried.
-pub fn answer_script<A: Allocator, B: Allocator, R: Read, W: Write + Drop, E: Write>(
+/// Who watches is called as by `run_script`.
+pub fn answer_script<A: Allocator, B: Allocator, R: Read, W: Write + Drop, E: Write, H: Watch>(
     alloc: A,
     values: Values<'_>,
     reader: &mut R,
     mut answers: BufWriter<W, B>,
     errors: &mut E,
+    watch: &mut H,
 ) -> (Ended, W)
     ensures ending { IsEnding whole_script (settings_given greatest_moment (words_of_values values.entry))
         (R.remaining reader.old) result.0 (writer_contents W.contents answers) (W.contents result.1) (E.contents errors.old) (E.contents errors.new) }
@@ -98,7 +101,7 @@ pub fn answer_script<A: Allocator, B: Allocator, R: Read, W: Write + Drop, E: Wr
 {
     match settings_given(values, MAX_MOMENT) {
         Ok(settings) => {
-            let run = run_script(alloc, reader, &mut answers, settings);
+            let run = run_script(alloc, reader, &mut answers, settings, watch);
             end_run(run, answers, errors)
         }
         Err(value) => end_with_value(value, answers, errors),

@@ -1,7 +1,7 @@
 //! Runs a script.
 
 ghost use Rattle.std.specs.Prelude.{ℕ, List, Result, IfSome};
-ghost use Rattle.script.specs.Words.{Command, Writes, script_left, TcFault, Runs, IsFaithfulTo, ending_text, outcome_from, outcome_of, IsReader};
+ghost use Rattle.script.specs.Words.{Command, Writes, script_left, TcFault, RunsOut, IsFaithfulTo, ending_text, outcome_from, outcome_of, IsReader};
 
 use crate::answers::{RunningPort, put_answers, put_tc};
 use crate::ending::put_end;
@@ -10,8 +10,10 @@ use crate::laws::faithful;
 use crate::plain::pass_plain;
 use crate::script_line::{Said, read_line};
 use crate::settings::Settings;
+use crate::watch::Watch;
 use abstract_port::Event;
 use answer_text::WriteFault;
+use job::next_line;
 use line_reader::LineReader;
 use separation::settling;
 use std::alloc::Allocator;
@@ -38,15 +40,16 @@ fn end<A: Allocator, W: Write>(
 }
 
 /// Runs the lines that are to come, and the end.
-fn run_lines<A: Allocator, B: Allocator, R: Read + Drop, W: Write>(
+fn run_lines<A: Allocator, B: Allocator, R: Read + Drop, W: Write, H: Watch>(
     port: &mut RunningPort<A>,
     summary: &mut Option<Summary<A>>,
     lines: &mut LineReader<R, B>,
     until: Option<u128>,
     writer: &mut W,
+    watch: &mut H,
 ) -> Result<(), RunFault>
     ensures { (read : List (List ℕ) → Result Command TcFault) → IsReader read → IfSome (script_left R.remaining lines.old) (λ script.
-        Runs result (W.contents writer.old) (W.contents writer.new) (outcome_from read until script port.old.port summary.old)) }
+        RunsOut result (W.contents writer.old) (W.contents writer.new) (outcome_from read until script port.old.port summary.old)) }
 {
     settling();
     // For the prover: a call on a port says what holds of every port.
@@ -56,15 +59,20 @@ fn run_lines<A: Allocator, B: Allocator, R: Read + Drop, W: Write>(
             put_answers(port, summary, &event, writer)?;
             continue;
         }
-        if !lines.advance()? {
+        if !next_line::<BadLine, _, _, _>(lines, writer)? {
             break;
         }
         let line = lines.line();
         match read_line(line) {
             Ok(None) => {}
             Ok(Some(Said::Asked(event))) => put_answers(port, summary, &event, writer)?,
-            Ok(Some(Said::Tc)) => put_tc(port, summary, line, writer)?,
-            Err(fault) => return Err(RunFault::Input(BadLine::new(lines.line_number(), fault))),
+            Ok(Some(Said::Tc)) => {
+                put_tc(port, summary, lines.line_number(), line, writer, watch)?;
+            }
+            Err(fault) => {
+                watch.line_failed(line);
+                return Err(RunFault::Input(BadLine::new(lines.line_number(), fault)));
+            }
         }
     }
     end(port, summary, until, writer)?;
@@ -74,19 +82,21 @@ fn run_lines<A: Allocator, B: Allocator, R: Read + Drop, W: Write>(
 /// Reads a script to its end, and writes the answers to each line in turn; then those to a clock event at the moment to run to,
 /// where the settings have one, how many frames each class still has, and a summary where the settings want one.
 ///
-/// A malformed line ends the run after the answers of the lines before it. A read or a write that fails, or takes nothing,
+/// What was answered is let out before more input is waited for. A malformed line ends the run after the answers of the lines before it. Who watches is called for it, and for each line that begins with
+/// `tc` and changes nothing. A read or a write that fails, or takes nothing,
 /// isn't tried again.
 ///
 /// What is written are the lines of the abstract port's answers to the events of the script, with the faults of `tc` lines at
 /// their places; so what holds of those answers holds of the output (`faithful`).
-pub fn run_script<A: Allocator, R: Read + Drop, W: Write>(
+pub fn run_script<A: Allocator, R: Read + Drop, W: Write, H: Watch>(
     alloc: A,
     reader: R,
     writer: &mut W,
     settings: Settings,
+    watch: &mut H,
 ) -> Result<(), RunFault>
     ensures script { (read : List (List ℕ) → Result Command TcFault) → IsReader read → IfSome (R.remaining reader) (λ input.
-        Runs result (W.contents writer.old) (W.contents writer.new) (outcome_of read settings input)) }
+        RunsOut result (W.contents writer.old) (W.contents writer.new) (outcome_of read settings input)) }
     ensures faithful { (read : List (List ℕ) → Result Command TcFault) (input : List ℕ) → IsFaithfulTo read settings input }
 {
     faithful();
@@ -107,5 +117,6 @@ pub fn run_script<A: Allocator, R: Read + Drop, W: Write>(
         &mut lines,
         settings.until(),
         writer,
+        watch,
     )
 }

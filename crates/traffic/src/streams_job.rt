@@ -6,7 +6,7 @@ ghost use Rattle.traffic.specs.Words.{octets_of, IsStreamsEnding, from_given, gr
 
 use crate::streaming::write_streams;
 use job::{Ended, end_run};
-use script::{BadValue, end_with_value};
+use script::{BadValue, Watch, end_with_value};
 use std::alloc::Allocator;
 use std::io::{BufWriter, Read, Write};
 use times::moment;
@@ -34,6 +34,7 @@ pub fn answer_streams<
     S: Read + Drop,
     W: Write + Drop,
     E: Write,
+    H: Watch,
 >(
     alloc: A,
     from: Option<&str>,
@@ -41,13 +42,14 @@ pub fn answer_streams<
     script: S,
     mut answers: BufWriter<W, B>,
     errors: &mut E,
+    watch: &mut H,
 ) -> (Ended, W)
     ensures ending { IsStreamsEnding (from_given (octets_of from.entry)) (R.remaining reader.old) (S.remaining script) result.0 (writer_contents W.contents answers) (W.contents result.1) (E.contents errors.old) (E.contents errors.new) }
     ensures unread { IfErr (from_given (octets_of from.entry)) (λ _. reader.new ≡ reader.old) }
 {
     match from_given(from) {
         Ok(from) => {
-            let run = write_streams(alloc, reader, script, &mut answers, from);
+            let run = write_streams(alloc, reader, script, &mut answers, from, watch);
             end_run(run, answers, errors)
         }
         Err(value) => end_with_value(value, answers, errors),

@@ -2,22 +2,22 @@ use Rattle.std.proofs.Common.{◌≡◌, ℕ, List, Option, Err, refl, ap, ◌�
 use Rattle.std.specs.Prelude.{IfSome}
 use Rattle.std.proofs.lemmas.Result.{err_from_is_err_and}
 use Rattle.abstract_port.specs.AbstractPort.{PortState, new_port}
-use Rattle.job.proofs.LineLaws.{memory_exit}
+use Rattle.job.proofs.LineLaws.{memory_left}
 use Rattle.script.specs.Setup.{Setup}
 use Rattle.script.proofs.ReaderLaws.{of_input}
 use Rattle.frame_table.specs.Words.{AbstractPort, Arrival, Runs, frames_of, none_wait, script_left, table_from, with_head}
 use Rattle.frame_table.proofs.table_run.run_frames.Goals as goal
 
 pub returns-in_default : goal.returns-in_default
-returns-in_default g c = λ read is. memory_exit {T = Unit {0}} (frames_of read c.args.settings) _ _ refl
+returns-in_default g c = λ read is. memory_left {T = Unit {0}} (frames_of read c.args.settings) _ _ refl
 
 pub returns-in_default-new : goal.returns-in_default-new
-returns-in_default-new g c = λ read is. memory_exit {T = Unit {0}} (frames_of read c.args.settings) _ _ refl
+returns-in_default-new g c = λ read is. memory_left {T = Unit {0}} (frames_of read c.args.settings) _ _ refl
 
 pub returns-in_err-lines : goal.returns-in_err-lines
 returns-in_err-lines g c = λ read is.
     let p = err_from_is_err_and c.from_residual.result c.from_residual.ensures.1 in
-    memory_exit {T = Unit {0}} (frames_of read c.args.settings) _ _ (p.1 ∙ ap Err p.2)
+    memory_left {T = Unit {0}} (frames_of read c.args.settings) _ _ (p.1 ∙ ap Err p.2)
 
 -- what holds of a port that is made by these numbers holds of one that the settings make
 by_settings : (P : AbstractPort → List (List Arrival) → Option ℕ → Type 0) (s : Setup) (rate mtu room : ℕ) (w : List (List Arrival)) (until : Option ℕ)

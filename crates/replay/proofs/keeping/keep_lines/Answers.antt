@@ -30,7 +30,7 @@ returns-in-Err g c = λ read is.
     let said : line_in octets ≡ Err c.in-Err.fault = cc in
     let e : request_in read octets ≡ Err c.in-Err.fault = ap (request_if (read (words_of octets))) said in
     let a = rw c.if-branch.true at c.in_ok-advance.ensures.line in
-    goes_wrong read {T = Unit {0}} (Err (Faults.Input (Inputs.Script c.new.result))) _ _ _ (kept_requests read c.lines.script.octets.items c.lines.script.lines.items) _ _ _ _ c.in-Err.fault (c.lines.invariant read is) a e (ap (λ b. Err (Faults.Input (Inputs.Script b))) c.new.ensures ∙ ap (λ n. Err (Faults.Input (Inputs.Script (bad_line n c.in-Err.fault)))) c.line_number.ensures)
+    goes_wrong read {T = Unit {0}} (Err (Faults.Input (Inputs.Script c.new.result))) _ _ _ (kept_requests read c.lines.script.octets.items c.lines.script.lines.items) _ _ _ _ c.in-Err.fault (c.lines.invariant read is) a e (ap (λ b. Err (Faults.Input (Inputs.Script b))) c.new.ensures ∙ ap (λ n. Err (Faults.Input (Inputs.Script (bad_line n c.in-Err.fault)))) c.line_number-in-Err.ensures)
 
 pub returns : goal.returns
 returns g c = λ read is.

@@ -6,8 +6,8 @@ use Rattle.script.proofs.answers.put_command.Goals as goal
 
 pub returns-in-Ok : goal.returns-in-Ok
 returns-in-Ok g c =
-    let a = c.put_answers.ensures in
-    subst (λ (r : Result Command TcFault). IsAnswered (tc_request r) c.put_answers.result (g.W.Write.contents c.args.writer.now) (g.W.Write.contents c.put_answers.new.writer) c.args.port.now.port c.put_answers.new.port.port c.args.summary.now c.put_answers.new.summary)
+    let a = c.put_install.ensures in
+    subst (λ (r : Result Command TcFault). IsAnswered (tc_request r) c.put_install.result (g.W.Write.contents c.args.writer.now) (g.W.Write.contents c.put_install.new.writer) c.args.port.now.port c.put_install.new.port.port c.args.summary.now c.put_install.new.summary)
     (sym c.in-Ok.is) (record { text = a.text; port = a.port; seen = a.seen; sound = a.sound })
 
 pub returns-in-Err : goal.returns-in-Err

@@ -1,17 +1,24 @@
-use Rattle.std.proofs.Common.{◌≡◌, ℕ, Bool, List, Option, Ok, Err, None, Some, refl, rules, sym, ap, ◌∙◌, subst₂}
-use Rattle.script.specs.Words.{Advances, script_left, Script, words_of, Asks, request_of, said_in, tc_request, bad_line}
+use Rattle.std.proofs.Common.{◌≡◌, ℕ, Bool, List, Option, Ok, Err, None, Some, refl, rules, sym, ap, ◌∙◌, subst, subst₂}
+use Rattle.script.specs.Words.{Advances, script_left, Script, words_of, Asks, request_of, said_in, tc_request, bad_line, long_line, BadLine}
+use Rattle.job.specs.Lines.{Steps}
+use Rattle.job.specs.declared.fault.Fault.{Fault}
 use Rattle.line_reader.specs.declared.lines.LineReader.{LineReader}
 use Rattle.std.proofs.lemmas.Result.{err_from_is_err_and}
 use Rattle.script.specs.Requests.{request_said}
 use Rattle.script.specs.declared.script_line.Said.TheVariants as Says
 use Rattle.job.specs.declared.fault.Fault.TheVariants as Faults
-use Rattle.script.proofs.Going.{is_begun, goes_on, goes_past, goes_no_further, goes_wrong, ends_early, ends_well, stops}
+use Rattle.script.proofs.Going.{is_begun, goes_on, goes_past, goes_no_further, goes_wrong, ends_early, ends_well, kept, stops}
 use Rattle.script.proofs.script_run.run_lines.Goals as goal
 
 -- a step from these lines, by this answer
 advanced : {R A : Type 0} {l k : LineReader R A} {b d : Bool} (remaining : R → Option (List ℕ)) (number : ℕ) (line : List ℕ) (new : Option Script) → l ≡ k → b ≡ d
     → Advances (script_left remaining l) (Ok b) number line new → Advances (script_left remaining k) (Ok d) number line new
 advanced remaining number line new same is a = subst₂ (λ x y. Advances (script_left remaining x) (Ok y) number line new) same is a
+
+-- a step that fails, from these lines
+stepped : {R A : Type 0} {l k : LineReader R A} (remaining : R → Option (List ℕ)) (fault : Fault BadLine) (number : ℕ) (line : List ℕ) (new : Option Script) → l ≡ k
+    → Steps long_line (script_left remaining l) (Err fault) number line new → Steps long_line (script_left remaining k) (Err fault) number line new
+stepped remaining fault number line new same = subst (λ x. Steps long_line (script_left remaining x) (Err fault) number line new) same
 
 pub lines-init : goal.lines-init
 lines-init g c = λ read is. is_begun read _ _ _ _ _ c.now-now.ensures.sound
@@ -37,71 +44,80 @@ put_tc-requires g c = search rules
 
 pub lines-preserved-in-Ok-None : goal.lines-preserved-in-Ok-None
 lines-preserved-in-Ok-None g c = λ read is.
-    let said : said_in c.advance.new.self.line.items ≡ Ok None = ap said_in (sym c.line-line.ensures) ∙ sym c.read_line.ensures ∙ c.in-Ok-None.is ∙ ap Ok c.in-Ok-None.field-0-is in
-    let e : request_of read c.advance.new.self.line.items ≡ Ok None = ap (request_said (read (words_of c.advance.new.self.line.items))) said in
+    let said : said_in c.next_line.new.lines.line.items ≡ Ok None = ap said_in (sym c.line-line.ensures) ∙ sym c.read_line.ensures ∙ c.in-Ok-None.is ∙ ap Ok c.in-Ok-None.field-0-is in
+    let e : request_of read c.next_line.new.lines.line.items ≡ Ok None = ap (request_said (read (words_of c.next_line.new.lines.line.items))) said in
+    let i = kept read _ _ _ _ _ _ _ _ _ (c.lines.invariant read is) c.in_ok-next_line.ensures.kept in
     let same : c.pass_plain.new.lines ≡ c.lines.lines = c.in_default.ensures.event in
-    let a = advanced g.R.Read.remaining _ _ _ same c.if-not-branch.false c.in_ok-advance.ensures.line in
-    goes_past read _ _ _ _ _ _ _ _ _ _ _ (c.lines.invariant read is) a e
+    let a = advanced g.R.Read.remaining _ _ _ same c.if-not-branch.false c.in_ok-next_line.ensures.step in
+    goes_past read _ _ _ _ _ _ _ _ _ _ _ i a e
 
 pub lines-preserved-in_ok-put_answers-in-Ok-Some-Asked : goal.lines-preserved-in_ok-put_answers-in-Ok-Some-Asked
 lines-preserved-in_ok-put_answers-in-Ok-Some-Asked g c = λ read is.
-    let said : said_in c.advance.new.self.line.items ≡ Ok (Some (Says.Asked c.in-Ok-Some-Asked.event)) = ap said_in (sym c.line-line.ensures) ∙ sym c.read_line.ensures ∙ c.in-Ok-Some-Asked.is ∙ ap Ok (c.in-Ok-Some-Asked.field-0-is ∙ ap Some c.in-Ok-Some-Asked.field-0-0-is) in
-    let e : request_of read c.advance.new.self.line.items ≡ Ok (Some (Asks c.in-Ok-Some-Asked.event)) = ap (request_said (read (words_of c.advance.new.self.line.items))) said in
+    let said : said_in c.next_line.new.lines.line.items ≡ Ok (Some (Says.Asked c.in-Ok-Some-Asked.event)) = ap said_in (sym c.line-line.ensures) ∙ sym c.read_line.ensures ∙ c.in-Ok-Some-Asked.is ∙ ap Ok (c.in-Ok-Some-Asked.field-0-is ∙ ap Some c.in-Ok-Some-Asked.field-0-0-is) in
+    let e : request_of read c.next_line.new.lines.line.items ≡ Ok (Some (Asks c.in-Ok-Some-Asked.event)) = ap (request_said (read (words_of c.next_line.new.lines.line.items))) said in
+    let i = kept read _ _ _ _ _ _ _ _ _ (c.lines.invariant read is) c.in_ok-next_line.ensures.kept in
     let same : c.pass_plain.new.lines ≡ c.lines.lines = c.in_default.ensures.event in
-    let a = advanced g.R.Read.remaining _ _ _ same c.if-not-branch.false c.in_ok-advance.ensures.line in
-    goes_on read _ _ _ _ _ _ _ _ _ _ _ (c.lines.invariant read is) c.settling.ensures _ _ _ (Asks c.in-Ok-Some-Asked.event) a e c.in_ok-put_answers-in-Ok-Some-Asked.ensures
+    let a = advanced g.R.Read.remaining _ _ _ same c.if-not-branch.false c.in_ok-next_line.ensures.step in
+    goes_on read _ _ _ _ _ _ _ _ _ _ _ i c.settling.ensures _ _ _ (Asks c.in-Ok-Some-Asked.event) a e c.in_ok-put_answers-in-Ok-Some-Asked.ensures
 
 pub lines-preserved : goal.lines-preserved
 lines-preserved g c = λ read is.
-    let said : said_in c.advance.new.self.line.items ≡ Ok (Some Says.Tc) = ap said_in (sym c.line-line.ensures) ∙ sym c.read_line.ensures ∙ c.in-Ok-Some-Tc.is ∙ ap Ok (c.in-Ok-Some-Tc.field-0-is ∙ ap Some c.in-Ok-Some-Tc.field-0-0-is) in
-    let e : request_of read c.advance.new.self.line.items ≡ Ok (Some (tc_request (read (words_of c.advance.new.self.line.items)))) = ap (request_said (read (words_of c.advance.new.self.line.items))) said in
+    let said : said_in c.next_line.new.lines.line.items ≡ Ok (Some Says.Tc) = ap said_in (sym c.line-line.ensures) ∙ sym c.read_line.ensures ∙ c.in-Ok-Some-Tc.is ∙ ap Ok (c.in-Ok-Some-Tc.field-0-is ∙ ap Some c.in-Ok-Some-Tc.field-0-0-is) in
+    let e : request_of read c.next_line.new.lines.line.items ≡ Ok (Some (tc_request (read (words_of c.next_line.new.lines.line.items)))) = ap (request_said (read (words_of c.next_line.new.lines.line.items))) said in
+    let i = kept read _ _ _ _ _ _ _ _ _ (c.lines.invariant read is) c.in_ok-next_line.ensures.kept in
     let same : c.pass_plain.new.lines ≡ c.lines.lines = c.in_default.ensures.event in
-    let a = advanced g.R.Read.remaining _ _ _ same c.if-not-branch.false c.in_ok-advance.ensures.line in
+    let a = advanced g.R.Read.remaining _ _ _ same c.if-not-branch.false c.in_ok-next_line.ensures.step in
     let done = rw c.line-line.ensures at c.in_ok-put_tc-in-Ok-Some-Tc.ensures.answered read is in
-    goes_on read _ _ _ _ _ _ _ _ _ _ _ (c.lines.invariant read is) c.settling.ensures _ _ _ (tc_request (read (words_of c.advance.new.self.line.items))) a e done
+    goes_on read _ _ _ _ _ _ _ _ _ _ _ i c.settling.ensures _ _ _ (tc_request (read (words_of c.next_line.new.lines.line.items))) a e done
 
-pub returns-in_err-advance : goal.returns-in_err-advance
-returns-in_err-advance g c = λ read is.
-    let p = err_from_is_err_and c.from_residual-in_err-advance.result c.from_residual-in_err-advance.ensures.1 in
+pub returns-in_err-next_line : goal.returns-in_err-next_line
+returns-in_err-next_line g c = λ read is.
+    let p = err_from_is_err_and c.from_residual-in_err-next_line.result c.from_residual-in_err-next_line.ensures.1 in
     let same : c.pass_plain.new.lines ≡ c.lines.lines = c.in_default.ensures.event in
-    stops read _ _ _ _ _ _ _ _ _ _ _ (c.lines.invariant read is) _ (rw same at c.in_err-advance.ensures.line) (p.1 ∙ ap Err p.2)
+    let i = kept read _ _ _ _ _ _ _ _ _ (c.lines.invariant read is) c.in_err-next_line.ensures.kept in
+    stops read _ _ _ _ _ _ _ _ _ _ _ i _ (stepped g.R.Read.remaining _ _ _ _ same c.in_err-next_line.ensures.step) (p.1 ∙ ap Err p.2)
 
 pub returns-in_err-put_answers-in-Ok-Some-Asked : goal.returns-in_err-put_answers-in-Ok-Some-Asked
 returns-in_err-put_answers-in-Ok-Some-Asked g c = λ read is.
     let p = err_from_is_err_and c.from_residual-in_err-put_answers-in-Ok-Some-Asked.result c.from_residual-in_err-put_answers-in-Ok-Some-Asked.ensures.1 in
-    let said : said_in c.advance.new.self.line.items ≡ Ok (Some (Says.Asked c.in-Ok-Some-Asked.event)) = ap said_in (sym c.line-line.ensures) ∙ sym c.read_line.ensures ∙ c.in-Ok-Some-Asked.is ∙ ap Ok (c.in-Ok-Some-Asked.field-0-is ∙ ap Some c.in-Ok-Some-Asked.field-0-0-is) in
-    let e : request_of read c.advance.new.self.line.items ≡ Ok (Some (Asks c.in-Ok-Some-Asked.event)) = ap (request_said (read (words_of c.advance.new.self.line.items))) said in
+    let said : said_in c.next_line.new.lines.line.items ≡ Ok (Some (Says.Asked c.in-Ok-Some-Asked.event)) = ap said_in (sym c.line-line.ensures) ∙ sym c.read_line.ensures ∙ c.in-Ok-Some-Asked.is ∙ ap Ok (c.in-Ok-Some-Asked.field-0-is ∙ ap Some c.in-Ok-Some-Asked.field-0-0-is) in
+    let e : request_of read c.next_line.new.lines.line.items ≡ Ok (Some (Asks c.in-Ok-Some-Asked.event)) = ap (request_said (read (words_of c.next_line.new.lines.line.items))) said in
+    let i = kept read _ _ _ _ _ _ _ _ _ (c.lines.invariant read is) c.in_ok-next_line.ensures.kept in
     let same : c.pass_plain.new.lines ≡ c.lines.lines = c.in_default.ensures.event in
-    let a = advanced g.R.Read.remaining _ _ _ same c.if-not-branch.false c.in_ok-advance.ensures.line in
-    goes_no_further read _ _ _ _ _ _ _ _ _ _ _ (c.lines.invariant read is) c.settling.ensures _ (Asks c.in-Ok-Some-Asked.event) a e c.in_err-put_answers-in-Ok-Some-Asked.ensures.text (p.1 ∙ ap Err p.2)
+    let a = advanced g.R.Read.remaining _ _ _ same c.if-not-branch.false c.in_ok-next_line.ensures.step in
+    goes_no_further read _ _ _ _ _ _ _ _ _ _ _ i c.settling.ensures _ (Asks c.in-Ok-Some-Asked.event) a e c.in_err-put_answers-in-Ok-Some-Asked.ensures.text (p.1 ∙ ap Err p.2)
 
 pub returns-in_err-put_tc-in-Ok-Some-Tc : goal.returns-in_err-put_tc-in-Ok-Some-Tc
 returns-in_err-put_tc-in-Ok-Some-Tc g c = λ read is.
     let p = err_from_is_err_and c.from_residual-in_err-put_tc-in-Ok-Some-Tc.result c.from_residual-in_err-put_tc-in-Ok-Some-Tc.ensures.1 in
-    let said : said_in c.advance.new.self.line.items ≡ Ok (Some Says.Tc) = ap said_in (sym c.line-line.ensures) ∙ sym c.read_line.ensures ∙ c.in-Ok-Some-Tc.is ∙ ap Ok (c.in-Ok-Some-Tc.field-0-is ∙ ap Some c.in-Ok-Some-Tc.field-0-0-is) in
-    let e : request_of read c.advance.new.self.line.items ≡ Ok (Some (tc_request (read (words_of c.advance.new.self.line.items)))) = ap (request_said (read (words_of c.advance.new.self.line.items))) said in
+    let said : said_in c.next_line.new.lines.line.items ≡ Ok (Some Says.Tc) = ap said_in (sym c.line-line.ensures) ∙ sym c.read_line.ensures ∙ c.in-Ok-Some-Tc.is ∙ ap Ok (c.in-Ok-Some-Tc.field-0-is ∙ ap Some c.in-Ok-Some-Tc.field-0-0-is) in
+    let e : request_of read c.next_line.new.lines.line.items ≡ Ok (Some (tc_request (read (words_of c.next_line.new.lines.line.items)))) = ap (request_said (read (words_of c.next_line.new.lines.line.items))) said in
+    let i = kept read _ _ _ _ _ _ _ _ _ (c.lines.invariant read is) c.in_ok-next_line.ensures.kept in
     let same : c.pass_plain.new.lines ≡ c.lines.lines = c.in_default.ensures.event in
-    let a = advanced g.R.Read.remaining _ _ _ same c.if-not-branch.false c.in_ok-advance.ensures.line in
+    let a = advanced g.R.Read.remaining _ _ _ same c.if-not-branch.false c.in_ok-next_line.ensures.step in
     let done = rw c.line-line.ensures at c.in_err-put_tc-in-Ok-Some-Tc.ensures.answered read is in
-    goes_no_further read _ _ _ _ _ _ _ _ _ _ _ (c.lines.invariant read is) c.settling.ensures _ (tc_request (read (words_of c.advance.new.self.line.items))) a e done.text (p.1 ∙ ap Err p.2)
+    goes_no_further read _ _ _ _ _ _ _ _ _ _ _ i c.settling.ensures _ (tc_request (read (words_of c.next_line.new.lines.line.items))) a e done.text (p.1 ∙ ap Err p.2)
 
 pub returns-in-Err : goal.returns-in-Err
 returns-in-Err g c = λ read is.
-    let said : said_in c.advance.new.self.line.items ≡ Err c.in-Err.fault = ap said_in (sym c.line-line.ensures) ∙ sym c.read_line.ensures ∙ c.in-Err.is in
-    let e : request_of read c.advance.new.self.line.items ≡ Err c.in-Err.fault = ap (request_said (read (words_of c.advance.new.self.line.items))) said in
+    let said : said_in c.next_line.new.lines.line.items ≡ Err c.in-Err.fault = ap said_in (sym c.line-line.ensures) ∙ sym c.read_line.ensures ∙ c.in-Err.is in
+    let e : request_of read c.next_line.new.lines.line.items ≡ Err c.in-Err.fault = ap (request_said (read (words_of c.next_line.new.lines.line.items))) said in
+    let i = kept read _ _ _ _ _ _ _ _ _ (c.lines.invariant read is) c.in_ok-next_line.ensures.kept in
     let same : c.pass_plain.new.lines ≡ c.lines.lines = c.in_default.ensures.event in
-    let a = advanced g.R.Read.remaining _ _ _ same c.if-not-branch.false c.in_ok-advance.ensures.line in
-    goes_wrong read _ _ _ _ _ _ _ _ _ _ _ (c.lines.invariant read is) {T = Unit {0}} c.in-Err.fault a e (ap (λ b. Err (Faults.Input b)) c.new.ensures ∙ ap (λ n. Err (Faults.Input (bad_line n c.in-Err.fault))) c.line_number.ensures)
+    let a = advanced g.R.Read.remaining _ _ _ same c.if-not-branch.false c.in_ok-next_line.ensures.step in
+    goes_wrong read _ _ _ _ _ _ _ _ _ _ _ i {T = Unit {0}} c.in-Err.fault a e (ap (λ b. Err (Faults.Input b)) c.new.ensures ∙ ap (λ n. Err (Faults.Input (bad_line n c.in-Err.fault))) c.line_number-in-Err.ensures)
 
 pub returns-in_err-end : goal.returns-in_err-end
 returns-in_err-end g c = λ read is.
     let p = err_from_is_err_and c.from_residual-in_err-end.result c.from_residual-in_err-end.ensures.1 in
+    let i = kept read _ _ _ _ _ _ _ _ _ (c.lines.invariant read is) c.in_ok-next_line.ensures.kept in
     let same : c.pass_plain.new.lines ≡ c.lines.lines = c.in_default.ensures.event in
-    let a = advanced g.R.Read.remaining _ _ _ same c.if-not-branch.true c.in_ok-advance.ensures.line in
-    ends_early read _ _ _ _ _ _ _ _ _ _ _ (c.lines.invariant read is) c.settling.ensures _ a c.in_err-end.ensures (p.1 ∙ ap Err p.2)
+    let a = advanced g.R.Read.remaining _ _ _ same c.if-not-branch.true c.in_ok-next_line.ensures.step in
+    ends_early read _ _ _ _ _ _ _ _ _ _ _ i c.settling.ensures _ a c.in_err-end.ensures (p.1 ∙ ap Err p.2)
 
 pub returns : goal.returns
 returns g c = λ read is.
+    let i = kept read _ _ _ _ _ _ _ _ _ (c.lines.invariant read is) c.in_ok-next_line.ensures.kept in
     let same : c.pass_plain.new.lines ≡ c.lines.lines = c.in_default.ensures.event in
-    let a = advanced g.R.Read.remaining _ _ _ same c.if-not-branch.true c.in_ok-advance.ensures.line in
-    ends_well read _ _ _ _ _ _ _ _ _ _ _ (c.lines.invariant read is) {T = Unit {0}} c.settling.ensures tt _ a c.in_ok-end.ensures refl
+    let a = advanced g.R.Read.remaining _ _ _ same c.if-not-branch.true c.in_ok-next_line.ensures.step in
+    ends_well read _ _ _ _ _ _ _ _ _ _ _ i {T = Unit {0}} c.settling.ensures tt _ a c.in_ok-end.ensures refl

@@ -1,0 +1,191 @@
+//! The words of the lines of scripts and tables.
+
+use crate::marks::{Hint, Span, span_at, span_behind, span_of, word_at};
+use crate::near::nearest;
+use times::time;
+use wire_time::MAX_MOMENT;
+use words::{Words, number};
+
+/// A word with a limit.
+#[derive(Clone, Copy)]
+struct Role {
+    /// The greatest number that it may say.
+    most: u128,
+    /// Whether it is a time with its unit.
+    is_time: bool,
+    /// What it is.
+    text: &'static [u8],
+}
+
+const ID: Role = Role {
+    most: 0xffff_ffff_ffff_ffff,
+    is_time: false,
+    text: b"ID is a whole number from 0 to 18446744073709551615",
+};
+
+const PRIORITY: Role = Role {
+    most: 255,
+    is_time: false,
+    text: b"PRIORITY is a whole number from 0 to 255",
+};
+
+const LEN: Role = Role {
+    most: 0xffff_ffff,
+    is_time: false,
+    text: b"LEN is a whole number of octets from 0 to 4294967295",
+};
+
+const COUNT: Role = Role {
+    most: 0xffff_ffff,
+    is_time: false,
+    text: b"COUNT is a whole number from 0 to 4294967295",
+};
+
+const CLASS: Role = Role {
+    most: 7,
+    is_time: false,
+    text: b"CLASS is a whole number from 0 to 7",
+};
+
+const MOMENT: Role = Role {
+    most: 0xffff_ffff_ffff_ffff_ffff_ffff_ffff_ffff,
+    is_time: false,
+    text: b"MOMENT is a whole number of picoseconds, without a unit",
+};
+
+const PERIOD: Role = Role {
+    most: MAX_MOMENT,
+    is_time: true,
+    text: b"PERIOD is a number with its unit: ps, ns, us, ms or s, such as 250us",
+};
+
+const OFFSET: Role = Role {
+    most: MAX_MOMENT,
+    is_time: true,
+    text: b"OFFSET is a number with its unit: ps, ns, us, ms or s, such as 12.5us",
+};
+
+/// The words of a line after its first.
+const FRAME: [Role; 3] = [ID, PRIORITY, LEN];
+
+const STREAM: [Role; 6] = [ID, PRIORITY, LEN, PERIOD, OFFSET, COUNT];
+
+const CLOCK: [Role; 1] = [MOMENT];
+
+const COUNT_LINE: [Role; 1] = [CLASS];
+
+const NONE: [Role; 0] = [];
+
+/// The first words of the lines of scripts.
+const SCRIPT_LINES: [&[u8]; 5] = [b"clock", b"frame", b"query", b"count", b"tc"];
+
+/// The first word of the lines of tables.
+const TABLE_LINES: [&[u8]; 1] = [b"stream"];
+
+/// The words of a line of this kind.
+fn roles_of(kind: &[u8]) -> &'static [Role] {
+    match kind {
+        b"frame" => &FRAME,
+        b"stream" => &STREAM,
+        b"clock" => &CLOCK,
+        b"count" => &COUNT_LINE,
+        _ => &NONE,
+    }
+}
+
+/// How a line of this kind is written.
+fn form_of(kind: &[u8]) -> &'static [u8] {
+    match kind {
+        b"frame" => b"a frame line is: frame ID PRIORITY LEN [tagged]",
+        b"stream" =>
+            b"a stream line is: stream ID PRIORITY LEN PERIOD OFFSET COUNT [tagged] [deadline TIME]",
+        b"clock" => b"a clock line is: clock MOMENT",
+        b"count" => b"a count line is: count CLASS",
+        _ => b"a query line is: query",
+    }
+}
+
+/// Whether a word is within the limits of its role.
+fn fits(role: &Role, word: &[u8]) -> bool {
+    if role.is_time {
+        time(word, role.most).is_some()
+    } else {
+        number(word, role.most).is_some()
+    }
+}
+
+/// The first word of a line that doesn't fit its role, and what the role is.
+fn first_bad(line: &[u8]) -> Option<(Span, &'static [u8])> {
+    let mut words = Words::new(line);
+    let kind = words.next_word()?;
+    for role in roles_of(kind) {
+        let word = words.next_word()?;
+        if !fits(role, word) {
+            return Some((span_of(line, &words, word), role.text));
+        }
+    }
+    None
+}
+
+/// What helps with a line that has a bad number.
+pub(crate) fn bad_number(line: &[u8]) -> Hint {
+    match first_bad(line) {
+        Some((span, text)) => Hint::marked(Some(span), text),
+        None => Hint::plain(
+            b"a PERIOD is more than 0, a deadline's TIME has its unit, and ID and COUNT are at most 2^64 together",
+        ),
+    }
+}
+
+/// The first word of a line that it may not have, where it has too many words.
+fn first_left_over(line: &[u8]) -> Option<Span> {
+    let mut words = Words::new(line);
+    let kind = words.next_word()?;
+    for _ in roles_of(kind) {
+        words.next_word()?;
+    }
+    let word = words.next_word()?;
+    if word != b"tagged".as_slice() {
+        return Some(span_of(line, &words, word));
+    }
+    let word = words.next_word()?;
+    Some(span_of(line, &words, word))
+}
+
+/// What helps with a line that has too few or too many words.
+pub(crate) fn word_count(line: &[u8]) -> Hint {
+    let form = form_of(word_at(line, 0).unwrap_or(b""));
+    match first_left_over(line) {
+        Some(span) => Hint::marked(Some(span), form),
+        None => Hint::marked(Some(span_behind(line)), form),
+    }
+}
+
+/// What helps with a line whose first word is none that it may have.
+pub(crate) fn unknown_line(line: &[u8], of_table: bool) -> Hint {
+    let word = word_at(line, 0).unwrap_or(b"");
+    let span = span_at(line, 0);
+    if word == b"$".as_slice() || word == b"#".as_slice() {
+        return Hint::marked(span, b"a prompt was pasted: leave it out");
+    }
+    if of_table {
+        return Hint {
+            span,
+            expected: b"a line of a table begins with stream",
+            meant: nearest(word, &TABLE_LINES),
+        };
+    }
+    for known in &SCRIPT_LINES {
+        if word == *known {
+            return Hint::marked(
+                span,
+                b"this input has tc lines alone; check --script passes over the others",
+            );
+        }
+    }
+    Hint {
+        span,
+        expected: b"a line of a script begins with clock, frame, query, count or tc; for check and bounds with tc",
+        meant: nearest(word, &SCRIPT_LINES),
+    }
+}

@@ -1,0 +1,130 @@
+//! Who watches a run for the program: what it finds is reported on standard error, and is counted where the run is strict.
+
+use crate::progress::Progress;
+use arrayvec::ArrayVec;
+use hints::{put_failure, put_fault_hint};
+use job::Ended;
+use octet_writer::put;
+use script::{Failure, Watch};
+use std::io::{self, Write};
+use std::time::Clock;
+
+/// How many octets of a line are kept, to be shown.
+const LINE: usize = 4096;
+
+/// How many octets of a fault's text are kept: a path has some 4,000.
+const TEXT: usize = 8192;
+
+/// How many commands that change nothing are explained.
+const EXPLAINED: u32 = 20;
+
+/// The text of a fault, before it is written.
+#[derive(Drop)]
+pub(crate) struct FaultText {
+    text: ArrayVec<u8, TEXT>,
+}
+
+impl FaultText {
+    /// No text.
+    pub fn new() -> FaultText {
+        FaultText {
+            text: ArrayVec::new(),
+        }
+    }
+
+    /// The text.
+    pub fn octets(&self) -> &[u8] {
+        self.text.as_slice()
+    }
+}
+
+impl Write for FaultText {
+    fn write(&mut self, octets: &[u8]) -> io::Result<usize> {
+        let room = TEXT.saturating_sub(self.text.len());
+        let (taken, _) = octets.split_at(octets.len().min(room));
+        let _ = self.text.try_extend_from_slice(taken);
+        Ok(taken.len())
+    }
+
+    fn flush(&mut self) -> io::Result<()> {
+        Ok(())
+    }
+}
+
+/// What the words and the streams of the program ask for.
+#[derive(Clone, Copy, Debug)]
+pub(crate) struct Looks {
+    /// Whether faults are explained.
+    pub explain: bool,
+    /// Whether a command that changes nothing makes the status 1.
+    pub strict: bool,
+}
+
+/// Watches a run.
+#[derive(Drop)]
+pub(crate) struct Onlooker<'a, 'b, C: Clock, P: Write + Drop, E: Write> {
+    progress: &'a mut Progress<'b, C, P>,
+    errors: &'a mut E,
+    looks: Looks,
+    failures: u32,
+    line: ArrayVec<u8, LINE>,
+}
+
+impl<'a, 'b, C: Clock, P: Write + Drop, E: Write> Onlooker<'a, 'b, C, P, E> {
+    /// Nothing is found.
+    pub fn new(
+        progress: &'a mut Progress<'b, C, P>,
+        errors: &'a mut E,
+        looks: Looks,
+    ) -> Onlooker<'a, 'b, C, P, E> {
+        Onlooker {
+            progress,
+            errors,
+            looks,
+            failures: 0,
+            line: ArrayVec::new(),
+        }
+    }
+
+    /// How a run ends that ended like this: a strict one with status 1 where a command changed nothing.
+    pub fn judged(&self, ended: Ended) -> Ended {
+        if ended.status == 0 && self.looks.strict && self.failures > 0 {
+            Ended { status: 1, ..ended }
+        } else {
+            ended
+        }
+    }
+
+    /// Reports the text of a fault, if there is one, and what helps with it, where that is wanted. A capture begins with
+    /// these octets, where they are known.
+    pub fn report(&mut self, text: &FaultText, capture: &[u8]) {
+        let text = text.octets();
+        let _ = put(self.errors, text);
+        if self.looks.explain && !text.is_empty() {
+            let _ = put_fault_hint(self.errors, text, self.line.as_slice(), capture);
+        }
+        let _ = self.errors.flush();
+    }
+}
+
+impl<C: Clock, P: Write + Drop, E: Write> Watch for Onlooker<'_, '_, C, P, E> {
+    #[inline(always)]
+    fn records_taken(&mut self, records: u32, moment: u128) {
+        self.progress.records_taken(records, moment);
+    }
+
+    fn command_failed(&mut self, number: u32, line: &[u8], why: Failure) {
+        let explain = self.looks.explain && self.failures < EXPLAINED;
+        let told = explain || (self.looks.strict && self.failures == 0);
+        self.failures = self.failures.saturating_add(1);
+        if told {
+            let _ = put_failure(self.errors, number, line, why, explain);
+            let _ = self.errors.flush();
+        }
+    }
+
+    fn line_failed(&mut self, line: &[u8]) {
+        self.line.clear();
+        let _ = self.line.try_extend_from_slice(line);
+    }
+}

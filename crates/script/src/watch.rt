@@ -1,0 +1,31 @@
+//! Who watches a run.
+
+use abstract_port::Refused;
+use tc_reader::TcFault;
+
+/// Why a line that begins with `tc` changes nothing.
+#[derive(Clone, Copy, Debug, PartialEq, Eq)]
+pub enum Failure {
+    /// It is no command.
+    Malformed(TcFault),
+    /// Its command is refused.
+    Refused(Refused),
+}
+
+/// Who watches a run. Nothing that it does changes what is written.
+pub trait Watch {
+    /// So many records of a capture are taken, the last at this moment, in picoseconds.
+    fn records_taken(&mut self, _records: u32, _moment: u128) {}
+
+    /// The line of this number, whose text this is, begins with `tc` and changes nothing. The run goes on.
+    fn command_failed(&mut self, _number: u32, _line: &[u8], _why: Failure) {}
+
+    /// The line whose text this is has a fault that ends the run.
+    fn line_failed(&mut self, _line: &[u8]) {}
+}
+
+/// Nobody watches.
+#[derive(Clone, Copy, Debug)]
+pub struct Unwatched;
+
+impl Watch for Unwatched {}
