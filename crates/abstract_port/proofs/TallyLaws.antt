@@ -17,7 +17,7 @@ use Rattle.abstract_port.specs.declared.Event.{Event}
 use Rattle.abstract_port.specs.declared.Event.TheVariants.{Arrive, Install, Clock, Query, Count}
 use Rattle.abstract_port.specs.AbstractPort.{AbstractPort, counts_at, class_for, verdict, waiting, next_start, starts_until, drop_in, after_arrival, refusal, installs, installs_by}
 use Rattle.abstract_port.specs.Answers.{answers_to, port_after}
-use Rattle.abstract_port.specs.Counting.{add_capped, count_sent, count_dropped, no_counts}
+use Rattle.abstract_port.specs.FrameCounts.{add_capped, count_sent, count_dropped, no_counts}
 use Rattle.abstract_port.specs.Tally.{Happening, Arrived, Started, Counter, Accepted, Sent, SentOctets, Runts, TooLongs, OverSdus, Fulls, value_of, by_accepted, by_start, by_drop, only_in, growth, started, first_of_class, departures, happened, happenings, CountingLaw}
 use Rattle.gate_list.specs.Visits.{greatest_count}
 use Rattle.abstract_port.proofs.TurnLaws as turn

@@ -7,7 +7,7 @@ use Rattle.list_config.specs.History.{open_through}
 use Rattle.list_config.specs.Choice.{may_start}
 use Rattle.list_config.proofs.ChoiceLaws.{greatest_below-passes}
 use Rattle.abstract_port.specs.declared.Start.{Start}
-use Rattle.abstract_port.specs.Counting.{count_sent}
+use Rattle.abstract_port.specs.FrameCounts.{count_sent}
 use Rattle.abstract_port.specs.AbstractPort.{AbstractPort, queue_of, counts_at, head_need, is_available, choice, start_head, start_or, scan, next_start}
 use Rattle.abstract_port.proofs.ScanLaws.{choice-less}
 

@@ -14,7 +14,7 @@ use Rattle.abstract_port.specs.declared.Event.{Event}
 use Rattle.abstract_port.specs.declared.Event.TheVariants.{Arrive, Install, Clock, Query, Count}
 use Rattle.abstract_port.specs.AbstractPort.{AbstractPort, class_for, verdict, waiting, next_start, starts_until, drop_in, after_arrival, refusal, installs, installs_by}
 use Rattle.abstract_port.specs.Answers.{answers_to, port_after}
-use Rattle.abstract_port.specs.Counting.{add_capped}
+use Rattle.abstract_port.specs.FrameCounts.{add_capped}
 use Rattle.abstract_port.specs.Tally.{Happening, Arrived, Started, unclassed, started, first_of_class, departures, happened, happenings, UnclassedLaw}
 use Rattle.abstract_port.proofs.RunLaws.{clock_by}
 use Rattle.abstract_port.proofs.StartsLaws.{next_start-unmoved, starts_from-unmoved, IsUnmoved}

@@ -5,7 +5,7 @@ use Rattle.wire_time.specs.Wire.{occupancy_of, lead_of}
 use Rattle.wire_time.specs.declared.Frame.{Frame}
 use Rattle.list_config.specs.Current.{IsCurrent}
 use Rattle.class_queue.specs.Queue.{IsRoom}
-use Rattle.abstract_port.specs.Counting.{AreCounted}
+use Rattle.abstract_port.specs.FrameCounts.{AreCounted}
 use Rattle.abstract_port.specs.AbstractPort.{AbstractPort, queue_of}
 
 -- an mtu that a port may have, in octets

@@ -12,7 +12,7 @@ use Rattle.list_config.proofs.EventLaws.{any_after, any_here}
 use Rattle.list_config.proofs.HistoryLaws.{cons_some_push, push_gates, three_force, three_pending, three_announced, settled_force, settled_pending, settled_announced, settled_kept, past_three}
 use Rattle.list_config.proofs.StretchLaws.{HasBegun, begun_from, begun_later, has_cycle, start_before, planned_stretch, unheld_stretch, stretches_open_through}
 use Rattle.accepted_commands.specs.Commands.{in_force_by, pending_by, announced_by}
-use Rattle.accepted_commands.specs.Standing.{boundary_under}
+use Rattle.accepted_commands.specs.InForce.{boundary_under}
 use Rattle.list_position.proofs.PositionLaws.{boundary_begins, placed_mask, shut_now}
 
 -- ---- what shows now and up to the next command

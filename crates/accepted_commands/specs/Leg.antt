@@ -5,7 +5,7 @@ use Rattle.wire_time.specs.Moment.{greatest_moment}
 use Rattle.gate_list.specs.Gate.{IsSchedule}
 use Rattle.list_config.specs.History.{Accepted, plan_of, start_of}
 use Rattle.list_config.specs.Stretch.{Stretch}
-use Rattle.accepted_commands.specs.Standing.{hold_for}
+use Rattle.accepted_commands.specs.InForce.{hold_for}
 use Rattle.list_position.specs.Position.{IsPlaced}
 use Rattle.accepted_commands.specs.declared.leg.Leg.{Leg}
 use Rattle.accepted_commands.specs.declared.leg.Leg.TheVariants.{Listed, Open}

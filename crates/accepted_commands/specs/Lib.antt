@@ -1,5 +1,5 @@
 pub mod Commands
-pub mod Standing
+pub mod InForce
 pub mod Leg
 pub mod Resume
 pub mod Words

@@ -3,7 +3,7 @@ use Rattle.std.specs.Prelude.{◌≡◌, false, Option, Some, None, [], ◌∷�
 use Rattle.list_config.specs.History.{Accepted, is_in_time}
 use Rattle.list_position.specs.declared.Position.{Position}
 use Rattle.accepted_commands.specs.Commands.{Commands}
-use Rattle.accepted_commands.specs.Standing.{Stands}
+use Rattle.accepted_commands.specs.InForce.{Stands}
 
 -- where the command that is pending will be replaced at the lead moment of another, the list in force stands so then
 abbrev pub ResumesBy : Option Accepted → Option Accepted → Option Accepted → Option Position → Type 0

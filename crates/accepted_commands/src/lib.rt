@@ -1,7 +1,7 @@
 //! The accepted commands that count at a moment: the one in force, the one that is pending and the one that is announced,
 //! each list with the position where it stands (IEEE Std 802.1Q-2018, 8.6.9.3 List Config).
 //!
-//! The contracts compare them with the history of accepted commands, by specs/Commands.antt, specs/Standing.antt
+//! The contracts compare them with the history of accepted commands, by specs/Commands.antt, specs/InForce.antt
 //! and specs/Leg.antt.
 #![tactic(auto)]
 
@@ -11,7 +11,7 @@ mod edge;
 mod leg;
 mod slot;
 mod slots;
-mod staying;
+mod stay;
 mod under;
 
 pub use ahead::{Ahead, legs_ahead, resumed};
@@ -19,5 +19,5 @@ pub use command::{AcceptedCommand, AcceptedList, installed};
 pub use edge::{edge_of, lead_moment};
 pub use leg::{Leg, ListedLeg, OpenLeg, Rest, copied};
 pub use slots::CommandSlots;
-pub use staying::stays_open;
+pub use stay::stays_open;
 pub use under::{list_in, mask_under, until_under};

@@ -22,7 +22,7 @@ impl Model for CommandSlots {
     ghost use Rattle.std.specs.Prelude.{option_map};
     ghost use Rattle.std.specs.Option.{ForSome};
     ghost use Rattle.accepted_commands.specs.Commands.{AreCommands, accepted_in};
-    ghost use Rattle.accepted_commands.specs.Standing.{EndsSo, IsFirst, Standing, option_position};
+    ghost use Rattle.accepted_commands.specs.InForce.{EndsSo, IsFirst, Standing, option_position};
 
     ghost Value = { Standing };
 

@@ -1,7 +1,7 @@
 -- The text of a part of a line.
 use Rattle.std.specs.Prelude.{List, ℕ, [], ◌∷◌, ◌+◌, ◌/◌, ◌%◌, nat_lt, decimal, if◌then◌else◌}
-use Rattle.answer_text.specs.declared.writing.Part.{Part}
-use Rattle.answer_text.specs.declared.writing.Part.TheVariants.{Text, Number, Mask}
+use Rattle.answer_text.specs.declared.text_writer.Part.{Part}
+use Rattle.answer_text.specs.declared.text_writer.Part.TheVariants.{Text, Number, Mask}
 
 -- a digit up to 15, in lower case
 abbrev pub hex_digit : ℕ → ℕ

@@ -2,9 +2,9 @@
 
 ghost use Rattle.std.specs.Prelude.{◌≡◌, ◌<◌, ◌≤◌, ◌+◌, ◌*◌, ◌^◌, ◌++◌, ℕ, drop, decimal};
 ghost use Rattle.answer_text.specs.declared.digits.TheConstants.{EIGHT_DIGITS, OCTET_CAPACITY, SHORT_CAPACITY, NUMBER_CAPACITY};
-ghost use Rattle.answer_text.specs.declared.ending.TheConstants.{LINE_CAPACITY};
+ghost use Rattle.answer_text.specs.declared.line_buffer.TheConstants.{LINE_CAPACITY};
 
-use crate::ending::{LINE_CAPACITY, Line, text_before};
+use crate::line_buffer::{LINE_CAPACITY, Line, text_before};
 use itoa::{Buffer, write_digits};
 
 /// The octets of a line that a number of 8 bits in decimal may take.
@@ -69,6 +69,7 @@ pub(crate) fn eight_before(eight: u64, line: &mut Line, end: usize) -> usize
 }
 
 /// Puts a number of 64 bits in decimal before what ends a line from `end` on, and answers where the line begins then.
+#[inline(always)]
 pub(crate) fn short_before(number: u64, line: &mut Line, end: usize) -> usize
     requires room { SHORT_CAPACITY ≤ end }
     requires within { end ≤ LINE_CAPACITY }

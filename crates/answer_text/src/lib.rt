@@ -5,13 +5,13 @@
 #![tactic(auto)]
 
 mod digits;
-mod ending;
+mod line_buffer;
 mod lines;
 mod names;
 mod reports;
 mod span;
-mod writing;
+mod text_writer;
 
 pub use lines::{put_answer, put_arrival, put_installation, put_left, put_start, put_tc_fault};
 pub use octet_writer::{WriteFault, put};
-pub use writing::{Part, put_parts};
+pub use text_writer::{Part, put_parts};

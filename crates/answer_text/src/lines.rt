@@ -5,13 +5,13 @@ ghost use Rattle.answer_text.specs.Lines.{queued_line, dropped_line, installed_l
 ghost use Rattle.octet_writer.specs.Writes.{Writes};
 
 use crate::digits::{octet_before, short_before};
-use crate::ending::{LINE_CAPACITY, text_before};
+use crate::line_buffer::{LINE_CAPACITY, text_before};
 use crate::names::{
     dropped_before, refused_name, refused_number, tc_fault_name, tc_fault_place, tc_fault_word,
 };
 use crate::reports::put_report;
 use crate::span::span_before;
-use crate::writing::{Part, put_parts};
+use crate::text_writer::{Part, put_parts};
 use abstract_port::{Answer, Counters, Dropped, Refused, Start};
 use octet_writer::{WriteFault, put};
 use std::io::Write;

@@ -1,11 +1,11 @@
 //! The names in answer lines.
 
 ghost use Rattle.std.specs.Prelude.{◌≡◌, ◌≤◌, ◌+◌, ◌++◌, drop, option_map};
-ghost use Rattle.answer_text.specs.declared.ending.TheConstants.{LINE_CAPACITY};
+ghost use Rattle.answer_text.specs.declared.line_buffer.TheConstants.{LINE_CAPACITY};
 ghost use Rattle.answer_text.specs.declared.names.TheConstants.{DROPPED_CAPACITY};
 ghost use Rattle.answer_text.specs.Names.{dropped_name, plan_fault_name, plan_fault_number, refused_name, refused_number, map_fault_name, queue_fault_name, gate_fault_name, tc_fault_name, tc_fault_word, tc_fault_place};
 
-use crate::ending::{Line, text_before};
+use crate::line_buffer::{Line, text_before};
 use abstract_port::{Dropped, Refused};
 use class_map::{MapFault, QueueFault};
 use gate_list::{GateFault, PlanFault};

@@ -3,7 +3,7 @@
 ghost use Rattle.answer_text.specs.Reports.{class_text, num_tc_text, now_line, map_text, range_text, ranges_text, map_and_ranges_line, classes_line, open_text, list_text, installed_text, schedule_line, report_lines};
 ghost use Rattle.octet_writer.specs.Writes.{Writes};
 
-use crate::writing::{Part, put_parts};
+use crate::text_writer::{Part, put_parts};
 use abstract_port::Report;
 use class_map::{ClassMap, Queues};
 use list_config::Installed;

@@ -2,11 +2,11 @@
 
 ghost use Rattle.std.specs.Prelude.{◌≡◌, ◌<◌, ◌≤◌, ◌+◌, ◌*◌, ◌/◌, ◌++◌, IfSome, codes, drop, decimal};
 ghost use Rattle.answer_text.specs.declared.digits.TheConstants.{EIGHT_DIGITS, SHORT_CAPACITY};
-ghost use Rattle.answer_text.specs.declared.ending.TheConstants.{LINE_CAPACITY};
+ghost use Rattle.answer_text.specs.declared.line_buffer.TheConstants.{LINE_CAPACITY};
 ghost use Rattle.answer_text.specs.declared.span.TheConstants.{SPAN_CAPACITY};
 
 use crate::digits::{EIGHT_DIGITS, SHORT_CAPACITY, eight_before, number_before};
-use crate::ending::{LINE_CAPACITY, Line, text_before};
+use crate::line_buffer::{LINE_CAPACITY, Line, text_before};
 use itoa::write_digits;
 
 /// The octets of a line that two moments may take.
@@ -39,6 +39,7 @@ fn copy_before(digits: &[u8; SHORT_CAPACITY], from: usize, line: &mut Line, end:
 }
 
 /// Two numbers that differ in their last eight digits alone.
+#[inline(always)]
 fn near_before(front: u64, first: u64, second: u64, line: &mut Line, end: usize) -> usize
     requires front { 0 < front }
     requires first { first < EIGHT_DIGITS }

@@ -4,4 +4,4 @@ pub mod NextLemmas
 pub mod HeaderLemmas
 pub mod WriterLemmas
 pub mod CaptureLaws
-pub mod SpellingLaws
+pub mod LayoutLaws

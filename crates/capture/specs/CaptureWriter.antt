@@ -4,7 +4,7 @@ use Rattle.capture.specs.declared.format.Endian.TheVariants.{Little}
 use Rattle.capture.specs.declared.format.Resolution.TheVariants.{Nanos}
 use Rattle.capture.specs.declared.format.Format.{Format}
 use Rattle.capture.specs.declared.writer.CaptureWriter.{CaptureWriter}
-use Rattle.capture.specs.Spelling.{spelled_header, spelled_record}
+use Rattle.capture.specs.Layout.{spelled_header, spelled_record}
 use Rattle.capture.specs.declared.format.TheConstants.{MAX_RECORD_OCTETS}
 
 -- whether a write of it failed

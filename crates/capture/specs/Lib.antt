@@ -6,6 +6,6 @@ pub mod Step
 pub mod Record
 pub mod CaptureReader
 pub mod Captures
-pub mod Spelling
+pub mod Layout
 pub mod CaptureWriter
 pub mod Words

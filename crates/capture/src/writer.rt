@@ -35,7 +35,7 @@ fn put_whole<W: Write>(writer: &mut W, octets: &[u8]) -> Result<(), CapFault>
     }
 }
 
-#[tactic(auto, unfolding(crate::specs::Spelling::spelled_header))]
+#[tactic(auto, unfolding(crate::specs::Layout::spelled_header))]
 fn file_header() -> [u8; FILE_HEADER]
     ensures { result ≡ written_header }
 {
@@ -60,7 +60,7 @@ fn split(moment: u128) -> (u32, u64)
     (seconds as u32, rest as u64)
 }
 
-#[tactic(auto, unfolding(crate::specs::Spelling::spelled_record_header))]
+#[tactic(auto, unfolding(crate::specs::Layout::spelled_record_header))]
 fn record_header(moment: u128, captured: u32, original: u32) -> [u8; RECORD_HEADER]
     requires { moment < CAPTURE_END }
     ensures { result ≡ spelled_record_header written_format moment captured original }

@@ -10,9 +10,9 @@ use Rattle.delay_bounds.specs.declared.Flow.{Flow}
 use Rattle.delay_bounds.specs.declared.Told.{Told}
 use Rattle.delay_bounds.specs.declared.Unbound.{Unbound}
 use Rattle.delay_bounds.specs.declared.Unbound.TheVariants.{Overloaded, Long}
-use Rattle.delay_bounds.specs.declared.looking.Backlog.{Backlog}
-use Rattle.delay_bounds.specs.declared.looking.Look.{Look}
-use Rattle.delay_bounds.specs.declared.looking.Look.TheVariants as Looks
+use Rattle.delay_bounds.specs.declared.look.Backlog.{Backlog}
+use Rattle.delay_bounds.specs.declared.look.Look.{Look}
+use Rattle.delay_bounds.specs.declared.look.Look.TheVariants as Looks
 use Rattle.delay_bounds.specs.declared.line.Stop.{Stop}
 use Rattle.delay_bounds.specs.declared.line.Stop.TheVariants as Stops
 use Rattle.delay_bounds.specs.Backlog.{followed, taken_at}

@@ -5,7 +5,7 @@ use Rattle.wire_time.specs.declared.Frame.{Frame}
 use Rattle.gate_list.specs.Gate.{Plan}
 use Rattle.list_config.specs.History.{Accepted, open_through}
 use Rattle.abstract_port.specs.declared.Start.{Start}
-use Rattle.separation.proofs.Serving.{served_law}
+use Rattle.separation.proofs.ServiceLaws.{served_law}
 use Rattle.separation.specs.Served.{AreServed, IsFirst, IsStart}
 use Rattle.separation.specs.Traffic.{Came}
 use Rattle.delay_bounds.specs.AnyMoment.{AnyMomentLaw, AreSoon, IsLongestWait}

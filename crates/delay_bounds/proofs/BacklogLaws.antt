@@ -5,9 +5,9 @@ use Rattle.std.proofs.lemmas.Option.{same_Some}
 use Rattle.std.specs.Prelude.{nat_lt, nat_le}
 use Rattle.gate_list.specs.Gate.{Plan, in_ps}
 use Rattle.delay_bounds.specs.declared.Flow.{Flow}
-use Rattle.delay_bounds.specs.declared.looking.Backlog.{Backlog}
-use Rattle.delay_bounds.specs.declared.looking.Look.{Look}
-use Rattle.delay_bounds.specs.declared.looking.Look.TheVariants as Looks
+use Rattle.delay_bounds.specs.declared.look.Backlog.{Backlog}
+use Rattle.delay_bounds.specs.declared.look.Look.{Look}
+use Rattle.delay_bounds.specs.declared.look.Look.TheVariants as Looks
 use Rattle.delay_bounds.specs.Backlog.{beside, followed, from_look, looked, no_backlog, taken_at, with_frame}
 use Rattle.delay_bounds.specs.Bounded.{is_from_here}
 use Rattle.delay_bounds.specs.Bounds.{Track}

@@ -13,7 +13,7 @@ use Rattle.abstract_port.specs.Laws.{starts_in}
 use Rattle.separation.specs.Separation.{IsKeptApart}
 use Rattle.separation.specs.Traffic.{Came, IsOnly, offered_in, queued_in, starts_of_class}
 use Rattle.separation.specs.Served.{AreServed}
-use Rattle.separation.proofs.Serving.{served_law}
+use Rattle.separation.proofs.ServiceLaws.{served_law}
 use Rattle.delay_bounds.specs.declared.Flow.{Flow}
 use Rattle.delay_bounds.specs.Claim.{offsets_of, earliest, flow_at, coming, AreComing}
 use Rattle.delay_bounds.specs.Bounds.{Track, first_fit, from_on}

@@ -24,7 +24,7 @@ use Rattle.abstract_port.proofs.StartsLaws.{IsUnmoved, next_start-unmoved, start
 use Rattle.separation.specs.Separation.{IsKeptApart, is_class}
 use Rattle.separation.specs.Served.{IsFirst, frames_of, HaveCome, Waits, AreServed}
 use Rattle.separation.specs.Traffic.{Came, IsOnly, queued_as, queued_by, queued_in, starts_of_class, offered_as, offered_by, offered_in}
-use Rattle.separation.proofs.Serving.{Holds, takes, new_holds, verdict_class}
+use Rattle.separation.proofs.ServiceLaws.{Holds, takes, new_holds, verdict_class}
 use Rattle.delay_bounds.specs.Claim.{AreComing, coming, earliest, flow_at}
 use Rattle.delay_bounds.specs.Bounds.{Track, from_on, step}
 use Rattle.delay_bounds.specs.Walk.{after, begun}

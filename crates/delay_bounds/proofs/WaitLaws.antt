@@ -10,7 +10,7 @@ use Rattle.abstract_port.specs.declared.Start.{Start}
 use Rattle.abstract_port.specs.AbstractPort.{new_port}
 use Rattle.abstract_port.specs.Answers.{answers_of}
 use Rattle.abstract_port.specs.Laws.{starts_in}
-use Rattle.separation.proofs.Serving.{served_law}
+use Rattle.separation.proofs.ServiceLaws.{served_law}
 use Rattle.separation.specs.Served.{IsFirst, AreServed}
 use Rattle.separation.specs.Traffic.{Came, queued_in, starts_of_class}
 use Rattle.delay_bounds.proofs.GateLaws.{may_since, same_gates}

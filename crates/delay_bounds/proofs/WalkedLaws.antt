@@ -24,10 +24,10 @@ use Rattle.delay_bounds.specs.declared.FlowFrame.{FlowFrame}
 use Rattle.delay_bounds.specs.declared.Refused.{Refused}
 use Rattle.delay_bounds.specs.declared.Told.{Told}
 use Rattle.delay_bounds.specs.declared.Unbound.{Unbound}
-use Rattle.delay_bounds.specs.declared.looking.Backlog.{Backlog}
-use Rattle.delay_bounds.specs.declared.looking.Look.{Look}
-use Rattle.delay_bounds.specs.declared.looking.Look.TheVariants as Looks
-use Rattle.delay_bounds.specs.declared.looking.Mark.{Mark}
+use Rattle.delay_bounds.specs.declared.look.Backlog.{Backlog}
+use Rattle.delay_bounds.specs.declared.look.Look.{Look}
+use Rattle.delay_bounds.specs.declared.look.Look.TheVariants as Looks
+use Rattle.delay_bounds.specs.declared.look.Mark.{Mark}
 use Rattle.delay_bounds.specs.declared.line.Stop.{Stop}
 
 -- 1. Moments

@@ -7,9 +7,9 @@ use Rattle.std.specs.Prelude.{ℕ, ◌-◌, Bool, true, false, ◌&&◌, ◌||�
 use Rattle.delay_bounds.specs.Bounds.{Track}
 use Rattle.delay_bounds.specs.declared.Unbound.{Unbound}
 use Rattle.delay_bounds.specs.declared.Unbound.TheVariants.{Overloaded, Long}
-use Rattle.delay_bounds.specs.declared.looking.Backlog.{Backlog}
-use Rattle.delay_bounds.specs.declared.looking.Look.{Look}
-use Rattle.delay_bounds.specs.declared.looking.Look.TheVariants as Looks
+use Rattle.delay_bounds.specs.declared.look.Backlog.{Backlog}
+use Rattle.delay_bounds.specs.declared.look.Look.{Look}
+use Rattle.delay_bounds.specs.declared.look.Look.TheVariants as Looks
 
 -- for how long the wire is taken from t on
 abbrev pub taken_at : ℕ → Track → ℕ

@@ -12,8 +12,8 @@ use Rattle.delay_bounds.specs.declared.Bound.{Bound}
 use Rattle.delay_bounds.specs.declared.Flow.{Flow}
 use Rattle.delay_bounds.specs.declared.Told.{Told}
 use Rattle.delay_bounds.specs.declared.FlowFrame.{FlowFrame}
-use Rattle.delay_bounds.specs.declared.looking.Look.{Look}
-use Rattle.delay_bounds.specs.declared.looking.Look.TheVariants.{Frames, First}
+use Rattle.delay_bounds.specs.declared.look.Look.{Look}
+use Rattle.delay_bounds.specs.declared.look.Look.TheVariants.{Frames, First}
 use Rattle.delay_bounds.specs.declared.line.Stop.{Stop}
 use Rattle.delay_bounds.specs.declared.line.Stop.TheVariants as Stops
 use Rattle.delay_bounds.specs.declared.Refused.{Refused}

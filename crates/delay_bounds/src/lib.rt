@@ -5,15 +5,15 @@
 
 use std::alloc::{Allocator, Global};
 
-mod bounding;
+mod extremes;
 mod fit;
 pub mod laws;
 mod line;
-mod looking;
+mod look;
 mod moments;
-mod noting;
+mod walk;
 
-pub use bounding::bound_flows;
+pub use walk::bound_flows;
 
 /// A flow, or stream: frames that come for ever, one each period. Times are in picoseconds.
 #[derive(Clone, Copy, Debug, PartialEq, Eq)]

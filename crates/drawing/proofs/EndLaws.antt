@@ -4,14 +4,14 @@ use Rattle.std.specs.Prelude.{IfSome}
 use Rattle.std.specs.Io.KnownBytes.{Keeps}
 use Rattle.std.proofs.KnownBytes.{Keeps-refl}
 use Rattle.drawing.specs.Words.{AbstractPort, Command, Script, Fault, IsReader, TcFault, Reading, BadLine, Course, IsDrawEnding, IsDrawn, fault_in, Takes}
-use Rattle.job.specs.Ending.{IsEndOf, IsOrFails}
+use Rattle.job.specs.RunEnd.{IsEndOf, IsOrFails}
 use Rattle.job.specs.declared.fault.Fault.TheVariants as Faults
-use Rattle.job.specs.declared.telling.Ended.{Ended}
-use Rattle.job.proofs.EndingLaws.{ended}
+use Rattle.job.specs.declared.report.Ended.{Ended}
+use Rattle.job.proofs.RunEndLaws.{ended}
 use Rattle.script.specs.Setup.{Setup}
 use Rattle.script.specs.Texts.{script_telling}
 use Rattle.script.specs.declared.settings.BadValue.{BadValue}
-use Rattle.drawing.specs.Ending.{IsDrawnOut, IsPictureEnding}
+use Rattle.drawing.specs.PictureEnd.{IsDrawnOut, IsPictureEnding}
 use Rattle.drawing.specs.declared.options.DrawOptions.{DrawOptions}
 
 -- 1. Runs of lines, by what the lines leave

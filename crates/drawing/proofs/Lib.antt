@@ -1,4 +1,4 @@
-pub mod Taking
+pub mod TakenLaws
 pub mod CountLaws
 pub mod EndLaws
 pub mod DigitLaws

@@ -9,7 +9,7 @@ use Rattle.abstract_port.specs.declared.Start.{Start}
 use Rattle.abstract_port.specs.declared.Event.TheVariants.{Arrive, Install, Clock, Query, Count}
 use Rattle.drawing.specs.Shapes.{Shown, nothing_shown, with_start, with_dropped, with_change}
 use Rattle.drawing.specs.declared.view.View.{View}
-use Rattle.drawing.specs.Waiting.{Waiting, comes, first_came, goes, none_wait}
+use Rattle.drawing.specs.Arrivals.{Waiting, comes, first_came, goes, none_wait}
 
 -- when the frames that wait have come, what is shown, and when the last frame so far ends
 pub record Course : Type 0 where

@@ -1,10 +1,10 @@
 pub mod Layout
 pub mod View
 pub mod Shapes
-pub mod Waiting
+pub mod Arrivals
 pub mod Course
 pub mod Taken
 pub mod Given
 pub mod Options
-pub mod Ending
+pub mod PictureEnd
 pub mod Words

@@ -1,7 +1,7 @@
 -- What is drawn of a run. Moments are in picoseconds.
 use Rattle.std.specs.Prelude.{ℕ, ◌≡◌, ◌+◌, ◌<◌, zero, suc, length, nat_lt, nat_le, ◌&&◌, Bool, List, [], ◌∷◌, Option, Some, None, slice_set, slice_index_or, if◌then◌else◌}
 use Rattle.wire_time.specs.Moment.{greatest_moment}
-use Rattle.abstract_port.specs.Counting.{add_capped}
+use Rattle.abstract_port.specs.FrameCounts.{add_capped}
 use Rattle.abstract_port.specs.declared.Start.{Start}
 use Rattle.picture.specs.Drawn.{ClassLane, class_at}
 use Rattle.picture.specs.Lanes.{Filled, no_shapes, pushed, joined_at}

@@ -14,14 +14,14 @@ pub use Rattle.picture.specs.Drawn.{bands_joined}
 pub use Rattle.picture.specs.Lanes.{Filled, joined_at, no_shapes}
 pub use Rattle.picture.specs.Viewports.{pixel_of, x_in}
 pub use Rattle.picture.specs.declared.TheConstants.{MOST_SHAPES}
-pub use Rattle.script.specs.Ending.{settings_given}
+pub use Rattle.script.specs.ScriptEnd.{settings_given}
 pub use Rattle.script.specs.Given.{octets_of, words_of_values}
 pub use Rattle.script.specs.Outcome.{Reading, bad_line, reading_of}
 pub use Rattle.script.specs.Requests.{Asks, Request, request_of, tc_request}
 pub use Rattle.script.specs.declared.faults.BadLine.{BadLine}
 pub use Rattle.script.specs.declared.faults.ScriptFault.{ScriptFault}
 pub use Rattle.drawing.specs.Course.{Course, nothing_seen, seen_all, seen_at}
-pub use Rattle.drawing.specs.Ending.{IsDrawEnding, IsDrawn, fault_in}
+pub use Rattle.drawing.specs.PictureEnd.{IsDrawEnding, IsDrawn, fault_in}
 pub use Rattle.drawing.specs.Given.{words_of_draws}
 pub use Rattle.drawing.specs.Layout.{label_at, top_of}
 pub use Rattle.drawing.specs.Options.{beginning_in, end_in, options_of, viewport_shown, width_in, width_where}
@@ -29,4 +29,4 @@ pub use Rattle.drawing.specs.Shapes.{IsJoined, drawn_in, empty_lanes, frame_draw
 unfoldable pub use Rattle.drawing.specs.Shapes.{bands_to, shapes_to}
 pub use Rattle.drawing.specs.Taken.{Takes, TakesLine, seen_by}
 pub use Rattle.drawing.specs.View.{shows}
-pub use Rattle.drawing.specs.Waiting.{none_wait, none_waits, waiting_in, with_arrival, without_first}
+pub use Rattle.drawing.specs.Arrivals.{none_wait, none_waits, waiting_in, with_arrival, without_first}

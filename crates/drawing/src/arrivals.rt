@@ -16,7 +16,7 @@ pub(crate) struct ClassArrivals<A: Allocator> {
 
 /// A contract sees the moments and the room.
 impl<A: Allocator> Model for ClassArrivals<A> {
-    ghost use Rattle.drawing.specs.Waiting.{Waiting};
+    ghost use Rattle.drawing.specs.Arrivals.{Waiting};
 
     ghost Value = { Waiting };
 
@@ -122,7 +122,7 @@ pub struct Arrivals<A: Allocator> {
 /// A contract sees the eight classes.
 impl<A: Allocator> Model for Arrivals<A> {
     ghost use Rattle.std.specs.Prelude.{List};
-    ghost use Rattle.drawing.specs.Waiting.{Waiting};
+    ghost use Rattle.drawing.specs.Arrivals.{Waiting};
 
     ghost Value = { List Waiting };
 
@@ -130,7 +130,7 @@ impl<A: Allocator> Model for Arrivals<A> {
 }
 
 impl<A: Allocator> Arrivals<A> {
-    ghost use Rattle.drawing.specs.Waiting.{comes, first_came, goes};
+    ghost use Rattle.drawing.specs.Arrivals.{comes, first_came, goes};
 
     /// No frame waits; there is room for so many frames a class.
     pub fn new(alloc: &A, room: u32) -> Result<Arrivals<A>, AllocError>

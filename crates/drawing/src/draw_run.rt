@@ -5,10 +5,10 @@ ghost use Rattle.drawing.specs.Words.{installs, settled, answers_to, IsSoundPort
 ghost use Rattle.drawing.specs.Course.{class_at};
 
 use crate::course::Course;
-use crate::fitting::fit;
 use crate::options::DrawOptions;
 use crate::page::Page;
 use crate::svg::put_picture;
+use crate::view_fit::fit;
 use abstract_port::{Answer, Command, Event};
 use answer_text::WriteFault;
 use line_reader::LineReader;

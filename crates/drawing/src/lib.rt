@@ -1,28 +1,28 @@
 //! Draws the run of a script as an SVG picture: a lane for each class with its open time, its frames and how long they wait, and a lane for the wire.
 //!
 //! What is drawn is defined in specs/Course.antt and specs/Taken.antt; `take` promises it of the drawn run. How a
-//! run ends is specs/Ending.antt; no contract says what the SVG text is.
+//! run ends is specs/PictureEnd.antt; no contract says what the SVG text is.
 #![tactic(auto)]
 
 mod arrivals;
 mod course;
 mod draw_job;
 mod draw_run;
-mod fitting;
 mod marks;
 mod options;
 mod page;
 mod shapes;
 mod svg;
 mod view;
+mod view_fit;
 
 pub use arrivals::Arrivals;
 pub use course::Course;
 pub use draw_job::answer_draw;
 pub use draw_run::{draw, take};
-pub use fitting::fit;
 pub use options::{DrawOptions, DrawValues, options_given};
 pub use page::{Page, lane_top};
 pub use shapes::Shapes;
 pub use svg::put_picture;
 pub use view::View;
+pub use view_fit::fit;

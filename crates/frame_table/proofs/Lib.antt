@@ -1,6 +1,6 @@
 pub mod RunLaws
 pub mod RowLaws
 pub mod ArrivalLaws
-pub mod Going
+pub mod LineSteps
 pub mod LeftLaws
 pub mod OnceLaws

@@ -1,4 +1,4 @@
-pub mod Waiting
+pub mod Waits
 pub mod RowText
 pub mod Rows
 pub mod Outcome

@@ -8,7 +8,7 @@ use Rattle.abstract_port.specs.declared.Event.{Event}
 use Rattle.line_reader.specs.Script.{Script, script_of}
 use Rattle.tc_reader.specs.declared.fault.TcFault.{TcFault}
 use Rattle.job.specs.Outcome.{Outcome}
-use Rattle.script.specs.Ending.{Whole}
+use Rattle.script.specs.ScriptEnd.{Whole}
 use Rattle.script.specs.Outcome.{Reading, asked_in, reading_of}
 use Rattle.script.specs.Requests.{Request}
 use Rattle.script.specs.Responses.{events_of}
@@ -16,7 +16,7 @@ use Rattle.script.specs.Setup.{Setup}
 use Rattle.script.specs.declared.faults.BadLine.{BadLine}
 use Rattle.frame_table.specs.RowText.{head_line, rows_text}
 use Rattle.frame_table.specs.Rows.{rows_at, rows_of, table_of}
-use Rattle.frame_table.specs.Waiting.{none_wait}
+use Rattle.frame_table.specs.Waits.{none_wait}
 use Rattle.frame_table.specs.declared.rows.Arrival.{Arrival}
 use Rattle.frame_table.specs.declared.rows.Row.{Row}
 

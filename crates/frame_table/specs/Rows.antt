@@ -8,7 +8,7 @@ use Rattle.abstract_port.specs.declared.Dropped.{Dropped}
 use Rattle.abstract_port.specs.declared.Event.{Event}
 use Rattle.abstract_port.specs.declared.Event.TheVariants.{Arrive, Install, Clock, Query, Count}
 use Rattle.abstract_port.specs.declared.Start.{Start}
-use Rattle.frame_table.specs.Waiting.{comes, first_came, goes, waiting_in}
+use Rattle.frame_table.specs.Waits.{comes, first_came, goes, waiting_in}
 use Rattle.frame_table.specs.declared.rows.Arrival.{Arrival}
 use Rattle.frame_table.specs.declared.rows.Fate.TheVariants.{Sent, Left, Lost}
 use Rattle.frame_table.specs.declared.rows.Row.{Row}

@@ -15,7 +15,7 @@ pub use Rattle.tc_reader.specs.Reader.{IsReader}
 pub use Rattle.tc_reader.specs.declared.fault.TcFault.{TcFault}
 pub use Rattle.job.specs.Outcome.{Outcome, Runs}
 pub use Rattle.job.specs.declared.fault.Fault.{Fault}
-pub use Rattle.script.specs.Ending.{IsEnding, settings_given}
+pub use Rattle.script.specs.ScriptEnd.{IsEnding, settings_given}
 pub use Rattle.script.specs.Given.{words_of_values}
 pub use Rattle.script.specs.Outcome.{Reading, asked_in, bad_line, long_line, reading_of}
 pub use Rattle.script.specs.Requests.{Asks, NoCommand, Request, request_of, said_in, tc_request}
@@ -26,6 +26,6 @@ pub use Rattle.frame_table.specs.Outcome.{IsAfter, ending_text, frames_of, rows_
 pub use Rattle.frame_table.specs.RowText.{head_line, row_line, rows_text}
 pub use Rattle.frame_table.specs.Rows.{arrival_at, arrives, departs, left_row, left_rows, rows_at, rows_of, sent_row, table_of}
 unfoldable pub use Rattle.frame_table.specs.Rows.{left_from}
-pub use Rattle.frame_table.specs.Waiting.{comes, first_came, goes, none_wait, waiting_in}
+pub use Rattle.frame_table.specs.Waits.{comes, first_came, goes, none_wait, waiting_in}
 pub use Rattle.frame_table.specs.declared.rows.Arrival.{Arrival}
 pub use Rattle.frame_table.specs.declared.rows.Row.{Row}

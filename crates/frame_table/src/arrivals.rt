@@ -1,7 +1,7 @@
 //! The frames that wait, each with its arrival.
 
 ghost use Rattle.std.specs.Prelude.{◌≡◌, ◌<◌, ◌++◌, ◌∷◌, [], IfOk, OnErr, OnOk, Some, drop, length, slice_get, slice_set};
-ghost use Rattle.frame_table.specs.Waiting.{none_wait, waiting_in};
+ghost use Rattle.frame_table.specs.Waits.{none_wait, waiting_in};
 
 use crate::rows::Arrival;
 use circular_buffer::HeapCircularBuffer;
@@ -173,7 +173,7 @@ impl<A: Allocator> Model for Arrivals<A> {
 }
 
 impl<A: Allocator> Arrivals<A> {
-    ghost use Rattle.frame_table.specs.Waiting.{comes, first_came, goes};
+    ghost use Rattle.frame_table.specs.Waits.{comes, first_came, goes};
 
     /// No frame waits.
     pub fn new(alloc: &A) -> Result<Arrivals<A>, AllocError>

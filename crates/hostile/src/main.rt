@@ -5,9 +5,9 @@
 #![tactic(auto)]
 
 mod growths;
+mod reports;
 mod rows;
 mod streams;
-mod telling;
 
 use rows::{Given, Job, Replaying, Runs};
 use std::alloc::Global;
@@ -126,7 +126,7 @@ fn count_all(given: &Given, alloc: Global) -> io::Result<Counts> {
         growths: each_growth(given, alloc, &replays),
         streams: reads_and_writes(given, alloc, &replays),
         header: streams::reads_of_a_header(alloc, replays.hundred.capture.as_slice()),
-        told: telling::of_each_call(given, alloc)?,
+        told: reports::of_each_call(given, alloc)?,
     })
 }
 

@@ -1,6 +1,6 @@
 -- Some picture belongs to each result of a run that is drawn, and to what it has written.
 use Rattle.std.proofs.Common.{◌≡◌, refl, sym, ℕ, List, [], ◌∷◌, ◌++◌, Option, Some, None, Result, Ok, Err, rules, subst}
-use Rattle.drawing.specs.Ending.{IsDrawn}
+use Rattle.drawing.specs.PictureEnd.{IsDrawn}
 use Rattle.job.specs.Outcome.{Outcome, RunsOut}
 use Rattle.job.specs.declared.fault.Fault.{Fault}
 use Rattle.job.specs.declared.fault.Fault.TheVariants as Faults

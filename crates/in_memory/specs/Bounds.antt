@@ -1,7 +1,7 @@
 -- What a call over memory reports of delay bounds.
 use Rattle.std.specs.Prelude.{ℕ, nat_le, ◌&&◌, [], false, Option, Some, None, Result, Ok, Err, if◌then◌else◌}
 use Rattle.job.specs.Outcome.{Outcome}
-use Rattle.stream_bounds.specs.Ending.{bounds_value_text, with_port}
+use Rattle.stream_bounds.specs.BoundsEnd.{bounds_value_text, with_port}
 use Rattle.stream_bounds.specs.Faults.{bounds_telling}
 use Rattle.stream_bounds.specs.declared.faults.BoundsInput.{BoundsInput}
 use Rattle.stream_bounds.specs.declared.settings.BoundsSettings.{BoundsSettings}

@@ -1,7 +1,7 @@
 -- What a drawing over memory reports, and what it leaves in its two slices.
 use Rattle.std.specs.Prelude.{List, ℕ, [], Option, Some, None, Result, Ok, Err, decimal, option_map}
 use Rattle.abstract_port.specs.declared.Command.{Command}
-use Rattle.drawing.specs.Ending.{fault_in}
+use Rattle.drawing.specs.PictureEnd.{fault_in}
 use Rattle.drawing.specs.Options.{options_of}
 use Rattle.drawing.specs.declared.options.DrawOptions.{DrawOptions}
 use Rattle.job.specs.Outcome.{Outcome}
@@ -12,7 +12,7 @@ use Rattle.script.specs.declared.faults.BadLine.{BadLine}
 use Rattle.tc_reader.specs.Reader.{IsReader}
 use Rattle.tc_reader.specs.declared.fault.TcFault.{TcFault}
 use Rattle.in_memory.specs.Slices.{Answers, Slices, refused, told_of}
-use Rattle.in_memory.specs.declared.answering.Ran.{Ran}
+use Rattle.in_memory.specs.declared.jobs.Ran.{Ran}
 use Rattle.in_memory.specs.declared.pictures.PictureValues.{PictureValues}
 
 -- the options of numbers: those of the words that spell them in decimal

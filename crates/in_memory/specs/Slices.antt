@@ -1,11 +1,11 @@
 -- What a call over memory reports, and what it leaves in its two slices.
 use Rattle.std.specs.Prelude.{◌≡◌, ◌<◌, ◌⊎◌, List, ℕ, [], ◌++◌, drop, length, Option, Some, None, Result, Ok, Err}
 use Rattle.job.specs.Outcome.{Outcome}
-use Rattle.job.specs.Telling.{Telling}
+use Rattle.job.specs.Report.{Telling}
 use Rattle.script.specs.Texts.{script_telling, value_text}
 use Rattle.script.specs.declared.faults.BadLine.{BadLine}
 use Rattle.script.specs.declared.settings.BadValue.{BadValue}
-use Rattle.in_memory.specs.declared.answering.Ran.{Ran}
+use Rattle.in_memory.specs.declared.jobs.Ran.{Ran}
 
 -- 1. What is reported
 

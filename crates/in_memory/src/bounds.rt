@@ -9,7 +9,7 @@ ghost use Rattle.stream_bounds.specs.Outcome.{outcome_of};
 ghost use Rattle.tc_reader.specs.Reader.{IsReader};
 ghost use Rattle.tc_reader.specs.declared.fault.TcFault.{TcFault};
 
-use crate::answering::{Ran, end_in_memory, put_told, refuse_value};
+use crate::jobs::{Ran, end_in_memory, put_told, refuse_value};
 use crate::values::{PortValues, settings_at};
 use std::alloc::Global;
 use stream_bounds::{BoundsSettings, BoundsValue, MAX_FRAMES, bounds};

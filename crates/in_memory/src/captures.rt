@@ -12,7 +12,7 @@ ghost use Rattle.replay.specs.Outputs.{got};
 ghost use Rattle.tc_reader.specs.Reader.{IsReader};
 ghost use Rattle.tc_reader.specs.declared.fault.TcFault.{TcFault};
 
-use crate::answering::put_front;
+use crate::jobs::put_front;
 use crate::values::{PortValues, settings_at};
 use job::say_fault;
 use replay::{ReplayFault, Stamp, replay};

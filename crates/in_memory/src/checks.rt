@@ -10,7 +10,7 @@ ghost use Rattle.script.specs.Texts.{script_telling};
 ghost use Rattle.tc_reader.specs.Reader.{IsReader};
 ghost use Rattle.tc_reader.specs.declared.fault.TcFault.{TcFault};
 
-use crate::answering::{Ran, end_in_memory, refuse_value};
+use crate::jobs::{Ran, end_in_memory, refuse_value};
 use crate::values::rate_at;
 use schedule_check::{CheckSettings, check};
 use script::Unwatched;

@@ -8,21 +8,21 @@
 //! specs/Captures.antt, specs/Pictures.antt and specs/Bounds.antt.
 #![tactic(auto)]
 
-mod answering;
 mod bounds;
 mod captures;
 mod checks;
 mod frames;
+mod jobs;
 mod pictures;
 mod scripts;
 mod tables;
 mod values;
 
-pub use answering::Ran;
 pub use bounds::bounds_octets;
 pub use captures::{ReplayRan, replay_octets};
 pub use checks::check_octets;
 pub use frames::frames_octets;
+pub use jobs::Ran;
 pub use pictures::{PictureValues, draw_octets};
 pub use scripts::run_octets;
 pub use tables::streams_octets;

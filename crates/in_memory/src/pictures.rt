@@ -5,7 +5,7 @@ ghost use Rattle.in_memory.specs.Pictures.{Draws, DrawsWith, options_at};
 ghost use Rattle.in_memory.specs.Slices.{slices};
 ghost use Rattle.in_memory.specs.Values.{settings_at};
 
-use crate::answering::{Ran, end_in_memory, refuse_value};
+use crate::jobs::{Ran, end_in_memory, refuse_value};
 use crate::values::{PortValues, settings_at};
 use drawing::{DrawOptions, DrawValues, draw, options_given};
 use itoa::Buffer;

@@ -7,7 +7,7 @@ ghost use Rattle.traffic.specs.Faults.{streams_telling};
 ghost use Rattle.traffic.specs.Outcome.{outcome_of};
 ghost use Rattle.wire_time.specs.Moment.{greatest_moment};
 
-use crate::answering::{Ran, end_in_memory, refuse_value};
+use crate::jobs::{Ran, end_in_memory, refuse_value};
 use crate::values::from_at;
 use script::Unwatched;
 use std::alloc::Allocator;

@@ -1,2 +1,2 @@
-pub mod EndingLaws
+pub mod RunEndLaws
 pub mod LineLaws

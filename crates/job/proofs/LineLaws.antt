@@ -11,7 +11,7 @@ use Rattle.line_reader.specs.declared.lines.LineFault.{LineFault}
 use Rattle.line_reader.specs.declared.lines.LineFault.TheVariants as LineFaults
 use Rattle.job.specs.Lines.{Steps, fault_of_line}
 use Rattle.job.specs.Outcome.{Outcome, Runs, RunsOut}
-use Rattle.job.proofs.EndingLaws.{input_out, sent_kept}
+use Rattle.job.proofs.RunEndLaws.{input_out, sent_kept}
 use Rattle.job.specs.declared.fault.Fault.{Fault}
 use Rattle.job.specs.declared.fault.Fault.TheVariants as Faults
 

@@ -1,5 +1,5 @@
-pub mod Telling
+pub mod Report
 pub mod Texts
 pub mod Lines
 pub mod Outcome
-pub mod Ending
+pub mod RunEnd

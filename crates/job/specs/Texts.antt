@@ -2,7 +2,7 @@
 use Rattle.std.specs.Prelude.{List, ℕ, [], Bool, true, false, Option, Result, Ok, Err, codes}
 use Rattle.std.specs.Io.KnownBytes.{Appends}
 use Rattle.octet_writer.specs.Writes.{FallsShort}
-use Rattle.job.specs.Telling.{Telling}
+use Rattle.job.specs.Report.{Telling}
 use Rattle.job.specs.declared.fault.Fault.{Fault}
 use Rattle.job.specs.declared.fault.Fault.TheVariants as Faults
 

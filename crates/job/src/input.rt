@@ -3,7 +3,7 @@
 ghost use Rattle.std.specs.Prelude.{◌≡◌, ℕ};
 ghost use Rattle.line_reader.specs.declared.lines.Limit.{Limit};
 ghost use Rattle.octet_writer.specs.Writes.{Writes};
-ghost use Rattle.job.specs.Telling.{Telling};
+ghost use Rattle.job.specs.Report.{Telling};
 
 use line_reader::Limit;
 use octet_writer::WriteFault;

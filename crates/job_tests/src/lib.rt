@@ -6,7 +6,7 @@
 #[cfg(test)]
 mod checks;
 #[cfg(test)]
-mod failing;
+mod failures;
 #[cfg(test)]
 mod frames;
 #[cfg(test)]

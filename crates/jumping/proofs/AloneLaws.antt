@@ -10,7 +10,7 @@ use Rattle.std.specs.Int.Bits.{bit_and, bit_or}
 use Rattle.jumping.specs.Words.{Plan, IsSchedule, in_ps, mask_since, opens, open_while, Accepted, cons_some, mask_in, stretches_from, end_of, Position, IsPlaced, IsFlat, boundary_in, NoneFits, Searched, IsLoneList, shows_alone}
 use Rattle.list_position.proofs.PositionLaws.{flat_min, flat_cycle}
 use Rattle.accepted_commands.specs.declared.command.AcceptedList.{AcceptedList}
-use Rattle.accepted_commands.specs.Standing.{Standing, accepted_list}
+use Rattle.accepted_commands.specs.InForce.{Standing, accepted_list}
 use Rattle.jumping.proofs.RepeatLaws.{plan_repeats}
 use Rattle.jumping.proofs.SearchLaws.{fits_flat, none_jump, searched_more}
 

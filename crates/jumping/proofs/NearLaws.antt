@@ -11,7 +11,7 @@ use Rattle.list_config.proofs.EventLaws.{any_after, any_here}
 use Rattle.list_config.proofs.HistoryLaws.{three_force}
 use Rattle.list_position.proofs.PositionLaws.{placed_later}
 use Rattle.accepted_commands.specs.Commands.{IsUsable, announced_by, pending_by}
-use Rattle.accepted_commands.specs.Standing.{StandsUnder, boundary_in_force, boundary_under, earlier, hold_for}
+use Rattle.accepted_commands.specs.InForce.{StandsUnder, boundary_in_force, boundary_under, earlier, hold_for}
 use Rattle.accepted_commands.specs.Resume.{ResumesBy}
 use Rattle.accepted_commands.proofs.CommandLaws.{force_still, gates_ahead, none_now, same_commands, shows_at}
 

@@ -6,7 +6,7 @@ use Rattle.gate_list.specs.Gate.{IsSchedule, mask_since, opens}
 use Rattle.list_position.specs.declared.Position.{Position}
 use Rattle.list_position.specs.Position.{IsPlaced}
 use Rattle.accepted_commands.specs.declared.command.AcceptedList.{AcceptedList}
-use Rattle.accepted_commands.specs.Standing.{Standing, accepted_list}
+use Rattle.accepted_commands.specs.InForce.{Standing, accepted_list}
 use Rattle.jumping.specs.declared.alone.LoneSearch.{LoneSearch}
 use Rattle.jumping.specs.declared.alone.Shown.{Shown}
 

@@ -5,7 +5,7 @@ use Rattle.list_config.specs.History.{Accepted}
 use Rattle.list_config.specs.Event.{ComesAt, IsGateEvent}
 use Rattle.list_position.specs.declared.Position.{Position}
 use Rattle.accepted_commands.specs.Commands.{Commands, history_of}
-use Rattle.accepted_commands.specs.Standing.{edge_at}
+use Rattle.accepted_commands.specs.InForce.{edge_at}
 
 -- nothing comes after t and up to u: no command, and no entry of the list in force
 abbrev pub NothingComes : List Accepted → ℕ → ℕ → Type 0

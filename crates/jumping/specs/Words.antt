@@ -14,7 +14,7 @@ pub use Rattle.list_position.specs.declared.Position.{Position}
 pub use Rattle.accepted_commands.specs.Commands.{AreCommands, Commands, NoneBy, history_of, mask_ahead, settled_at, stretches_of}
 pub use Rattle.accepted_commands.specs.Leg.{AreReady, DoFollow, IsReady, from_of, stretch_in, stretch_of, stretches_ahead, stretches_in, until_of}
 pub use Rattle.accepted_commands.specs.Resume.{Resumes}
-pub use Rattle.accepted_commands.specs.Standing.{Stands, edge_at, shown_by}
+pub use Rattle.accepted_commands.specs.InForce.{Stands, edge_at, shown_by}
 pub use Rattle.accepted_commands.specs.declared.leg.Leg.TheVariants.{Listed}
 pub use Rattle.accepted_commands.specs.declared.leg.ListedLeg.{ListedLeg}
 pub use Rattle.accepted_commands.specs.declared.leg.Rest.{Rest}

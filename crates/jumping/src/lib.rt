@@ -4,7 +4,7 @@
 #![tactic(auto)]
 
 mod alone;
-mod jumping;
+mod jumping_gates;
 mod search;
 
-pub use jumping::Jumping;
+pub use jumping_gates::Jumping;

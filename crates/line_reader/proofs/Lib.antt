@@ -1,2 +1,2 @@
-mod SpellingLaws
+mod PhysicalLineLaws
 mod RunLaws

@@ -7,7 +7,7 @@ use Rattle.memchr.specs.Find.{Nowhere, Passes, is_byte}
 use Rattle.line_reader.specs.Script.{fresh, joins, script_from}
 use Rattle.line_reader.specs.LineReader.{Advances, EndsLine, ends_in}
 use Rattle.line_reader.specs.declared.lines.TheConstants.{MAX_LINE_OCTETS, MAX_LINES}
-use Rattle.line_reader.proofs.SpellingLaws.{line_end, run_within}
+use Rattle.line_reader.proofs.PhysicalLineLaws.{line_end, run_within}
 
 both_tests : (t u : Bool) → (t ≡ true → ⊥) → u ≡ true → (not t && u) ≡ true
 both_tests true u h e = absurd (h refl)

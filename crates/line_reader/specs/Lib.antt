@@ -1,5 +1,5 @@
 pub mod Source
 pub mod Script
-pub mod Endings
+pub mod LineEnds
 pub mod LineReader
-pub mod Spelling
+pub mod PhysicalLines

@@ -2,8 +2,8 @@
 use Rattle.std.specs.Prelude.{◌≡◌, ◌<◌, ◌+◌, ◌-◌, ◌==◌, List, ℕ, [], ◌∷◌, ◌++◌, Option, Some, None, Result, Ok, Err, ⊤, Bool, true, false, option_map, length, get_or, take, if◌then◌else◌}
 use Rattle.line_reader.specs.Source.{octets_left, ahead}
 use Rattle.line_reader.specs.Script.{Script, Progress, End, Broken, Line, fresh, joins, script_from}
-use Rattle.line_reader.specs.Spelling.{is_unbroken}
-use Rattle.line_reader.specs.Endings.{answer_of}
+use Rattle.line_reader.specs.PhysicalLines.{is_unbroken}
+use Rattle.line_reader.specs.LineEnds.{answer_of}
 use Rattle.line_reader.specs.declared.lines.LineReader.{LineReader}
 use Rattle.line_reader.specs.declared.lines.LineFault.{LineFault}
 use Rattle.line_reader.specs.declared.lines.LineFault.TheVariants.{Limit, Read}

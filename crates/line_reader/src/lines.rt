@@ -3,7 +3,7 @@
 ghost use Rattle.std.specs.List.{list_all};
 ghost use Rattle.std.specs.Prelude.{take, drop, not, ◌≡◌, ◌≤◌, ◌<◌, ◌+◌, ◌==◌, [], IfSome, IfOk, length, None, Ok, Err, true, false, vec_len, vec_capacity, option_map};
 ghost use Rattle.line_reader.specs.Script.{joins, script_of};
-ghost use Rattle.line_reader.specs.Endings.{answer_of, ended_by};
+ghost use Rattle.line_reader.specs.LineEnds.{answer_of, ended_by};
 ghost use Rattle.line_reader.specs.declared.lines.TheConstants.{MAX_LINE_OCTETS, MAX_LINES};
 ghost use Rattle.line_reader.specs.declared.lines.LineFault.TheVariants.{Read as ReadVariant};
 

@@ -230,6 +230,7 @@ impl Position {
     /// The position of the same list at a later moment `t`, where the same hold counts: in the cycle that runs it goes on from
     /// the entry that is shown, and in a further one from the first. Its cycles began at `start`, and its last state is held
     /// from `held_from` on; none: from no moment on. All are in picoseconds.
+    #[inline(always)]
     pub fn later(
         &self,
         schedule: &Schedule,

@@ -2,7 +2,7 @@
 use Rattle.std.proofs.Common.{◌≡◌, ◌<◌, ◌≤◌, ℕ, zero, suc, ◌+◌, List, [], ◌∷◌, ◌++◌, length, get_or, drop, Some, refl, sym, ap, ◌∙◌, subst, arith}
 use Rattle.std.specs.Prelude.{All, slice_index_or, slice_get, slice_set}
 use Rattle.port.specs.Words.{Frame, lead_of, occupancy_of, IsRoom, Queue, IsCurrent, AbstractPort, AreCapped, AreCounted, count_dropped, FitsLead, IsMtu, IsSoundPort, frames_of, queue_at, no_queue, with_frames, HaveRoom, IsKept}
-use Rattle.abstract_port.specs.Counting.{add_capped}
+use Rattle.abstract_port.specs.FrameCounts.{add_capped}
 use Rattle.abstract_port.specs.declared.Counts.{Counts}
 use Rattle.abstract_port.specs.declared.Dropped.{Dropped}
 use Rattle.abstract_port.specs.declared.Dropped.TheVariants.{NoClass, Runt, TooLong, OverSdu, Full}

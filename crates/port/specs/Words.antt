@@ -7,7 +7,7 @@ pub use Rattle.list_config.specs.Current.{IsCurrent, longest}
 pub use Rattle.list_config.specs.History.{gates}
 pub use Rattle.class_queue.specs.Queue.{IsRoom, Queue}
 pub use Rattle.abstract_port.specs.AbstractPort.{AbstractPort, changes_map, changes_queues, default_class, first_over, head_need, installs_by, judged, plan_asked, queue_of, refusal}
-pub use Rattle.abstract_port.specs.Counting.{AreCapped, AreCounted, count_dropped, no_counts}
+pub use Rattle.abstract_port.specs.FrameCounts.{AreCapped, AreCounted, count_dropped, no_counts}
 pub use Rattle.abstract_port.specs.Sound.{FitsLead, IsMtu, IsSoundPort}
 pub use Rattle.abstract_port.specs.declared.Answer.{Answer}
 pub use Rattle.abstract_port.specs.declared.Refused.{Refused}

@@ -8,7 +8,7 @@ ghost use Rattle.abstract_port.specs.declared.Change.{Change};
 ghost use Rattle.abstract_port.specs.declared.Command.TheVariants as Commands;
 ghost use Rattle.abstract_port.specs.declared.Event.TheVariants as Events;
 ghost use Rattle.delay_bounds.specs.Claim.{IsFlow, IsRun, IsWorth};
-ghost use Rattle.premises.specs.Coming.{AreNext, IsNextAt, IsNoCommand, came_now};
+ghost use Rattle.premises.specs.FlowArrivals.{AreNext, IsNextAt, IsNoCommand, came_now};
 ghost use Rattle.separation.specs.Separation.{IsKeptApart, is_class};
 ghost use Rattle.separation.specs.Traffic.{offered_as, offered_by};
 ghost use Rattle.wire_time.specs.Wire.{occupancy_of};

@@ -15,10 +15,10 @@ ghost use Rattle.list_config.specs.Laws.{KeptLaw, AppendLaw, StretchLaw};
 ghost use Rattle.abstract_port.specs.declared.Event.{Event};
 ghost use Rattle.abstract_port.specs.AbstractPort.{new_port, counts_at};
 ghost use Rattle.abstract_port.specs.Answers.{port_after};
-ghost use Rattle.abstract_port.specs.Counting.{add_capped};
+ghost use Rattle.abstract_port.specs.FrameCounts.{add_capped};
 ghost use Rattle.abstract_port.specs.Tally.{Counter, value_of, growth, happenings};
 ghost use Rattle.separation.specs.Hindsight.{IsOpenInHindsight};
-ghost use Rattle.separation.specs.Settling.{IsSettledRun};
+ghost use Rattle.separation.specs.Settled.{IsSettledRun};
 
 use abstract_port::laws::counting_law;
 use gate_list::laws::{apart_law, change_law, phase_law, stay_law};

@@ -11,14 +11,14 @@ use Rattle.drawing.specs.declared.options.DrawOptions.{DrawOptions}
 use Rattle.replay.specs.Stamps.{stamp_given}
 use Rattle.replay.specs.Texts.{open_text}
 use Rattle.replay.specs.declared.stamps.Stamp.{Stamp}
-use Rattle.job.specs.Ending.{IsUnanswered}
-use Rattle.script.specs.Ending.{rate_given, settings_given}
+use Rattle.job.specs.RunEnd.{IsUnanswered}
+use Rattle.script.specs.ScriptEnd.{rate_given, settings_given}
 use Rattle.script.specs.Given.{GivenWords}
 use Rattle.script.specs.Setup.{Setup}
-use Rattle.job.specs.declared.telling.Ended.{Ended}
+use Rattle.job.specs.declared.report.Ended.{Ended}
 use Rattle.script.specs.declared.settings.BadValue.{BadValue}
-use Rattle.traffic.specs.Ending.{IsStreamsEnding, from_given}
-use Rattle.stream_bounds.specs.Ending.{IsBoundsEnding, bounds_given}
+use Rattle.traffic.specs.StreamsEnd.{IsStreamsEnding, from_given}
+use Rattle.stream_bounds.specs.BoundsEnd.{IsBoundsEnding, bounds_given}
 use Rattle.stream_bounds.specs.declared.settings.BoundsSettings.{BoundsSettings}
 use Rattle.stream_bounds.specs.declared.settings.BoundsValue.{BoundsValue}
 

@@ -7,29 +7,29 @@
 //! specs/Given.antt.
 #![tactic(auto)]
 
-mod answering;
-mod bounding;
+mod bounds_call;
+mod calls;
 mod onlooker;
 mod options;
 mod piped;
 mod progress;
-mod replaying;
+mod replay_call;
 mod same_file;
-mod streaming;
+mod streams_call;
 
-use answering::answer_words;
-pub use answering::{answer_given, check_given, draw_given, frames_given};
-pub use bounding::bounds_given;
+pub use bounds_call::bounds_given;
+use calls::answer_words;
+pub use calls::{answer_given, check_given, draw_given, frames_given};
 use job::{Ended, say_fault};
 use options::reads_input;
 pub use options::values_of;
 use piped::Piped;
 pub use progress::Progress;
-pub use replaying::replay_given;
+pub use replay_call::replay_given;
 use script::RunFault;
 use std::io::{BufWriter, IsTerminal, Write};
 use std::process::ExitCode;
-pub use streaming::streams_given;
+pub use streams_call::streams_given;
 
 /// How the program ends when out of memory before it has begun.
 fn end_without_memory<E: Write>(errors: &mut E) -> Ended {

@@ -1,1 +1,1 @@
-mod Asking
+mod Refusals

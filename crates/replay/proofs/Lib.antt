@@ -10,5 +10,5 @@ pub mod MergeLaws
 pub mod EndLaws
 pub mod TellLaws
 pub mod ReplayLaws
-mod EndingLaws
+mod ReplayEndLaws
 pub mod SeparatedLaws

@@ -5,7 +5,7 @@ use Rattle.capture.specs.declared.reader.End.{End}
 use Rattle.replay.specs.Merge.{Timed, before_end, came_from, lines_after}
 use Rattle.replay.specs.Outputs.{Origin}
 use Rattle.replay.specs.RecordsLeft.{EndsSo}
-use Rattle.replay.specs.Running.{Answers, Keeps, State}
+use Rattle.replay.specs.RunState.{Answers, Keeps, State}
 use Rattle.replay.specs.declared.faults.Stop.{Stop}
 
 -- The records of a capture have come to this end: the fault that is found is the end's, the lines that are left are those after the

@@ -3,7 +3,7 @@ use Rattle.std.specs.Prelude.{List, ℕ, [], ◌∷◌, decimal, codes}
 use Rattle.std.specs.List.{concat}
 use Rattle.capture.specs.declared.fault.CapFault.{CapFault}
 use Rattle.capture.specs.declared.fault.CapFault.TheVariants.{ShortHeader, BadMagic, BadVersion, BadLink, ShortRecord, LongRecord, BadFraction, TooManyRecords, Read, Write, Memory}
-use Rattle.job.specs.Telling.{Telling}
+use Rattle.job.specs.Report.{Telling}
 use Rattle.script.specs.Texts.{script_telling, value_text}
 use Rattle.script.specs.declared.settings.BadValue.TheVariants as Values
 use Rattle.replay.specs.declared.faults.ReplayInput.{ReplayInput}

@@ -36,9 +36,9 @@ pub use Rattle.script.specs.Requests.{Asks, NoCommand, Request, tc_request}
 pub use Rattle.script.specs.Responses.{Gave, Response, events_of, noted_by, responses_of, responses_to}
 pub use Rattle.script.specs.Setup.{Setup}
 pub use Rattle.script.specs.declared.faults.BadLine.{BadLine}
-pub use Rattle.replay.specs.Ending.{IsReplayEnding}
+pub use Rattle.replay.specs.ReplayEnd.{IsReplayEnding}
 pub use Rattle.replay.specs.Faults.{fault_of_stop, script_limited}
-pub use Rattle.replay.specs.Keeping.{GivesScript, IsScriptFault, ReadsRest}
+pub use Rattle.replay.specs.WholeScript.{GivesScript, IsScriptFault, ReadsRest}
 pub use Rattle.replay.specs.KeptScript.{AreKept, IsKept, IsKept-prop, kept_clock, kept_request, kept_requests}
 pub use Rattle.replay.specs.Lines.{IsEarly, begins_with_frame, line_in, line_request, line_said, reading_of, request_in}
 pub use Rattle.replay.specs.LinesLeft.{lines_left}
@@ -48,7 +48,7 @@ pub use Rattle.replay.specs.Outputs.{Got, Origin, Output, PutsBoth, SentBoth, an
 pub use Rattle.replay.specs.RecordsLeft.{Comes, EndsSo, found}
 pub use Rattle.replay.specs.RecordsRun.{RunsRecords}
 pub use Rattle.replay.specs.RunEnd.{counted_to, last_end, rest_moment, run_end}
-pub use Rattle.replay.specs.Running.{Answers, AnswersStarts, IsTogether, Keeps, State, first_kept, state}
+pub use Rattle.replay.specs.RunState.{Answers, AnswersStarts, IsTogether, Keeps, State, first_kept, state}
 pub use Rattle.replay.specs.Separated.{IsSeparatedBy}
 pub use Rattle.replay.specs.Sources.{MergeLaw}
 pub use Rattle.replay.specs.Stamps.{gap_of, stamp_given, stamp_text, stamped, stamping_at}

@@ -5,9 +5,7 @@
 #![tactic(auto)]
 
 mod cursor;
-mod ending;
 mod faults;
-mod keeping;
 mod kept_script;
 pub mod laws;
 mod line_beside;
@@ -15,7 +13,9 @@ mod lines;
 mod records;
 mod replay_job;
 mod replay_run;
-mod sending;
+mod run_end;
+mod script_reader;
+mod sender;
 mod stamps;
 mod texts;
 

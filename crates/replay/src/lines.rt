@@ -6,7 +6,7 @@ ghost use Rattle.replay.specs.Words.{Command, IsReader, Origin, TcFault, IsKept,
 use crate::cursor::Cursor;
 use crate::faults::Stop;
 use crate::kept_script::{KeptLine, KeptScript};
-use crate::sending::{Sending, put_clock};
+use crate::sender::{Sending, put_clock};
 use abstract_port::Event;
 use script::{Unwatched, put_answers, put_tc};
 use std::alloc::Allocator;

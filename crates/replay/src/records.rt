@@ -8,7 +8,7 @@ use crate::cursor::Cursor;
 use crate::faults::Stop;
 use crate::kept_script::KeptScript;
 use crate::lines::run_lines;
-use crate::sending::{Sending, put_arrival, put_clock};
+use crate::sender::{Sending, put_arrival, put_clock};
 use capture::{CapFault, CaptureReader, Record, frame_of};
 use script::Watch;
 use std::alloc::Allocator;

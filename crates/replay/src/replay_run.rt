@@ -6,13 +6,13 @@ ghost use Rattle.job.specs.declared.fault.Fault.TheVariants as Faults;
 ghost use Rattle.replay.specs.declared.faults.ReplayInput.TheVariants as Inputs;
 
 use crate::cursor::Cursor;
-use crate::ending::{put_end, run_end};
 use crate::faults::{ReplayFault, ReplayInput, Stop};
-use crate::keeping::read_script;
 use crate::kept_script::KeptScript;
 use crate::lines::run_lines;
 use crate::records::run_records;
-use crate::sending::{Leaving, Sending, put_clock};
+use crate::run_end::{put_end, run_end};
+use crate::script_reader::read_script;
+use crate::sender::{Leaving, Sending, put_clock};
 use crate::stamps::{Stamp, stamping_at};
 use capture::{CAPTURE_END, CapFault, CaptureReader, CaptureWriter};
 use octet_store::OctetStore;

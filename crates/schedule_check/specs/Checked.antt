@@ -11,7 +11,7 @@ use Rattle.script.specs.Outcome.{bad_line, long_line}
 use Rattle.script.specs.declared.faults.BadLine.{BadLine}
 use Rattle.script.specs.declared.faults.ScriptFault.{ScriptFault}
 use Rattle.script.specs.declared.faults.ScriptFault.TheVariants.{UnknownLine}
-use Rattle.script.specs.Ending.{Whole}
+use Rattle.script.specs.ScriptEnd.{Whole}
 use Rattle.schedule_check.specs.Apart.{verdict_lines}
 use Rattle.schedule_check.specs.Windows.{Teller}
 

@@ -17,7 +17,7 @@ pub use Rattle.tc_reader.specs.Reader.{IsReader}
 pub use Rattle.tc_reader.specs.declared.fault.TcFault.{TcFault}
 pub use Rattle.answer_text.specs.Part.{text_of}
 pub use Rattle.job.specs.Outcome.{RunsOut}
-pub use Rattle.script.specs.Ending.{IsEnding, rate_given}
+pub use Rattle.script.specs.ScriptEnd.{IsEnding, rate_given}
 pub use Rattle.script.specs.Given.{octets_of}
 pub use Rattle.script.specs.Outcome.{bad_line, long_line}
 pub use Rattle.schedule_check.specs.Apart.{apart_line, change_lines, class_count, class_word, itself_apart, some_line, verdict_lines}

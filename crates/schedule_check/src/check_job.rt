@@ -4,7 +4,7 @@ ghost use Rattle.std.specs.Prelude.{◌≡◌, IfErr};
 ghost use Rattle.std.specs.Io.Buffered.{writer_contents};
 ghost use Rattle.schedule_check.specs.Words.{whole_check, IsTeller, Teller, IsEnding, rate_given, octets_of};
 
-use crate::checking::check;
+use crate::schedules::check;
 use crate::settings::CheckSettings;
 use job::{Ended, end_run};
 use script::{Watch, end_with_value, rate_given};

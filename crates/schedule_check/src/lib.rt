@@ -6,16 +6,16 @@
 #![tactic(auto)]
 
 mod check_job;
-mod checking;
 mod laws;
+mod schedule_report;
+mod schedules;
 mod settings;
-mod telling;
 mod window_lines;
 mod windows;
 
 pub use check_job::{CheckWords, answer_check};
-pub use checking::{check, is_command};
 pub use laws::{ever_open, one_teller, turned_masks};
+pub use schedule_report::{class_count, classes_apart, put_apart};
+pub use schedules::{check, is_command};
 pub use settings::CheckSettings;
-pub use telling::{class_count, classes_apart, put_apart};
 pub use windows::{Longest, Window, Windows};

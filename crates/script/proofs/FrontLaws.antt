@@ -9,7 +9,7 @@ use Rattle.words.specs.Numbers.{BeginsWithNumber, IsNumber, is_digit}
 use Rattle.words.specs.Words.{starts_blank, starts_with_break}
 use Rattle.words.proofs.FrontLaws.{number_before}
 use Rattle.line_reader.specs.Script.{joins}
-use Rattle.line_reader.specs.Spelling.{is_unbroken}
+use Rattle.line_reader.specs.PhysicalLines.{is_unbroken}
 use Rattle.line_reader.specs.LineReader.{EndsLine}
 use Rattle.script.specs.Requests.{said}
 use Rattle.script.specs.Plain.{is_plain}

@@ -3,8 +3,8 @@ pub mod FrontLaws
 pub mod StartsLaws
 pub mod LeftLaws
 pub mod ReaderLaws
-pub mod EndingLaws
-pub mod Going
+pub mod ScriptEndLaws
+pub mod LineSteps
 pub mod SeparatedLaws
 pub mod ClockLaws
 pub mod PlainLaws

@@ -8,5 +8,5 @@ pub mod Outcome
 pub mod Separated
 pub mod Texts
 pub mod Given
-pub mod Ending
+pub mod ScriptEnd
 pub mod Words

@@ -4,7 +4,7 @@ use Rattle.std.specs.List.{list_all}
 use Rattle.abstract_port.specs.declared.Event.{Event}
 use Rattle.line_reader.specs.LineReader.{Advances, next_number, script_left}
 use Rattle.line_reader.specs.Script.{joins}
-use Rattle.line_reader.specs.Spelling.{is_unbroken}
+use Rattle.line_reader.specs.PhysicalLines.{is_unbroken}
 use Rattle.line_reader.specs.declared.lines.LineReader.{LineReader}
 use Rattle.words.specs.Words.{words_of}
 use Rattle.script.specs.Requests.{said_in}

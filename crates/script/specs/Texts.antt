@@ -1,7 +1,7 @@
 -- The texts of faults, and the exit statuses that go with them.
 use Rattle.std.specs.Prelude.{List, ℕ, [], ◌∷◌, decimal, codes}
 use Rattle.std.specs.List.{concat}
-use Rattle.job.specs.Telling.{Telling}
+use Rattle.job.specs.Report.{Telling}
 use Rattle.script.specs.declared.faults.BadLine.{BadLine}
 use Rattle.script.specs.declared.settings.BadValue.{BadValue}
 use Rattle.script.specs.declared.settings.BadValue.TheVariants as Values

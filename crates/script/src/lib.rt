@@ -5,7 +5,6 @@
 #![tactic(auto)]
 
 mod answers;
-mod ending;
 mod faults;
 mod fronts;
 pub mod laws;
@@ -14,10 +13,10 @@ mod script_job;
 mod script_line;
 mod script_run;
 mod settings;
+mod summary_lines;
 mod watch;
 
 pub use answers::{RunningPort, put_all_left, put_answers, put_tc};
-pub use ending::put_end;
 pub use faults::{
     BadLine, RunFault, ScriptFault, limit_fault, put_line_fault, put_value, say_value,
 };
@@ -25,4 +24,5 @@ pub use script_job::{Values, answer_script, end_with_value, rate_given, settings
 pub use script_line::{Said, read_line, read_tc};
 pub use script_run::run_script;
 pub use settings::{BadValue, Settings};
+pub use summary_lines::put_end;
 pub use watch::{Failure, Unwatched, Watch};

@@ -4,12 +4,12 @@ ghost use Rattle.std.specs.Prelude.{ℕ, List, Result, IfSome};
 ghost use Rattle.script.specs.Words.{Command, Writes, script_left, TcFault, RunsOut, IsFaithfulTo, ending_text, outcome_from, outcome_of, IsReader};
 
 use crate::answers::{RunningPort, put_answers, put_tc};
-use crate::ending::put_end;
 use crate::faults::{BadLine, RunFault};
 use crate::laws::faithful;
 use crate::plain::pass_plain;
 use crate::script_line::{Said, read_line};
 use crate::settings::Settings;
+use crate::summary_lines::put_end;
 use crate::watch::Watch;
 use abstract_port::Event;
 use answer_text::WriteFault;

@@ -8,7 +8,7 @@ ghost use Rattle.list_config.specs.Choice.{first_choice};
 ghost use Rattle.list_config.specs.Current.{IsCurrent, longest, accepted_at, deletion_at, answer_to, with_command, installed_of};
 ghost use Rattle.selection.specs.Watched.{IsStill, with_needs};
 
-use crate::choosing::{Heads, move_to_choice};
+use crate::choice::{Heads, move_to_choice};
 use gate_list::{Schedule, Visits};
 use list_config::{Gates, Installed, NotNow};
 use std::marker::Model;

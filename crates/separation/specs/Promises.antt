@@ -7,7 +7,7 @@ use Rattle.abstract_port.specs.declared.Event.TheVariants as Events
 use Rattle.abstract_port.specs.declared.Answer.TheVariants as Answered
 use Rattle.abstract_port.specs.AbstractPort.{AbstractPort, counts_at, new_port, queue_of}
 use Rattle.abstract_port.specs.Answers.{answers_to, answers_of, port_after}
-use Rattle.abstract_port.specs.Counting.{add_capped}
+use Rattle.abstract_port.specs.FrameCounts.{add_capped}
 use Rattle.abstract_port.specs.Laws.{AreApart, starts_in}
 use Rattle.abstract_port.specs.Tally.{Counter, value_of, growth, unclassed, happenings, told, is_told}
 use Rattle.abstract_port.specs.Tally as Tallied

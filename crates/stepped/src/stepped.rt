@@ -4,7 +4,7 @@ ghost use Rattle.wire_time.specs.Moment.{greatest_moment};
 ghost use Rattle.list_config.specs.History.{gates, kept};
 ghost use Rattle.list_config.specs.Current.{IsCurrent};
 ghost use Rattle.accepted_commands.specs.Commands.{AreCommands};
-ghost use Rattle.accepted_commands.specs.Standing.{Stands};
+ghost use Rattle.accepted_commands.specs.InForce.{Stands};
 
 use accepted_commands::{
     CommandSlots, edge_of, installed, lead_moment, legs_ahead, mask_under, resumed,
@@ -26,7 +26,7 @@ pub struct Stepped {
 /// A contract sees the history that the commands make, and the moment.
 impl Model for Stepped {
     ghost use Rattle.accepted_commands.specs.Commands.{AreCommands};
-    ghost use Rattle.accepted_commands.specs.Standing.{Stands, clocked};
+    ghost use Rattle.accepted_commands.specs.InForce.{Stands, clocked};
     ghost use Rattle.list_config.specs.Current.{Clocked};
 
     ghost Value = { Clocked };

@@ -18,7 +18,7 @@ use Rattle.script.specs.declared.faults.ScriptFault.{ScriptFault}
 use Rattle.stream_bounds.specs.BoundLines.{command_finding, command_lines, first_of}
 use Rattle.stream_bounds.specs.Faults.{schedules_limited}
 use Rattle.stream_bounds.specs.Outcome.{bounds_in, end_fault, outcome_in, outcome_of, outcome_unless, periodic, with_command}
-use Rattle.stream_bounds.specs.Reading.{IsEnd, ReadsTable, Tells}
+use Rattle.stream_bounds.specs.TableRead.{IsEnd, ReadsTable, Tells}
 use Rattle.stream_bounds.specs.declared.faults.BoundsInput.{BoundsInput}
 use Rattle.stream_bounds.specs.declared.faults.BoundsInput.TheVariants as Inputs
 use Rattle.stream_bounds.specs.declared.faults.Finding.{Finding}

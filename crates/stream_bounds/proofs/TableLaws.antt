@@ -12,7 +12,7 @@ use Rattle.job.specs.declared.fault.Fault.TheVariants as Faults
 use Rattle.script.specs.declared.faults.ScriptFault.{ScriptFault}
 use Rattle.stream_bounds.specs.Faults.{table_fault}
 use Rattle.stream_bounds.specs.Outcome.{periodic}
-use Rattle.stream_bounds.specs.Reading.{ReadsTable}
+use Rattle.stream_bounds.specs.TableRead.{ReadsTable}
 use Rattle.stream_bounds.specs.declared.faults.BoundsInput.{BoundsInput}
 use Rattle.stream_bounds.specs.declared.faults.BoundsInput.TheVariants as Inputs
 use Rattle.traffic.proofs.TableLaws.{Goes, ended, stopped, wrong_at}

@@ -3,5 +3,5 @@ pub mod Verdicts
 pub mod BoundLines
 pub mod Faults
 pub mod Outcome
-pub mod Reading
-pub mod Ending
+pub mod TableRead
+pub mod BoundsEnd

@@ -6,7 +6,7 @@ ghost use Rattle.job.specs.declared.fault.Fault.TheVariants as Faults;
 ghost use Rattle.wire_time.specs.declared.TheConstants.{CLASSES};
 ghost use Rattle.delay_bounds.specs.Bounded.{Answer};
 ghost use Rattle.stream_bounds.specs.Classes.{IsPeriodic, ids_of};
-ghost use Rattle.stream_bounds.specs.Reading.{IsAnswered};
+ghost use Rattle.stream_bounds.specs.TableRead.{IsAnswered};
 ghost use Rattle.stream_bounds.specs.Verdicts.{answer_at, bounds_of, class_answer, class_answers, delay_of, left_after, one_told, verdict_of};
 
 use crate::classes::{flows_of, ids_of};

@@ -3,12 +3,12 @@
 ghost use Rattle.std.specs.Prelude.{◌≡◌, IfErr, None, Some};
 ghost use Rattle.std.specs.Io.Buffered.{writer_contents};
 ghost use Rattle.script.specs.Given.{octets_of, words_of_values};
-ghost use Rattle.stream_bounds.specs.Ending.{IsBoundsEnding, bounds_given, frames_where};
+ghost use Rattle.stream_bounds.specs.BoundsEnd.{IsBoundsEnding, bounds_given, frames_where};
 ghost use Rattle.stream_bounds.specs.declared.settings.TheConstants.{MAX_FRAMES};
 ghost use Rattle.words.specs.Numbers.{number_in};
 
-use crate::bounding::bounds;
 use crate::settings::{BoundsSettings, BoundsValue, MAX_FRAMES, say_bounds_value};
+use crate::table_bounds::bounds;
 use job::{Ended, end_run, end_told};
 use script::{Values, settings_given};
 use std::alloc::{Allocator, Global};

@@ -6,18 +6,18 @@
 #![tactic(auto)]
 
 mod answers;
-mod bounding;
 mod bounds_job;
+mod bounds_report;
 mod class_lines;
 mod classes;
 mod faults;
 mod settings;
 mod stream_lines;
 mod table;
-mod telling;
+mod table_bounds;
 mod verdicts;
 
-pub use bounding::bounds;
 pub use bounds_job::{BoundsWords, answer_bounds, bounds_given};
 pub use faults::{BoundsFault, BoundsInput, Finding};
 pub use settings::{BoundsSettings, BoundsValue, MAX_FRAMES};
+pub use table_bounds::bounds;

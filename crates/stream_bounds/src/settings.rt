@@ -2,7 +2,7 @@
 
 ghost use Rattle.std.specs.Prelude.{◌≡◌};
 ghost use Rattle.job.specs.Texts.{IsTold};
-ghost use Rattle.stream_bounds.specs.Ending.{bounds_value_text};
+ghost use Rattle.stream_bounds.specs.BoundsEnd.{bounds_value_text};
 
 use job::Ended;
 use octet_writer::put;

@@ -6,7 +6,7 @@ ghost use Rattle.words.specs.Words.{words_of};
 ghost use Rattle.job.specs.declared.fault.Fault.TheVariants as Faults;
 ghost use Rattle.stream_bounds.specs.Classes.{IsPeriodic};
 ghost use Rattle.stream_bounds.specs.Outcome.{periodic};
-ghost use Rattle.stream_bounds.specs.Reading.{ReadsTable};
+ghost use Rattle.stream_bounds.specs.TableRead.{ReadsTable};
 ghost use Rattle.traffic.specs.Table.{line_judged, table_by};
 
 use crate::faults::{BoundsFault, BoundsInput, table_fault};

@@ -4,7 +4,7 @@ use Rattle.std.specs.List.{concat}
 use Rattle.abstract_port.specs.AbstractPort.{AbstractPort, counters_of}
 use Rattle.abstract_port.specs.declared.Counters.{Counters}
 use Rattle.summary.specs.Observed.{ClassSeen, Observed, class_at, mean_of}
-use Rattle.summary.specs.declared.waiting.Waits.{Waits}
+use Rattle.summary.specs.declared.waits.Waits.{Waits}
 
 -- a number of picoseconds, or - where no frame has started
 abbrev pub wait_text : Waits → ℕ → List ℕ

@@ -7,7 +7,7 @@ use Rattle.abstract_port.specs.declared.Answer.{Answer}
 use Rattle.abstract_port.specs.declared.Answer.TheVariants as Answered
 use Rattle.abstract_port.specs.declared.Event.{Event}
 use Rattle.abstract_port.specs.declared.Start.{Start}
-use Rattle.summary.specs.declared.waiting.Waits.{Waits}
+use Rattle.summary.specs.declared.waits.Waits.{Waits}
 
 -- 1. Waits
 

@@ -2,7 +2,7 @@
 
 ghost use Rattle.std.specs.Prelude.{◌≡◌, IfOk};
 
-use crate::waiting::Waits;
+use crate::waits::Waits;
 use circular_buffer::HeapCircularBuffer;
 use std::alloc::{AllocError, Allocator, Global};
 use std::marker::Model;

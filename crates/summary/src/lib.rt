@@ -6,10 +6,10 @@
 mod class_summary;
 pub mod laws;
 mod lines;
-mod seeing;
-mod waiting;
+mod tally;
+mod waits;
 mod wanted;
 
-pub use seeing::Summary;
-pub use waiting::Waits;
+pub use tally::Summary;
+pub use waits::Waits;
 pub use wanted::{note, note_start, note_verdict, summary_wanted};

@@ -6,7 +6,7 @@ ghost use Rattle.wire_time.specs.Moment.{greatest_moment};
 ghost use Rattle.answer_text.specs.Part.{text_of};
 ghost use Rattle.summary.specs.Lines.{class_line, dropped_of, share_of, wait_text, wire_line};
 
-use crate::waiting::Waits;
+use crate::waits::Waits;
 use abstract_port::Counters;
 use answer_text::{Part, WriteFault, put_parts};
 use std::io::Write;

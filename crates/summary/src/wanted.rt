@@ -6,7 +6,7 @@ ghost use Rattle.abstract_port.specs.declared.Answer.TheVariants as Answers;
 ghost use Rattle.summary.specs.Observed.{seen};
 ghost use Rattle.summary.specs.Wanted.{noted, watched};
 
-use crate::seeing::Summary;
+use crate::tally::Summary;
 use abstract_port::{Answer, Dropped, Start};
 use std::alloc::{AllocError, Allocator};
 use wire_time::Frame;

@@ -6,5 +6,5 @@ pub mod DigitLemmas
 pub mod GrammarLemmas
 pub mod HeadsGrammar
 pub mod LineLaws
-pub mod ReadingLaws
+pub mod ReadLaws
 mod PlainLemmas

@@ -11,8 +11,8 @@ mod heads;
 pub mod laws;
 mod line;
 mod lists;
+mod option_list;
 mod options;
-mod reading;
 mod values;
 
 pub use end::closed_command;

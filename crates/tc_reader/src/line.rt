@@ -7,7 +7,7 @@ use crate::capped::CappedOptions;
 use crate::end::{check_heads, give_command, put_fault};
 use crate::fault::TcFault;
 use crate::heads::{Seen, read_heads};
-use crate::reading::read_options;
+use crate::option_list::read_options;
 use abstract_port::Command;
 use words::Words;
 

@@ -1,7 +1,7 @@
 -- What a reader or a writer does at a call, of the four runs that each call has.
 use Rattle.std.specs.Prelude.{ℕ, ◌==◌, if◌then◌else◌}
-use Rattle.test_streams.specs.declared.turning.Turn.{Turn}
-use Rattle.test_streams.specs.declared.turning.Turn.TheVariants.{Fails, FailsOnce, OneOctet, Nothing}
+use Rattle.test_streams.specs.declared.turns.Turn.{Turn}
+use Rattle.test_streams.specs.declared.turns.Turn.TheVariants.{Fails, FailsOnce, OneOctet, Nothing}
 
 -- of the run with this number among the four
 abbrev pub turn_of : ℕ → Turn

@@ -5,11 +5,11 @@
 ghost use Rattle.std.specs.Prelude.{◌≡◌, false};
 
 mod captures;
-mod turning;
+mod turns;
 
 pub use captures::{BOTH_LEFT, BOTH_TOLD, FIRST_LEFT, FIRST_TOLD, TWO_RECORDS};
 use std::io::{self, Read, Write};
-pub use turning::{Tally, Turn, TurningReader, TurningWriter, nth_turn};
+pub use turns::{Tally, Turn, TurningReader, TurningWriter, nth_turn};
 
 /// Gives its octets in pieces of so many; fails at the call with this number, from 0, once or for ever.
 #[derive(Drop)]

@@ -2,7 +2,7 @@
 use Rattle.std.specs.Prelude.{List, ℕ, codes}
 use Rattle.line_reader.specs.declared.lines.LineFault.{LineFault}
 use Rattle.job.specs.Lines.{fault_of_line}
-use Rattle.job.specs.Telling.{Telling}
+use Rattle.job.specs.Report.{Telling}
 use Rattle.job.specs.declared.fault.Fault.{Fault}
 use Rattle.script.specs.Outcome.{limit_fault}
 use Rattle.script.specs.Texts.{line_text}

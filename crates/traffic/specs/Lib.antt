@@ -1,10 +1,10 @@
 pub mod Faults
-pub mod Reading
+pub mod TableRead
 pub mod Table
 pub mod Frames
 pub mod Turns
 pub mod Written
 pub mod Merge
 pub mod Outcome
-pub mod Ending
+pub mod StreamsEnd
 pub mod Words

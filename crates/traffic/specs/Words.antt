@@ -11,14 +11,14 @@ pub use Rattle.job.specs.Outcome.{Runs}
 pub use Rattle.job.specs.declared.fault.Fault.{Fault}
 pub use Rattle.script.specs.Given.{octets_of}
 pub use Rattle.script.specs.Outcome.{limit_fault}
-pub use Rattle.traffic.specs.Ending.{IsStreamsEnding, from_given}
+pub use Rattle.traffic.specs.StreamsEnd.{IsStreamsEnding, from_given}
 pub use Rattle.traffic.specs.Faults.{script_fault, streams_telling, table_fault}
 pub use Rattle.traffic.specs.Frames.{first_of, frame_after, frames_of, next_of_stream}
 unfoldable pub use Rattle.traffic.specs.Frames.{by_moment, frames_after}
 pub use Rattle.traffic.specs.Merge.{clock_after, clock_in, clock_said, latest, line_end, line_text}
 unfoldable pub use Rattle.traffic.specs.Merge.{frames_before, frames_from}
 pub use Rattle.traffic.specs.Outcome.{merging, outcome_in, outcome_of}
-pub use Rattle.traffic.specs.Reading.{ReadsTable}
+pub use Rattle.traffic.specs.TableRead.{ReadsTable}
 pub use Rattle.traffic.specs.Table.{HasTimes, IsStream, Table, deadline_in, ends_in, judged, line_judged, line_said, moved, stream_in_words, stream_said, table_of}
 pub use Rattle.traffic.specs.Turns.{earlier, left_of, left_of_all}
 unfoldable pub use Rattle.traffic.specs.Turns.{first_place}

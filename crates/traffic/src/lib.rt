@@ -5,15 +5,15 @@
 #![tactic(auto)]
 
 mod faults;
-mod merging;
-mod streaming;
+mod frame_lines;
+mod merge;
+mod streams;
 mod streams_job;
 mod table;
 mod turn;
 mod turns;
-mod writing;
 
 pub use faults::{StreamsFault, StreamsInput};
-pub use streaming::write_streams;
+pub use streams::write_streams;
 pub use streams_job::answer_streams;
 pub use table::{Stream, read_stream_line};

@@ -4,7 +4,7 @@ ghost use Rattle.std.specs.Prelude.{◌≡◌, ◌≤◌, IfErr, IfOk};
 ghost use Rattle.std.specs.Io.Buffered.{writer_contents};
 ghost use Rattle.traffic.specs.Words.{octets_of, IsStreamsEnding, from_given, greatest_moment};
 
-use crate::streaming::write_streams;
+use crate::streams::write_streams;
 use job::{Ended, end_run};
 use script::{BadValue, Watch, end_with_value};
 use std::alloc::Allocator;

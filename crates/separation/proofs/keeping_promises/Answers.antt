@@ -1,4 +1,4 @@
-use Rattle.separation.proofs.Keeping.{keeping}
+use Rattle.separation.proofs.RunLaws.{keeping}
 use Rattle.separation.proofs.keeping_promises.Goals as goal
 
 pub returns : goal.returns

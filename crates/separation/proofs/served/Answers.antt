@@ -1,4 +1,4 @@
-use Rattle.separation.proofs.Serving as Serving
+use Rattle.separation.proofs.ServiceLaws as Serving
 use Rattle.separation.proofs.served.Goals as goal
 
 pub returns : goal.returns

@@ -1,4 +1,4 @@
-use Rattle.capture.proofs.SpellingLaws.{spelling_law}
+use Rattle.capture.proofs.LayoutLaws.{spelling_law}
 use Rattle.capture.proofs.laws.spelling_law.Goals as goal
 
 pub returns : goal.returns

@@ -2,7 +2,7 @@ use Rattle.std.proofs.Common.{◌≡◌, Ok, Err, refl, ap, ◌∙◌, subst}
 use Rattle.std.proofs.lemmas.Result.{err_from_is_err_and}
 use Rattle.drawing.specs.Words.{request_of, bad_line, TakesLine}
 use Rattle.job.specs.declared.fault.Fault.TheVariants as Faults
-use Rattle.drawing.proofs.Taking.{is_begun, taken_on, goes_wrong, ends_well, stops}
+use Rattle.drawing.proofs.TakenLaws.{is_begun, taken_on, goes_wrong, ends_well, stops}
 use Rattle.drawing.proofs.draw_run.take_lines.Goals as goal
 
 pub lines-init : goal.lines-init

@@ -1,7 +1,7 @@
 use Rattle.std.proofs.Common.{ℕ, List, Result}
 use Rattle.drawing.specs.Words.{Command, TcFault, IsReader, script_left}
 use Rattle.line_reader.specs.LineReader.{most_lines}
-use Rattle.drawing.proofs.Taking.{IsTaking}
+use Rattle.drawing.proofs.TakenLaws.{IsTaking}
 use Rattle.drawing.proofs.draw_run.take_lines.Given as goal
 
 abbrev pub invariant-lines : goal.invariant-lines

@@ -1,10 +1,10 @@
 use Rattle.std.proofs.Common.{◌≡◌, Result, Ok, sym, ◌∙◌, subst}
 use Rattle.std.specs.Io.Buffered.{writer_contents}
 use Rattle.frame_table.specs.Words.{IsEnding, whole_frames}
-use Rattle.job.proofs.EndingLaws.{input_out}
+use Rattle.job.proofs.RunEndLaws.{input_out}
 use Rattle.script.specs.Setup.{Setup}
 use Rattle.script.specs.declared.settings.BadValue.{BadValue}
-use Rattle.script.proofs.EndingLaws.{whole_ending}
+use Rattle.script.proofs.ScriptEndLaws.{whole_ending}
 use Rattle.frame_table.proofs.frames_job.answer_frames.Goals as goal
 
 pub returns-in-Ok-clause-ending : goal.returns-in-Ok-clause-ending

@@ -4,7 +4,7 @@ use Rattle.frame_table.specs.Words.{Asks, bad_line, request_of, said_in, tc_requ
 use Rattle.script.specs.Requests.{request_said}
 use Rattle.script.specs.declared.script_line.Said.TheVariants as Says
 use Rattle.job.specs.declared.fault.Fault.TheVariants as Faults
-use Rattle.frame_table.proofs.Going.{is_begun, goes_on, goes_on_tc, goes_past, goes_no_further, goes_wrong, ends_early, ends_well, stops}
+use Rattle.frame_table.proofs.LineSteps.{is_begun, goes_on, goes_on_tc, goes_past, goes_no_further, goes_wrong, ends_early, ends_well, stops}
 use Rattle.frame_table.proofs.table_run.run_lines.Goals as goal
 
 pub lines-init : goal.lines-init

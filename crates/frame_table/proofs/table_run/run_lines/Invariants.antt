@@ -1,6 +1,6 @@
 use Rattle.std.proofs.Common.{ℕ, List, Result}
 use Rattle.frame_table.specs.Words.{Command, IsReader, TcFault, most_lines, script_left}
-use Rattle.frame_table.proofs.Going.{IsRunning}
+use Rattle.frame_table.proofs.LineSteps.{IsRunning}
 use Rattle.frame_table.proofs.table_run.run_lines.Given as goal
 
 abbrev pub invariant-lines : goal.invariant-lines

@@ -1,6 +1,6 @@
 use Rattle.std.proofs.Common.{rules}
 use Rattle.stream_bounds.specs.Outcome.{outcome_of}
-use Rattle.job.proofs.EndingLaws.{runs_out}
+use Rattle.job.proofs.RunEndLaws.{runs_out}
 use Rattle.in_memory.proofs.bounds.bounds_with.Goals as goal
 
 pub returns : goal.returns

@@ -1,5 +1,5 @@
 use Rattle.std.proofs.Common.{[], Some, rules}
-use Rattle.drawing.specs.Ending.{IsDrawn, fault_in}
+use Rattle.drawing.specs.PictureEnd.{IsDrawn, fault_in}
 use Rattle.in_memory.specs.Pictures.{drawn_with}
 use Rattle.in_memory.proofs.WholeLaws.{picture_of, some_picture}
 use Rattle.in_memory.proofs.pictures.draw_with.Goals as goal

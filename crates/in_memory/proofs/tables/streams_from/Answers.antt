@@ -1,6 +1,6 @@
 use Rattle.std.proofs.Common.{rules}
 use Rattle.traffic.specs.Outcome.{outcome_of}
-use Rattle.job.proofs.EndingLaws.{runs_out}
+use Rattle.job.proofs.RunEndLaws.{runs_out}
 use Rattle.in_memory.proofs.tables.streams_from.Goals as goal
 
 pub returns : goal.returns

@@ -1,4 +1,4 @@
-use Rattle.line_reader.proofs.SpellingLaws.{spelling}
+use Rattle.line_reader.proofs.PhysicalLineLaws.{spelling}
 use Rattle.line_reader.proofs.laws.spelling_law.Goals as goal
 
 pub returns : goal.returns

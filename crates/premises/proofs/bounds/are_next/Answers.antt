@@ -1,8 +1,8 @@
 use Rattle.std.proofs.Common.{sym, subst}
 use Rattle.std.proofs.lemmas.List.{take_all}
 use Rattle.abstract_port.proofs.RunLaws.{settled-current, timely-sound}
-use Rattle.premises.specs.Coming.{AreNext}
-use Rattle.premises.proofs.Coming.{next-first, next-on}
+use Rattle.premises.specs.FlowArrivals.{AreNext}
+use Rattle.premises.proofs.FlowArrivals.{next-first, next-on}
 use Rattle.premises.proofs.bounds.are_next.Goals as goal
 
 pub loop-event-init : goal.loop-event-init

@@ -1,5 +1,5 @@
 use Rattle.abstract_port.specs.Sound.{IsSoundPort}
-use Rattle.premises.proofs.Coming.{RunsNext}
+use Rattle.premises.proofs.FlowArrivals.{RunsNext}
 use Rattle.premises.proofs.bounds.are_next.Given as goal
 
 abbrev pub invariant-loop-event : goal.invariant-loop-event

@@ -1,7 +1,7 @@
 use Rattle.std.proofs.Common.{subst}
 use Rattle.abstract_port.specs.AbstractPort.{installs, refusal}
-use Rattle.premises.specs.Coming.{AreNext}
-use Rattle.premises.proofs.Coming.{change-is}
+use Rattle.premises.specs.FlowArrivals.{AreNext}
+use Rattle.premises.proofs.FlowArrivals.{change-is}
 use Rattle.premises.proofs.bounds.is_flow_in.Goals as goal
 
 pub returns-in-Ok : goal.returns-in-Ok

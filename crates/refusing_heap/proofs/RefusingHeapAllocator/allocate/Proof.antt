@@ -37,7 +37,7 @@ use denote.Builtin.{usize, RefOf}
 use denote.Triple.Call.{calls_at}
 use Rattle.std.proofs.alloc.Shapes.{after}
 use Rattle.std.proofs.alloc.Calls.{Al, α, seen, Answer, answer_val, Answer-typed, Answer-Ok, Answer-err, takes_key, Takes, at_takes, Answered, Takes-goes, Takes-gives, answers}
-use Rattle.refusing_heap.proofs.Asking.{Refuses, at_refuses, Refuses-goes, Refuses-gives}
+use Rattle.refusing_heap.proofs.Refusals.{Refuses, at_refuses, Refuses-goes, Refuses-gives}
 use Rattle.refusing_heap.proofs.refuses.Symbol as c_sym
 use Rattle.refusing_heap.proofs.refuses.Met as c_met
 use Rattle.refusing_heap.specs.contracts.RefusingHeap as wrapper

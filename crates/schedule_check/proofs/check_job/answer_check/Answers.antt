@@ -1,5 +1,5 @@
 use Rattle.schedule_check.specs.Words.{whole_check}
-use Rattle.script.proofs.EndingLaws.{whole_ending}
+use Rattle.script.proofs.ScriptEndLaws.{whole_ending}
 use Rattle.schedule_check.proofs.check_job.answer_check.Goals as goal
 
 pub returns-in-Ok-clause-ending : goal.returns-in-Ok-clause-ending

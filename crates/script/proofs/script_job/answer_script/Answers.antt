@@ -2,7 +2,7 @@ use Rattle.std.proofs.Common.{◌≡◌, Result, Ok, sym, ◌∙◌, subst}
 use Rattle.std.specs.Io.Buffered.{writer_contents}
 use Rattle.script.specs.Words.{IsEnding, whole_script, Setup}
 use Rattle.script.specs.declared.settings.BadValue.{BadValue}
-use Rattle.script.proofs.EndingLaws.{whole_ending}
+use Rattle.script.proofs.ScriptEndLaws.{whole_ending}
 use Rattle.script.proofs.script_job.answer_script.Goals as goal
 
 pub returns-in-Ok-clause-ending : goal.returns-in-Ok-clause-ending

@@ -7,7 +7,7 @@ use Rattle.std.proofs.lemmas.Result.{err_from_is_err_and}
 use Rattle.script.specs.Requests.{request_said}
 use Rattle.script.specs.declared.script_line.Said.TheVariants as Says
 use Rattle.job.specs.declared.fault.Fault.TheVariants as Faults
-use Rattle.script.proofs.Going.{is_begun, goes_on, goes_past, goes_no_further, goes_wrong, ends_early, ends_well, kept, stops}
+use Rattle.script.proofs.LineSteps.{is_begun, goes_on, goes_past, goes_no_further, goes_wrong, ends_early, ends_well, kept, stops}
 use Rattle.script.proofs.script_run.run_lines.Goals as goal
 
 -- a step from these lines, by this answer

@@ -1,6 +1,6 @@
 use Rattle.std.proofs.Common.{ℕ, List, Result}
 use Rattle.script.specs.Words.{Command, TcFault, IsReader, script_left, most_lines}
-use Rattle.script.proofs.Going.{IsRunning}
+use Rattle.script.proofs.LineSteps.{IsRunning}
 use Rattle.script.proofs.script_run.run_lines.Given as goal
 
 abbrev pub invariant-lines : goal.invariant-lines

@@ -1,4 +1,4 @@
-use Rattle.job.proofs.EndingLaws.{ended, out_of_inputs}
+use Rattle.job.proofs.RunEndLaws.{ended, out_of_inputs}
 use Rattle.stream_bounds.specs.Faults.{bounds_telling}
 use Rattle.stream_bounds.specs.Outcome.{outcome_of}
 use Rattle.stream_bounds.proofs.bounds_job.answer_bounds.Goals as goal

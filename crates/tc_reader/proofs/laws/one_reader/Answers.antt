@@ -1,4 +1,4 @@
-use Rattle.tc_reader.proofs.ReadingLaws.{a_reader, same_readers}
+use Rattle.tc_reader.proofs.ReadLaws.{a_reader, same_readers}
 use Rattle.tc_reader.proofs.laws.one_reader.Goals as goal
 
 pub returns-clause-some : goal.returns-clause-some

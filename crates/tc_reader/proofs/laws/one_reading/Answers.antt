@@ -1,5 +1,5 @@
 use Rattle.tc_reader.proofs.LineLaws.{one_command, one_fault, not_both}
-use Rattle.tc_reader.proofs.ReadingLaws.{command_or_fault}
+use Rattle.tc_reader.proofs.ReadLaws.{command_or_fault}
 use Rattle.tc_reader.proofs.laws.one_reading.Goals as goal
 
 pub returns-clause-some : goal.returns-clause-some

@@ -1,4 +1,4 @@
-use Rattle.job.proofs.EndingLaws.{ended, out_of_inputs}
+use Rattle.job.proofs.RunEndLaws.{ended, out_of_inputs}
 use Rattle.traffic.specs.Words.{streams_telling, outcome_of}
 use Rattle.traffic.proofs.streams_job.answer_streams.Goals as goal
 

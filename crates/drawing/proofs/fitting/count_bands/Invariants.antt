@@ -1,9 +1,0 @@
-use Rattle.std.proofs.Common.{◌≡◌, ◌≤◌, ◌*◌}
-use Rattle.drawing.specs.Words.{MOST_SHAPES, bands_to}
-use Rattle.drawing.proofs.fitting.count_bands.Given as goal
-
-abbrev pub invariant-loop-class : goal.invariant-loop-class
-invariant-loop-class g l = record {
-  value : l.count ≡ bands_to l.class l.bands.classes;
-  within : l.count ≤ l.class * MOST_SHAPES;
-}

@@ -1,0 +1,5 @@
+use Rattle.program.proofs.calls.check_given.Goals as goal
+
+pub returns-clause-ending : goal.returns-clause-ending
+returns-clause-ending g c = λ tell tells.
+    rw (c.checks_of.ensures.windows, c.checks_of.ensures.script, c.checks_of.ensures.rate) at (c.answer_check.ensures.ending tell tells)

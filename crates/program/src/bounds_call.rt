@@ -1,0 +1,41 @@
+//! The delays of the streams of a table from a file.
+
+ghost use Rattle.std.specs.Prelude.{Some, codes};
+ghost use Rattle.std.specs.Io.Buffered.{writer_contents};
+ghost use Rattle.clap.specs.Matches.{first_value, found_of};
+ghost use Rattle.program.specs.Given.{IsGivenBounds, bounds_in};
+
+use crate::options::bounds_of;
+use crate::replay_call::{end_unopened, open};
+use clap::ArgMatches;
+use job::{Ended, end_told};
+use std::alloc::{Allocator, Global};
+use std::io::{BufWriter, Read, Write};
+use std::rt::Files;
+use stream_bounds::answer_bounds;
+
+/// Answers about the schedules that `reader` gives and the streams of the table whose file the words name, through `answers`, with the text of a
+/// fault on `errors`; and gives the writer of the answers back. The file is opened before anything is read; where it can't be, nothing is answered.
+pub fn bounds_given<F: Files, B: Allocator, R: Read, W: Write + Drop, E: Write>(
+    files: &F,
+    alloc: Global,
+    matches: &ArgMatches<'_>,
+    reader: &mut R,
+    answers: BufWriter<W, B>,
+    errors: &mut E,
+) -> (Ended, W)
+    ensures { IsGivenBounds (bounds_in (found_of matches.now)) (first_value (found_of matches.now) (codes "table")) (R.remaining reader.old) result.0 (writer_contents W.contents answers) (W.contents result.1) (E.contents errors.old) (E.contents errors.new) }
+{
+    let words = bounds_of(matches);
+    let Some(path) = matches.get_str("table") else {
+        let ended = Ended {
+            status: 2,
+            told: true,
+        };
+        return end_told(ended, answers);
+    };
+    match open(files, path) {
+        Ok(table) => answer_bounds(alloc, words, table, reader, answers, errors),
+        Err(path) => end_unopened(path, answers, errors),
+    }
+}

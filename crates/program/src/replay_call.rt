@@ -1,0 +1,261 @@
+//! A script and a capture from files through the port.
+
+ghost use Rattle.std.specs.Prelude.{◌≡◌, IfErr, IfNone, OnOk};
+ghost use Rattle.std.specs.Io.Buffered.{writer_contents};
+ghost use Rattle.clap.specs.Matches.{found_of};
+ghost use Rattle.program.specs.Given.{over_input_text, settings_in, stamp_in};
+ghost use Rattle.capture.specs.declared.writer.TheConstants.{CAPTURE_END};
+ghost use Rattle.job.specs.RunEnd.{IsUnanswered};
+ghost use Rattle.job.specs.Texts.{IsTold};
+ghost use Rattle.script.specs.ScriptEnd.{IsRefusal};
+ghost use Rattle.replay.specs.Stamps.{stamp_text};
+ghost use Rattle.replay.specs.Texts.{open_text};
+
+use crate::end_without_memory;
+use crate::options::values_of;
+use crate::same_file::is_same_file;
+use answer_text::{Part, put_parts};
+use arrayvec::ArrayVec;
+use capture::CAPTURE_END;
+use clap::ArgMatches;
+use job::{Ended, end_told};
+use replay::{Inputs, Outputs, Stamp, answer_replay, say_stamp, say_unopened, stamp_given};
+use script::{Settings, Watch, end_with_value, settings_given};
+use std::alloc::{Allocator, Global};
+use std::fs;
+use std::io::{BufWriter, Read, Write};
+use std::rt::Files;
+
+/// The path that is given for one of the files.
+fn path_of<'a>(matches: &ArgMatches<'a>, name: &str) -> &'a str {
+    matches.get_str(name).unwrap_or("")
+}
+
+/// Opens the file of a path to be read, or gives the path back. `-` is no file: one of that name is reached as `./-`.
+pub(crate) fn open<'a, F: Files>(files: &F, path: &'a str) -> Result<F::File, &'a str>
+    ensures { IfErr result (λ unopened. unopened.now ≡ path.now) }
+{
+    if path == "-" {
+        return Err(path);
+    }
+    match fs::open(files, path) {
+        Ok(file) => Ok(file),
+        Err(_) => Err(path),
+    }
+}
+
+/// How many octets of a capture are looked at.
+const FRONT: usize = 24;
+
+/// The first octets of a capture in a file, to say what the file is: none where the words name no such file or it can't be read.
+pub(crate) fn first_octets<F: Files>(files: &F, matches: &ArgMatches<'_>) -> ArrayVec<u8, FRONT> {
+    let mut front = ArrayVec::new();
+    let Ok(mut file) = open(files, path_of(matches, "capture")) else {
+        return front;
+    };
+    let mut octets = [0u8; FRONT];
+    if let Ok(count) = file.read(&mut octets) {
+        let (read, _) = octets.split_at(count.min(FRONT));
+        let _ = front.try_extend_from_slice(read);
+    }
+    front
+}
+
+/// Makes the file of a path, or empties it, or gives the path back. `-` is no file: one of that name is reached as `./-`.
+fn create<'a, F: Files>(files: &F, path: &'a str) -> Result<F::File, &'a str> {
+    if path == "-" {
+        return Err(path);
+    }
+    fs::create(files, path).map_err(|_| path)
+}
+
+/// The files of a replay.
+#[derive(Drop)]
+struct Opened<T: Drop> {
+    /// The script.
+    script: T,
+    /// The capture; it is the standard input where there is none.
+    capture: Option<T>,
+    /// The capture of what leaves.
+    out: T,
+}
+
+/// Why the files of a replay are not opened.
+enum Unopened<'a> {
+    /// The file of this path can't be opened.
+    Path(&'a str),
+    /// The output of this path is one of the inputs.
+    Input(&'a str),
+}
+
+/// The standard input, as a path (proc(5)).
+const STANDARD_INPUT: &str = "/dev/stdin";
+
+/// Makes the output or empties it, unless it is one of the inputs, by whatever name.
+fn create_out<'a, F: Files>(files: &F, matches: &ArgMatches<'a>) -> Result<F::File, Unopened<'a>> {
+    let out = path_of(matches, "out");
+    let capture = match path_of(matches, "capture") {
+        "-" => STANDARD_INPUT,
+        path => path,
+    };
+    for input in [path_of(matches, "script"), capture] {
+        if is_same_file(files, out, input) {
+            return Err(Unopened::Input(out));
+        }
+    }
+    create(files, out).map_err(|path| Unopened::Path(path))
+}
+
+/// Opens the files in their order, or says why they are not opened.
+fn open_all<'a, F: Files>(
+    files: &F,
+    matches: &ArgMatches<'a>,
+) -> Result<Opened<F::File>, Unopened<'a>> {
+    let script = match open(files, path_of(matches, "script")) {
+        Ok(script) => script,
+        Err(path) => return Err(Unopened::Path(path)),
+    };
+    let capture = match path_of(matches, "capture") {
+        "-" => None,
+        path => match open(files, path) {
+            Ok(capture) => Some(capture),
+            Err(path) => return Err(Unopened::Path(path)),
+        },
+    };
+    let out = create_out(files, matches)?;
+    Ok(Opened {
+        script,
+        capture,
+        out,
+    })
+}
+
+/// Reports a path that can't be opened, and gives the writer of the answers back. Nothing is answered.
+pub(crate) fn end_unopened<B: Allocator, W: Write + Drop, E: Write>(
+    path: &str,
+    answers: BufWriter<W, B>,
+    errors: &mut E,
+) -> (Ended, W)
+    ensures { IsUnanswered 4 (open_text path.now) result.0 (writer_contents W.contents answers) (W.contents result.1) (E.contents errors.old) (E.contents errors.new) }
+{
+    end_told(say_unopened(path, errors), answers)
+}
+
+/// Writes the text of an output that is one of the inputs. The exit status that goes with it is 2, also where that write fails.
+fn say_over_input<W: Write>(path: &str, writer: &mut W) -> Ended
+    ensures status { result.status ≡ 2 }
+    ensures told { IsTold result.told (W.contents writer.old) (W.contents writer.new) (over_input_text path.now) }
+{
+    let told = put_parts(
+        writer,
+        &[
+            Part::Text(b"taprio_port: OUT is one of the inputs: "),
+            Part::Text(path.as_bytes()),
+            Part::Text(b"\n"),
+        ],
+    )
+    .is_ok();
+    Ended { status: 2, told }
+}
+
+/// Reports an output that is one of the inputs, and gives the writer of the answers back. Nothing is answered.
+fn end_over_input<B: Allocator, W: Write + Drop, E: Write>(
+    path: &str,
+    answers: BufWriter<W, B>,
+    errors: &mut E,
+) -> (Ended, W)
+    ensures { IsUnanswered 2 (over_input_text path.now) result.0 (writer_contents W.contents answers) (W.contents result.1) (E.contents errors.old) (E.contents errors.new) }
+{
+    end_told(say_over_input(path, errors), answers)
+}
+
+/// Reports that the word of a stamp is none, and gives the writer of the answers back. Nothing is answered.
+fn end_unstamped<B: Allocator, W: Write + Drop, E: Write>(
+    answers: BufWriter<W, B>,
+    errors: &mut E,
+) -> (Ended, W)
+    ensures { IsUnanswered 2 stamp_text result.0 (writer_contents W.contents answers) (W.contents result.1) (E.contents errors.old) (E.contents errors.new) }
+{
+    end_told(say_stamp(errors), answers)
+}
+
+/// Replays what is open, the capture from `reader` where that is the standard input.
+fn replay_opened<
+    T: Read + Write + Drop,
+    B: Allocator,
+    R: Read,
+    W: Write + Drop,
+    E: Write,
+    P: Watch,
+>(
+    alloc: Global,
+    settings: Settings,
+    stamp: Stamp,
+    opened: Opened<T>,
+    reader: &mut R,
+    answers: BufWriter<W, B>,
+    errors: &mut E,
+    watch: &mut P,
+) -> (Ended, W) {
+    let Opened {
+        script,
+        capture,
+        out,
+    } = opened;
+    let Ok(departures) = BufWriter::new(alloc, out) else {
+        return (end_without_memory(errors), answers.into_parts().0);
+    };
+    let outputs = Outputs {
+        report: answers,
+        departures,
+    };
+    let (ended, writer, _out) = match capture {
+        Some(capture) => {
+            let inputs = Inputs { script, capture };
+            answer_replay(alloc, settings, stamp, inputs, outputs, errors, watch)
+        }
+        None => {
+            let inputs = Inputs {
+                script,
+                capture: reader,
+            };
+            answer_replay(alloc, settings, stamp, inputs, outputs, errors, watch)
+        }
+    };
+    (ended, writer)
+}
+
+/// Replays a script and a capture from files into a file, by the values that the words give to the options, with the report through
+/// `answers` and the text of a fault on `errors`; and gives the writer of the report back. The values are judged first; then the
+/// files are opened: the script, the capture, which is `reader` where its path is `-`, and the output, which is made or emptied, but
+/// not where it is one of the inputs.
+pub fn replay_given<F: Files, B: Allocator, R: Read, W: Write + Drop, E: Write, P: Watch>(
+    files: &F,
+    alloc: Global,
+    matches: &ArgMatches<'_>,
+    reader: &mut R,
+    answers: BufWriter<W, B>,
+    errors: &mut E,
+    watch: &mut P,
+) -> (Ended, W)
+    ensures refused { IfErr (settings_in CAPTURE_END (found_of matches.now)) (λ value.
+        IsRefusal value result.0 (writer_contents W.contents answers) (W.contents result.1) (E.contents errors.old) (E.contents errors.new)) }
+    ensures unread { IfErr (settings_in CAPTURE_END (found_of matches.now)) (λ _. (reader.new ≡ reader.old) × (watch.new ≡ watch.old)) }
+    ensures unstamped { OnOk (settings_in CAPTURE_END (found_of matches.now)) (IfNone (stamp_in (found_of matches.now)) (
+        IsUnanswered 2 stamp_text result.0 (writer_contents W.contents answers) (W.contents result.1) (E.contents errors.old) (E.contents errors.new))) }
+{
+    let settings = match settings_given(values_of(matches), CAPTURE_END) {
+        Ok(settings) => settings,
+        Err(value) => return end_with_value(value, answers, errors),
+    };
+    let Some(stamp) = stamp_given(matches.get_str("stamp")) else {
+        return end_unstamped(answers, errors);
+    };
+    match open_all(files, matches) {
+        Ok(opened) => replay_opened(
+            alloc, settings, stamp, opened, reader, answers, errors, watch,
+        ),
+        Err(Unopened::Path(path)) => end_unopened(path, answers, errors),
+        Err(Unopened::Input(path)) => end_over_input(path, answers, errors),
+    }
+}

@@ -1,0 +1,39 @@
+//! A table of streams, and a script from a file, become a script.
+
+ghost use Rattle.std.specs.Prelude.{Some, codes};
+ghost use Rattle.std.specs.Io.Buffered.{writer_contents};
+ghost use Rattle.clap.specs.Matches.{first_value, found_of};
+ghost use Rattle.program.specs.Given.{IsGivenStreams, from_in};
+
+use crate::replay_call::{end_unopened, open};
+use clap::ArgMatches;
+use job::Ended;
+use script::Watch;
+use std::alloc::{Allocator, Global};
+use std::io::{BufWriter, Read, Write};
+use std::rt::Files;
+use traffic::answer_streams;
+
+/// Writes the script of the table of streams that `reader` gives through `answers`, with the lines of the script among the frames whose
+/// file the words name, if they do, and from the moment that they give, with the text of a fault on `errors`; and gives the writer of the answers back. The file is opened
+/// before anything is read; where it can't be, nothing is answered.
+pub fn streams_given<F: Files, B: Allocator, R: Read, W: Write + Drop, E: Write, H: Watch>(
+    files: &F,
+    alloc: Global,
+    matches: &ArgMatches<'_>,
+    reader: &mut R,
+    answers: BufWriter<W, B>,
+    errors: &mut E,
+    watch: &mut H,
+) -> (Ended, W)
+    ensures { IsGivenStreams (from_in (found_of matches.now)) (first_value (found_of matches.now) (codes "with")) (R.remaining reader.old) result.0 (writer_contents W.contents answers) (W.contents result.1) (E.contents errors.old) (E.contents errors.new) }
+{
+    let from = matches.get_str("from");
+    let Some(path) = matches.get_str("with") else {
+        return answer_streams(alloc, from, reader, b"".as_slice(), answers, errors, watch);
+    };
+    match open(files, path) {
+        Ok(script) => answer_streams(alloc, from, reader, script, answers, errors, watch),
+        Err(path) => end_unopened(path, answers, errors),
+    }
+}

@@ -1,0 +1,10 @@
+-- What is written is followed by the lines of the classes to come and that of the wire.
+use Rattle.std.proofs.Common.{◌-◌, ◌++◌}
+use Rattle.octet_writer.specs.Writes.{Sent}
+use Rattle.summary.specs.Lines.{classes_from, summary_lines, wire_text}
+use Rattle.replay.proofs.run_end.put_summary.Given as goal
+
+abbrev pub invariant-loop-class : goal.invariant-loop-class
+invariant-loop-class g l =
+    let p = record l.port.port { now = l.moment } in
+    Sent (g.V.Write.contents l.fn.report) (g.V.Write.contents l.report) (summary_lines p l.summary) (classes_from (8 - l.class) l.class p l.summary ++ wire_text l.moment l.summary)

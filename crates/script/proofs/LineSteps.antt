@@ -1,0 +1,170 @@
+-- One line more of a script, and the ends.
+use Rattle.std.proofs.Common.{◌≡◌, ◌≤◌, ℕ, List, [], ◌∷◌, ◌++◌, map, Option, Some, None, Result, Ok, Err, true, false, refl, sym, ap, ◌∙◌, subst}
+use Rattle.std.specs.Prelude.{IfSome}
+use Rattle.std.proofs.lemmas.List.{append-nil}
+use Rattle.std.specs.Io.KnownBytes.{Appends, Keeps}
+use Rattle.script.specs.Words.{AbstractPort, settled, answers_to, IsSoundPort, Event, Clock, Command, TcFault, Script, Advances, Fault, IsAnswered, Request, Asks, NoCommand, request_of, Gave, end_lines, lines_of, noted_by, responses_to, bad_line, ending_text, long_line, outcome_after, outcome_from, reading_of, ScriptFault, BadLine, Observed, seen_all, noted_after, noted_at}
+use Rattle.separation.specs.Settled.{IsPossible, IsSettling}
+use Rattle.octet_writer.specs.Writes.{FallsShort}
+use Rattle.line_reader.specs.Script.{Line}
+use Rattle.job.specs.Lines.{Steps}
+use Rattle.job.specs.Outcome.{Outcome, RunsOut}
+use Rattle.job.specs.declared.fault.Fault.TheVariants as Faults
+use Rattle.job.proofs.LineLaws as Lines
+use Rattle.job.proofs.LineLaws.{behind}
+use Rattle.job.proofs.RunEndLaws.{input_out}
+use Rattle.script.specs.Outcome.{with_line}
+use Rattle.script.proofs.OutputLaws.{outcome-more}
+use Rattle.script.proofs.StartsLaws.{settled-sound}
+use Rattle.script.proofs.LeftLaws.{end-settled}
+use Rattle.summary.proofs.WantedLaws.{noted_after-one}
+
+-- A port that runs in the place of an abstract one: it keeps of the history what counts.
+pub record StandsFor (q p : AbstractPort) : Type 0 where
+  pub same : q ≡ settled p
+  pub possible : IsPossible p.history p.now
+  pub sound : IsSoundPort q
+
+pub stands_for_itself : (q : AbstractPort) → IsSoundPort q → StandsFor q q
+stands_for_itself q sound = record { same = sym (settled-sound q sound); possible = record { rising = sound.current.rising; past = sound.current.past }; sound = sound }
+
+paced : (q p : AbstractPort) → StandsFor q p → 80 ≤ p.ps
+paced q p s = let P : ℕ → Type 0 = λ n. 80 ≤ n in subst P (ap (λ x. x.ps) s.same) s.sound.rate
+
+module _ (law : IsSettling) (q p : AbstractPort) (s : StandsFor q p) where
+  pub event-answers : (e : Event) → (answers_to e q).0 ≡ (answers_to e p).0
+  event-answers e =
+      ap (λ x. (answers_to e x).0) s.same
+      ∙ (sym (append-nil (answers_to e (settled p)).0) ∙ (law p (paced q p s) s.possible (e ∷ [])).answers_same ∙ append-nil (answers_to e p).0)
+
+  event-port : (e : Event) → settled (answers_to e q).1 ≡ settled (answers_to e p).1
+  event-port e = ap (λ x. settled (answers_to e x).1) s.same ∙ (law p (paced q p s) s.possible (e ∷ [])).port_same
+
+  event-possible : (e : Event) → IsPossible (answers_to e p).1.history (answers_to e p).1.now
+  event-possible e = (law p (paced q p s) s.possible (e ∷ [])).current
+
+  unchanged : settled q ≡ settled p
+  unchanged = settled-sound q s.sound ∙ s.same
+
+  pub same-text : (r : Request) → lines_of (responses_to r q).0 ≡ lines_of (responses_to r p).0
+  same-text (Asks event) = ap (λ answers. lines_of (map Gave answers)) (event-answers event)
+  same-text (NoCommand fault) = refl
+
+  same-port : (r : Request) → settled (responses_to r q).1 ≡ settled (responses_to r p).1
+  same-port (Asks event) = event-port event
+  same-port (NoCommand fault) = unchanged
+
+  still-possible : (r : Request) → IsPossible (responses_to r p).1.history (responses_to r p).1.now
+  still-possible (Asks event) = event-possible event
+  still-possible (NoCommand fault) = s.possible
+
+  event-seen : (e : Event) (o : Option Observed) → noted_at e q o ≡ noted_at e p o
+  event-seen e (Some o) =
+      ap (λ n. Some (seen_all n (answers_to e q).0 o)) (ap (λ x. x.now) s.same) ∙ ap (λ answers. Some (seen_all p.now answers o)) (event-answers e)
+  event-seen e None = refl
+
+  pub same-seen : (r : Request) (o : Option Observed) → noted_by r q o ≡ noted_by r p o
+  same-seen (Asks event) o = event-seen event o
+  same-seen (NoCommand fault) o = refl
+
+  -- the port after a request
+  pub stands-after : (r : Request) (q' : AbstractPort) → q' ≡ settled (responses_to r q).1 → IsSoundPort q' → StandsFor q' (responses_to r p).1
+  stands-after r q' e sound = record { same = e ∙ same-port r; possible = still-possible r; sound = sound }
+
+  -- the clock event after the lines, and what ends the output
+  clocked : (m : ℕ) (o : Option Observed) → end_lines (answers_to (Clock m) q).1 (noted_after (Clock m ∷ []) q o) ≡ end_lines (answers_to (Clock m) p).1 (noted_after (Clock m ∷ []) p o)
+  clocked m o =
+      let e = Clock m in
+      ap (λ n. end_lines (answers_to e q).1 n) (noted_after-one e q o ∙ event-seen e o ∙ sym (noted_after-one e p o))
+      ∙ (sym (end-settled (answers_to e q).1 (noted_after (e ∷ []) p o))
+      ∙ ap (λ x. end_lines x (noted_after (e ∷ []) p o)) (event-port e)
+      ∙ end-settled (answers_to e p).1 (noted_after (e ∷ []) p o))
+
+  same-ending : (until : Option ℕ) (o : Option Observed) → ending_text until q o ≡ ending_text until p o
+  same-ending None (Some o) = ap (λ x. end_lines x (Some o)) s.same ∙ end-settled p (Some o)
+  same-ending None None = ap (λ x. end_lines x None) s.same ∙ end-settled p None
+  same-ending (Some m) o =
+      ap (λ x. lines_of (map Gave x ++ []) ++ end_lines (answers_to (Clock m) q).1 (noted_after (Clock m ∷ []) q o)) (event-answers (Clock m))
+      ∙ ap (λ x. lines_of (map Gave (answers_to (Clock m) p).0 ++ []) ++ x) (clocked m o)
+
+-- where a run stands: a port, and what is seen of it
+pub record Place : Type 0 where
+  pub port : AbstractPort
+  pub seen : Option Observed
+
+-- after a request
+abbrev after : Request → Place → Place
+after r x = record { port = (responses_to r x.port).1; seen = noted_by r x.port x.seen }
+
+module _ (read : List (List ℕ) → Result Command TcFault) (until : Option ℕ) where
+  -- what the lines to come give
+  abbrev pub told : Place → Script → Outcome BadLine
+  told x script = outcome_from read until script x.port x.seen
+
+  -- the state of a run: the port that runs stands for some abstract port
+  pub record IsRunning (first : Place) (all : Option Script) (old new : Option (List ℕ)) (left : Option Script) (q : AbstractPort) (o : Option Observed) : Type 0 where
+    pub ideal : AbstractPort
+    pub stands : StandsFor q ideal
+    pub goes : Lines.Goes long_line told first all old new (record { port = ideal; seen = o }) left
+
+  pub is_begun : (q : AbstractPort) (o : Option Observed) (all : Option Script) (old : Option (List ℕ)) → IsSoundPort q → IsRunning (record { port = q; seen = o }) all old old all q o
+  is_begun q o all old sound = record { ideal = q; stands = stands_for_itself q sound; goes = Lines.begun long_line told (record { port = q; seen = o }) all old }
+
+  -- what was written is let out
+  pub kept : (first : Place) (all : Option Script) (old now new : Option (List ℕ)) (s : Option Script) (q : AbstractPort) (o : Option Observed) → IsRunning first all old now s q o → Keeps now new → IsRunning first all old new s q o
+  kept first all old now new s q o i k = record { ideal = i.ideal; stands = i.stands; goes = Lines.goes_kept long_line told first (record { port = i.ideal; seen = o }) old now new all s i.goes k }
+
+  module _ (first : Place) (number : ℕ) (line : List ℕ) (q : AbstractPort) (o : Option Observed) (all : Option Script) (old now : Option (List ℕ)) (s t : Option Script) (i : IsRunning first all old now s q o) where
+    abbrev here : Place
+    here = record { port = i.ideal; seen = o }
+
+    -- a line before the rest, by what it asks
+    by_request : (is : Result (Option Request) ScriptFault) → request_of read line ≡ is → (rest : Script) → told here (Line number line rest) ≡ outcome_after until (with_line number is (reading_of read rest)) i.ideal o
+    by_request is e rest = ap (λ x. outcome_after until (with_line number x (reading_of read rest)) i.ideal o) e
+
+    by_one : (r : Request) → request_of read line ≡ Ok (Some r) → (rest : Script) → told here (Line number line rest) ≡ behind (lines_of (responses_to r i.ideal).0) (told (after r here) rest)
+    by_one r e rest = by_request (Ok (Some r)) e rest ∙ outcome-more until r (reading_of read rest) i.ideal o
+
+    -- the answers to a line are written
+    pub goes_on : {T E : Type 0} {x : T} → IsSettling → (q' : AbstractPort) (o' : Option Observed) (new : Option (List ℕ)) (r : Request) → Advances s (Ok true) number line t → request_of read line ≡ Ok (Some r)
+        → IsAnswered {T = T} {E = E} r (Ok x) now new q q' o o' → IsRunning first all old new t q' o'
+    goes_on law q' o' new r a e d =
+        let P : List ℕ → Type 0 = λ text. Appends now new text in
+        let Q : Option Observed → Type 0 = λ n. Lines.Goes long_line told first all old new (record { port = (responses_to r i.ideal).1; seen = n }) t in
+        record {
+          ideal = (responses_to r i.ideal).1;
+          stands = stands-after law q i.ideal i.stands r q' d.port d.sound;
+          goes = subst Q (sym (d.seen ∙ same-seen law q i.ideal i.stands r o))
+              (Lines.goes_on long_line told number line first here old now (after r here) new (lines_of (responses_to r i.ideal).0) all s t i.goes a (by_one r e) (subst P (same-text law q i.ideal i.stands r) d.text));
+        }
+
+    -- a line that is skipped
+    pub goes_past : Advances s (Ok true) number line t → request_of read line ≡ Ok None → IsRunning first all old now t q o
+    goes_past a e = record { ideal = i.ideal; stands = i.stands; goes = Lines.goes_past long_line told number line first here old now here all s t i.goes a (by_request (Ok None) e) }
+
+    module _ {T : Type 0} {f : Result T (Fault BadLine)} where
+      -- a prefix of the answers to a line is written
+      pub goes_no_further : IsSettling → (new : Option (List ℕ)) (r : Request) → Advances s (Ok true) number line t → request_of read line ≡ Ok (Some r)
+          → FallsShort now new (lines_of (responses_to r q).0) → f ≡ Err Faults.Write → IfSome all (λ script. RunsOut f old new (told first script))
+      goes_no_further law new r a e w h =
+          let P : List ℕ → Type 0 = λ text. FallsShort now new text in
+          input_out all (told first) f old new (Lines.goes_no_further long_line told number line first here old now (after r here) new (lines_of (responses_to r i.ideal).0) all s t i.goes a (by_one r e) (subst P (same-text law q i.ideal i.stands r) w) h)
+
+      -- a line with a fault
+      pub goes_wrong : (fault : ScriptFault) → Advances s (Ok true) number line t → request_of read line ≡ Err fault → f ≡ Err (Faults.Input (bad_line number fault)) → IfSome all (λ script. RunsOut f old now (told first script))
+      goes_wrong fault a e h = input_out all (told first) f old now (Lines.goes_wrong long_line told number line first here old now (bad_line number fault) all s t i.goes a (by_request (Err fault) e) h)
+
+      -- the ending
+      pub ends_early : IsSettling → (new : Option (List ℕ)) → Advances s (Ok false) number line t → FallsShort now new (ending_text until q o) → f ≡ Err Faults.Write → IfSome all (λ script. RunsOut f old new (told first script))
+      ends_early law new a w h =
+          let P : List ℕ → Type 0 = λ text. FallsShort now new text in
+          input_out all (told first) f old new (Lines.ends_short long_line told number line first here old now new (ending_text until i.ideal o) all s t i.goes a refl (subst P (same-ending law q i.ideal i.stands until o) w) h)
+
+      pub ends_well : IsSettling → (x : T) (new : Option (List ℕ)) → Advances s (Ok false) number line t → Appends now new (ending_text until q o) → f ≡ Ok x → IfSome all (λ script. RunsOut f old new (told first script))
+      ends_well law x new a w h =
+          let P : List ℕ → Type 0 = λ text. Appends now new text in
+          input_out all (told first) f old new (Lines.ends long_line told number line first here old now x new (ending_text until i.ideal o) all s t i.goes a refl (subst P (same-ending law q i.ideal i.stands until o) w) h)
+
+      -- there is no next line, or what was written can't be let out before more is read
+      pub stops : (fault : Fault BadLine) → Steps long_line s (Err fault) number line t → f ≡ Err fault → IfSome all (λ script. RunsOut f old now (told first script))
+      stops fault a h = Lines.stops_before long_line told number line first here old now fault all s t i.goes a (λ n limit. refl) h

@@ -1,0 +1,53 @@
+-- What a run of the program on a table and schedules leaves: its exit status, what the writer got, and the text of a fault.
+use Rattle.std.specs.Prelude.{ℕ, nat_le, Bool, List, Option, Some, None, Result, Ok, Err, IfSome, unwrap_or, codes, if◌then◌else◌}
+use Rattle.abstract_port.specs.declared.Command.{Command}
+use Rattle.job.specs.RunEnd.{IsLetOut, IsRunEnding, IsUnanswered}
+use Rattle.job.specs.Outcome.{RunsOut}
+use Rattle.job.specs.declared.report.Ended.{Ended}
+use Rattle.script.specs.ScriptEnd.{settings_given}
+use Rattle.script.specs.Given.{GivenWords}
+use Rattle.script.specs.Setup.{Setup}
+use Rattle.script.specs.Texts.{value_text}
+use Rattle.script.specs.declared.settings.BadValue.{BadValue}
+use Rattle.stream_bounds.specs.Faults.{bounds_telling}
+use Rattle.stream_bounds.specs.Outcome.{outcome_of}
+use Rattle.stream_bounds.specs.declared.settings.BoundsSettings.{BoundsSettings}
+use Rattle.stream_bounds.specs.declared.settings.BoundsValue.{BoundsValue}
+use Rattle.stream_bounds.specs.declared.settings.BoundsValue.TheVariants as Values
+use Rattle.stream_bounds.specs.declared.settings.TheConstants.{MAX_FRAMES}
+use Rattle.tc_reader.specs.Reader.{IsReader}
+use Rattle.tc_reader.specs.declared.fault.TcFault.{TcFault}
+use Rattle.wire_time.specs.Moment.{greatest_moment}
+use Rattle.words.specs.Numbers.{number_in}
+
+-- a number of frames, if it is within its limits
+abbrev pub frames_where : Option ℕ → Option ℕ
+frames_where None = None
+frames_where (Some n) = if nat_le 1 n then Some n else None
+
+-- the settings of a port, a number of frames, and whether the run is strict
+abbrev pub with_frames : Setup → Option ℕ → Bool → Result BoundsSettings BoundsValue
+with_frames port (Some frames) strict = Ok (record { port = port; frames = frames; strict = strict })
+with_frames port None strict = Err Values.Frames
+
+abbrev pub with_port : Result Setup BadValue → Option ℕ → Bool → Result BoundsSettings BoundsValue
+with_port (Ok port) frames strict = with_frames port frames strict
+with_port (Err value) frames strict = Err (Values.Port value)
+
+-- the settings of the values that are given: those of a port, and a million frames where no number is given
+abbrev pub bounds_given : GivenWords → Option (List ℕ) → Bool → Result BoundsSettings BoundsValue
+bounds_given words frames strict =
+    with_port (settings_given greatest_moment words) (frames_where (number_in 10 MAX_FRAMES (unwrap_or frames (codes "1000000")))) strict
+
+-- the text of a bad value
+abbrev pub bounds_value_text : BoundsValue → List ℕ
+bounds_value_text (Values.Port value) = value_text value
+bounds_value_text Values.Frames = codes "taprio_port: bad value of --frames\n"
+
+-- The end of a run: what the writer got, with what no write let out, is what is to be written for the octets of the table and of the schedules, or
+-- after a fault of a call's a prefix of it.
+abbrev pub IsBoundsEnding : Result BoundsSettings BoundsValue → (table schedules : Option (List ℕ)) → Ended → (old got errors_old errors_new : Option (List ℕ)) → Type 0
+IsBoundsEnding (Ok s) table schedules ended old got errors_old errors_new =
+    IsRunEnding bounds_telling (λ run. IsLetOut run got (λ out. (read : List (List ℕ) → Result Command TcFault) → IsReader read
+    → IfSome table (λ streams. IfSome schedules (λ lines. RunsOut run old out (outcome_of read s streams lines))))) ended errors_old errors_new
+IsBoundsEnding (Err value) table schedules ended old got errors_old errors_new = IsUnanswered 2 (bounds_value_text value) ended old got errors_old errors_new

@@ -1,0 +1,119 @@
+//! A table of streams, and the lines of schedule commands one after another.
+
+ghost use Rattle.std.specs.Prelude.{◌≡◌, All, IfSome, List, None, Result, ℕ};
+ghost use Rattle.abstract_port.specs.declared.Command.{Command};
+ghost use Rattle.job.specs.Outcome.{Runs};
+ghost use Rattle.job.specs.declared.fault.Fault.TheVariants as Faults;
+ghost use Rattle.line_reader.specs.LineReader.{current_number, script_left};
+ghost use Rattle.stream_bounds.specs.Classes.{IsPeriodic};
+ghost use Rattle.stream_bounds.specs.Outcome.{bounds_in, end_fault, outcome_in, outcome_of, periodic};
+ghost use Rattle.stream_bounds.specs.TableRead.{IsEnd};
+ghost use Rattle.stream_bounds.specs.declared.faults.BoundsInput.TheVariants as Inputs;
+ghost use Rattle.tc_reader.specs.Reader.{IsReader};
+ghost use Rattle.tc_reader.specs.declared.fault.TcFault.{TcFault};
+ghost use Rattle.traffic.specs.Table.{table_by};
+
+use crate::bounds_report::put_line;
+use crate::faults::{BoundsFault, BoundsInput, Finding};
+use crate::settings::BoundsSettings;
+use crate::stream_lines::first_of;
+use crate::table::read_streams;
+use line_reader::LineReader;
+use schedule_check::is_command;
+use script::ScriptFault;
+use std::alloc::{Allocator, Global};
+use std::io::{Read, Write};
+use traffic::Stream;
+
+/// A fault of the line that was read last.
+fn fault_here<A: Allocator, R: Read + Drop>(
+    lines: &LineReader<R, A>,
+    fault: ScriptFault,
+) -> BoundsFault
+    ensures { result ≡ Faults.Input (Inputs.Schedules (current_number lines.now) fault) }
+{
+    BoundsFault::Input(BoundsInput::Schedules(lines.line_number(), fault))
+}
+
+/// How a run ends: where it is strict, with the first finding.
+fn end(strict: bool, first: Option<Finding>) -> Result<(), BoundsFault>
+    ensures { IsEnd result (end_fault strict first) }
+{
+    match first {
+        Some(finding) if strict => Err(BoundsFault::Input(BoundsInput::Found(finding))),
+        _ => Ok(()),
+    }
+}
+
+/// Answers about the lines that are to come.
+fn bound_lines<A: Allocator, R: Read + Drop, W: Write>(
+    alloc: Global,
+    lines: &mut LineReader<R, A>,
+    writer: &mut W,
+    settings: &BoundsSettings,
+    streams: &[Stream],
+) -> Result<(), BoundsFault>
+    requires { All IsPeriodic streams.now }
+    ensures { (read : List (List ℕ) → Result Command TcFault) → IsReader read
+        → IfSome (script_left R.remaining lines.old) (λ script.
+        Runs result (W.contents writer.old) (W.contents writer.new) (bounds_in read settings.now streams.now None script)) }
+{
+    let mut first = None;
+    'lines: while lines.advance()? {
+        let number = lines.line_number();
+        let line = lines.line();
+        match is_command(line, false) {
+            Ok(false) => {}
+            Ok(true) => match put_line(alloc, writer, settings, streams, number, line) {
+                Ok(found) => first = first_of(first, found),
+                Err(fault) => return Err(fault),
+            },
+            Err(fault) => return Err(fault_here(lines, fault)),
+        }
+    }
+    end(settings.strict, first)
+}
+
+/// Reads the lines of a table that are to come, and answers about the schedules.
+fn bound_table<A: Allocator, R: Read + Drop, S: Read + Drop, W: Write>(
+    alloc: Global,
+    table: &mut LineReader<R, A>,
+    schedules: &mut LineReader<S, A>,
+    writer: &mut W,
+    settings: &BoundsSettings,
+) -> Result<(), BoundsFault>
+    ensures { (read : List (List ℕ) → Result Command TcFault) → IsReader read
+        → IfSome (script_left R.remaining table.old) (λ table. IfSome (script_left S.remaining schedules.old) (λ script.
+        Runs result (W.contents writer.old) (W.contents writer.new) (outcome_in read settings.now (table_by periodic table) script))) }
+{
+    let mut streams = Vec::new(alloc);
+    match read_streams(table, &mut streams) {
+        Ok(()) => bound_lines(alloc, schedules, writer, settings, streams.as_slice()),
+        Err(fault) => Err(fault),
+    }
+}
+
+/// Reads a table of streams and then schedule commands, and answers about each, judged by itself: its fault where it is no command; the refusal of
+/// its schedule; or `apart` with the classes that the schedule keeps apart, then the verdict about each class that has streams, and then the delay
+/// of each stream, for ever, with whether its deadline is met. How many frames of a stream the table says is no matter: each goes on for ever,
+/// and its offset counts from the change moment of the schedule.
+///
+/// A malformed line of the table is the fault, and nothing is written. Lines of the schedules without words and comments are skipped; any other that
+/// isn't a command is an `UnknownLine`, which ends the call after what is answered about the lines before it. A strict run answers the same; the first
+/// finding is its fault. What is kept is the table, and for each class the bounds of its streams and as many moments as there is room for. A read or
+/// a write that fails, or takes nothing, isn't tried again.
+pub fn bounds<R: Read + Drop, S: Read + Drop, W: Write>(
+    alloc: Global,
+    table: R,
+    schedules: S,
+    writer: &mut W,
+    settings: BoundsSettings,
+) -> Result<(), BoundsFault>
+    ensures { (read : List (List ℕ) → Result Command TcFault) → IsReader read
+        → IfSome (R.remaining table) (λ table. IfSome (S.remaining schedules) (λ schedules.
+        Runs result (W.contents writer.old) (W.contents writer.new) (outcome_of read settings table schedules))) }
+{
+    let mut table = LineReader::new(&alloc, table)?;
+    let mut schedules = LineReader::new(&alloc, schedules)?;
+    bound_table(alloc, &mut table, &mut schedules, writer, &settings)
+}

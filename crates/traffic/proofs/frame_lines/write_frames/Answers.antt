@@ -1,0 +1,18 @@
+use Rattle.std.proofs.lemmas.Result.{err_from_is_err_and}
+use Rattle.octet_writer.proofs.Fronts.{sent_all, sent_exit, sent_more, sent_none}
+use Rattle.traffic.proofs.LineLaws.{next_line, no_lines}
+use Rattle.traffic.proofs.frame_lines.write_frames.Goals as goal
+
+pub loop-coming-init : goal.loop-coming-init
+loop-coming-init g c = sent_none _ _
+
+pub loop-coming-preserved : goal.loop-coming-preserved
+loop-coming-preserved g c = sent_more _ _ _ c.loop-coming.invariant (next_line _ _ _ _ c.in-Some.ensures) c.in_ok-put_coming.ensures
+
+pub returns-in_err-put_coming : goal.returns-in_err-put_coming
+returns-in_err-put_coming g c =
+    let p = err_from_is_err_and c.from_residual.result c.from_residual.ensures.1 in
+    sent_exit _ _ _ p.1 c.loop-coming.invariant (next_line _ _ _ _ c.in-Some.ensures) c.in_err-put_coming.ensures
+
+pub returns : goal.returns
+returns g c = sent_all c.loop-coming.invariant (no_lines _ _ c.in_default.ensures)

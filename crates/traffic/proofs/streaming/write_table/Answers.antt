@@ -1,9 +1,0 @@
-use Rattle.std.proofs.Common.{Err, ap, ◌∙◌}
-use Rattle.std.proofs.lemmas.Result.{err_from_is_err_and}
-use Rattle.traffic.proofs.OutcomeLaws.{unread}
-use Rattle.traffic.proofs.streaming.write_table.Goals as goal
-
-pub returns-in_err-read_streams : goal.returns-in_err-read_streams
-returns-in_err-read_streams g c =
-    let p = err_from_is_err_and c.from_residual.result c.from_residual.ensures.1 in
-    unread c.args.from _ _ _ _ _ _ c.in_err-read_streams.ensures (p.1 ∙ ap Err p.2)

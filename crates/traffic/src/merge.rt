@@ -1,0 +1,109 @@
+//! The lines of a script among the frames of streams, each at its moment.
+
+ghost use Rattle.std.specs.Prelude.{◌≡◌, ◌++◌, IfSome, OnOk, None};
+ghost use Rattle.traffic.specs.Words.{Writes, script_left, clock_in, clock_said, frames_before, frames_from, latest, line_end, line_text, Runs, merging, left_of_all, lines_of};
+
+use crate::faults::{StreamsFault, script_fault};
+use crate::frame_lines::{write_frames, write_frames_before};
+use crate::turn::Turn;
+use abstract_port::Event;
+use answer_text::{Part, WriteFault, put_parts};
+use line_reader::LineReader;
+use script::{Said, read_line};
+use std::alloc::Allocator;
+use std::io::{Read, Write};
+
+/// The number of a clock line.
+fn clock_said(said: Said) -> Option<u128>
+    ensures { result ≡ clock_said said }
+{
+    match said {
+        Said::Asked(Event::Clock(moment)) => Some(moment),
+        Said::Asked(Event::Query) | Said::Asked(Event::Count(_)) => None,
+        Said::Asked(Event::Arrive(_)) | Said::Asked(Event::Install(_)) => None,
+        Said::Tc => None,
+    }
+}
+
+/// The number of a line, where it is a good clock line of a script.
+fn clock_in(line: &[u8]) -> Option<u128>
+    ensures { result ≡ clock_in line.now }
+{
+    match read_line(line) {
+        Ok(Some(said)) => clock_said(said),
+        Ok(None) => None,
+        Err(_) => None,
+    }
+}
+
+/// The greater of two numbers that may be there.
+fn latest(clock: Option<u128>, number: Option<u128>) -> Option<u128>
+    ensures { result ≡ latest clock number }
+{
+    match (clock, number) {
+        (None, number) => number,
+        (Some(clock), None) => Some(clock),
+        (Some(clock), Some(number)) => Some(clock.max(number)),
+    }
+}
+
+/// What ends a line: an empty line too, where it would be joined with the next.
+fn line_end(line: &[u8]) -> &'static [u8]
+    ensures { result.now ≡ line_end line.now }
+{
+    match line {
+        [.., b'\\'] | [.., b'\\', b'\r'] => b"\n\n",
+        _ => b"\n",
+    }
+}
+
+/// Writes a line as it was written.
+fn put_line<W: Write>(writer: &mut W, line: &[u8]) -> Result<(), WriteFault>
+    ensures { Writes result (W.contents writer.old) (W.contents writer.new) (line_text line.now) }
+{
+    put_parts(writer, &[Part::Text(line), Part::Text(line_end(line))])
+}
+
+/// Writes a line, and before it the frames that come before a moment.
+fn put_at<W: Write>(
+    writer: &mut W,
+    turns: &mut [Turn],
+    written: Option<u128>,
+    moment: u128,
+    line: &[u8],
+) -> Result<(), WriteFault>
+    ensures lines { Writes result (W.contents writer.old) (W.contents writer.new) (lines_of written (frames_before moment (left_of_all turns.old)) ++ line_text line.now) }
+    ensures left { OnOk result (left_of_all turns.new ≡ frames_from moment (left_of_all turns.old)) }
+{
+    write_frames_before(writer, turns, written, moment)?;
+    put_line(writer, line)
+}
+
+/// Writes the lines of a script that are to come among the frames of streams that are to come: before each line the frames before its
+/// moment, which is the greatest number of the clock lines up to it, its own included, and 0 before the first. No line is kept.
+///
+/// A line that passes a limit is the fault, once what comes before it is written.
+pub(crate) fn write_merged<A: Allocator, R: Read + Drop, W: Write>(
+    lines: &mut LineReader<R, A>,
+    turns: &mut [Turn],
+    writer: &mut W,
+) -> Result<(), StreamsFault>
+    ensures { IfSome (script_left R.remaining lines.old) (λ script. Runs result (W.contents writer.old) (W.contents writer.new) (merging None script (left_of_all turns.old))) }
+{
+    let mut clock = None;
+    'lines: loop {
+        let more = match lines.advance() {
+            Ok(more) => more,
+            Err(fault) => return Err(script_fault(fault)),
+        };
+        if !more {
+            break;
+        }
+        let line = lines.line();
+        let now = latest(clock, clock_in(line));
+        put_at(writer, turns, clock, now.unwrap_or(0), line)?;
+        clock = now;
+    }
+    write_frames(writer, turns, clock)?;
+    Ok(())
+}

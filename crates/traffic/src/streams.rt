@@ -1,0 +1,100 @@
+//! A table of streams becomes a script.
+
+ghost use Rattle.std.specs.Prelude.{◌≡◌, ◌≤◌, ◌++◌, IfErr, IfSome, OnOk};
+ghost use Rattle.traffic.specs.Words.{greatest_moment, script_left, Runs, outcome_in, outcome_of, ReadsTable, IsStream, table_of, frames_of, left_of};
+ghost use Rattle.std.specs.List.{flat_map};
+ghost use Rattle.job.specs.declared.fault.Fault.TheVariants as Faults;
+
+use crate::faults::{StreamsFault, StreamsInput, table_fault};
+use crate::merge::write_merged;
+use crate::table::{Stream, read_line};
+use crate::turn::Turn;
+use line_reader::LineReader;
+use script::Watch;
+use std::alloc::Allocator;
+use std::io::{Read, Write};
+
+/// Keeps a stream after the others.
+#[tactic(auto, using(crate::proofs::TableLaws::pushed))]
+fn keep<A: Allocator>(turns: &mut Vec<Turn, A>, stream: Stream) -> Result<(), StreamsFault>
+    requires { IsStream stream }
+    ensures kept { OnOk result (flat_map left_of turns.new.items ≡ flat_map left_of turns.old.items ++ frames_of stream) }
+    ensures memory { IfErr result (λ fault. fault ≡ Faults.Memory) }
+{
+    match turns.push(Turn::first(stream)) {
+        Ok(()) => Ok(()),
+        Err(_) => Err(StreamsFault::Memory),
+    }
+}
+
+/// Reads the lines of a table that are to come, whose frames come so much later, after the streams that are read.
+fn read_streams<A: Allocator, B: Allocator, R: Read + Drop, H: Watch>(
+    lines: &mut LineReader<R, A>,
+    turns: &mut Vec<Turn, B>,
+    from: u128,
+    watch: &mut H,
+) -> Result<(), StreamsFault>
+    requires { from ≤ greatest_moment }
+    ensures { IfSome (script_left R.remaining lines.old) (λ script. ReadsTable result (table_of from script) turns.old.items turns.new.items) }
+{
+    'lines: loop {
+        let more = match lines.advance() {
+            Ok(more) => more,
+            Err(fault) => return Err(table_fault(fault)),
+        };
+        if !more {
+            break;
+        }
+        match read_line(lines.line(), from) {
+            Ok(None) => {}
+            Ok(Some(stream)) => keep(turns, stream)?,
+            Err(fault) => {
+                watch.line_failed(lines.line());
+                return Err(StreamsFault::Input(StreamsInput::Table(lines.line_number(), fault)));
+            }
+        }
+    }
+    Ok(())
+}
+
+/// Reads the lines of a table that are to come, and writes the frames of its streams among the lines of a script.
+fn write_table<A: Allocator, B: Allocator, R: Read + Drop, S: Read + Drop, W: Write, H: Watch>(
+    alloc: B,
+    table: &mut LineReader<R, A>,
+    script: &mut LineReader<S, A>,
+    writer: &mut W,
+    from: u128,
+    watch: &mut H,
+) -> Result<(), StreamsFault>
+    requires { from ≤ greatest_moment }
+    ensures { IfSome (script_left R.remaining table.old) (λ table. IfSome (script_left S.remaining script.old) (λ script. Runs result (W.contents writer.old) (W.contents writer.new) (outcome_in (table_of from table) script))) }
+{
+    let mut turns = Vec::new(alloc);
+    read_streams(table, &mut turns, from, watch)?;
+    write_merged(script, turns.as_mut_slice(), writer)
+}
+
+/// Reads a table of streams to its end, and then writes a script that has the frames of all of them: each after a clock line of
+/// its moment, which stands once, by rising moment, and at one moment in the order of the table. Among them it puts in the lines of another
+/// script, each at its moment and before the frames of that moment; where that script has no octets there are the frames alone. `from`, in
+/// picoseconds, is added to each offset.
+///
+/// A malformed line of the table is the fault, and nothing is written. What the lines of the script say is no matter, but that a good clock line
+/// sets the moment of the lines from it on; one that passes a limit is the fault, once what comes before it is written. What is kept is the
+/// table; no memory grows with how many frames come, nor with the script. A read or a write that fails, or takes nothing, isn't tried again. Who watches is called
+/// for a malformed line of the table.
+pub fn write_streams<A: Allocator, R: Read + Drop, S: Read + Drop, W: Write, H: Watch>(
+    alloc: A,
+    table: R,
+    script: S,
+    writer: &mut W,
+    from: u128,
+    watch: &mut H,
+) -> Result<(), StreamsFault>
+    requires { from ≤ greatest_moment }
+    ensures { IfSome (R.remaining table) (λ table. IfSome (S.remaining script) (λ script. Runs result (W.contents writer.old) (W.contents writer.new) (outcome_of from table script))) }
+{
+    let mut table = LineReader::new(&alloc, table)?;
+    let mut script = LineReader::new(&alloc, script)?;
+    write_table(&alloc, &mut table, &mut script, writer, from, watch)
+}
