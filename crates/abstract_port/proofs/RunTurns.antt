@@ -66,7 +66,7 @@ apart-append : (free : ℕ) (xs ys : List Start) → AreApart free xs → AreApa
 apart-append free [] ys a b = b
 apart-append free (s ∷ xs) ys a b = (a.0, apart-append s.«end» xs ys a.1 b)
 
-starts_in-append : (xs ys : List Answer) → starts_in (xs ++ ys) ≡ starts_in xs ++ starts_in ys
+pub starts_in-append : (xs ys : List Answer) → starts_in (xs ++ ys) ≡ starts_in xs ++ starts_in ys
 starts_in-append [] ys = refl
 starts_in-append (Answered.Queued i c ∷ xs) ys = starts_in-append xs ys
 starts_in-append (Answered.Dropped i w ∷ xs) ys = starts_in-append xs ys
@@ -78,7 +78,7 @@ starts_in-append (Answered.Report r ∷ xs) ys = starts_in-append xs ys
 starts_in-append (Answered.Counters c n ∷ xs) ys = starts_in-append xs ys
 starts_in-append (Answered.BadClass ∷ xs) ys = starts_in-append xs ys
 
-starts_in-starts : (xs : List Start) → starts_in (map Answered.Start xs) ≡ xs
+pub starts_in-starts : (xs : List Start) → starts_in (map Answered.Start xs) ≡ xs
 starts_in-starts [] = refl
 starts_in-starts (s ∷ xs) = ap (λ z. s ∷ z) (starts_in-starts xs)
 

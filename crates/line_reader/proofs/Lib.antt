@@ -1,2 +1,3 @@
+mod FeedLaws
 mod PhysicalLineLaws
 mod RunLaws

@@ -4,8 +4,8 @@ use Rattle.std.proofs.lemmas.List.{at_drop_more, length-take-le, take-append-dro
 use Rattle.std.specs.Prelude.{not, ◌&&◌, ◌==◌, get_or, option_map}
 use Rattle.std.specs.List.{list_all}
 use Rattle.memchr.specs.Find.{Nowhere, Passes, is_byte}
-use Rattle.line_reader.specs.Script.{fresh, joins, script_from}
-use Rattle.line_reader.specs.LineReader.{Advances, EndsLine, ends_in}
+use Rattle.line_reader.specs.Script.{ends_in, fresh, joins, script_from}
+use Rattle.line_reader.specs.LineReader.{Advances, EndsLine}
 use Rattle.line_reader.specs.declared.lines.TheConstants.{MAX_LINE_OCTETS, MAX_LINES}
 use Rattle.line_reader.proofs.PhysicalLineLaws.{line_end, run_within}
 
@@ -35,7 +35,7 @@ after_run (Some xs) tail octets run back front first breaks parts unbroken short
     ∙ run_within octets run (back ++ tail xs) first breaks unbroken short few))
 
 -- the octets before a line feed, and what comes after it
-line_parts : (n : ℕ) (octets : List ℕ) → n < length octets → get_or octets n 0 ≡ 10 → octets ≡ take n octets ++ (10 ∷ drop (n + 1) octets)
+pub line_parts : (n : ℕ) (octets : List ℕ) → n < length octets → get_or octets n 0 ≡ 10 → octets ≡ take n octets ++ (10 ∷ drop (n + 1) octets)
 line_parts n octets within ended =
     sym (take-append-drop n octets)
     ∙ ap (λ t. take n octets ++ t) (at_drop_more (λ (l : List ℕ). l) octets n 0 within ∙ ap (λ b. b ∷ drop (n + 1) octets) ended)

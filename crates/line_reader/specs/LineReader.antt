@@ -1,5 +1,5 @@
 -- What a line reader has left.
-use Rattle.std.specs.Prelude.{◌≡◌, ◌<◌, ◌+◌, ◌-◌, ◌==◌, List, ℕ, [], ◌∷◌, ◌++◌, Option, Some, None, Result, Ok, Err, ⊤, Bool, true, false, option_map, length, get_or, take, if◌then◌else◌}
+use Rattle.std.specs.Prelude.{◌≡◌, ◌<◌, ◌+◌, ◌-◌, List, ℕ, [], Option, Some, None, Result, Ok, Err, ⊤, Bool, true, false, option_map, length, get_or, take, if◌then◌else◌}
 use Rattle.line_reader.specs.Source.{octets_left, ahead}
 use Rattle.line_reader.specs.Script.{Script, Progress, End, Broken, Line, fresh, joins, script_from}
 use Rattle.line_reader.specs.PhysicalLines.{is_unbroken}
@@ -39,11 +39,6 @@ pub record EndsLine (octets : List ℕ) (n : ℕ) : Type 0 where
 -- the input has ended, and there is no line
 abbrev pub IsAtEnd : {R A : Type 0} → LineReader R A → Type 0
 IsAtEnd r = (r.source.ended ≡ true) × (r.line.items ≡ [])
-
--- from what stands of a physical line on: whether a line feed among these octets ends a line, and joins nothing
-abbrev pub ends_in : List ℕ → List ℕ → Bool
-ends_in line [] = false
-ends_in line (b ∷ bs) = if b == 10 then (if joins line then ends_in [] bs else true) else ends_in (line ++ b ∷ []) bs
 
 -- what is read of a line so far
 abbrev pub progress_of : {R A : Type 0} → LineReader R A → Progress

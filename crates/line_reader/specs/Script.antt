@@ -1,5 +1,5 @@
 -- The lines of a script, as its octets come.
-use Rattle.std.specs.Prelude.{◌+◌, ◌-◌, ◌==◌, ◌&&◌, ◌||◌, List, ℕ, [], ◌∷◌, ◌++◌, Bool, not, length, slice_index, if◌then◌else◌}
+use Rattle.std.specs.Prelude.{◌+◌, ◌-◌, ◌==◌, ◌&&◌, ◌||◌, List, ℕ, [], ◌∷◌, ◌++◌, Bool, true, false, not, length, slice_index, if◌then◌else◌}
 use Rattle.line_reader.specs.declared.lines.Limit.{Limit}
 use Rattle.line_reader.specs.declared.lines.Limit.TheVariants.{LongLine, TooManyLines}
 use Rattle.line_reader.specs.declared.lines.TheConstants.{MAX_LINE_OCTETS, MAX_LINES}
@@ -28,6 +28,11 @@ joins octets = let n = length octets in
 -- a line feed ends a line that does not ask to be joined with the next
 abbrev pub ends : List ℕ → ℕ → Bool
 ends octets b = (b == 10) && not (joins octets)
+
+-- from what stands of a physical line on: whether a line feed among these octets ends a line, and joins nothing
+abbrev pub ends_in : List ℕ → List ℕ → Bool
+ends_in line [] = false
+ends_in line (b ∷ bs) = if b == 10 then (if joins line then ends_in [] bs else true) else ends_in (line ++ b ∷ []) bs
 
 -- how many line feeds were read, one octet on
 abbrev pub breaks_after : ℕ → ℕ → ℕ

@@ -3,6 +3,7 @@
 //! The definitions are specs/Script.antt and specs/LineReader.antt; the contract of `LineReader` cites them.
 #![tactic(auto)]
 
+mod feeds;
 pub mod laws;
 mod lines;
 mod source;

@@ -2,11 +2,12 @@
 
 ghost use Rattle.std.specs.List.{list_all};
 ghost use Rattle.std.specs.Prelude.{take, drop, not, ◌≡◌, ◌≤◌, ◌<◌, ◌+◌, ◌==◌, [], IfSome, IfOk, length, None, Ok, Err, true, false, vec_len, vec_capacity, option_map};
-ghost use Rattle.line_reader.specs.Script.{joins, script_of};
+ghost use Rattle.line_reader.specs.Script.{ends_in, script_of};
 ghost use Rattle.line_reader.specs.LineEnds.{answer_of, ended_by};
 ghost use Rattle.line_reader.specs.declared.lines.TheConstants.{MAX_LINE_OCTETS, MAX_LINES};
 ghost use Rattle.line_reader.specs.declared.lines.LineFault.TheVariants.{Read as ReadVariant};
 
+use crate::feeds::joins;
 use crate::source::{ReadFault, Source};
 use memchr::memchr;
 use std::alloc::{AllocError, Allocator, Global};
@@ -41,16 +42,6 @@ impl From<ReadFault> for LineFault {
 
     fn from(_fault: ReadFault) -> LineFault {
         LineFault::Read
-    }
-}
-
-/// Whether a line feed after these octets joins the next physical line.
-fn joins(octets: &[u8]) -> bool
-    ensures { result ≡ joins octets.now }
-{
-    match octets {
-        [.., b'\\'] | [.., b'\\', b'\r'] => true,
-        _ => false,
     }
 }
 
@@ -111,7 +102,7 @@ pub struct LineReader<R, A: Allocator = Global> {
 }
 
 impl<R: Read + Drop, A: Allocator> LineReader<R, A> {
-    ghost use Rattle.line_reader.specs.LineReader.{script_ahead, script_behind, script_within, script_left, Advances, most_lines, current_line, current_number, in_hand, how_ended, next_number, EndsLine, IsAtEnd, ends_in};
+    ghost use Rattle.line_reader.specs.LineReader.{script_ahead, script_behind, script_within, script_left, Advances, most_lines, current_line, current_number, in_hand, how_ended, next_number, EndsLine, IsAtEnd};
 
     /// Makes both buffers, and reads nothing.
     pub fn new(alloc: A, reader: R) -> Result<LineReader<R, A>, AllocError>
@@ -157,6 +148,9 @@ impl<R: Read + Drop, A: Allocator> LineReader<R, A> {
     pub fn has_line(&self) -> bool
         ensures { result ≡ ends_in [] (in_hand self.now) }
     {
+        if self.source.is_whole() {
+            return true;
+        }
         let mut rest = self.source.buffer();
         'feeds: while let Some(end) = memchr(b'\n', rest) {
             if !joins(&rest[..end]) {

@@ -1,8 +1,10 @@
 //! The octets of a reader, a chunk in hand.
 
-ghost use Rattle.std.specs.Prelude.{length, drop, ◌≡◌, ◌≤◌, ◌<◌, [], IsSome, IfOk, OnErr, None, Ok, true, false, vec_len};
+ghost use Rattle.std.specs.Prelude.{length, take, drop, ◌≡◌, ◌≤◌, ◌<◌, ℕ, [], IsSome, IfOk, OnErr, None, Ok, true, false, vec_len};
+ghost use Rattle.line_reader.specs.Script.{ends_in};
 ghost use Rattle.line_reader.specs.declared.source.TheConstants.{CHUNK};
 
+use crate::feeds::whole_lines;
 use std::alloc::{AllocError, Allocator, Global};
 use std::io::Read;
 
@@ -20,11 +22,14 @@ pub(crate) struct Source<R, A: Allocator = Global> {
     chunk: Vec<u8, A>,
     at: usize,
     filled: usize,
+    // Up to where lines stand whole in the chunk, so that it is searched for them once.
+    whole: usize,
     ended: bool,
     ghost ordered: { at ≤ filled },
     ghost within: { filled ≤ vec_len chunk },
     ghost holds_chunk: { vec_len chunk ≡ CHUNK },
     ghost over: { ended ≡ true → at ≡ filled },
+    ghost wholes: { (k : ℕ) → k < whole → ends_in [] (drop k (take filled chunk.items)) ≡ true },
 }
 
 impl<R: Read + Drop, A: Allocator> Source<R, A> {
@@ -41,6 +46,7 @@ impl<R: Read + Drop, A: Allocator> Source<R, A> {
             chunk,
             at: 0,
             filled: 0,
+            whole: 0,
             ended: false,
         })
     }
@@ -51,6 +57,14 @@ impl<R: Read + Drop, A: Allocator> Source<R, A> {
         ensures open { 0 < length result.now → self.now.ended ≡ false }
     {
         &self.chunk[self.at..self.filled]
+    }
+
+    /// Whether a line is known to stand whole among the octets in hand.
+    #[inline(always)]
+    pub(crate) fn is_whole(&self) -> bool
+        ensures { result ≡ true → ends_in [] (ahead self.now) ≡ true }
+    {
+        self.at < self.whole
     }
 
     /// Takes so many of the octets in hand.
@@ -75,6 +89,7 @@ impl<R: Read + Drop, A: Allocator> Source<R, A> {
             if self.ended {
                 return Ok(None);
             }
+            self.whole = 0;
             let Ok(count) = self.reader.read(&mut self.chunk) else {
                 return Err(ReadFault);
             };
@@ -84,6 +99,7 @@ impl<R: Read + Drop, A: Allocator> Source<R, A> {
                 self.ended = true;
                 return Ok(None);
             }
+            self.whole = whole_lines(&self.chunk[..count]);
         }
         let octet = self.chunk[self.at];
         self.at += 1;

@@ -12,7 +12,7 @@ use std::io::Write;
 pub struct WriteFault;
 
 /// Writes all of the octets. At a fault a prefix of them is written, and not all.
-#[inline(always)]
+#[inline]
 pub fn put<W: Write>(writer: &mut W, octets: &[u8]) -> Result<(), WriteFault>
     ensures { Writes result (W.contents writer.old) (W.contents writer.new) octets.now }
 {

@@ -31,6 +31,9 @@ use std::io::{BufWriter, IsTerminal, Write};
 use std::process::ExitCode;
 pub use streams_call::streams_given;
 
+/// How many octets of each output are kept until they are let out.
+const BUFFER: usize = 131_072;
+
 /// How the program ends when out of memory before it has begun.
 fn end_without_memory<E: Write>(errors: &mut E) -> Ended {
     say_fault(&RunFault::Memory, errors)
@@ -50,7 +53,7 @@ pub fn run(rt: &HostRuntime) -> ExitCode {
     let Ok(words) = args.collect::<Vec<String>>(rt.alloc()) else {
         return ExitCode::from(end_without_memory(&mut errors).status);
     };
-    let Ok(answers) = BufWriter::new(rt.alloc(), Piped::new(rt.stdout())) else {
+    let Ok(answers) = BufWriter::with_capacity(rt.alloc(), BUFFER, Piped::new(rt.stdout())) else {
         return ExitCode::from(end_without_memory(&mut errors).status);
     };
     let mut progress = Progress::new(rt, rt.stderr());

@@ -11,7 +11,7 @@ ghost use Rattle.script.specs.ScriptEnd.{IsRefusal};
 ghost use Rattle.replay.specs.Stamps.{stamp_text};
 ghost use Rattle.replay.specs.Texts.{open_text};
 
-use crate::end_without_memory;
+use crate::{BUFFER, end_without_memory};
 use crate::options::values_of;
 use crate::same_file::is_same_file;
 use answer_text::{Part, put_parts};
@@ -202,7 +202,7 @@ fn replay_opened<
         capture,
         out,
     } = opened;
-    let Ok(departures) = BufWriter::new(alloc, out) else {
+    let Ok(departures) = BufWriter::with_capacity(alloc, BUFFER, out) else {
         return (end_without_memory(errors), answers.into_parts().0);
     };
     let outputs = Outputs {

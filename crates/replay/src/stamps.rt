@@ -1,6 +1,6 @@
 //! Which moment of a frame on the wire the record of its departure carries.
 
-ghost use Rattle.std.specs.Prelude.{◌≡◌, ◌<◌};
+ghost use Rattle.std.specs.Prelude.{◌≡◌, ◌<◌, ◌-◌, min};
 ghost use Rattle.script.specs.Given.{octets_of};
 ghost use Rattle.replay.specs.Words.{CAPTURE_END, IsTold, stamp_given, stamp_text, stamped, stamping_at};
 
@@ -40,6 +40,14 @@ pub(crate) fn stamping_at(stamp: Stamp, rate: Rate) -> Stamping
     Stamping { stamp, gap }
 }
 
+/// The moment at which the last octet of a frame has been sent, in picoseconds. Apart, since mostly the start is asked for.
+#[inline(never)]
+fn last_octet(gap: u128, end: u128) -> u128
+    ensures { result ≡ min (end - gap) (CAPTURE_END - 1) }
+{
+    end.saturating_sub(gap).min(CAPTURE_END - 1)
+}
+
 /// The moment that the record of a start carries, in picoseconds.
 pub(crate) fn stamped(stamping: Stamping, start: Start) -> u128
     requires early { start.at < CAPTURE_END }
@@ -48,7 +56,7 @@ pub(crate) fn stamped(stamping: Stamping, start: Start) -> u128
 {
     match stamping.stamp {
         Stamp::Start => start.at,
-        Stamp::End => start.end.saturating_sub(stamping.gap).min(CAPTURE_END - 1),
+        Stamp::End => last_octet(stamping.gap, start.end),
     }
 }
 

@@ -27,6 +27,7 @@ use Rattle.separation.proofs.Histories.{push_open}
 use Rattle.separation.proofs.Lockstep.{rest_of, live, IsLawful, IsSameWire}
 use Rattle.separation.proofs.Lives.{starts_until_live}
 use Rattle.separation.proofs.Steps.{AreHeld, Judged, judged, queued, dropped, install_with}
+use Rattle.abstract_port.proofs.RunTurns.{starts_in-append, starts_in-starts}
 use Rattle.separation.proofs.Separates.{step, skip, new_lawful, no_queue}
 use Rattle.separation.specs.Traffic.{Came, queued_as, queued_by, queued_in, starts_of_class, IsOnlyAt, IsOnly}
 use Rattle.separation.specs.Served.{frames_of, AreServed, ServedLaw}
@@ -42,22 +43,6 @@ pub record Holds (c : ℕ) (a : Accepted) (pace : ℕ) (p : AbstractPort) (came 
   pub wire : IsSameWire c p.history p.now p.free free
   pub served : AreServed (may_in (a ∷ []) c) p.ps c 0 p.now came starts free (queue_of p c)
   pub phase : (p.history ≡ a ∷ []) ⊎ ((p.history ≡ []) × (came ≡ []) × (starts ≡ []))
-
-starts_in-append : (xs ys : List Answer) → starts_in (xs ++ ys) ≡ starts_in xs ++ starts_in ys
-starts_in-append [] ys = refl
-starts_in-append (Answered.Queued i c ∷ xs) ys = starts_in-append xs ys
-starts_in-append (Answered.Dropped i w ∷ xs) ys = starts_in-append xs ys
-starts_in-append (Answered.Installed m ∷ xs) ys = starts_in-append xs ys
-starts_in-append (Answered.Refused r ∷ xs) ys = starts_in-append xs ys
-starts_in-append (Answered.Start s ∷ xs) ys = ap (λ z. s ∷ z) (starts_in-append xs ys)
-starts_in-append (Answered.Backward ∷ xs) ys = starts_in-append xs ys
-starts_in-append (Answered.Report r ∷ xs) ys = starts_in-append xs ys
-starts_in-append (Answered.Counters c n ∷ xs) ys = starts_in-append xs ys
-starts_in-append (Answered.BadClass ∷ xs) ys = starts_in-append xs ys
-
-starts_in-starts : (xs : List Start) → starts_in (map Answered.Start xs) ≡ xs
-starts_in-starts [] = refl
-starts_in-starts (s ∷ xs) = ap (λ z. s ∷ z) (starts_in-starts xs)
 
 -- where an event changes nothing that counts
 holds_same : (c : ℕ) (a : Accepted) (pace : ℕ) (p q : AbstractPort) (came : List Came) (starts : List Start) (given : List Answer) → q ≡ p → starts_in given ≡ [] → Holds c a pace p came starts → Holds c a pace q (came ++ []) (starts ++ starts_of_class c (starts_in given))

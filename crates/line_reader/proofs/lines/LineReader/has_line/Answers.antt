@@ -1,6 +1,5 @@
-use Rattle.std.proofs.Common.{◌≡◌, [], true, false, take, drop, ◌+◌, sym, ◌∙◌, ap, get_or, if◌then◌else◌, rules, min}
-use Rattle.line_reader.specs.Script.{joins}
-use Rattle.line_reader.specs.LineReader.{ends_in}
+use Rattle.std.proofs.Common.{◌≡◌, [], true, drop, ◌+◌, sym, ◌∙◌, ap, get_or, if◌then◌else◌, rules}
+use Rattle.line_reader.specs.Script.{ends_in}
 use Rattle.line_reader.proofs.RunLaws.{at_feed, no_feed, unbroken_all, unbroken_before}
 use Rattle.line_reader.proofs.lines.LineReader.has_line.Goals as goal
 

@@ -1,5 +1,6 @@
 use Rattle.std.proofs.Common.{◌≡◌, ◌≤◌, [], length}
-use Rattle.line_reader.specs.LineReader.{ends_in, in_hand}
+use Rattle.line_reader.specs.LineReader.{in_hand}
+use Rattle.line_reader.specs.Script.{ends_in}
 use Rattle.line_reader.specs.declared.source.TheConstants.{CHUNK}
 use Rattle.line_reader.proofs.lines.LineReader.has_line.Given as goal
 
