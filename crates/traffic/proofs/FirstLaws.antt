@@ -1,7 +1,6 @@
 -- The stream whose next frame comes first.
-use Rattle.std.proofs.Common.{◌≡◌, ◌<◌, ◌≤◌, ◌+◌, ◌-◌, ℕ, zero, suc, List, [], ◌∷◌, ◌++◌, Bool, true, false, cond, Option, Some, None, refl, sym, ap, subst, ◌∙◌, arith, le_refl, length, get_or, drop}
-use Rattle.std.specs.Prelude.{slice_set, nat_lt, IfSome, MatchOption}
-use Rattle.std.proofs.lemmas.List.{at_drop_more}
+use Rattle.std.proofs.Common.{◌≡◌, ◌<◌, ◌≤◌, ◌+◌, ◌-◌, ℕ, zero, suc, List, [], ◌∷◌, ◌++◌, Bool, true, false, cond, Option, Some, None, refl, sym, ap, subst, ◌∙◌, arith, le_refl, length, get_or}
+use Rattle.std.specs.Prelude.{slice_set, nat_lt, MatchOption}
 use Rattle.std.specs.List.{flat_map}
 use Rattle.std.proofs.lemmas.Bool.{ltb-true, ltb-false}
 use Rattle.traffic.specs.Words.{by_moment, first_of, earlier, first_place, left_of, left_of_all, Turn, Coming}
@@ -108,32 +107,8 @@ first_found ts i m e =
 pub none_found : (ts : List Turn) → first_place 0 ts ≡ None → by_moment (flat_map left_of ts) ≡ []
 none_found ts e = ap by_moment (subst (HasFound 0 ts) e (finds 0 ts)) ∙ sorted_none
 
-pub found_within : (ts : List Turn) (o : Option (ℕ × ℕ)) → o ≡ first_place 0 ts → IfSome o (λ first. first.0 < length ts)
-found_within ts None e = tt
-found_within ts (Some (i, m)) e = within ts i m (first_found ts i m (sym e))
-
 -- what is to come of all, by what was taken of the first
 pub next_of_all : (ts : List Turn) (i m : ℕ) (d t' : Turn) (r : Option Coming) → first_place 0 ts ≡ Some (i, m) → MatchOption r (left_of (get_or ts i d) ≡ []) (λ f. left_of (get_or ts i d) ≡ f ∷ left_of t')
     → MatchOption r (left_of_all ts ≡ []) (λ f. left_of_all ts ≡ f ∷ left_of_all (slice_set ts i t'))
 next_of_all ts i m d t' None first left = absurd (some_next ts i m d (first_found ts i m first) left)
 next_of_all ts i m d t' (Some f) first left = (takes ts i m d t' f (first_found ts i m first) left).1
-
--- no stream comes after the last
-pub none_behind : (place n : ℕ) (ts : List Turn) → n ≡ length ts → first_place place (drop n ts) ≡ None
-unfolding first_place
-none_behind place zero [] e = refl
-none_behind place (suc n) [] e = refl
-none_behind place zero (t ∷ ts) e = absurd (let wrong : ⊥ = omega (arith, e) in wrong)
-none_behind place (suc n) (t ∷ ts) e = none_behind place n ts (omega (arith, e))
-
--- the search, one place on to the front
-place_first : (p : ℕ) (t : Turn) (ts : List Turn) → first_place p (t ∷ ts) ≡ earlier (next_of t) p (first_place (p + 1) ts)
-unfolding first_place
-place_first p t ts = refl
-
-pub one_place : (p q : ℕ) (ts : List Turn) (t : Turn) (first : Option (ℕ × ℕ)) → p + 1 ≡ q → p < length ts → t ≡ get_or ts p t → first ≡ first_place q (drop q ts) → earlier (next_of t) p first ≡ first_place p (drop p ts)
-one_place p q ts t first e lt is h =
-    ap (earlier (next_of t) p) (h ∙ ap (λ n. first_place n (drop n ts)) (sym e))
-    ∙ sym (place_first p t (drop (p + 1) ts))
-    ∙ ap (λ u. first_place p (u ∷ drop (p + 1) ts)) is
-    ∙ sym (at_drop_more (first_place p) ts p t lt)

@@ -6,3 +6,4 @@ mod MergeLaws
 mod OrderLaws
 mod OutcomeLaws
 pub mod TableLaws
+pub mod TournamentLaws

@@ -49,6 +49,14 @@ module _ (from : ℕ) where
       let P : Result T (Fault StreamsInput) → Type 0 = λ x. Runs x old old (outcome_of from octets others) in
       subst P (sym e) ((outcome_of from octets others).text, sent_none old (outcome_of from octets others).text)
 
+  -- out of memory once the table is read
+  pub full : {T : Type 0} {f : Result T (Fault StreamsInput)} (table script : Option Script) (old : Option (List ℕ)) → f ≡ Err Faults.Memory → IfSome table (λ lines. IfSome script (λ others. Runs f old old (outcome_in (table_of from lines) others)))
+  full None script old e = tt
+  full (Some lines) None old e = tt
+  full {T} {f} (Some lines) (Some others) old e =
+      let P : Result T (Fault StreamsInput) → Type 0 = λ x. Runs x old old (outcome_in (table_of from lines) others) in
+      subst P (sym e) ((outcome_in (table_of from lines) others).text, sent_none old (outcome_in (table_of from lines) others).text)
+
   -- by the lines of both inputs
   of_script : {T : Type 0} (f : Result T (Fault StreamsInput)) (old new : Option (List ℕ)) (table : Table) (script : Option (List ℕ)) (others : Option Script) → others ≡ option_map script_of script
       → IfSome others (λ lines. Runs f old new (outcome_in table lines)) → IfSome script (λ octets. Runs f old new (outcome_in table (script_of octets)))

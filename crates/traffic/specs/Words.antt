@@ -20,6 +20,8 @@ unfoldable pub use Rattle.traffic.specs.Merge.{frames_before, frames_from}
 pub use Rattle.traffic.specs.Outcome.{merging, outcome_in, outcome_of}
 pub use Rattle.traffic.specs.TableRead.{ReadsTable}
 pub use Rattle.traffic.specs.Table.{HasTimes, IsStream, Table, deadline_in, ends_in, judged, line_judged, line_said, moved, stream_in_words, stream_said, table_of}
+pub use Rattle.traffic.specs.Tournament.{IsBefore, IsNode, IsTournament, first_of_two, found_at, head_of, is_before}
+unfoldable pub use Rattle.traffic.specs.Tournament.{heads_from}
 pub use Rattle.traffic.specs.Turns.{earlier, left_of, left_of_all}
 unfoldable pub use Rattle.traffic.specs.Turns.{first_place}
 pub use Rattle.traffic.specs.Written.{clock_to, frame_end, frame_line}

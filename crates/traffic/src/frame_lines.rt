@@ -1,8 +1,9 @@
 //! The lines of a script that has the frames of streams.
 
 ghost use Rattle.std.specs.Prelude.{◌≡◌, ◌++◌, OnOk};
-ghost use Rattle.traffic.specs.Words.{Writes, clock_to, frame_end, frame_line, lines_of, frames_before, frames_from, left_of_all};
+ghost use Rattle.traffic.specs.Words.{IsTournament, Writes, clock_to, frame_end, frame_line, lines_of, frames_before, frames_from, left_of_all};
 
+use crate::tournament::Head;
 use crate::turn::{Coming, Turn};
 use crate::turns::{next_before, next_frame};
 use answer_text::{Part, WriteFault, put_parts};
@@ -71,13 +72,16 @@ fn put_coming<W: Write>(
 pub(crate) fn write_frames_before<W: Write>(
     writer: &mut W,
     turns: &mut [Turn],
+    nodes: &mut [Option<Head>],
     mut written: Option<u128>,
     end: u128,
 ) -> Result<(), WriteFault>
+    requires tournament { IsTournament turns.old nodes.old }
+    ensures tournament { IsTournament turns.new nodes.new }
     ensures lines { Writes result (W.contents writer.old) (W.contents writer.new) (lines_of written (frames_before end (left_of_all turns.old))) }
     ensures left { OnOk result (left_of_all turns.new ≡ frames_from end (left_of_all turns.old)) }
 {
-    while let Some(coming) = next_before(turns, end) {
+    while let Some(coming) = next_before(turns, nodes, end) {
         put_coming(writer, written, &coming)?;
         written = Some(coming.moment);
     }
@@ -89,11 +93,13 @@ pub(crate) fn write_frames_before<W: Write>(
 pub(crate) fn write_frames<W: Write>(
     writer: &mut W,
     turns: &mut [Turn],
+    nodes: &mut [Option<Head>],
     mut written: Option<u128>,
 ) -> Result<(), WriteFault>
+    requires tournament { IsTournament turns.old nodes.old }
     ensures { Writes result (W.contents writer.old) (W.contents writer.new) (lines_of written (left_of_all turns.old)) }
 {
-    while let Some(coming) = next_frame(turns) {
+    while let Some(coming) = next_frame(turns, nodes) {
         put_coming(writer, written, &coming)?;
         written = Some(coming.moment);
     }

@@ -10,6 +10,7 @@ mod merge;
 mod streams;
 mod streams_job;
 mod table;
+mod tournament;
 mod turn;
 mod turns;
 

@@ -1,10 +1,11 @@
 //! The lines of a script among the frames of streams, each at its moment.
 
 ghost use Rattle.std.specs.Prelude.{◌≡◌, ◌++◌, IfSome, OnOk, None};
-ghost use Rattle.traffic.specs.Words.{Writes, script_left, clock_in, clock_said, frames_before, frames_from, latest, line_end, line_text, Runs, merging, left_of_all, lines_of};
+ghost use Rattle.traffic.specs.Words.{IsTournament, Writes, script_left, clock_in, clock_said, frames_before, frames_from, latest, line_end, line_text, Runs, merging, left_of_all, lines_of};
 
 use crate::faults::{StreamsFault, script_fault};
 use crate::frame_lines::{write_frames, write_frames_before};
+use crate::tournament::Head;
 use crate::turn::Turn;
 use abstract_port::Event;
 use answer_text::{Part, WriteFault, put_parts};
@@ -68,14 +69,17 @@ fn put_line<W: Write>(writer: &mut W, line: &[u8]) -> Result<(), WriteFault>
 fn put_at<W: Write>(
     writer: &mut W,
     turns: &mut [Turn],
+    nodes: &mut [Option<Head>],
     written: Option<u128>,
     moment: u128,
     line: &[u8],
 ) -> Result<(), WriteFault>
+    requires tournament { IsTournament turns.old nodes.old }
+    ensures tournament { IsTournament turns.new nodes.new }
     ensures lines { Writes result (W.contents writer.old) (W.contents writer.new) (lines_of written (frames_before moment (left_of_all turns.old)) ++ line_text line.now) }
     ensures left { OnOk result (left_of_all turns.new ≡ frames_from moment (left_of_all turns.old)) }
 {
-    write_frames_before(writer, turns, written, moment)?;
+    write_frames_before(writer, turns, nodes, written, moment)?;
     put_line(writer, line)
 }
 
@@ -86,8 +90,10 @@ fn put_at<W: Write>(
 pub(crate) fn write_merged<A: Allocator, R: Read + Drop, W: Write>(
     lines: &mut LineReader<R, A>,
     turns: &mut [Turn],
+    nodes: &mut [Option<Head>],
     writer: &mut W,
 ) -> Result<(), StreamsFault>
+    requires tournament { IsTournament turns.old nodes.old }
     ensures { IfSome (script_left R.remaining lines.old) (λ script. Runs result (W.contents writer.old) (W.contents writer.new) (merging None script (left_of_all turns.old))) }
 {
     let mut clock = None;
@@ -101,9 +107,9 @@ pub(crate) fn write_merged<A: Allocator, R: Read + Drop, W: Write>(
         }
         let line = lines.line();
         let now = latest(clock, clock_in(line));
-        put_at(writer, turns, clock, now.unwrap_or(0), line)?;
+        put_at(writer, turns, nodes, clock, now.unwrap_or(0), line)?;
         clock = now;
     }
-    write_frames(writer, turns, clock)?;
+    write_frames(writer, turns, nodes, clock)?;
     Ok(())
 }

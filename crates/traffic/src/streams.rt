@@ -8,6 +8,7 @@ ghost use Rattle.job.specs.declared.fault.Fault.TheVariants as Faults;
 use crate::faults::{StreamsFault, StreamsInput, table_fault};
 use crate::merge::write_merged;
 use crate::table::{Stream, read_line};
+use crate::tournament::tournament;
 use crate::turn::Turn;
 use line_reader::LineReader;
 use script::Watch;
@@ -58,7 +59,14 @@ fn read_streams<A: Allocator, B: Allocator, R: Read + Drop, H: Watch>(
 }
 
 /// Reads the lines of a table that are to come, and writes the frames of its streams among the lines of a script.
-fn write_table<A: Allocator, B: Allocator, R: Read + Drop, S: Read + Drop, W: Write, H: Watch>(
+fn write_table<
+    A: Allocator,
+    B: Allocator + Clone,
+    R: Read + Drop,
+    S: Read + Drop,
+    W: Write,
+    H: Watch,
+>(
     alloc: B,
     table: &mut LineReader<R, A>,
     script: &mut LineReader<S, A>,
@@ -69,9 +77,10 @@ fn write_table<A: Allocator, B: Allocator, R: Read + Drop, S: Read + Drop, W: Wr
     requires { from ≤ greatest_moment }
     ensures { IfSome (script_left R.remaining table.old) (λ table. IfSome (script_left S.remaining script.old) (λ script. Runs result (W.contents writer.old) (W.contents writer.new) (outcome_in (table_of from table) script))) }
 {
-    let mut turns = Vec::new(alloc);
+    let mut turns = Vec::new(alloc.clone()?);
     read_streams(table, &mut turns, from, watch)?;
-    write_merged(script, turns.as_mut_slice(), writer)
+    let mut nodes = tournament(alloc, turns.as_slice())?;
+    write_merged(script, turns.as_mut_slice(), nodes.as_mut_slice(), writer)
 }
 
 /// Reads a table of streams to its end, and then writes a script that has the frames of all of them: each after a clock line of

@@ -4,15 +4,18 @@ use Rattle.traffic.proofs.LineLaws.{next_line, no_lines}
 use Rattle.traffic.proofs.frame_lines.write_frames.Goals as goal
 
 pub loop-coming-init : goal.loop-coming-init
-loop-coming-init g c = sent_none _ _
+loop-coming-init g c = record { tournament = c.requires.tournament; sent = sent_none _ _ }
 
 pub loop-coming-preserved : goal.loop-coming-preserved
-loop-coming-preserved g c = sent_more _ _ _ c.loop-coming.invariant (next_line _ _ _ _ c.in-Some.ensures) c.in_ok-put_coming.ensures
+loop-coming-preserved g c = record {
+  tournament = c.in-Some.ensures.tournament;
+  sent = sent_more _ _ _ c.loop-coming.invariant.sent (next_line _ _ _ _ c.in-Some.ensures.left) c.in_ok-put_coming.ensures;
+}
 
 pub returns-in_err-put_coming : goal.returns-in_err-put_coming
 returns-in_err-put_coming g c =
     let p = err_from_is_err_and c.from_residual.result c.from_residual.ensures.1 in
-    sent_exit _ _ _ p.1 c.loop-coming.invariant (next_line _ _ _ _ c.in-Some.ensures) c.in_err-put_coming.ensures
+    sent_exit _ _ _ p.1 c.loop-coming.invariant.sent (next_line _ _ _ _ c.in-Some.ensures.left) c.in_err-put_coming.ensures
 
 pub returns : goal.returns
-returns g c = sent_all c.loop-coming.invariant (no_lines _ _ c.in_default.ensures)
+returns g c = sent_all c.loop-coming.invariant.sent (no_lines _ _ c.in_default.ensures.left)

@@ -1,10 +1,13 @@
 use Rattle.std.proofs.Common.{length}
-use Rattle.traffic.specs.Words.{Sent, left_of_all, lines_of}
+use Rattle.traffic.specs.Words.{IsTournament, Sent, left_of_all, lines_of}
 use Rattle.traffic.proofs.frame_lines.write_frames.Given as goal
 
 -- What is written and the lines of the frames to come are those of all.
 abbrev pub invariant-loop-coming : goal.invariant-loop-coming
-invariant-loop-coming g l = Sent (g.W.Write.contents l.fn.writer) (g.W.Write.contents l.writer) (lines_of l.fn.written (left_of_all l.fn.turns)) (lines_of l.written (left_of_all l.turns))
+invariant-loop-coming g l = record {
+  tournament : IsTournament l.turns l.nodes;
+  sent : Sent (g.W.Write.contents l.fn.writer) (g.W.Write.contents l.writer) (lines_of l.fn.written (left_of_all l.fn.turns)) (lines_of l.written (left_of_all l.turns));
+}
 
 abbrev pub decreases-loop-coming : goal.decreases-loop-coming
 decreases-loop-coming g l = length (left_of_all l.turns)

@@ -5,10 +5,11 @@ use Rattle.traffic.proofs.LineLaws.{next_line, no_lines}
 use Rattle.traffic.proofs.frame_lines.write_frames_before.Goals as goal
 
 pub loop-coming-init : goal.loop-coming-init
-loop-coming-init g c = record { sent = sent_none _ _; others = refl }
+loop-coming-init g c = record { tournament = c.requires.tournament; sent = sent_none _ _; others = refl }
 
 pub loop-coming-preserved : goal.loop-coming-preserved
 loop-coming-preserved g c = record {
+  tournament = c.in-Some.ensures.tournament;
   sent = sent_more _ _ _ c.loop-coming.invariant.sent (next_line _ _ _ _ c.in-Some.ensures.before) c.in_ok-put_coming.ensures;
   others = c.loop-coming.invariant.others ∙ c.in-Some.ensures.others;
 }

@@ -1,0 +1,13 @@
+use Rattle.std.proofs.Common.{◌∙◌, length, sym}
+use Rattle.std.proofs.lemmas.Bool.{eqb-true}
+use Rattle.traffic.proofs.TournamentLaws.{found_within, none_of_none, not_empty, root_found}
+use Rattle.traffic.proofs.tournament.first.Goals as goal
+
+pub returns-then-is_empty-clause-found : goal.returns-then-is_empty-clause-found
+returns-then-is_empty-clause-found c = none_of_none c.args.turns.now (eqb-true (length c.args.turns.now) 0 (sym c.is_empty.ensures ∙ c.if-is_empty.true))
+
+pub returns-clause-found : goal.returns-clause-found
+returns-clause-found c = root_found c.args.turns.now c.args.nodes.now c.requires (not_empty c.args.turns.now (sym c.is_empty.ensures ∙ c.if-is_empty.false))
+
+pub returns-clause-within : goal.returns-clause-within
+returns-clause-within c = found_within c.args.turns.now _ (root_found c.args.turns.now c.args.nodes.now c.requires (not_empty c.args.turns.now (sym c.is_empty.ensures ∙ c.if-is_empty.false)))
