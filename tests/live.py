@@ -1,7 +1,10 @@
 """What was answered is let out before more input is waited for: the program is driven through pipes."""
 import os
 import select
+import signal
+import struct
 import subprocess
+import tempfile
 
 
 PATIENCE = 20.0  # seconds
@@ -69,3 +72,60 @@ def case_nobody_reads_any_more(program):
     assert process.stderr.read() == b""
     assert process.wait(PATIENCE) == 4
     process.stdin.close()
+
+
+HEADER = struct.pack("<IHHIIII", 0xA1B23C4D, 2, 4, 0, 0, 262144, 1)
+
+
+def record(microseconds):
+    """A record of a capture in nanoseconds: a frame of 60 octets, of which 14 are captured, with priority 0."""
+    return struct.pack("<IIII", 0, 1000 * microseconds, 14, 60) + bytes(14)
+
+
+def replayed(program, folder, script, *words):
+    """A replay of the standard input, which is a pipe, and the path of its OUT."""
+    path, out = os.path.join(folder, "script"), os.path.join(folder, "out")
+    with open(path, "w") as file:
+        file.write(script)
+    return driven(program, ["replay", *words, path, "-", out]), out
+
+
+def case_a_replay_is_driven_record_by_record(program):
+    """Each record is answered before the next one comes, also where it comes in parts, and what has left stands in OUT."""
+    with tempfile.TemporaryDirectory() as folder:
+        process, out = replayed(program, folder, "")
+        assert given(process, HEADER + record(1)) == b"queued 0 class 0\n"
+        assert os.path.getsize(out) == 24
+        assert given(process, record(2)) == b"start 0 class 0 at 1000000 end 1672000\nqueued 1 class 0\n"
+        assert os.path.getsize(out) == 54
+        third = record(3)
+        assert given(process, third[:20] + third[20:] + third[:7]) == b"start 1 class 0 at 2000000 end 2672000\nqueued 2 class 0\n"
+        assert os.path.getsize(out) == 84
+        assert given(process, third[7:]) == b"queued 3 class 0\n"
+        assert ended(process) == (b"start 2 class 0 at 3000000 end 3672000\nstart 3 class 0 at 3672000 end 4344000\n", 0)
+        assert os.path.getsize(out) == 144
+
+
+def case_a_replay_that_is_interrupted(program):
+    """Nothing that was answered is lost."""
+    with tempfile.TemporaryDirectory() as folder:
+        process, out = replayed(program, folder, "query\n")
+        got = given(process, HEADER + record(1) + record(2))
+        process.send_signal(signal.SIGINT)
+        assert process.wait(PATIENCE) == -signal.SIGINT
+        assert got.endswith(b"queued 0 class 0\nstart 0 class 0 at 1000000 end 1672000\nqueued 1 class 0\n"), got
+        assert process.stdout.read() == b""
+        assert os.path.getsize(out) == 54
+        process.stdin.close()
+
+
+def case_a_replay_whose_report_nobody_reads_any_more(program):
+    """The run ends at the first answer that nobody takes, with status 4 and no text."""
+    with tempfile.TemporaryDirectory() as folder:
+        process, _ = replayed(program, folder, "")
+        assert given(process, HEADER + record(1)) == b"queued 0 class 0\n"
+        process.stdout.close()
+        process.stdin.write(record(2))
+        assert process.stderr.read() == b""
+        assert process.wait(PATIENCE) == 4
+        process.stdin.close()

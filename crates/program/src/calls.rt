@@ -157,7 +157,7 @@ fn answer_job<F: Files, B: Allocator, R: Read, W: Write + Drop, E: Write, H: Wat
         "draw" => draw_given(alloc, matches, reader, answers, errors),
         "frames" => frames_given(alloc, matches, reader, answers, errors, watch),
         "streams" => streams_given(files, alloc, matches, reader, answers, errors, watch),
-        _ => bounds_given(files, alloc, matches, reader, answers, errors),
+        _ => bounds_given(files, alloc, matches, reader, answers, errors, watch),
     }
 }
 

@@ -297,6 +297,7 @@ pub(crate) const JOBS: [Job; 7] = [
             STAMP,
             SUMMARY,
             PROGRESS,
+            STRICT_COMMANDS,
             EXPLAIN,
             SCRIPT,
             CAPTURE,
