@@ -129,3 +129,19 @@ def case_a_replay_whose_report_nobody_reads_any_more(program):
         assert process.stderr.read() == b""
         assert process.wait(PATIENCE) == 4
         process.stdin.close()
+
+
+def case_a_capture_in_a_named_pipe(program):
+    """It is opened once: behind its end nothing more is waited for, also where the run has a fault."""
+    for capture, report, status in ((HEADER + record(1), b"queued 0 class 0\nstart 0 class 0 at 1000000 end 1672000\n", 0), (HEADER[:7], b"", 3)):
+        with tempfile.TemporaryDirectory() as folder:
+            pipe, script, out = (os.path.join(folder, name) for name in ("pipe", "script", "out"))
+            os.mkfifo(pipe)
+            with open(script, "wb"):
+                pass
+            process = driven(program, ["replay", "--explain", script, pipe, out])
+            with open(pipe, "wb") as writer:
+                writer.write(capture)
+            assert process.wait(PATIENCE) == status
+            assert process.stdout.read() == report
+            process.stdin.close()

@@ -185,7 +185,7 @@ fn answer_watched<
         progress.start();
     }
     let mut text = FaultText::new();
-    let mut onlooker = Onlooker::new(progress, errors, looks_of(matches, terminal));
+    let mut onlooker = Onlooker::new(alloc, progress, errors, looks_of(matches, terminal));
     let (ended, writer) = answer_job(
         files,
         alloc,
@@ -196,6 +196,9 @@ fn answer_watched<
         &mut text,
         &mut onlooker,
     );
+    if name == "check" && ended.status == 0 && !writer.is_written() {
+        onlooker.warn_of_no_command();
+    }
     if ended.status != 4 || !writer.is_closed() {
         let capture = first_octets(files, matches);
         onlooker.report(&text, capture.as_slice());

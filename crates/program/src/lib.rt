@@ -15,6 +15,7 @@ mod piped;
 mod progress;
 mod replay_call;
 mod same_file;
+mod stream_ids;
 mod streams_call;
 
 pub use bounds_call::bounds_given;

@@ -252,6 +252,16 @@ const STRICT_COMMANDS: Word = Word {
     help: "End with status 1 where a tc line is no command, or its command is refused",
 };
 
+const STRICT_CHECK: Word = Word {
+    help: "End with status 1 where a tc line is no command, its command is refused, or there is no command",
+    ..STRICT_COMMANDS
+};
+
+const STRICT_STREAMS: Word = Word {
+    help: "End with status 1 where a tc line of SCRIPT is no command, or two streams share ids",
+    ..STRICT_COMMANDS
+};
+
 const EXPLAIN: Word = Word {
     given: Given::Flag,
     name: "explain",
@@ -307,12 +317,12 @@ pub(crate) const JOBS: [Job; 7] = [
     Job {
         name: "check",
         about: "Reports which classes the schedule commands on standard input keep apart",
-        words: &[RATE, WINDOWS, SCRIPT_LINES, STRICT_COMMANDS, EXPLAIN],
+        words: &[RATE, WINDOWS, SCRIPT_LINES, STRICT_CHECK, EXPLAIN],
     },
     Job {
         name: "streams",
         about: "Writes a script with the frames of the streams in a table on standard input",
-        words: &[LINES, OFFSETS_FROM, EXPLAIN],
+        words: &[LINES, OFFSETS_FROM, STRICT_STREAMS, EXPLAIN],
     },
     Job {
         name: "bounds",

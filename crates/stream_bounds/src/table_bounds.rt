@@ -64,7 +64,7 @@ fn bound_lines<A: Allocator, R: Read + Drop, W: Write, H: Watch>(
         let number = lines.line_number();
         let line = lines.line();
         match is_command(line, false) {
-            Ok(false) => {}
+            Ok(false) => watch.line_passed(number, line),
             Ok(true) => match put_line(alloc, writer, settings, streams, number, line) {
                 Ok(found) => first = first_of(first, found),
                 Err(fault) => return Err(fault),
