@@ -60,6 +60,17 @@ def case_a_check_is_driven_line_by_line(program):
     assert ended(process) == (b"", 0)
 
 
+def case_a_table_of_frames_is_driven_line_by_line(program):
+    """The head stands before the first line is waited for, and each row as soon as the fate of its frame is known."""
+    process = driven(program, ["frames"])
+    assert given(process, b"") == b"id,class,len,arrival_ps,start_ps,end_ps,wait_ps,fate\n"
+    process.stdin.write(b"frame 1 0 60\n")
+    assert given(process, b"frame 2 0 13\n") == b"2,0,13,0,,,,Runt\n"
+    assert given(process, b"clock 1\ncl") == b"1,0,60,0,0,672000,0,sent\n"
+    process.stdin.write(b"ock 2\nframe 3 5 60\n")
+    assert ended(process) == (b"3,5,60,2,,,,left\n", 0)
+
+
 def case_nobody_reads_any_more(program):
     """The run ends at the first answer that nobody takes, with status 4 and no text."""
     process = driven(program, ["script"])

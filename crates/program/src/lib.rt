@@ -9,6 +9,7 @@
 
 mod bounds_call;
 mod calls;
+mod frames_call;
 mod onlooker;
 mod options;
 mod piped;
@@ -19,7 +20,8 @@ mod streams_call;
 
 pub use bounds_call::bounds_given;
 use calls::answer_words;
-pub use calls::{answer_given, check_given, draw_given, frames_given};
+pub use calls::{answer_given, check_given, draw_given};
+pub use frames_call::frames_given;
 use job::{Ended, say_fault};
 use options::reads_input;
 pub use options::values_of;

@@ -266,6 +266,13 @@ const TABLE: Word = Word {
     help: "The file with the table of streams",
 };
 
+const BY_STREAM: Word = Word {
+    given: Given::Value,
+    name: "by-stream",
+    value: "TABLE",
+    help: "A file with the table of streams: a last column says which of them each frame is of",
+};
+
 const TO: Word = Word {
     given: Given::Value,
     name: "to",
@@ -326,7 +333,7 @@ pub(crate) const JOBS: [Job; 7] = [
     Job {
         name: "frames",
         about: "Writes a table of the frames of a script on standard input, as CSV: times, waits and fates",
-        words: &[RATE, MTU, ROOM, UNTIL, EXPLAIN],
+        words: &[RATE, MTU, ROOM, UNTIL, BY_STREAM, EXPLAIN],
     },
 ];
 
