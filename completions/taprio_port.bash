@@ -12,7 +12,7 @@ _taprio_port() {
         check) words='--rate --windows --script --strict --explain --help' values='--rate' ;;
         streams) words='--with --from --explain --help' values='--with --from' ;;
         bounds) words='--rate --mtu --room --frames --strict --explain --help' values='--rate --mtu --room --frames' ;;
-        draw) words='--rate --mtu --room --from --to --width --explain --help' values='--rate --mtu --room --from --to --width' ;;
+        draw) words='--rate --mtu --room --from --to --width --strict --explain --help' values='--rate --mtu --room --from --to --width' ;;
         frames) words='--rate --mtu --room --until --explain --help' values='--rate --mtu --room --until' ;;
         *) return ;;
     esac

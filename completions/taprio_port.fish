@@ -48,6 +48,7 @@ complete -c taprio_port -n '__fish_seen_subcommand_from draw' -l room -x -d 'How
 complete -c taprio_port -n '__fish_seen_subcommand_from draw' -l from -x -d 'The moment that the picture begins at: picoseconds, or a number with its unit [default: 0]'
 complete -c taprio_port -n '__fish_seen_subcommand_from draw' -l to -x -d 'The moment that it ends at: picoseconds, or a number with its unit [default: the end of the run]'
 complete -c taprio_port -n '__fish_seen_subcommand_from draw' -l width -x -d 'Its width, 400 to 2400 pixels [default: 1200]'
+complete -c taprio_port -n '__fish_seen_subcommand_from draw' -l strict -d 'End with status 1 where a tc line is no command, or its command is refused'
 complete -c taprio_port -n '__fish_seen_subcommand_from draw' -l explain -d 'Report with a fault its line and what was expected, also where standard error is no terminal'
 complete -c taprio_port -n '__fish_seen_subcommand_from draw' -l help -d 'Print help'
 complete -c taprio_port -n '__fish_seen_subcommand_from draw' -f

@@ -22,6 +22,7 @@ text{font:11px sans-serif;fill:#222}
 .t{font-size:15px;font-weight:bold}
 .o{fill:#cfe3f5;stroke:#6b8fb0;stroke-width:.5}
 .f{fill:#1f4e79;stroke:#fff;stroke-width:.5}
+.s{stroke-width:0}
 .n{fill:#fff;font-size:10px;text-anchor:middle}
 .w{stroke:#b35900;stroke-width:1.5;fill:none}
 .d{stroke:#b00020;stroke-width:2;fill:none}
@@ -212,23 +213,9 @@ fn put_legend_path<'a, W: Write>(
 /// Writes what the parts of the picture mean.
 fn put_legend<W: Write>(writer: &mut W) -> Result<(), WriteFault> {
     let left = u64::from(LEFT);
-    put_rect(
-        writer,
-        b"o",
-        left * 100,
-        left * 100 + 2_200,
-        LEGEND - 10,
-        12,
-    )?;
+    put_rect(writer, b"o", left * 100, 2_200, LEGEND - 10, 12)?;
     put_legend_text(writer, left + 28, b"open")?;
-    put_rect(
-        writer,
-        b"f",
-        left * 100 + 7_000,
-        left * 100 + 9_200,
-        LEGEND - 10,
-        12,
-    )?;
+    put_rect(writer, b"f", left * 100 + 7_000, 2_200, LEGEND - 10, 12)?;
     put_legend_text(writer, left + 98, b"frame")?;
     put_legend_path(writer, b"w", left + 142, b"v-9m0 5h22")?;
     put_legend_text(writer, left + 170, b"waits")?;

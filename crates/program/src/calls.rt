@@ -69,12 +69,13 @@ pub fn check_given<B: Allocator, R: Read, W: Write + Drop, E: Write, H: Watch>(
 
 /// Draws the run of the script that `reader` gives, by the values that the words give to the options, through `answers`, with the text of
 /// a fault on `errors`; and gives the writer of the answers back. At a fault of the script nothing is drawn.
-pub fn draw_given<B: Allocator, R: Read, W: Write + Drop, E: Write>(
+pub fn draw_given<B: Allocator, R: Read, W: Write + Drop, E: Write, H: Watch>(
     alloc: Global,
     matches: &ArgMatches<'_>,
     reader: &mut R,
     answers: BufWriter<W, B>,
     errors: &mut E,
+    watch: &mut H,
 ) -> (Ended, W)
     ensures ending { IsDrawEnding (settings_in greatest_moment (found_of matches.now)) (draws_in (found_of matches.now))
         (R.remaining reader.old) result.0 (writer_contents W.contents answers) (W.contents result.1) (E.contents errors.old) (E.contents errors.new) }
@@ -88,6 +89,7 @@ pub fn draw_given<B: Allocator, R: Read, W: Write + Drop, E: Write>(
         reader,
         answers,
         errors,
+        watch,
     )
 }
 
@@ -154,7 +156,7 @@ fn answer_job<F: Files, B: Allocator, R: Read, W: Write + Drop, E: Write, H: Wat
         "script" => answer_given(alloc, matches, reader, answers, errors, watch),
         "replay" => replay_given(files, alloc, matches, reader, answers, errors, watch),
         "check" => check_given(alloc, matches, reader, answers, errors, watch),
-        "draw" => draw_given(alloc, matches, reader, answers, errors),
+        "draw" => draw_given(alloc, matches, reader, answers, errors, watch),
         "frames" => frames_given(alloc, matches, reader, answers, errors, watch),
         "streams" => streams_given(files, alloc, matches, reader, answers, errors, watch),
         _ => bounds_given(files, alloc, matches, reader, answers, errors),

@@ -321,7 +321,7 @@ pub(crate) const JOBS: [Job; 7] = [
     Job {
         name: "draw",
         about: "Draws the run of a script on standard input, as an SVG picture",
-        words: &[RATE, MTU, ROOM, FROM, TO, WIDTH, EXPLAIN],
+        words: &[RATE, MTU, ROOM, FROM, TO, WIDTH, STRICT_COMMANDS, EXPLAIN],
     },
     Job {
         name: "frames",
