@@ -123,10 +123,10 @@ shapes_to (suc lane) lanes = shapes_to lane lanes + length (lane_at lanes lane).
 abbrev pub shape_count : Shown → ℕ
 shape_count x = shapes_to LANES x.frames + shapes_to LANES x.waits + shapes_to LANES x.drops + length x.changes.shapes
 
--- how many bands the first classes have
-unfoldable pub bands_to : ℕ → List ClassLane → ℕ
-bands_to zero classes = 0
-bands_to (suc class) classes = bands_to class classes + length (class_at classes class).lane.shapes
+-- how many bands the first classes have, with the times at which they are mixed
+unfoldable pub bands_to : ℕ → List ClassLane → List ClassLane → ℕ
+bands_to zero classes mixed = 0
+bands_to (suc class) classes mixed = bands_to class classes mixed + (length (class_at classes class).lane.shapes + length (class_at mixed class).lane.shapes)
 
 -- neighbours in each lane are joined at a gap, and nothing else is different
 pub record IsJoined (gap : ℕ) (old new : Shown) : Type 0 where

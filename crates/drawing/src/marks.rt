@@ -7,6 +7,9 @@ use answer_text::{Part, WriteFault, put, put_parts};
 use picture::Shape;
 use std::io::Write;
 
+/// How times look at which a class is open and closed.
+pub(crate) const MIXED: &[u8] = b"p";
+
 /// The least width of a band, in hundredths of a pixel: what is narrower would vanish.
 const LEAST_BAND: u64 = 100;
 
@@ -81,19 +84,27 @@ pub(crate) fn put_line<W: Write>(
     )
 }
 
-/// Writes the bands of a class, whose lane begins at this height.
+/// Writes the bands of a class, whose lane begins at this height. A band of several has the look of times at which a class is open and closed. What a
+/// band before it covers isn't written.
 pub(crate) fn put_bands<W: Write>(
     writer: &mut W,
     page: &Page,
     top: u32,
     shapes: &[Shape],
+    look: &[u8],
 ) -> Result<(), WriteFault>
     requires { top ≤ BOTTOM }
 {
+    let mut covered = 0;
     for shape in shapes {
         if let Some(span) = page.viewport.cut(shape.span) {
             let place = page.place(span, LEAST_BAND);
-            put_rect(writer, b"o", place.left, place.width, top, LANE_HEIGHT)?;
+            let right = place.left + place.width;
+            if covered < right {
+                let look = if shape.id.is_some() { look } else { MIXED };
+                put_rect(writer, look, place.left, place.width, top, LANE_HEIGHT)?;
+                covered = right;
+            }
         }
     }
     Ok(())

@@ -54,7 +54,14 @@ fn failed_reads_and_writes_end_it(rt: HostRuntime) -> Result<(), Fail> {
     let settings = usual(&rt);
     assert!(rt; is_read(rt.alloc(), settings));
     let mut picture = Vec::new(rt.alloc());
-    draw(rt.alloc(), SCRIPT, &mut picture, settings, WHOLE, &mut Unwatched)?;
+    draw(
+        rt.alloc(),
+        SCRIPT,
+        &mut picture,
+        settings,
+        WHOLE,
+        &mut Unwatched,
+    )?;
     for room in [0, 1, 100, 3_000] {
         assert!(rt;
             is_written(rt.alloc(), settings, picture.as_slice(), room),
