@@ -8,16 +8,16 @@ _taprio_port() {
     fi
     case ${COMP_WORDS[1]} in
         script) words='--rate --mtu --room --until --summary --strict --explain --help' values='--rate --mtu --room --until' ;;
-        replay) words='--rate --mtu --room --until --stamp --summary --progress --explain --help' values='--rate --mtu --room --until --stamp' ;;
+        replay) words='--rate --mtu --room --until --stamp --summary --progress --strict --explain --help' values='--rate --mtu --room --until --stamp' ;;
         check) words='--rate --windows --script --strict --explain --help' values='--rate' ;;
-        streams) words='--with --from --explain --help' values='--with --from' ;;
+        streams) words='--with --from --strict --explain --help' values='--with --from' ;;
         bounds) words='--rate --mtu --room --frames --strict --explain --help' values='--rate --mtu --room --frames' ;;
-        draw) words='--rate --mtu --room --from --to --width --explain --help' values='--rate --mtu --room --from --to --width' ;;
-        frames) words='--rate --mtu --room --until --explain --help' values='--rate --mtu --room --until' ;;
+        draw) words='--rate --mtu --room --from --to --width --strict --explain --help' values='--rate --mtu --room --from --to --width' ;;
+        frames) words='--rate --mtu --room --until --by-stream --explain --help' values='--rate --mtu --room --until --by-stream' ;;
         *) return ;;
     esac
     case " $values " in
-        *" $previous "*) [ "$previous" != --with ] || compopt -o default; return ;;
+        *" $previous "*) case $previous in --with|--by-stream) compopt -o default ;; esac; return ;;
     esac
     case $current in
         -*) COMPREPLY=($(compgen -W "$words" -- "$current")) ;;

@@ -10,12 +10,13 @@ from rows import run
 
 RUNS = 150
 LEFT, RIGHT = 64, 32
-# The least width of a bar and of a band, in hundredths of a pixel.
-LEAST = 100
+# The least width of a band and of a bar, and of what has an edge, in hundredths of a pixel.
+LEAST = {"o": 100, "f": 200}
+LEAST_EDGED = 400
 TOPS = [310, 274, 238, 202, 166, 130, 94, 58, 346]
 WIRE = 8
-RECT = re.compile(r'<rect class="([of])" x="(\d+\.\d\d)" y="(\d+)" width="(\d+\.\d\d)" height="(\d+)"/>')
-WAIT = re.compile(r'<path class="w" d="M(\d+\.\d\d) (\d+)H(\d+\.\d\d)"/>')
+RECT = re.compile(r'<rect class="([opf])( s)?" x="(\d+\.\d\d)" y="(\d+)" width="(\d+\.\d\d)" height="(\d+)"/>')
+WAIT = re.compile(r'<path class="w" d="M(\d+\.\d\d) (\d+)H(\d+\.\d\d)(l-6 -4m6 4l-6 4)?"/>')
 DROP = re.compile(r'<path class="d" d="M(\d+) (\d+)l8 8m0 -8l-8 8"/>')
 CHANGE = re.compile(r'<path class="c" d="M(\d+\.\d\d) 48V382"/>')
 
@@ -52,6 +53,11 @@ class Run:
         inside = min(max(moment, self.begin), self.to) - self.begin
         return LEFT * 100 + inside * (self.width - LEFT - RIGHT) * 100 // (self.to - self.begin)
 
+    def rect(self, kind, begin, end):
+        """Where a band or a bar lies that shows a time: within its row, and how wide it is."""
+        width = max(LEAST[kind], self.x(end) - self.x(begin))
+        return min(self.x(begin), (self.width - RIGHT) * 100 - width), width
+
     def shows(self, begin, end):
         """Whether something of a time is drawn; one of no length is where its moment is."""
         return begin < self.to and (end > self.begin or begin == end >= self.begin)
@@ -86,8 +92,8 @@ class Run:
 
 
 def expected(one, answers):
-    """What is drawn, by the answers. A frame that doesn't start by the end has no wait."""
-    marks, change = {"o": [], "f": [], "w": [], "d": [], "c": []}, float("inf")
+    """What is drawn, by the answers. The wait of a frame that doesn't start by the end goes on there."""
+    marks, change, waiting = {"o": [], "p": [], "f": [], "w": [], "d": [], "c": []}, float("inf"), set()
     for line in answers.split("\n"):
         words = line.split()
         if words[:1] == ["installed"]:
@@ -98,26 +104,34 @@ def expected(one, answers):
             moment, number = one.frames[int(words[1]) - 1]
             if one.shows(moment, moment):
                 marks["d"].append((TOPS[number] + 10, one.x(moment) // 100 - 4))
+        elif words[:1] == ["queued"]:
+            waiting.add(int(words[1]))
         elif words[:1] == ["start"]:
             identifier, number, at, end = int(words[1]), int(words[3]), int(words[5]), int(words[7])
             came, _ = one.frames[identifier - 1]
+            waiting.remove(identifier)
             if one.shows(at, end):
-                marks["f"] += [(TOPS[lane] + 10, one.x(at), max(LEAST, one.x(end) - one.x(at))) for lane in (number, WIRE)]
+                marks["f"] += [(TOPS[lane] + 10, *one.rect("f", at, end)) for lane in (number, WIRE)]
             if came < at and one.shows(came, at):
-                marks["w"].append((TOPS[number] + 6, one.x(came), one.x(at)))
+                marks["w"].append((TOPS[number] + 6, one.x(came), one.x(at), False))
+    for identifier in waiting:
+        came, number = one.frames[identifier - 1]
+        if came < one.to:
+            marks["w"].append((TOPS[number] + 6, one.x(came), one.x(one.to), True))
     for number, bands in enumerate(one.bands(change)):
-        marks["o"] += [(TOPS[number], one.x(begin), max(LEAST, one.x(end) - one.x(begin))) for begin, end in bands if one.shows(begin, end)]
+        marks["o"] += [(TOPS[number], *one.rect("o", begin, end)) for begin, end in bands if one.shows(begin, end)]
     return marks
 
 
 def drawn(picture):
     """What the picture has, without its legend, whose marks lie below the lanes."""
     hundredths = lambda text: int(text.replace(".", ""))
-    marks = {"o": [], "f": [], "w": [], "d": [], "c": []}
-    for kind, x, y, width, _ in RECT.findall(picture):
+    marks = {"o": [], "p": [], "f": [], "w": [], "d": [], "c": []}
+    for kind, slim, x, y, width, _ in RECT.findall(picture):
+        assert bool(slim) == (hundredths(width) < LEAST_EDGED), (kind, x, y, width)
         if int(y) < 400:
             marks[kind].append((int(y), hundredths(x), hundredths(width)))
-    marks["w"] = [(int(y), hundredths(begin), hundredths(end)) for begin, y, end in WAIT.findall(picture)]
+    marks["w"] = [(int(y), hundredths(begin), hundredths(end), bool(on)) for begin, y, end, on in WAIT.findall(picture)]
     marks["d"] = [(int(y), int(x)) for x, y in DROP.findall(picture) if int(y) < 400]
     marks["c"] = [hundredths(x) for x in CHANGE.findall(picture)]
     return marks
@@ -140,6 +154,57 @@ def case_pictures_of_random_runs_are_their_answers(program):
     """Bands, bars, waits, drops and changes of seeded runs lie where the answers say."""
     for number in range(RUNS):
         compare(program, number)
+
+
+def case_far_clocks_show_who_is_open_when(program):
+    """A class that each entry opens is open up to the end, one that none opens is not, and one that some open is both."""
+    for number in range(RUNS // 3):
+        one = Run(number)
+        picture = run(program, ["draw", "--to", "1000000s", "--width", "1096"], one.script).output.decode()
+        for place in range(8):
+            opened = {mask >> place & 1 for mask, _ in one.entries}
+            looks = [look for look, _, x, y, width, _ in RECT.findall(picture) if int(y) == TOPS[place] and float(x) + float(width) > 1063]
+            assert looks == {(0,): [], (1,): ["o"], (0, 1): ["p"]}[tuple(sorted(opened))], (number, place, opened, looks)
+
+
+def commands(rng):
+    """Commands at random moments, each with its moment: schedules that begin soon or late, and deletions."""
+    moment, given = 0, []
+    for _ in range(rng.randint(2, 7)):
+        moment += rng.choice([0, 1, 5_000_000, 12_336_000, 40_000_000])
+        if rng.random() < 0.2:
+            given.append((moment, "tc qdisc del dev eth0 root"))
+        else:
+            given.append((moment, f"tc qdisc replace dev eth0 root taprio num_tc 1 map 0 base-time {rng.choice([0, 30, 52, 90, 200])}000 sched-entry S 01 5000"))
+    return given
+
+
+def script_of(events):
+    """A script of lines, each at its moment."""
+    return "".join(f"clock {moment}\n{line}\n" for moment, line in events).encode()
+
+
+def in_force(program, given):
+    """The changes of the schedule, as queries at the moments of all accepted commands say which of them came into force."""
+    told = run(program, ["script"], script_of(given)).output.decode().split("\n")
+    asked = {int(line.split()[2]) for line in told if line.startswith("installed")}
+    events = sorted([*((moment, 0, place, line) for place, (moment, line) in enumerate(given)), *((moment, 1, 0, "query") for moment in asked)])
+    told = run(program, ["script"], script_of((moment, line) for moment, _, _, line in events)).output.decode()
+    reports = re.findall(r"report now (\d+) .*\n.*\nin-force (?:open )?change (\d+)", told)
+    return sorted({int(now) for now, change in reports if now == change})
+
+
+def case_changes_are_those_of_the_schedule_in_force(program):
+    """A dashed line lies where the schedule in force changes, and none for a command that another one replaced."""
+    replaced = 0
+    for number in range(RUNS // 3):
+        given = commands(random.Random(f"changes {number}"))
+        wanted = in_force(program, given)
+        picture = run(program, ["draw", "--to", "1ms", "--width", "1096"], script_of(given)).output.decode()
+        got = drawn(picture)["c"]
+        assert got == [6400 + moment // 10_000 for moment in wanted], (number, wanted, got)
+        replaced += len(given) > len(wanted)
+    assert replaced > RUNS // 12, replaced
 
 
 if __name__ == "__main__":

@@ -56,6 +56,14 @@ clock 50000000
     assert without.output.startswith(b"<svg "), shown(without.output)
 
 
+def case_joined_marks_span_what_they_stand_for(program):
+    """5,010 frames that are dropped within 3.5 ms are one mark from the first to the last; so are as many changes of the schedule."""
+    ran = run(program, ["draw", "--to", "3600us", "--width", "1096"], b"".join(b"frame %d 0 13\nclock %d\n" % (it, it * 700_000) for it in range(5010)))
+    left, right = 64, 64 + 5008 * 700 // 3600
+    wanted = b'<path class="d" d="M%d 320l8 8m0 -8l-8 8m4 -4H%dm-4 -4l8 8m0 -8l-8 8"/>\n' % (left - 4, right)
+    assert ran.status == 0 and ran.output.count(wanted) == 1, shown(ran.output)
+
+
 def case_a_picture_has_20000_shapes_as_they_are(program):
     """With one shape more, those of a row that are closer than a pixel are joined. Each class has one open time; four have dropped frames."""
     for frames, marks in ((19_992, 19_992), (19_993, 4)):

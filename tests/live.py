@@ -1,7 +1,10 @@
 """What was answered is let out before more input is waited for: the program is driven through pipes."""
 import os
 import select
+import signal
+import struct
 import subprocess
+import tempfile
 
 
 PATIENCE = 20.0  # seconds
@@ -60,6 +63,17 @@ def case_a_check_is_driven_line_by_line(program):
     assert ended(process) == (b"", 0)
 
 
+def case_a_table_of_frames_is_driven_line_by_line(program):
+    """The head stands before the first line is waited for, and each row as soon as the fate of its frame is known."""
+    process = driven(program, ["frames"])
+    assert given(process, b"") == b"id,class,len,arrival_ps,start_ps,end_ps,wait_ps,fate\n"
+    process.stdin.write(b"frame 1 0 60\n")
+    assert given(process, b"frame 2 0 13\n") == b"2,0,13,0,,,,Runt\n"
+    assert given(process, b"clock 1\ncl") == b"1,0,60,0,0,672000,0,sent\n"
+    process.stdin.write(b"ock 2\nframe 3 5 60\n")
+    assert ended(process) == (b"3,5,60,2,,,,left\n", 0)
+
+
 def case_nobody_reads_any_more(program):
     """The run ends at the first answer that nobody takes, with status 4 and no text."""
     process = driven(program, ["script"])
@@ -69,3 +83,76 @@ def case_nobody_reads_any_more(program):
     assert process.stderr.read() == b""
     assert process.wait(PATIENCE) == 4
     process.stdin.close()
+
+
+HEADER = struct.pack("<IHHIIII", 0xA1B23C4D, 2, 4, 0, 0, 262144, 1)
+
+
+def record(microseconds):
+    """A record of a capture in nanoseconds: a frame of 60 octets, of which 14 are captured, with priority 0."""
+    return struct.pack("<IIII", 0, 1000 * microseconds, 14, 60) + bytes(14)
+
+
+def replayed(program, folder, script, *words):
+    """A replay of the standard input, which is a pipe, and the path of its OUT."""
+    path, out = os.path.join(folder, "script"), os.path.join(folder, "out")
+    with open(path, "w") as file:
+        file.write(script)
+    return driven(program, ["replay", *words, path, "-", out]), out
+
+
+def case_a_replay_is_driven_record_by_record(program):
+    """Each record is answered before the next one comes, also where it comes in parts, and what has left stands in OUT."""
+    with tempfile.TemporaryDirectory() as folder:
+        process, out = replayed(program, folder, "")
+        assert given(process, HEADER + record(1)) == b"queued 0 class 0\n"
+        assert os.path.getsize(out) == 24
+        assert given(process, record(2)) == b"start 0 class 0 at 1000000 end 1672000\nqueued 1 class 0\n"
+        assert os.path.getsize(out) == 54
+        third = record(3)
+        assert given(process, third[:20] + third[20:] + third[:7]) == b"start 1 class 0 at 2000000 end 2672000\nqueued 2 class 0\n"
+        assert os.path.getsize(out) == 84
+        assert given(process, third[7:]) == b"queued 3 class 0\n"
+        assert ended(process) == (b"start 2 class 0 at 3000000 end 3672000\nstart 3 class 0 at 3672000 end 4344000\n", 0)
+        assert os.path.getsize(out) == 144
+
+
+def case_a_replay_that_is_interrupted(program):
+    """Nothing that was answered is lost."""
+    with tempfile.TemporaryDirectory() as folder:
+        process, out = replayed(program, folder, "query\n")
+        got = given(process, HEADER + record(1) + record(2))
+        process.send_signal(signal.SIGINT)
+        assert process.wait(PATIENCE) == -signal.SIGINT
+        assert got.endswith(b"queued 0 class 0\nstart 0 class 0 at 1000000 end 1672000\nqueued 1 class 0\n"), got
+        assert process.stdout.read() == b""
+        assert os.path.getsize(out) == 54
+        process.stdin.close()
+
+
+def case_a_replay_whose_report_nobody_reads_any_more(program):
+    """The run ends at the first answer that nobody takes, with status 4 and no text."""
+    with tempfile.TemporaryDirectory() as folder:
+        process, _ = replayed(program, folder, "")
+        assert given(process, HEADER + record(1)) == b"queued 0 class 0\n"
+        process.stdout.close()
+        process.stdin.write(record(2))
+        assert process.stderr.read() == b""
+        assert process.wait(PATIENCE) == 4
+        process.stdin.close()
+
+
+def case_a_capture_in_a_named_pipe(program):
+    """It is opened once: behind its end nothing more is waited for, also where the run has a fault."""
+    for capture, report, status in ((HEADER + record(1), b"queued 0 class 0\nstart 0 class 0 at 1000000 end 1672000\n", 0), (HEADER[:7], b"", 3)):
+        with tempfile.TemporaryDirectory() as folder:
+            pipe, script, out = (os.path.join(folder, name) for name in ("pipe", "script", "out"))
+            os.mkfifo(pipe)
+            with open(script, "wb"):
+                pass
+            process = driven(program, ["replay", "--explain", script, pipe, out])
+            with open(pipe, "wb") as writer:
+                writer.write(capture)
+            assert process.wait(PATIENCE) == status
+            assert process.stdout.read() == report
+            process.stdin.close()

@@ -88,7 +88,7 @@ static int begins(struct octets slice, struct octets with) {
     return slice.length >= with.length && memcmp(slice.at, with.at, with.length) == 0 && is_untouched(slice, with.length);
 }
 
-enum job { RUN, FRAMES, CHECK, STREAMS, STREAMS_FROM, BOUNDS, DRAW };
+enum job { RUN, FRAMES, FRAMES_BY_STREAM, CHECK, STREAMS, STREAMS_FROM, BOUNDS, DRAW };
 
 struct call {
     enum job job;
@@ -107,6 +107,10 @@ static struct taprio_ran call(const struct call *c, struct octets output, struct
         break;
     case FRAMES:
         taprio_frames(&c->values, c->input.at, c->input.length, output.at, output.length, fault.at, fault.length, &ran);
+        break;
+    case FRAMES_BY_STREAM:
+        taprio_frames_by_stream(&c->values, c->second.at, c->second.length, c->input.at, c->input.length, output.at, output.length,
+                                fault.at, fault.length, &ran);
         break;
     case CHECK:
         taprio_check(c->values.rate, c->windows, c->input.at, c->input.length, output.at, output.length, fault.at, fault.length,
@@ -302,6 +306,45 @@ static void frames(void) {
     small("frames without room", on, "", TAPRIO_BAD_VALUE, "", "taprio_port: bad value of --room\n");
 }
 
+#define STREAM_HEAD "id,class,len,arrival_ps,start_ps,end_ps,wait_ps,fate,stream\n"
+
+static void frames_by_stream(void) {
+    struct call c = {FRAMES_BY_STREAM, usual, whole, 0, 0, {0}, text("stream 2 0 60 1us 0us 2\n# none\nstream 1 0 60 1us 0us 9\n")};
+    small("frames of streams", c, "frame 1 0 60\nframe 3 16 60\nframe 10 0 60\n", TAPRIO_DONE,
+          STREAM_HEAD "3,,60,0,,,,NoClass,2\n1,0,60,0,,,,left,1\n10,0,60,0,,,,left,\n", "");
+    small("frames of streams, a line that is none", c, "frame 2 0 13\nclok", TAPRIO_BAD_INPUT, STREAM_HEAD "2,0,13,0,,,,Runt,2\n",
+          "taprio_port: script line 2: UnknownLine\n");
+    struct octets good = c.second;
+    c.second = text("\nstream 1 0 60 1us 0us\n");
+    small("frames of a bad table", c, "frame 1 0 13\n", TAPRIO_BAD_INPUT, "", "taprio_port: table line 2: WordCount\n");
+    c.values.rate = 7;
+    small("frames of streams at a bad rate", c, "", TAPRIO_BAD_VALUE, "", "taprio_port: bad value of --rate\n");
+    free(c.second.at);
+    free(good.at);
+}
+
+/* a word, and the moment that it says, if it says one */
+static void is_said(const char *word, int is_moment, uint64_t low, uint64_t high) {
+    struct octets given = text(word);
+    struct taprio_moment_value said = {9, 9, 9};
+    taprio_moment(given.at, given.length, &said);
+    expect(said.is_moment == (uint64_t)is_moment && said.low == low && said.high == high, "a moment", word);
+    free(given.at);
+}
+
+static void moments(void) {
+    is_said("0", 1, 0, 0);
+    is_said("20000000", 1, 20000000, 0);
+    is_said("12.303us", 1, 12303000, 0);
+    is_said("0.5s", 1, 500000000000, 0);
+    is_said("18446744073709551616", 1, 0, 1);
+    is_said("9223372036854775807000", 1, 18446744073709550616u, 499);
+    is_said("9223372036.854775807s", 1, 18446744073709550616u, 499);
+    const char *none[] = {"", " ", "-1", ".5s", "5 s", "5S", "1us ", "0.0005ns", "9223372036854775807001", "9223372036.854775808s"};
+    for (size_t at = 0; at < sizeof none / sizeof *none; at++)
+        is_said(none[at], 0, 0, 0);
+}
+
 /* a machine: a drive and a brake in class 7, a camera in class 5, and the rest */
 static const char machine_streams[] =
     "# A machine: a drive and a brake in class 7, a camera in class 5, and the rest.\n"
@@ -396,6 +439,11 @@ static void nulls(void) {
     expect(ran.status == TAPRIO_DONE && ran.output == 0, "null pointers", "taprio_bounds");
     taprio_frames(&usual, NULL, 0, NULL, 0, NULL, 0, &ran);
     expect(ran.status == TAPRIO_NO_ROOM && ran.output == strlen(HEAD), "null pointers", "taprio_frames");
+    taprio_frames_by_stream(&usual, NULL, 0, NULL, 0, NULL, 0, NULL, 0, &ran);
+    expect(ran.status == TAPRIO_NO_ROOM && ran.output == strlen(HEAD) + strlen(",stream"), "null pointers", "taprio_frames_by_stream");
+    struct taprio_moment_value moment;
+    taprio_moment(NULL, 0, &moment);
+    expect(moment.is_moment == 0 && moment.low == 0 && moment.high == 0, "null pointers", "taprio_moment");
     taprio_draw(&usual, &whole, NULL, 0, NULL, 0, NULL, 0, &ran);
     expect(ran.status == TAPRIO_NO_ROOM && ran.output > 100, "null pointers", "taprio_draw");
     struct taprio_replay_ran replayed;
@@ -640,6 +688,8 @@ int main(int count, char **words) {
     small("a late moment", later, "stream", TAPRIO_BAD_VALUE, "", "taprio_port: bad value of --from\n");
     bounds();
     frames();
+    frames_by_stream();
+    moments();
     struct call draw = {DRAW, usual, whole, 0, 0, {0}, {0}};
     of_files(draw, "first.script", NULL, "first.svg");
     of_files(draw, "priorities.script", NULL, "priorities.svg");

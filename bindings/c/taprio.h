@@ -111,6 +111,23 @@ void taprio_run(const struct taprio_port_values *values, const uint8_t *script, 
 void taprio_frames(const struct taprio_port_values *values, const uint8_t *script, size_t script_length, uint8_t *output,
                    size_t output_length, uint8_t *fault, size_t fault_length, struct taprio_ran *ran);
 
+/* The same with a last column, as `--by-stream` writes it: the stream of a table of streams that each frame is of. At TAPRIO_BAD_INPUT
+ * there is no output where that table has the fault. */
+void taprio_frames_by_stream(const struct taprio_port_values *values, const uint8_t *table, size_t table_length,
+                             const uint8_t *script, size_t script_length, uint8_t *output, size_t output_length, uint8_t *fault,
+                             size_t fault_length, struct taprio_ran *ran);
+
+/* What a word says as a moment; 24 octets. */
+struct taprio_moment_value {
+    uint64_t low;       /* the moment, in picoseconds: high * 2^64 + low; 0 where the word says none */
+    uint64_t high;      /* see low */
+    uint64_t is_moment; /* 1: the word says a moment, at most 9223372036854775807000; 0: it says none */
+};
+
+/* Reads a word as a moment, as the options of the program are read: whole picoseconds, or a decimal number with its unit, such as
+ * 12.5us (docs/reference/units.md). It takes no memory. */
+void taprio_moment(const uint8_t *word, size_t word_length, struct taprio_moment_value *moment);
+
 /* Reports what schedule commands promise, as `taprio_port check` does, at a rate in Mb/s; `windows` other than 0 also reports what
  * each class gets. At TAPRIO_BAD_INPUT the output is what is reported of the lines before the fault. */
 void taprio_check(uint32_t rate, uint32_t windows, const uint8_t *schedules, size_t schedules_length, uint8_t *output,
@@ -186,6 +203,18 @@ static inline void taprio_frames_or_null(const struct taprio_port_values *values
                   fault_length, ran);
 }
 
+static inline void taprio_frames_by_stream_or_null(const struct taprio_port_values *values, const uint8_t *table,
+                                                   size_t table_length, const uint8_t *script, size_t script_length,
+                                                   uint8_t *output, size_t output_length, uint8_t *fault, size_t fault_length,
+                                                   struct taprio_ran *ran) {
+    taprio_frames_by_stream(values, taprio_octets(table), table_length, taprio_octets(script), script_length,
+                            taprio_lent(output), output_length, taprio_lent(fault), fault_length, ran);
+}
+
+static inline void taprio_moment_or_null(const uint8_t *word, size_t word_length, struct taprio_moment_value *moment) {
+    taprio_moment(taprio_octets(word), word_length, moment);
+}
+
 static inline void taprio_check_or_null(uint32_t rate, uint32_t windows, const uint8_t *schedules, size_t schedules_length,
                                         uint8_t *output, size_t output_length, uint8_t *fault, size_t fault_length,
                                         struct taprio_ran *ran) {
@@ -241,6 +270,8 @@ static inline void taprio_replay_stamped_or_null(const struct taprio_port_values
 
 #define taprio_run taprio_run_or_null
 #define taprio_frames taprio_frames_or_null
+#define taprio_frames_by_stream taprio_frames_by_stream_or_null
+#define taprio_moment taprio_moment_or_null
 #define taprio_check taprio_check_or_null
 #define taprio_streams taprio_streams_or_null
 #define taprio_streams_from taprio_streams_from_or_null

@@ -6,21 +6,12 @@ const UNITS = { ps: 1n, ns: 1000n, us: 1_000_000n, ms: 1_000_000_000n, s: 1_000_
 export const GREATEST = 9223372036854775807000n;
 
 /**
- * The picoseconds of a text such as `20000000`, `20 us` or `12.303us`. The micro sign and the Greek letter mu are `u`.
+ * What is typed as a moment, as the port reads it (`readMoments` of taprio.js): the micro sign and the Greek letter mu are `u`, and its unit
+ * may stand apart, as in `20 us`.
  *
  * @param {string} text
- * @returns {bigint | null | undefined} null where there is no text, undefined where it is no moment
  */
-export function readMoment(text) {
-  const words = text.trim().replace(/[µμ]/, "u");
-  if (words === "") return null;
-  const found = /^(\d{1,30})(?:\.(\d{1,12}))?\s*(ps|ns|us|ms|s)?$/.exec(words);
-  if (!found) return undefined;
-  const [, whole, part = "", unit = "ps"] = found;
-  const scale = 10n ** BigInt(part.length);
-  const value = BigInt(whole + part) * UNITS[unit];
-  return value % scale === 0n ? value / scale : undefined;
-}
+export const wordOfMoment = (text) => text.trim().replace(/[µμ]/, "u").replace(/^([\d.]+)\s+([a-z]+)$/, "$1$2");
 
 const sizeOf = (moment) => (moment < 0n ? -moment : moment);
 

@@ -1,5 +1,5 @@
 // The options of the page, as the values that a job is given and as the words of a link.
-import { readMoment } from "./moments.js";
+import { wordOfMoment } from "./moments.js";
 
 const NUMBERS = ["rate", "mtu", "room", "frames"];
 const MOMENTS = ["until", "from", "to"];
@@ -34,28 +34,43 @@ function readNumber(name) {
   return Number(words);
 }
 
-function readTime(name) {
-  const moment = readMoment(inputOf(name).value);
-  if (moment === undefined || (moment !== null && moment >= 2n ** 128n)) throw new BadOption(name);
-  return moment;
+/**
+ * The moments that stand in fields, as the port reads them.
+ *
+ * @param {string[]} names the ids of their inputs
+ * @param {(words: string[]) => Promise<(bigint | null)[]>} read the port's reader: null where a word is no moment
+ * @returns {Promise<(bigint | null)[]>} null where a field is empty
+ * @throws {BadOption} where one has something else than a moment
+ */
+export async function momentsIn(names, read) {
+  const words = names.map((name) => wordOfMoment(inputOf(name).value));
+  const found = words.some(Boolean) ? await read(words) : [];
+  return names.map((name, place) => {
+    if (words[place] === "") return null;
+    if (found[place] === null) throw new BadOption(name);
+    return found[place];
+  });
 }
 
 // The values where nothing is said.
 const standing = () => ({ rate: 1000, mtu: 1500, room: 128, frames: 1000000, width: 1200, until: null, from: null, to: null, summary: false, windows: false });
 
 /**
- * The values of the options that a job has; the others are the program's where no words are given.
+ * The values of the options that a job has, as they stand now; the others are the program's where no words are given.
  *
  * @param {string} job
- * @throws {BadOption} where one is no number or no moment; whether it is within its limits the port judges
+ * @param {(words: string[]) => Promise<(bigint | null)[]>} read the port's reader of moments
+ * @throws {BadOption} where one is no number or no moment; whether a number is within its limits the port judges
  */
-export function valuesFor(job) {
+export async function valuesFor(job, read) {
   const values = standing();
   for (const name of USED[job]) {
     if (NUMBERS.includes(name)) values[name] = readNumber(name);
-    else if (MOMENTS.includes(name)) values[name] = readTime(name);
-    else values[name] = inputOf(name).checked;
+    else if (FLAGS.includes(name)) values[name] = inputOf(name).checked;
   }
+  const names = USED[job].filter((name) => MOMENTS.includes(name));
+  const moments = await momentsIn(names, read);
+  for (const [place, name] of names.entries()) values[name] = moments[place];
   return values;
 }
 

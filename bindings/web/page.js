@@ -1,14 +1,14 @@
 // The page: what is typed goes to the port, and what it answers is shown.
 import { Runner, Stopped } from "./runner.js";
 import { Editor } from "./editor.js";
-import { BadOption, setOptions, valuesFor, wordsOfOptions } from "./options.js";
+import { BadOption, momentsIn, setOptions, valuesFor, wordsOfOptions } from "./options.js";
 import { base64Of, readLink, writeLink } from "./link.js";
 import { explain } from "./faults.js";
 import { refusedCommands } from "./commands.js";
 import { Picture, shownIn, stepped } from "./picture.js";
 import { Viewer } from "./viewer.js";
 import { Table } from "./tables.js";
-import { GREATEST, readMoment, writeMoment } from "./moments.js";
+import { GREATEST, writeMoment } from "./moments.js";
 import { linesOf, readScript } from "./script.js";
 import { byClass, runVerdict } from "./frames.js";
 import { boundsIn, boundsVerdict, drawBounds } from "./bounds.js";
@@ -211,9 +211,9 @@ function layPicture() {
 }
 
 // What to draw: where no end is given, the picture goes to the moment that the run goes to.
-function drawValues() {
-  const values = { ...valuesFor("draw"), ...ran.port, width: widthNow() };
-  const { until } = ran.values;
+async function drawValues() {
+  const { port, values: { until } } = ran;
+  const values = { ...(await valuesFor("draw", readMoments)), ...port, width: widthNow() };
   if (ran.window && values.from === null && values.to === null) Object.assign(values, ran.window);
   if (values.to === null && until !== null && until > (values.from ?? 0n)) values.to = until;
   return values;
@@ -222,7 +222,8 @@ function drawValues() {
 async function draw(mine) {
   if (ran.job === "bounds") return showBounds();
   if (ran.source === null) return hidePicture(ran.why);
-  const values = drawValues();
+  const values = await drawValues();
+  if (mine !== turn) return undefined;
   const told = await ask(mine, { job: "draw", input: encoded(ran.source), beside: new Uint8Array(), values });
   if (!told) return undefined;
   if (told.status === 0) return showPicture(told, values);
@@ -361,7 +362,22 @@ function showTables() {
 function showFrames() {
   if (!ran) return;
   frameTable.show(ran.frames);
-  addressOf(at("save-frames"), encoded(frameTable.csv), "text/csv");
+}
+
+// Saves the port's own table of the frames of the script that was run; of a table of streams with the stream of each frame.
+async function saveFrames() {
+  const { job: name, source, text, values, until } = ran;
+  const table = encoded(name === "streams" ? text : "");
+  const told = await runner.run({ job: "frames", input: encoded(source), beside: table, values: { ...values, until } });
+  if (told.status !== 0) {
+    showFault(told.fault);
+    return;
+  }
+  const link = document.createElement("a");
+  link.href = URL.createObjectURL(new Blob([told.output], { type: "text/csv" }));
+  link.download = "frames.csv";
+  link.click();
+  setTimeout(() => URL.revokeObjectURL(link.href), 60_000);
 }
 
 function clearFault() {
@@ -449,15 +465,18 @@ function running(is) {
   document.querySelector("main").setAttribute("aria-busy", String(is));
 }
 
+// The port's reader of moments.
+const readMoments = async (words) => (await runner.run({ job: "moments", words })).moments;
+
 // What is run: the text and the values as they stand now.
-function snapshot() {
-  const name = job();
-  const values = valuesFor(name);
-  if (name === "replay" && !capture.length) throw new BadOption("capture", "No capture is chosen: choose a classic pcap file, or drop one on the page.");
-  if (name === "replay" && values.until === null) throw new BadOption("until");
+async function snapshot() {
+  const [name, text] = [job(), editor.text];
   const second = name === "replay" ? capture : encoded(["streams", "bounds"].includes(name) ? beside.text : "");
+  const values = await valuesFor(name, readMoments);
+  if (name === "replay" && !second.length) throw new BadOption("capture", "No capture is chosen: choose a classic pcap file, or drop one on the page.");
+  if (name === "replay" && values.until === null) throw new BadOption("until");
   const { rate, mtu, room } = values;
-  return { job: name, text: editor.text, beside: second, values, port: { rate, mtu, room }, frames: [], changes: [], first: 0n, last: 0n, windows: [], bounds: [], schedules: [], source: null, why: "", drawn: null, window: null };
+  return { job: name, text, beside: second, values, port: { rate, mtu, room }, until: null, frames: [], changes: [], first: 0n, last: 0n, windows: [], bounds: [], schedules: [], source: null, why: "", drawn: null, window: null };
 }
 
 // Does a job for a run, and null where another run has begun since.
@@ -467,9 +486,9 @@ async function ask(mine, request) {
 }
 
 // What a script and its answers come to.
-async function takeRun(mine, script, answers) {
-  const told = await ask(mine, { job: "frames", script, answers });
-  if (told) Object.assign(ran, { frames: told.frames, changes: told.changes, first: told.first, last: told.last, source: script });
+async function takeRun(mine, script, until, answers) {
+  const told = await ask(mine, { job: "fates", script, answers });
+  if (told) Object.assign(ran, { frames: told.frames, changes: told.changes, first: told.first, last: told.last, source: script, until });
 }
 
 // The schedule of a check that is drawn: two of its cycles from its change on.
@@ -478,7 +497,7 @@ async function takeSchedule(mine) {
   if (number === undefined) return;
   const told = await ask(mine, { job: "script", input: encoded(`${text}\n`), beside: new Uint8Array(), values: { ...ran.values, until: null, summary: false } });
   if (!told) return;
-  await takeRun(mine, `${text}\n`, new TextDecoder().decode(told.output));
+  await takeRun(mine, `${text}\n`, null, new TextDecoder().decode(told.output));
   const [it] = ran.changes;
   if (!it || it.cycle === null) {
     ran.source = null;
@@ -495,7 +514,7 @@ async function takeScript(mine, script) {
   const told = await ask(mine, { job: "script", input: encoded(script), beside: new Uint8Array(), values });
   if (!told) return;
   if (told.status === 0) {
-    await takeRun(mine, script, new TextDecoder().decode(told.output));
+    await takeRun(mine, script, values.until, new TextDecoder().decode(told.output));
     const to = ran.frames.reduce((last, it) => (it.end !== null && it.end > last ? it.end : last), ran.last);
     if (to > 0n) ran.window = { from: 0n, to };
   } else ran.why = `No picture: the script that is made has a fault. ${explain(told.fault).text} Open it as a script to mend it.`;
@@ -503,8 +522,8 @@ async function takeScript(mine, script) {
 
 async function takeAnswers(mine, answers) {
   const name = ran.job;
-  if (name === "script") await takeRun(mine, ran.text, answers);
-  else if (name === "replay") await takeRun(mine, scriptOfReplay(linesOf(ran.text), recordsOf(ran.beside)), answers);
+  if (name === "script") await takeRun(mine, ran.text, ran.values.until, answers);
+  else if (name === "replay") await takeRun(mine, scriptOfReplay(linesOf(ran.text), recordsOf(ran.beside)), ran.values.until, answers);
   else if (name === "streams") await takeScript(mine, answers);
   else if (name === "bounds") ran.bounds = boundsIn(answers);
   else if (name === "check") {
@@ -523,7 +542,8 @@ function fillWhich(names) {
 }
 
 async function work(mine) {
-  const next = snapshot();
+  const next = await snapshot();
+  if (mine !== turn) return;
   const told = await ask(mine, { job: next.job, input: encoded(next.text), beside: next.beside, values: next.values });
   if (!told) return;
   ran = next;
@@ -791,7 +811,7 @@ async function takeFile(file) {
     setCapture(octets, file.name);
     // (the frames of a replay are those of the capture)
     if (FRAME_LINE.test(editor.text)) editor.text = editor.text.split("\n").filter((it) => !FRAME_LINE.test(it)).join("\n");
-    runPast(endOf(octets));
+    await runPast(endOf(octets));
   } else {
     const text = new TextDecoder().decode(octets);
     const name = jobOf(text, job());
@@ -808,10 +828,11 @@ async function takeFile(file) {
 // A while after the last record.
 const endOf = (octets) => (recordsOf(octets).at(-1)?.moment ?? 0n) + GOES_ON;
 
-// A replay runs on to this moment at least.
-function runPast(moment) {
-  const now = readMoment(at("until").value);
-  if (now === null || now === undefined || now < moment) at("until").value = writeMoment(moment);
+// A replay runs on to this moment at least. (A run that goes on is of what stood here before.)
+async function runPast(moment) {
+  if (!at("stop").disabled) runner.stop();
+  const [now] = await momentsIn(["until"], readMoments).catch(() => [null]);
+  if (now === null || now < moment) at("until").value = writeMoment(moment);
 }
 
 async function makeLink() {
@@ -910,6 +931,7 @@ function listenToResults() {
   at("ps").addEventListener("change", () => ran && (showTables(), ran.job === "bounds" && showBounds()));
   at("answers").addEventListener("click", findAnswered);
   at("frames-box").addEventListener("toggle", () => at("frames-box").open && showFrames());
+  at("save-frames").addEventListener("click", () => saveFrames().catch(showError));
   at("zoom").addEventListener("click", (event) => event.target.dataset.step && zoom(event.target.dataset.step));
   at("zoom").addEventListener("keydown", (event) => event.key === "Enter" && event.target.matches("input") && runPicture());
 }

@@ -106,19 +106,15 @@ function putCycles(svg, shown, changes) {
 
 const rowOf = (kind) => TOP + (7 - kind) * STEP;
 
-// Draws in each row that frames wait to its end and on, from the first of them, and says how many.
+// Says in each row how many frames wait to its end and on. Their waits are drawn by the port.
 function putLeft(svg, shown, frames) {
   const left = new Map();
   for (const it of frames) {
     if (it.fate !== "left" || it.arrival >= shown.to) continue;
-    const row = left.get(it.class) ?? { from: it.arrival, number: 0 };
-    left.set(it.class, row);
-    row.number += 1;
+    left.set(it.class, (left.get(it.class) ?? 0) + 1);
   }
-  for (const [kind, { from, number }] of left) {
+  for (const [kind, number] of left) {
     const y = rowOf(kind);
-    const x = Math.max(LEFT, xOf(shown, from)).toFixed(2);
-    svg.append(element("path", { class: "w", d: `M${x} ${y + 2}V${y + 26}M${x} ${y + 6}H${shown.width - RIGHT}` }));
     svg.append(element("text", { class: "l", x: shown.width - 4, y: y + 19 }, `${number} ${number === 1 ? "waits" : "wait"} ▸`));
   }
 }

@@ -1,13 +1,14 @@
 // Calls the port's WebAssembly module, as bindings/c/taprio.h declares it. Only this file knows where its values lie, and where its heap is.
 
 /** The jobs that the module does, by the names of the program's. */
-export const JOBS = ["script", "draw", "check", "streams", "replay", "bounds"];
+export const JOBS = ["script", "draw", "check", "streams", "replay", "bounds", "frames"];
 
 const BLOCK = 16; // octets of the least block of the heap, and of what stands before each block
 const PAGE = 65536; // octets of a page of the module's memory
 const PORT_VALUES = 40; // octets of struct taprio_port_values
 const PICTURE_VALUES = 48; // octets of struct taprio_picture_values
 const RAN = 32; // octets of struct taprio_replay_ran, the longer one
+const MOMENT = 24; // octets of struct taprio_moment_value
 const NO_ROOM = 5; // the status where a slice has too little room
 const FAULT_ROOM = 256;
 const LEAST_ROOM = 1 << 20;
@@ -114,6 +115,12 @@ function putPicture(view, at, values) {
   view.setUint32(at + 44, 0, true);
 }
 
+// The frames of a script; where there is a table of streams, with the stream of each.
+const framesCall = ({ beside }) =>
+  beside.length
+    ? ["taprio_frames_by_stream", (at, { input }) => [at.port, at.beside, beside.length, at.input, input.length]]
+    : ["taprio_frames", (at, { input }) => [at.port, at.input, input.length]];
+
 // What each job calls, and the words of the call before its outputs; a slice is its address and its length.
 const CALLS = {
   script: ["taprio_run", (at, { input }) => [at.port, at.input, input.length]],
@@ -135,7 +142,7 @@ function call(exports, at, request, lengths) {
     exports.taprio_check(rate, windows ? 1 : 0, BigInt(at.input), BigInt(request.input.length), ...ends);
     return;
   }
-  const [name, words] = CALLS[request.job];
+  const [name, words] = request.job === "frames" ? framesCall(request) : CALLS[request.job];
   exports[name](...words(at, request).map(BigInt), ...ends);
 }
 
@@ -178,9 +185,7 @@ function tellOf(heap, at, job) {
 }
 
 function runWith(module, request, room) {
-  const heap = new Heap();
-  const { exports } = new WebAssembly.Instance(module, { heap: heap.imports() });
-  heap.bind(exports);
+  const { heap, exports } = instanceOf(module);
   const lengths = lengthsOf(request, room);
   const at = blocksOf(heap, lengths);
   if (!at) return memoryWanting();
@@ -193,12 +198,43 @@ function runWith(module, request, room) {
   return tellOf(heap, at, request.job);
 }
 
+// An instance of the module with a heap of its own.
+function instanceOf(module) {
+  const heap = new Heap();
+  const { exports } = new WebAssembly.Instance(module, { heap: heap.imports() });
+  heap.bind(exports);
+  return { heap, exports };
+}
+
+/**
+ * Reads words as moments, as the options of the program are read.
+ *
+ * @param {WebAssembly.Module} module the port's
+ * @param {string[]} words
+ * @returns {(bigint | null)[]} picoseconds, null where a word is no moment
+ */
+export function readMoments(module, words) {
+  const { heap, exports } = instanceOf(module);
+  const told = heap.take(MOMENT);
+  return words.map((word) => {
+    const octets = new TextEncoder().encode(word);
+    const at = heap.take(octets.length);
+    if (!told || !at) throw new Error("out of memory");
+    new Uint8Array(heap.memory.buffer).set(octets, at);
+    exports.taprio_moment(...[at, octets.length, told].map(BigInt));
+    heap.give(at);
+    const [low, high, is] = [0, 8, 16].map((place) => heap.view().getBigUint64(told + place, true));
+    return is ? (high << 64n) + low : null;
+  });
+}
+
 /**
  * Does a job in an instance of its own, so that nothing is left of a run that was broken off.
  *
  * @param {WebAssembly.Module} module the port's
- * @param {{job: string, input: Uint8Array, beside: Uint8Array, values: object}} request the job, its input, the script that goes
- *   among the frames of a table of streams or the capture of a replay, and the values of the options: numbers, moments as BigInt or
+ * @param {{job: string, input: Uint8Array, beside: Uint8Array, values: object}} request the job, its input, what it has beside
+ *   that (the script that goes among the frames of a table of streams, the capture of a replay, the table of streams of bounds or, where there is
+ *   one, of frames), and the values of the options: numbers, moments as BigInt or
  *   null, and booleans
  * @returns {{status: number, output: Uint8Array, departures: Uint8Array, fault: string}} as the program would end, write, and say on
  *   its standard error; departures are the capture that a replay writes

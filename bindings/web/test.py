@@ -366,13 +366,39 @@ def try_micros(page):
         page.same(f"{sign} is taken", page.text("status")[:4], "Done")
 
 
+# Words that are moments, and words that are none or out of their limits.
+MOMENTS = ["0", "007", "1.5us", "0.000001us", "1.0000005us", "1.", ".5us", "1.us", "1.5", "1e3", "-1", "+1", "1us2", "1US", "1m", "0x10", "1,5us", "1 .5us",
+           "1.000000000000s", "1.0000000000000s", "9223372036854775807000", "9223372036854775807001", "9223372036.854775807s", "9223372036.854775807001s"]
+
+
+def try_moments(page):
+    """The moments of the options are those that the program reads."""
+    text = (EXAMPLES / "first.script").read_bytes()
+    page.choose("first.script")
+    for word in MOMENTS:
+        page.set("until", word)
+        page.run()
+        status, answers, said = program("script", f"--until={word}", text=text)
+        page.same(f"a fault of until {word}", page.do("return !at('fault').hidden"), status != 0)
+        if status:
+            page.same(f"until {word}", f"taprio_port: {page.text('fault-text').split(': wanted is ')[0]}\n", said.decode())
+        else:
+            page.answers(f"until {word}", answers)
+
+
+def frames_of_table(table, script):
+    """What the program makes of the frames of a table of streams among the lines of a script, run to a millisecond after its last line."""
+    made = program("streams", "--with", EXAMPLES / script, text=(EXAMPLES / table).read_bytes())[1]
+    last = max(int(it) for it in re.findall(rb"^clock (\d+)$", made, re.M))
+    return program("frames", "--by-stream", EXAMPLES / table, "--until", str(last + 10**9), text=made)[1]
+
+
 def try_frames(page):
     """The table of frames against the answers, the frame that a pointer is over, and the way from one to the other."""
     page.choose("schedule.script")
     page.do("at('frames-box').open = true")
     wait_for(page.browser, "return document.querySelectorAll('#frames-table tbody tr').length === 2")
-    csv = page.saved("save-frames").decode()
-    page.same("frames", csv, "id,class,length,arrival_ps,start_ps,end_ps,wait_ps,fate\n1,7,1514,20000000,33336000,45640000,13336000,sent\n2,0,60,20000000,20000000,20672000,0,sent\n")
+    page.same("frames", page.saved("save-frames"), program("frames", text=(EXAMPLES / "schedule.script").read_bytes())[1])
     page.click("#frames-table tbody tr")
     page.same("marked in the picture", page.do("return !!document.querySelector('#canvas .ring')"), True)
     page.same("marked in the answers", page.do("return String(getSelection())"), "start 1 class 7 at 33336000 end 45640000")
@@ -390,6 +416,8 @@ def try_frames(page):
     page.same("picoseconds", page.do("return document.querySelector('#classes tbody tr').innerText").split()[-1], "13336000")
     page.do("at('ps').click()")
     page.same("bitmap", page.saved("save-png")[:8], b"\x89PNG\r\n\x1a\n")
+    page.choose("planned.streams")
+    page.same("frames of streams", page.saved("save-frames"), frames_of_table("planned.streams", "planned.schedule"))
     page.choose("extension.script")
     page.same("no mark of another run", page.do("return document.querySelectorAll('#canvas .ring').length"), 0)
     page.same("waits for ever", page.do("return document.querySelector('#canvas .l')?.textContent"), "1 waits ▸")
@@ -798,7 +826,7 @@ def try_looks(page):
     shoot(page, "replay")
 
 
-TRIES = [try_examples, try_replay, try_typing, try_options, try_worked, try_faults, try_refused, try_zoom, try_keys, try_micros, try_frames, try_tips, try_marks, try_pictures, try_bounds,
+TRIES = [try_examples, try_replay, try_typing, try_options, try_worked, try_faults, try_refused, try_zoom, try_keys, try_micros, try_moments, try_frames, try_tips, try_marks, try_pictures, try_bounds,
          try_story, try_tabs, try_files, try_stale, try_link, try_stop, try_access, try_screens, try_sizes, try_looks]
 
 

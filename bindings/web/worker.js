@@ -1,5 +1,5 @@
 // The worker: does one job after the other, away from the page.
-import { run } from "./taprio.js";
+import { readMoments, run } from "./taprio.js";
 import { changesOf, readScript } from "./script.js";
 import { framesOf } from "./frames.js";
 import { INSTEAD } from "./support.js";
@@ -12,15 +12,19 @@ async function answer({ octets, request }) {
   if (broken) throw new Error(`The port's module does not compile in this browser (${broken}). ${INSTEAD}`);
   if (!request) return { ready: true };
   const begun = performance.now();
-  const told = request.job === "frames" ? framesIn(request) : run(module, request);
+  const own = OWN[request.job];
+  const told = own ? own(request) : run(module, request);
   return { told: { ...told, time: performance.now() - begun } };
 }
 
 // What a script and its answers come to, frame by frame.
-function framesIn({ script, answers }) {
+function fatesIn({ script, answers }) {
   const { arrivals, commands, first, last } = readScript(script);
   return { frames: framesOf(arrivals, answers), changes: changesOf(commands, answers), first, last };
 }
+
+// What is done beside the program's jobs.
+const OWN = { fates: fatesIn, moments: ({ words }) => ({ moments: readMoments(module, words) }) };
 
 let last = Promise.resolve();
 

@@ -15,6 +15,7 @@ calls over the program. `Port` is a port that is driven call by call, over the s
 Nothing else here needs the shared object: `taprio.schedules` reads and writes schedules (times in nanoseconds), `Stream` is a stream of
 frames (times in nanoseconds), `run_streams` runs both, `frames` gives the frames of a script, `bounds` tells how long the frames of streams
 wait for ever, `read_run`, `read_frames`, `read_check` and `read_bounds` give what the jobs answer as objects, and `read_capture` reads a capture.
+`moment` reads a moment such as `12.303us`, over the shared object.
 """
 
 from .captures import read_capture
@@ -30,7 +31,7 @@ from .faults import (
     Replay,
     TaprioError,
 )
-from .library import Library, check, draw, replay, run, streams
+from .library import Library, check, draw, moment, replay, run, streams
 from .plotting import plot
 from .port import Port
 from .program import Backend, Program, backend
@@ -63,6 +64,7 @@ __all__ = [
     "check",
     "draw",
     "frames",
+    "moment",
     "plot",
     "read_bounds",
     "read_capture",

@@ -27,6 +27,7 @@ __all__ = [
     "check",
     "draw",
     "frames",
+    "moment",
     "replay",
     "run",
     "streams",
@@ -60,6 +61,10 @@ class _PictureValues(ctypes.Structure):
     ]
 
 
+class _MomentValue(ctypes.Structure):
+    _fields_ = [("low", ctypes.c_uint64), ("high", ctypes.c_uint64), ("is_moment", ctypes.c_uint64)]
+
+
 class _Ran(ctypes.Structure):
     _fields_ = [("output", ctypes.c_uint64), ("fault", ctypes.c_uint64), ("status", ctypes.c_uint8)]
 
@@ -90,7 +95,7 @@ _OF_PORT: dict[str, list[Any]] = {
 }
 
 # What a shared object lacks that was built before there were bounds, tables of frames, or ports that are driven.
-_LATER = ("taprio_streams_from", "taprio_bounds", "taprio_frames", "taprio_replay_stamped", *_OF_PORT)
+_LATER = ("taprio_streams_from", "taprio_bounds", "taprio_frames", "taprio_replay_stamped", "taprio_frames_by_stream", "taprio_moment", *_OF_PORT)
 
 
 def _path() -> str:
@@ -120,6 +125,8 @@ def _typed(library: ctypes.CDLL) -> ctypes.CDLL:
     calls: dict[str, list[Any]] = {
         "taprio_run": [port, *_OCTETS, *_LENT, *_LENT, ran],
         "taprio_frames": [port, *_OCTETS, *_LENT, *_LENT, ran],
+        "taprio_frames_by_stream": [port, *_OCTETS, *_OCTETS, *_LENT, *_LENT, ran],
+        "taprio_moment": [*_OCTETS, ctypes.POINTER(_MomentValue)],
         "taprio_check": [ctypes.c_uint32, ctypes.c_uint32, *_OCTETS, *_LENT, *_LENT, ran],
         "taprio_streams": [*_OCTETS, *_OCTETS, *_LENT, *_LENT, ran],
         "taprio_streams_from": [ctypes.c_uint64, ctypes.c_uint64, *_OCTETS, *_OCTETS, *_LENT, *_LENT, ran],
@@ -235,14 +242,37 @@ def run(
     return _one("taprio_run", given, 4 * len(script) + 4096)
 
 
-def frames(script: Octets, rate: int = 1000, mtu: int = 1500, room: int = 128, until: int | None = None) -> bytes:
+def frames(
+    script: Octets,
+    rate: int = 1000,
+    mtu: int = 1500,
+    room: int = 128,
+    until: int | None = None,
+    streams: Octets | None = None,
+) -> bytes:
     """Runs a script, and gives a table of its frames: comma-separated values with a head, a row a frame.
 
-    The values are those of `run`. `taprio.read_frames` reads the table, and `taprio.frames` does both.
+    The values are those of `run`. With `streams`, a table of streams, a last column has the stream of each frame, by its first id.
+    `taprio.read_frames` reads the table, and `taprio.frames` does both.
     """
     script = octets(script)
-    given = [ctypes.byref(_port(rate, mtu, room, until, False)), script, len(script)]
-    return _one("taprio_frames", given, 6 * len(script) + 4096)
+    port = ctypes.byref(_port(rate, mtu, room, until, False))
+    if streams is None:
+        return _one("taprio_frames", [port, script, len(script)], 6 * len(script) + 4096)
+    table = octets(streams)
+    return _one("taprio_frames_by_stream", [port, table, len(table), script, len(script)], 7 * len(script) + 4096)
+
+
+def moment(word: str) -> int:
+    """The moment that a word says, in picoseconds, as the program's options are read: `12.303us`, or whole picoseconds.
+
+    A word that says none, or one after the greatest moment, raises `ValueError`.
+    """
+    text, said = octets(word), _MomentValue()
+    function("taprio_moment")(text, len(text), ctypes.byref(said))
+    if not said.is_moment:
+        raise ValueError(f"{word!r} is no moment")
+    return int(said.high) << 64 | int(said.low)
 
 
 def check(schedules: Octets, rate: int = 1000, windows: bool = False) -> bytes:

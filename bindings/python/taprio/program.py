@@ -24,8 +24,16 @@ class Backend(Protocol):
     ) -> bytes:
         """The answers of a script."""
 
-    def frames(self, script: Octets, rate: int = 1000, mtu: int = 1500, room: int = 128, until: int | None = None) -> bytes:
-        """The table of the frames of a script, as comma-separated values."""
+    def frames(
+        self,
+        script: Octets,
+        rate: int = 1000,
+        mtu: int = 1500,
+        room: int = 128,
+        until: int | None = None,
+        streams: Octets | None = None,
+    ) -> bytes:
+        """The table of the frames of a script, as comma-separated values; with `streams` also the stream of each."""
 
     def check(self, schedules: Octets, rate: int = 1000, windows: bool = False) -> bytes:
         """What schedules keep apart, and their windows."""
@@ -113,10 +121,21 @@ class Program:
         script = octets(script)
         return self._one(["script", *self._port(rate, mtu, room, until, summary)], script)
 
-    def frames(self, script: Octets, rate: int = 1000, mtu: int = 1500, room: int = 128, until: int | None = None) -> bytes:
+    def frames(
+        self,
+        script: Octets,
+        rate: int = 1000,
+        mtu: int = 1500,
+        room: int = 128,
+        until: int | None = None,
+        streams: Octets | None = None,
+    ) -> bytes:
         """Runs a script, and gives a table of its frames, as `taprio.library.frames` does."""
         script = octets(script)
-        return self._one(["frames", *self._port(rate, mtu, room, until, False)], script)
+        words = ["frames", *self._port(rate, mtu, room, until, False)]
+        if streams is None:
+            return self._one(words, script)
+        return self._with_file([*words, "--by-stream", "table"], "table", octets(streams), script)
 
     def check(self, schedules: Octets, rate: int = 1000, windows: bool = False) -> bytes:
         """Tells of each schedule command what it keeps apart, as `taprio.check` does."""

@@ -115,14 +115,23 @@ def run_streams(
 
 
 def frames(
-    script: Octets, *, rate: int = 1000, mtu: int = 1500, room: int = 128, until: int | None = None, port: Chosen = None
+    script: Octets,
+    *,
+    rate: int = 1000,
+    mtu: int = 1500,
+    room: int = 128,
+    until: int | None = None,
+    streams: Union[Iterable[Stream], Octets, None] = None,
+    port: Chosen = None,
 ) -> tuple[Frame, ...]:
     """The frames of a script, each with its class, its length, when it came, started and ended, and how long it waited; or why it was
     dropped. One that is left has no start. `pandas.DataFrame(taprio.results.rows(frames))` makes a table of them.
 
     They stand in the order of their fate: a dropped frame where it came, one that was sent where it started, and those that are left at the
-    end. The values are those of `run`, and moments are picoseconds. What runs the script is `port`, as `taprio.backend` says."""
-    return read_frames(backend(port).frames(script, rate=rate, mtu=mtu, room=room, until=until))
+    end. The values are those of `run`, and moments are picoseconds. With `streams`, which may also be a table, each frame has the first id of
+    the stream that it is of. What runs the script is `port`, as `taprio.backend` says."""
+    of = {} if streams is None else {"streams": _table(streams)}
+    return read_frames(backend(port).frames(script, rate=rate, mtu=mtu, room=room, until=until, **of))
 
 
 def bounds(

@@ -26,6 +26,8 @@ if PROGRAM:
 HAS_LIBRARY = taprio.library.is_there()
 HAS_BOUNDS = HAS_LIBRARY and taprio.library.has("taprio_bounds")
 HAS_FRAMES = HAS_LIBRARY and taprio.library.has("taprio_frames")
+HAS_FRAMES_BY_STREAM = HAS_LIBRARY and taprio.library.has("taprio_frames_by_stream")
+HAS_MOMENT = HAS_LIBRARY and taprio.library.has("taprio_moment")
 
 wants_library = unittest.skipUnless(HAS_LIBRARY, "bindings/c/out/libtaprio.so isn't there: bindings/c/build makes it")
 wants_program = unittest.skipUnless(PROGRAM, "there is no program: name one in TAPRIO_PORT")
@@ -33,6 +35,9 @@ BOUNDS = PROGRAM or ("library" if HAS_BOUNDS else None)
 wants_bounds = unittest.skipUnless(BOUNDS, "there is neither a program nor a library with bounds")
 FRAMES = PROGRAM or ("library" if HAS_FRAMES else None)
 wants_frames = unittest.skipUnless(FRAMES, "there is neither a program nor a library with tables of frames")
+FRAMES_BY_STREAM = PROGRAM or ("library" if HAS_FRAMES_BY_STREAM else None)
+wants_frames_by_stream = unittest.skipUnless(FRAMES_BY_STREAM, "there is neither a program nor a library with tables of frames by stream")
+wants_moment = unittest.skipUnless(HAS_MOMENT, "there is no library that reads moments")
 wants_port = unittest.skipUnless(HAS_LIBRARY or PROGRAM, "there is neither bindings/c/out/libtaprio.so nor a program")
 
 

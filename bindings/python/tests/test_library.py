@@ -48,6 +48,27 @@ class Frames:
             self.port.frames("", room=0)
 
 
+class FramesByStream:
+    """What is asked of the library where it has the call, and of the program."""
+
+    STREAMS = "stream 2 0 60 1us 0us 2\n\nstream 1 0 60 1us 0us 9\n"
+    STREAM_HEAD = b"id,class,len,arrival_ps,start_ps,end_ps,wait_ps,fate,stream\n"
+
+    def test_frames_by_stream(self):
+        script = "frame 1 0 60\nframe 3 16 60\nframe 10 0 60\n"
+        told = self.port.frames(script, streams=self.STREAMS)
+        self.assertEqual(told, self.STREAM_HEAD + b"3,,60,0,,,,NoClass,2\n1,0,60,0,,,,left,1\n10,0,60,0,,,,left,\n")
+        self.assertEqual(self.port.frames("", 100, 1000, 1, 5, b""), self.STREAM_HEAD)
+
+    def test_faults_of_frames_by_stream(self):
+        with self.assertRaises(taprio.BadInput) as caught:
+            self.port.frames("frame 2 0 13\nclok\n", streams=self.STREAMS)
+        self.assertEqual(caught.exception.output, self.STREAM_HEAD + b"2,0,13,0,,,,Runt,2\n")
+        with self.assertRaises(taprio.BadInput) as caught:
+            self.port.frames("frame 2 0 13\n", streams="stream 1\n")
+        self.assertEqual((str(caught.exception), caught.exception.output), ("table line 1: WordCount", b""))
+
+
 class Bounds:
     """What is asked of the library where it has the call, and of the program."""
 
@@ -283,8 +304,27 @@ class FramesOverTheLibrary(Frames, unittest.TestCase):
     port = taprio.Library()
 
 
+@support.wants_library
+@unittest.skipUnless(support.HAS_FRAMES_BY_STREAM, "this library has no taprio_frames_by_stream: build it again with bindings/c/build")
+class FramesByStreamOverTheLibrary(FramesByStream, unittest.TestCase):
+    port = taprio.Library()
+
+
+@support.wants_moment
+class Moments(unittest.TestCase):
+    def test_moments(self):
+        for word, moment in (("0", 0), ("12.303us", 12_303_000), ("18446744073709551616", 1 << 64), ("9223372036.854775807s", 9223372036854775807000)):
+            with self.subTest(word):
+                self.assertEqual(taprio.moment(word), moment)
+
+    def test_what_is_none(self):
+        for word in ("", "1 us", "-1", "0.0005ns", "9223372036854775807001", "\u00b5s"):
+            with self.subTest(word), self.assertRaisesRegex(ValueError, "is no moment$"):
+                taprio.moment(word)
+
+
 @support.wants_program
-class OverTheProgram(Examples, Faults, Room, Bounds, Frames, unittest.TestCase):
+class OverTheProgram(Examples, Faults, Room, Bounds, Frames, FramesByStream, unittest.TestCase):
     port = taprio.Program(support.PROGRAM or "taprio_port")
 
     def test_what_it_can_not_do(self):

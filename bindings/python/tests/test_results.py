@@ -68,6 +68,7 @@ class Runs(unittest.TestCase):
                 "dropped": None,
                 "priority": 0 + 5,
                 "length": 1514,
+                "stream": None,
             },
         )
         self.assertEqual([row["traffic_class"] for row in found.summary_rows()], [0, 5])
@@ -237,6 +238,16 @@ class Frames(unittest.TestCase):
         with self.assertRaises(taprio.BadInput):
             taprio.frames("clok\n", port=support.FRAMES)
 
+    @support.wants_frames_by_stream
+    def test_streams(self):
+        streams = [taprio.Stream(first_id=10, priority=0, length=60, period=1000, count=2), taprio.Stream(first_id=7, priority=0, length=60, period=1000, count=9)]
+        script = "frame 6 0 60\nframe 7 0 60\nframe 11 0 60\nframe 15 16 60\nframe 16 0 13\nclock 672000\n"
+        found = taprio.frames(script, streams=streams, port=support.FRAMES_BY_STREAM)
+        self.assertEqual([(it.id, it.stream) for it in found], [(15, 7), (16, None), (6, None), (7, 7), (11, 10)])
+        self.assertEqual([it.stream for it in taprio.frames(script, streams=taprio.table(streams), port=support.FRAMES_BY_STREAM)], [it.stream for it in found])
+        with self.assertRaisesRegex(taprio.BadInput, "table line 1"):
+            taprio.frames(script, streams="strem 1\n", port=support.FRAMES_BY_STREAM)
+
     @support.wants_frames
     def test_examples(self):
         """In each example the frames of the table are those of the answers, in the order of their fate."""
@@ -250,7 +261,10 @@ class Frames(unittest.TestCase):
     def test_what_is_no_table(self):
         head = "id,class,len,arrival_ps,start_ps,end_ps,wait_ps,fate\n"
         self.assertEqual(taprio.read_frames(head), ())
-        for text, line in (("", 1), ("id,class\n", 1), (f"{head}1,0,60,0,,,,\n", 2), (f"{head}1,0,60,0,,,,left\n1,0,60\n", 3)):
+        by_stream = f"{head[:-1]},stream\n"
+        self.assertEqual([it.stream for it in taprio.read_frames(f"{by_stream}1,0,60,0,,,,left,\n2,0,60,0,,,,left,2\n")], [None, 2])
+        others = [(f"{by_stream}1,0,60,0,,,,left\n", 2), (f"{head}1,0,60,0,,,,left,2\n", 2)]
+        for text, line in (("", 1), ("id,class\n", 1), (f"{head}1,0,60,0,,,,\n", 2), (f"{head}1,0,60,0,,,,left\n1,0,60\n", 3), *others):
             with self.subTest(text), self.assertRaisesRegex(taprio.BadAnswer, f"^line {line}: "):
                 taprio.read_frames(text)
 

@@ -1,5 +1,5 @@
 -- The records of a capture: each a header of 16 octets and the octets captured (pcap-savefile(5), the per-packet header).
-use Rattle.std.specs.Prelude.{◌≡◌, ◌≤◌, ◌<◌, ◌^◌, ℕ, ◌+◌, ◌*◌, List, length, take, drop, Option, Some, None, Result, Ok, Err, nat_lt, nat_le, if◌then◌else◌}
+use Rattle.std.specs.Prelude.{◌≡◌, ◌≤◌, ◌<◌, ◌^◌, ℕ, ◌+◌, ◌*◌, List, length, take, drop, Option, Some, None, Bool, ◌&&◌, Result, Ok, Err, nat_lt, nat_le, if◌then◌else◌}
 use Rattle.std.specs.Option.{option_or}
 use Rattle.capture.specs.declared.fault.CapFault.{CapFault}
 use Rattle.capture.specs.declared.fault.CapFault.TheVariants.{ShortRecord, LongRecord, BadFraction, TooManyRecords}
@@ -79,6 +79,10 @@ entry_at format octets = record {
   original = (header_at format octets).original;
   octets = take (header_at format octets).captured (drop 16 octets);
 }
+
+-- a record's header, and as many octets after it as it says
+abbrev pub holds_record : Format → List ℕ → Bool
+holds_record format octets = nat_le 16 (length octets) && nat_le (16 + (header_at format octets).captured) (length octets)
 
 -- the octets after it
 abbrev pub rest_after : Format → List ℕ → List ℕ

@@ -7,7 +7,7 @@ pub use Rattle.capture.specs.FileHeader.{IsHeaderFault, format_by_magic, format_
 pub use Rattle.capture.specs.Numbers.{u16_at, u32_at, u32_octets}
 pub use Rattle.capture.specs.ReadAhead.{held, last_given}
 pub use Rattle.capture.specs.Record.{entry, frame_of, is_tagged}
-pub use Rattle.capture.specs.Records.{Entry, entry_at, fault_at, fault_with, fraction_of, fractions_of, header_at, header_fault, moment_of, ok_unless, rest_after}
+pub use Rattle.capture.specs.Records.{Entry, entry_at, fault_at, fault_with, fraction_of, fractions_of, header_at, header_fault, holds_record, moment_of, ok_unless, rest_after}
 pub use Rattle.capture.specs.Layout.{IsSpelling}
 unfoldable pub use Rattle.capture.specs.Layout.{spelled_record_header}
 pub use Rattle.capture.specs.Step.{Step, is_record_fault}

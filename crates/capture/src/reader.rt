@@ -4,7 +4,7 @@ ghost use Rattle.std.specs.Prelude.{◌≡◌, ◌≢◌, ◌≤◌, ◌<◌, �
 ghost use Rattle.std.specs.Io.KnownBytes.{Keeps, IsAtEnd, prepend_known};
 ghost use Rattle.std.specs.Io.BufRead.{Rests};
 ghost use Rattle.std.specs.Borrow.{sem};
-ghost use Rattle.capture.specs.Words.{MAX_RECORDS, MAX_RECORD_OCTETS, ROOM, held, Step, is_record_fault, fault_at, fractions_of};
+ghost use Rattle.capture.specs.Words.{MAX_RECORDS, MAX_RECORD_OCTETS, ROOM, held, Step, is_record_fault, fault_at, fractions_of, holds_record};
 
 use crate::fault::CapFault;
 use crate::format::{Format, RecordHeader, check_header, moment, read_header};
@@ -98,7 +98,7 @@ fn read_record<R: Read, A: Allocator>(
 impl<R: Read, A: Allocator> CaptureReader<R, A> {
     ghost use Rattle.capture.specs.contracts.reader.CaptureReader.{the_row};
     ghost use Rattle.capture.specs.FileHeader.{IsHeaderFault};
-    ghost use Rattle.capture.specs.CaptureReader.{IsNewReader, left, answer, shown, Next};
+    ghost use Rattle.capture.specs.CaptureReader.{IsNewReader, IsWanting, left, answer, shown, Next};
 
     /// Reads the file header and no octet more, and then takes the room for one record. No later call wants memory.
     pub fn new(alloc: A, reader: R) -> Result<CaptureReader<R, A>, CapFault>
@@ -120,6 +120,20 @@ impl<R: Read, A: Allocator> CaptureReader<R, A> {
             number: 0,
             ended: None,
         })
+    }
+
+    /// Whether a record stands whole in hand. Where none does, `next` may have to read.
+    #[inline(always)]
+    pub fn has_record(&self) -> bool
+        ensures whole { result ≡ holds_record self.now.format (held self.now.ahead) }
+        ensures unread { result ≡ true → IsWanting (left self.now) → ⊥ }
+    {
+        let octets = self.ahead.octets();
+        if octets.len() < RECORD_HEADER {
+            return false;
+        }
+        let header = read_header(self.format, octets);
+        octets.len() >= RECORD_HEADER + header.captured as usize
     }
 
     /// The next record, or None at the end. After None it answers None, after a fault that fault.

@@ -14,13 +14,13 @@ one_lane lane lanes = refl
 pub next_lane : (lane : ℕ) (lanes : List Filled) → shapes_to (lane + 1) lanes ≡ shapes_to lane lanes + length (lane_at lanes lane).shapes
 next_lane lane lanes = let after : lane + 1 ≡ suc lane = omega arith in ap (λ n. shapes_to n lanes) after ∙ one_lane lane lanes
 
-pub no_bands_yet : (classes : List ClassLane) → bands_to zero classes ≡ 0
+pub no_bands_yet : (classes mixed : List ClassLane) → bands_to zero classes mixed ≡ 0
 unfolding bands_to
-no_bands_yet classes = refl
+no_bands_yet classes mixed = refl
 
-one_class : (class : ℕ) (classes : List ClassLane) → bands_to (suc class) classes ≡ bands_to class classes + length (class_at classes class).lane.shapes
+one_class : (class : ℕ) (classes mixed : List ClassLane) → bands_to (suc class) classes mixed ≡ bands_to class classes mixed + (length (class_at classes class).lane.shapes + length (class_at mixed class).lane.shapes)
 unfolding bands_to
-one_class class classes = refl
+one_class class classes mixed = refl
 
-pub next_bands : (class : ℕ) (classes : List ClassLane) → bands_to (class + 1) classes ≡ bands_to class classes + length (class_at classes class).lane.shapes
-next_bands class classes = let after : class + 1 ≡ suc class = omega arith in ap (λ n. bands_to n classes) after ∙ one_class class classes
+pub next_bands : (class : ℕ) (classes mixed : List ClassLane) → bands_to (class + 1) classes mixed ≡ bands_to class classes mixed + (length (class_at classes class).lane.shapes + length (class_at mixed class).lane.shapes)
+next_bands class classes mixed = let after : class + 1 ≡ suc class = omega arith in ap (λ n. bands_to n classes mixed) after ∙ one_class class classes mixed

@@ -3,3 +3,4 @@ pub mod CountLaws
 pub mod EndLaws
 pub mod DigitLaws
 pub mod ShownLaws
+pub mod WaitLaws

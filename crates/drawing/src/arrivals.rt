@@ -1,6 +1,6 @@
 //! When the frames that wait have come.
 
-ghost use Rattle.std.specs.Prelude.{◌≡◌, ◌<◌, IfOk, slice_get, slice_set};
+ghost use Rattle.std.specs.Prelude.{◌≡◌, ◌<◌, IfOk, Some, length, slice_get, slice_set};
 ghost use Rattle.drawing.specs.Words.{none_wait, none_waits, waiting_in, with_arrival, without_first};
 
 use circular_buffer::HeapCircularBuffer;
@@ -47,6 +47,21 @@ impl<A: Allocator> ClassArrivals<A> {
         ensures rest { self.new ≡ without_first self.old }
     {
         self.moments.pop_front()
+    }
+
+    /// How many frames wait.
+    pub fn len(&self) -> usize
+        ensures { result ≡ length self.now.moments }
+    {
+        self.moments.len()
+    }
+
+    /// When the frame at a place, from 0, of those that wait came, in picoseconds.
+    pub fn get(&self, place: usize) -> u128
+        requires { place < length self.now.moments }
+        ensures { slice_get self.now.moments place ≡ Some result }
+    {
+        self.moments.get(place).copied().unwrap()
     }
 }
 
@@ -113,6 +128,14 @@ fn take_from<A: Allocator>(classes: &mut [ClassArrivals<A>; CLASSES], class: u8)
     classes[class as usize].take()
 }
 
+/// The frames of a class that wait.
+fn class_in<A: Allocator>(classes: &[ClassArrivals<A>; CLASSES], class: u8) -> &ClassArrivals<A>
+    requires { class < 8 }
+    ensures { result.now ≡ waiting_in classes.now class }
+{
+    &classes[class as usize]
+}
+
 /// The arrival moments of the frames that wait, by class.
 #[derive(Drop)]
 pub struct Arrivals<A: Allocator> {
@@ -161,5 +184,22 @@ impl<A: Allocator> Arrivals<A> {
         } else {
             None
         }
+    }
+
+    /// How many frames of a class wait.
+    pub fn len(&self, class: u8) -> usize
+        requires { class < 8 }
+        ensures { result ≡ length (waiting_in self.now class).moments }
+    {
+        class_in(&self.classes, class).len()
+    }
+
+    /// When the frame at a place, from 0, of those of a class that wait came, in picoseconds.
+    pub fn get(&self, class: u8, place: usize) -> u128
+        requires class { class < 8 }
+        requires place { place < length (waiting_in self.now class).moments }
+        ensures { slice_get (waiting_in self.now class).moments place ≡ Some result }
+    {
+        class_in(&self.classes, class).get(place)
     }
 }

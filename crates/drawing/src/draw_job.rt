@@ -7,20 +7,21 @@ ghost use Rattle.drawing.specs.Words.{settings_given, words_of_values, greatest_
 use crate::draw_run::draw;
 use crate::options::{DrawValues, options_given};
 use job::{Ended, end_run};
-use script::{Values, end_with_value, settings_given};
+use script::{Values, Watch, end_with_value, settings_given};
 use std::alloc::{Allocator, Global};
 use std::io::{BufWriter, Read, Write};
 use wire_time::MAX_MOMENT;
 
 /// Draws the run of the script that `reader` gives, by these values, through `answers`, with the text of a fault on `errors`; and gives the
 /// writer of the answers back. At a fault of the script nothing is drawn.
-pub fn answer_draw<B: Allocator, R: Read, W: Write + Drop, E: Write>(
+pub fn answer_draw<B: Allocator, R: Read, W: Write + Drop, E: Write, H: Watch>(
     alloc: Global,
     values: Values<'_>,
     draws: DrawValues<'_>,
     reader: &mut R,
     mut answers: BufWriter<W, B>,
     errors: &mut E,
+    watch: &mut H,
 ) -> (Ended, W)
     ensures ending { IsDrawEnding (settings_given greatest_moment (words_of_values values.entry))
         (options_of (words_of_draws draws.entry))
@@ -34,7 +35,7 @@ pub fn answer_draw<B: Allocator, R: Read, W: Write + Drop, E: Write>(
     };
     match options_given(draws) {
         Ok(options) => {
-            let run = draw(alloc, reader, &mut answers, settings, options);
+            let run = draw(alloc, reader, &mut answers, settings, options, watch);
             end_run(run, answers, errors)
         }
         Err(value) => end_with_value(value, answers, errors),

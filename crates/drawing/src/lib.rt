@@ -21,7 +21,7 @@ pub use course::Course;
 pub use draw_job::answer_draw;
 pub use draw_run::{draw, take};
 pub use options::{DrawOptions, DrawValues, options_given};
-pub use page::{Page, lane_top};
+pub use page::{Page, Place, lane_top};
 pub use shapes::Shapes;
 pub use svg::put_picture;
 pub use view::View;

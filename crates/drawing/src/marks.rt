@@ -7,27 +7,37 @@ use answer_text::{Part, WriteFault, put, put_parts};
 use picture::Shape;
 use std::io::Write;
 
-/// The least width of a rectangle, in hundredths of a pixel: what is shorter would vanish.
-const LEAST_WIDTH: u64 = 100;
+/// How times look at which a class is open and closed.
+pub(crate) const MIXED: &[u8] = b"p";
+
+/// The least width of a band, in hundredths of a pixel: what is narrower would vanish.
+const LEAST_BAND: u64 = 100;
+
+/// The least width of a bar, in hundredths of a pixel: it is to be seen beside the line of a wait.
+const LEAST_BAR: u64 = 200;
+
+/// The least width of what has an edge, in hundredths of a pixel: the edge would hide what is narrower.
+const LEAST_EDGED: u64 = 400;
 
 /// How far apart the labels of changes stand at least, in hundredths of a pixel.
 const LABEL_WIDTH: u64 = 9_600;
 
-/// Writes a rectangle from one place to another, both in hundredths of a pixel, at this height from above and of this height, in pixels.
+/// Writes a rectangle from a place on and of a width, both in hundredths of a pixel, at this height from above and of this height, in pixels.
 pub(crate) fn put_rect<W: Write>(
     writer: &mut W,
     look: &[u8],
     left: u64,
-    right: u64,
+    width: u64,
     top: u32,
     height: u32,
 ) -> Result<(), WriteFault> {
-    let width = right.saturating_sub(left).max(LEAST_WIDTH);
+    let edge: &[u8] = if width < LEAST_EDGED { b" s" } else { b"" };
     put_parts(
         writer,
         &[
             Part::Text(b"<rect class=\""),
             Part::Text(look),
+            Part::Text(edge),
             Part::Text(b"\" x=\""),
             Part::Number(u128::from(left / 100)),
             Part::Text(b"."),
@@ -74,25 +84,27 @@ pub(crate) fn put_line<W: Write>(
     )
 }
 
-/// Writes the bands of a class, whose lane begins at this height.
+/// Writes the bands of a class, whose lane begins at this height. A band of several has the look of times at which a class is open and closed. What a
+/// band before it covers isn't written.
 pub(crate) fn put_bands<W: Write>(
     writer: &mut W,
     page: &Page,
     top: u32,
     shapes: &[Shape],
+    look: &[u8],
 ) -> Result<(), WriteFault>
     requires { top ≤ BOTTOM }
 {
+    let mut covered = 0;
     for shape in shapes {
         if let Some(span) = page.viewport.cut(shape.span) {
-            put_rect(
-                writer,
-                b"o",
-                page.x(span.from),
-                page.x(span.to),
-                top,
-                LANE_HEIGHT,
-            )?;
+            let place = page.place(span, LEAST_BAND);
+            let right = place.left + place.width;
+            if covered < right {
+                let look = if shape.id.is_some() { look } else { MIXED };
+                put_rect(writer, look, place.left, place.width, top, LANE_HEIGHT)?;
+                covered = right;
+            }
         }
     }
     Ok(())
@@ -143,12 +155,19 @@ fn put_bar<W: Write>(writer: &mut W, page: &Page, top: u32, shape: &Shape) -> Re
     let Some(span) = page.viewport.cut(shape.span) else {
         return Ok(());
     };
-    let left = page.x(span.from);
-    let right = page.x(span.to);
-    let width = right.saturating_sub(left);
-    put_rect(writer, b"f", left, right, top + 10, LANE_HEIGHT - 12)?;
+    let place = page.place(span, LEAST_BAR);
+    put_rect(
+        writer,
+        b"f",
+        place.left,
+        place.width,
+        top + 10,
+        LANE_HEIGHT - 12,
+    )?;
     match shape.id {
-        Some(id) if has_room(width, id) => put_id(writer, left + width / 2, top, id),
+        Some(id) if has_room(place.width, id) => {
+            put_id(writer, place.left + place.width / 2, top, id)
+        }
         _ => Ok(()),
     }
 }
@@ -168,7 +187,8 @@ pub(crate) fn put_bars<W: Write>(
     Ok(())
 }
 
-/// Writes the wait of a frame: a line from its arrival, which is marked where it lies within the viewport, to its start.
+/// Writes the wait of a frame: a line from its arrival, which is marked where it lies within the viewport, to its start. Where the wait goes on at the
+/// end of the picture the line ends there in a point.
 fn put_wait<W: Write>(
     writer: &mut W,
     page: &Page,
@@ -185,6 +205,11 @@ fn put_wait<W: Write>(
     if span.from == shape.span.from {
         put_line(writer, b"w", left, top + 2, top + 26)?;
     }
+    let end: &[u8] = if shape.span.to < page.viewport.to() {
+        b""
+    } else {
+        b"l-6 -4m6 4l-6 4"
+    };
     put_parts(
         writer,
         &[
@@ -200,6 +225,7 @@ fn put_wait<W: Write>(
             Part::Text(b"."),
             Part::Number(u128::from(right / 10 % 10)),
             Part::Number(u128::from(right % 10)),
+            Part::Text(end),
             Part::Text(b"\"/>\n"),
         ],
     )
@@ -220,6 +246,34 @@ pub(crate) fn put_waits<W: Write>(
     Ok(())
 }
 
+/// Writes the mark of frames that were dropped, from the first to the last of them: a cross, or two that are joined.
+fn put_drop<W: Write>(writer: &mut W, left: u64, right: u64, top: u32) -> Result<(), WriteFault>
+    requires left { 400 ≤ left }
+    requires top { top ≤ BOTTOM }
+{
+    put_parts(
+        writer,
+        &[
+            Part::Text(b"<path class=\"d\" d=\"M"),
+            Part::Number(u128::from(left / 100 - 4)),
+            Part::Text(b" "),
+            Part::Number(u128::from(top + 10)),
+            Part::Text(b"l8 8m0 -8l-8 8"),
+        ],
+    )?;
+    if left / 100 < right / 100 {
+        put_parts(
+            writer,
+            &[
+                Part::Text(b"m4 -4H"),
+                Part::Number(u128::from(right / 100)),
+                Part::Text(b"m-4 -4l8 8m0 -8l-8 8"),
+            ],
+        )?;
+    }
+    put(writer, b"\"/>\n")
+}
+
 /// Writes a mark for each frame that was dropped, in a lane that begins at this height.
 pub(crate) fn put_drops<W: Write>(
     writer: &mut W,
@@ -231,16 +285,7 @@ pub(crate) fn put_drops<W: Write>(
 {
     for shape in shapes {
         if let Some(span) = page.viewport.cut(shape.span) {
-            put_parts(
-                writer,
-                &[
-                    Part::Text(b"<path class=\"d\" d=\"M"),
-                    Part::Number(u128::from(page.x(span.from) / 100 - 4)),
-                    Part::Text(b" "),
-                    Part::Number(u128::from(top + 10)),
-                    Part::Text(b"l8 8m0 -8l-8 8\"/>\n"),
-                ],
-            )?;
+            put_drop(writer, page.x(span.from), page.x(span.to), top)?;
         }
     }
     Ok(())
@@ -281,6 +326,28 @@ fn put_change_name<W: Write>(
     }
 }
 
+/// Writes the line of changes of the schedule, from the first to the last of them: one, or two that are joined above.
+fn put_change<W: Write>(writer: &mut W, left: u64, right: u64) -> Result<(), WriteFault> {
+    put_line(writer, b"c", left, CLASS_TOP - 10, BOTTOM)?;
+    if left / 100 < right / 100 {
+        put_parts(
+            writer,
+            &[
+                Part::Text(b"<path class=\"c\" d=\"M"),
+                Part::Number(u128::from(left / 100)),
+                Part::Text(b" "),
+                Part::Number(u128::from(CLASS_TOP - 10)),
+                Part::Text(b"H"),
+                Part::Number(u128::from(right / 100)),
+                Part::Text(b"V"),
+                Part::Number(u128::from(BOTTOM)),
+                Part::Text(b"\"/>\n"),
+            ],
+        )?;
+    }
+    Ok(())
+}
+
 /// Writes a line for each change of the schedule, with its name where there is room.
 pub(crate) fn put_changes<W: Write>(
     writer: &mut W,
@@ -291,7 +358,7 @@ pub(crate) fn put_changes<W: Write>(
     for shape in shapes {
         if let Some(span) = page.viewport.cut(shape.span) {
             let x = page.x(span.from);
-            put_line(writer, b"c", x, CLASS_TOP - 10, BOTTOM)?;
+            put_change(writer, x, page.x(span.to))?;
             if free <= x {
                 put_change_name(writer, page, x, shape.id)?;
                 free = x + LABEL_WIDTH;

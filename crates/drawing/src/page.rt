@@ -1,9 +1,9 @@
 //! The page of a picture: its viewport, its size and where its lanes lie.
 
 ghost use Rattle.std.specs.Prelude.{◌≡◌, ◌<◌, ◌≤◌, ◌+◌, ◌*◌};
-ghost use Rattle.drawing.specs.Words.{x_in, label_at, top_of};
+ghost use Rattle.drawing.specs.Words.{x_in, label_at, place_of, top_of};
 
-use picture::Viewport;
+use picture::{Span, Viewport};
 use wire_time::Rate;
 
 /// Where time begins, in pixels from the left.
@@ -49,6 +49,15 @@ pub(crate) const HEIGHT: u32 = BOTTOM + 58;
 /// fonts.
 pub(crate) const HALF_CHARACTER: u64 = 350;
 
+/// Where a part of a row begins, and how wide it is, in hundredths of a pixel.
+#[derive(Clone, Copy, Debug, PartialEq, Eq)]
+pub struct Place {
+    /// Where it begins, from the left.
+    pub left: u64,
+    /// How wide it is.
+    pub width: u64,
+}
+
 /// The viewport of a picture, its width, and the rate and the mtu that it shows.
 #[derive(Clone, Copy, Debug)]
 pub struct Page {
@@ -64,11 +73,28 @@ impl Page {
     /// Where a moment, in picoseconds, lies in the picture: hundredths of a pixel from the left.
     pub fn x(&self, moment: u128) -> u64
         ensures place { result ≡ 100 * LEFT + x_in self.now.viewport moment }
-        ensures within { (100 * LEFT ≤ result) × (result ≤ 100 * (LEFT + MAX_WIDTH)) }
+        ensures within { (100 * LEFT ≤ result) × (result ≤ 100 * (LEFT + self.now.viewport.width)) × (result ≤ 100 * (LEFT + MAX_WIDTH)) }
     {
         // For the prover: the getter says within which limits a width lies.
         let _width = self.viewport.width();
         u64::from(LEFT) * 100 + self.viewport.x(moment)
+    }
+
+    /// Where a part of a row lies that shows this time: it has at least this width, at most two pixels, in hundredths of a pixel, and lies in the row.
+    pub fn place(&self, span: Span, least: u64) -> Place
+        requires { least ≤ 200 }
+        ensures place { result ≡ place_of (100 * (LEFT + self.now.viewport.width)) least (100 * LEFT + x_in self.now.viewport span.from) (100 * LEFT + x_in self.now.viewport span.to) }
+        ensures wide { least ≤ result.width }
+        ensures within { result.left + result.width ≤ 100 * (LEFT + self.now.viewport.width) }
+        ensures few { result.left + result.width ≤ 100 * (LEFT + MAX_WIDTH) }
+    {
+        let left = self.x(span.from);
+        let width = self.x(span.to).saturating_sub(left).max(least);
+        let end = u64::from(LEFT + self.viewport.width()) * 100;
+        Place {
+            left: left.min(end - width),
+            width,
+        }
     }
 
     /// Where the middle of a label stands that belongs to this place and has so many characters: at its place, or as near to it as the label

@@ -1,7 +1,7 @@
 //! What is drawn of a run.
 
 ghost use Rattle.std.specs.Prelude.{◌≡◌, ◌<◌, ◌≤◌, ◌*◌, ℕ, IfOk, length, slice_set, true};
-ghost use Rattle.drawing.specs.Words.{greatest_moment, drawn_in, empty_lanes, frame_drawn, is_drawn, nothing_shown, lane_at, lane_of, shape_of, shapes_to, wait_drawn, joined_at, no_shapes, MOST_SHAPES};
+ghost use Rattle.drawing.specs.Words.{greatest_moment, change_drawn, in_time, drawn_in, empty_lanes, frame_drawn, is_drawn, nothing_shown, lane_at, lane_of, shape_of, shapes_to, wait_drawn, joined_at, no_shapes, MOST_SHAPES};
 
 use crate::page::{LANES, WIRE};
 use crate::view::View;
@@ -107,14 +107,25 @@ fn is_drawn(start: &Start) -> bool
     start.class < WIRE && start.at <= MAX_MOMENT
 }
 
-/// A frame that came at this moment, in picoseconds, waited up to its start, unless it started at once.
-fn draw_wait<A: Allocator>(view: View, lanes: &mut [Lane<A>; 9], came: u128, start: &Start)
-    requires class { start.now.class < WIRE }
-    requires within { start.now.at ≤ greatest_moment }
-    ensures { lanes.new ≡ wait_drawn view came start.now lanes.old }
+/// A frame of a class that came at this moment waits up to another, where that is later; both are in picoseconds.
+fn draw_wait<A: Allocator>(
+    view: View,
+    lanes: &mut [Lane<A>; 9],
+    class: u8,
+    came: u128,
+    upto: u128,
+    id: Option<u64>,
+)
+    requires class { class < WIRE }
+    requires within { upto ≤ greatest_moment }
+    ensures { lanes.new ≡ wait_drawn view class came upto id lanes.old }
 {
-    if came < start.at {
-        draw_in(view, lanes, start.class, shape_of(came, start.at, start.id));
+    if came < upto {
+        let span = Span {
+            from: came,
+            to: upto,
+        };
+        draw_in(view, lanes, class, Shape { span, id });
     }
 }
 
@@ -129,6 +140,33 @@ fn draw_frame<A: Allocator>(view: View, lanes: &mut [Lane<A>; 9], start: &Start)
     draw_in(view, lanes, WIRE, shape);
 }
 
+/// The change of a command, where it is in time: at or before the lead moment of the next command, which is given now and has that moment so long
+/// after it, in picoseconds.
+fn in_time(lead: u128, now: u128, change: Option<Shape>) -> Option<Shape>
+    ensures { result ≡ in_time lead now change }
+{
+    let shape = change?;
+    if shape.span.from.saturating_sub(lead) <= now {
+        Some(shape)
+    } else {
+        None
+    }
+}
+
+/// A change, if there is one and it is shown. One after the greatest moment isn't drawn.
+fn draw_change<A: Allocator>(view: View, lane: &mut Lane<A>, change: Option<Shape>)
+    ensures { lane.new ≡ change_drawn view change lane.old }
+{
+    match change {
+        None => {}
+        Some(shape) => {
+            if shape.span.from <= MAX_MOMENT && view.shows(shape.span) {
+                lane.push(shape);
+            }
+        }
+    }
+}
+
 /// The lane of a class, or the wire's where there is none.
 fn lane_of(class: Option<u8>) -> u8
     ensures lane { result ≡ lane_of class }
@@ -140,7 +178,8 @@ fn lane_of(class: Option<u8>) -> u8
     }
 }
 
-/// The shapes of a run: by lane, the frames on the wire, how long they waited, and those that were dropped; and when the schedule changes.
+/// The shapes of a run: by lane, the frames on the wire, how long they wait, and those that were dropped; when the schedule changes; and the change
+/// of the last command, which a later one may replace.
 #[derive(Drop)]
 pub struct Shapes<A: Allocator> {
     view: View,
@@ -148,7 +187,9 @@ pub struct Shapes<A: Allocator> {
     waits: [Lane<A>; 9],
     drops: [Lane<A>; 9],
     changes: Lane<A>,
+    next: Option<Shape>,
     accepted: u64,
+    lead: u128,
 }
 
 /// A contract sees what is shown.
@@ -157,17 +198,19 @@ impl<A: Allocator> Model for Shapes<A> {
 
     ghost Value = { Shown };
 
-    ghost view = { λ s. record { view = s.view; frames = s.frames; waits = s.waits; drops = s.drops; changes = s.changes; accepted = s.accepted } };
+    ghost view = { λ s. record { view = s.view; frames = s.frames; waits = s.waits; drops = s.drops; changes = s.changes; next = s.next; accepted = s.accepted; lead = s.lead } };
 }
 
 impl<A: Allocator> Shapes<A> {
-    ghost use Rattle.drawing.specs.Shapes.{IsJoined, lane_at, shape_count, with_start, with_dropped, with_change};
+    ghost use Rattle.drawing.specs.Shapes.{IsJoined, lane_at, shape_count, with_start, with_dropped, with_change, with_last_change};
+    ghost use Rattle.std.specs.Prelude.{None};
 
-    /// Nothing is drawn, and of what comes what this view shows will be. All memory that is ever wanted is taken here.
-    pub fn new(alloc: &A, view: View) -> Result<Shapes<A>, AllocError>
+    /// Nothing is drawn, and of what comes what this view shows will be. A command has its lead moment so long after it is given, in picoseconds.
+    /// All memory that is ever wanted is taken here.
+    pub fn new(alloc: &A, view: View, lead: u128) -> Result<Shapes<A>, AllocError>
     where
         A: Clone,
-        ensures { IfOk result (λ s. s ≡ nothing_shown view) }
+        ensures { IfOk result (λ s. s ≡ nothing_shown view lead) }
     {
         let frames = empty_lanes(alloc)?;
         let waits = empty_lanes(alloc)?;
@@ -179,7 +222,9 @@ impl<A: Allocator> Shapes<A> {
             waits,
             drops,
             changes,
+            next: None,
             accepted: 0,
+            lead,
         })
     }
 
@@ -191,7 +236,7 @@ impl<A: Allocator> Shapes<A> {
         shapes_in(&self.frames, lane)
     }
 
-    /// The waits in a lane, each from a frame's arrival to its start.
+    /// The waits in a lane, each from a frame's arrival to its start, or to the end of the picture or a later moment.
     pub fn waits(&self, lane: u8) -> &[Shape]
         requires { lane < LANES }
         ensures { result.now ≡ (lane_at self.now.waits lane).shapes }
@@ -221,7 +266,8 @@ impl<A: Allocator> Shapes<A> {
     {
         if is_drawn(start) {
             draw_frame(self.view, &mut self.frames, start);
-            draw_wait(self.view, &mut self.waits, came, start);
+            let id = Some(start.id);
+            draw_wait(self.view, &mut self.waits, start.class, came, start.at, id);
         }
     }
 
@@ -238,15 +284,32 @@ impl<A: Allocator> Shapes<A> {
         );
     }
 
-    /// The schedule changes at this moment, in picoseconds, by one more command that was accepted. A change after the greatest moment isn't drawn.
-    pub fn mark_change(&mut self, change: u128)
-        ensures { self.new ≡ with_change change self.old }
+    /// A frame of a class that came at this moment still waits at another; both are in picoseconds.
+    pub fn put_wait(&mut self, class: u8, came: u128, upto: u128)
+        requires class { class < WIRE }
+        requires within { upto ≤ greatest_moment }
+        ensures { self.new ≡ record self.old { waits = wait_drawn self.old.view class came upto None self.old.waits } }
     {
+        draw_wait(self.view, &mut self.waits, class, came, upto, None);
+    }
+
+    /// One more command is accepted now: by it the schedule changes at this moment, unless a later command replaces it; both are in picoseconds.
+    /// The command before it is drawn, unless this one replaces it.
+    pub fn mark_change(&mut self, now: u128, change: u128)
+        ensures { self.new ≡ with_change now change self.old }
+    {
+        let passed = in_time(self.lead, now, self.next);
+        draw_change(self.view, &mut self.changes, passed);
         self.accepted = self.accepted.saturating_add(1);
-        let shape = shape_of(change, change, self.accepted);
-        if change <= MAX_MOMENT && self.view.shows(shape.span) {
-            self.changes.push(shape);
-        }
+        self.next = Some(shape_of(change, change, self.accepted));
+    }
+
+    /// No command follows the last, which is drawn.
+    pub fn mark_last_change(&mut self)
+        ensures { self.new ≡ with_last_change self.old }
+    {
+        draw_change(self.view, &mut self.changes, self.next);
+        self.next = None;
     }
 
     /// How many shapes are drawn in all lanes.

@@ -3,16 +3,19 @@
 ghost use Rattle.std.specs.Prelude.{◌<◌};
 
 use crate::marks::{
-    digits, put_bands, put_bars, put_changes, put_drops, put_line, put_rect, put_waits,
+    MIXED, digits, put_bands, put_bars, put_changes, put_drops, put_line, put_rect, put_waits,
 };
 use crate::page::{
     AXIS, BOTTOM, CLASS_TOP, HALF_CHARACTER, HEIGHT, LANES, LEFT, LEGEND, Page, WIRE, lane_top,
 };
 use crate::shapes::Shapes;
 use answer_text::{Part, WriteFault, put, put_parts};
-use picture::{Bands, tick_step, unit_of};
+use picture::{Bands, Shape, tick_step, unit_of};
 use std::alloc::Allocator;
 use std::io::Write;
+
+/// How far the second line of the legend lies below the first, in pixels.
+const MIXED_LINE: u32 = 18;
 
 /// How the parts of the picture look: set apart by lightness and by form, so that they are in black and white too; and light on dark where the
 /// reader asks for that.
@@ -22,6 +25,8 @@ text{font:11px sans-serif;fill:#222}
 .t{font-size:15px;font-weight:bold}
 .o{fill:#cfe3f5;stroke:#6b8fb0;stroke-width:.5}
 .f{fill:#1f4e79;stroke:#fff;stroke-width:.5}
+.p{fill:#a8b4c0;stroke:#6b8fb0;stroke-width:.5}
+.s{stroke-width:0}
 .n{fill:#fff;font-size:10px;text-anchor:middle}
 .w{stroke:#b35900;stroke-width:1.5;fill:none}
 .d{stroke:#b00020;stroke-width:2;fill:none}
@@ -32,6 +37,7 @@ text{font:11px sans-serif;fill:#222}
 svg{background:#161616}
 text{fill:#e6e6e6}
 .o{fill:#24415c;stroke:#7ea6c9}
+.p{fill:#4d5660;stroke:#7ea6c9}
 .f{fill:#9fd0ff;stroke:#161616}
 .n{fill:#10202e}
 .w{stroke:#ffb35c}
@@ -56,9 +62,9 @@ fn put_name<W: Write>(writer: &mut W, page: &Page) -> Result<(), WriteFault> {
 }
 
 /// Writes the head of the picture: its size, its name and how its parts look.
-fn put_head<W: Write>(writer: &mut W, page: &Page) -> Result<(), WriteFault> {
+fn put_head<W: Write>(writer: &mut W, page: &Page, height: u32) -> Result<(), WriteFault> {
     let width = Part::Number(u128::from(page.width()));
-    let height = Part::Number(u128::from(HEIGHT));
+    let height = Part::Number(u128::from(height));
     put_parts(
         writer,
         &[
@@ -171,15 +177,20 @@ fn put_names<W: Write>(writer: &mut W) -> Result<(), WriteFault> {
     )
 }
 
-/// Writes the text of a part of the legend, at this pixel from the left.
-fn put_legend_text<W: Write>(writer: &mut W, x: u64, text: &[u8]) -> Result<(), WriteFault> {
+/// Writes the text of a part of the legend, at this pixel from the left and on this line.
+fn put_legend_text<W: Write>(
+    writer: &mut W,
+    x: u64,
+    line: u32,
+    text: &[u8],
+) -> Result<(), WriteFault> {
     put_parts(
         writer,
         &[
             Part::Text(b"<text x=\""),
             Part::Number(u128::from(x)),
             Part::Text(b"\" y=\""),
-            Part::Number(u128::from(LEGEND)),
+            Part::Number(u128::from(line)),
             Part::Text(b"\">"),
             Part::Text(text),
             Part::Text(b"</text>\n"),
@@ -212,30 +223,73 @@ fn put_legend_path<'a, W: Write>(
 /// Writes what the parts of the picture mean.
 fn put_legend<W: Write>(writer: &mut W) -> Result<(), WriteFault> {
     let left = u64::from(LEFT);
-    put_rect(
-        writer,
-        b"o",
-        left * 100,
-        left * 100 + 2_200,
-        LEGEND - 10,
-        12,
-    )?;
-    put_legend_text(writer, left + 28, b"open")?;
-    put_rect(
-        writer,
-        b"f",
-        left * 100 + 7_000,
-        left * 100 + 9_200,
-        LEGEND - 10,
-        12,
-    )?;
-    put_legend_text(writer, left + 98, b"frame")?;
+    put_rect(writer, b"o", left * 100, 2_200, LEGEND - 10, 12)?;
+    put_legend_text(writer, left + 28, LEGEND, b"open")?;
+    put_rect(writer, b"f", left * 100 + 7_000, 2_200, LEGEND - 10, 12)?;
+    put_legend_text(writer, left + 98, LEGEND, b"frame")?;
     put_legend_path(writer, b"w", left + 142, b"v-9m0 5h22")?;
-    put_legend_text(writer, left + 170, b"waits")?;
+    put_legend_text(writer, left + 170, LEGEND, b"waits")?;
     put_legend_path(writer, b"d", left + 216, b"l8 -8m0 8l-8 -8")?;
-    put_legend_text(writer, left + 230, b"dropped")?;
+    put_legend_text(writer, left + 230, LEGEND, b"dropped")?;
     put_legend_path(writer, b"c", left + 290, b"v-12")?;
-    put_legend_text(writer, left + 298, b"change")
+    put_legend_text(writer, left + 298, LEGEND, b"change")
+}
+
+/// Writes what the look of times means at which a class is open and closed, below the legend.
+fn put_mixed_legend<W: Write>(writer: &mut W) -> Result<(), WriteFault> {
+    let left = u64::from(LEFT);
+    put_rect(writer, MIXED, left * 100, 2_200, LEGEND + 8, 12)?;
+    put_legend_text(
+        writer,
+        left + 28,
+        LEGEND + MIXED_LINE,
+        b"open and closed, too close to show each",
+    )
+}
+
+/// Whether a class is open and closed at some of its times, as the picture shows it.
+fn is_mixed<A: Allocator>(page: &Page, bands: &Bands<A>, class: u8) -> bool
+    requires { class < WIRE }
+{
+    for shape in bands.mixed(class) {
+        if page.viewport.cut(shape.span).is_some() {
+            return true;
+        }
+    }
+    is_joined(page, bands.lane(class))
+}
+
+/// Whether some of the bands that are shown are joined.
+fn is_joined(page: &Page, shapes: &[Shape]) -> bool {
+    for shape in shapes {
+        if shape.id.is_none() && page.viewport.cut(shape.span).is_some() {
+            return true;
+        }
+    }
+    false
+}
+
+/// Whether some class is.
+fn has_mixed<A: Allocator>(page: &Page, bands: &Bands<A>) -> bool {
+    for class in 0..WIRE {
+        if is_mixed(page, bands, class) {
+            return true;
+        }
+    }
+    false
+}
+
+/// Writes the bands of the classes.
+fn put_all_bands<A: Allocator, W: Write>(
+    writer: &mut W,
+    page: &Page,
+    bands: &Bands<A>,
+) -> Result<(), WriteFault> {
+    for class in 0..WIRE {
+        put_bands(writer, page, lane_top(class), bands.lane(class), b"o")?;
+        put_bands(writer, page, lane_top(class), bands.mixed(class), MIXED)?;
+    }
+    Ok(())
 }
 
 /// Writes what is drawn in a lane.
@@ -260,16 +314,19 @@ pub fn put_picture<A: Allocator, W: Write>(
     bands: &Bands<A>,
     shapes: &Shapes<A>,
 ) -> Result<(), WriteFault> {
-    put_head(writer, page)?;
+    let mixed = has_mixed(page, bands);
+    let more = if mixed { MIXED_LINE } else { 0 };
+    put_head(writer, page, HEIGHT + more)?;
     put_axis(writer, page)?;
     put_names(writer)?;
-    for class in 0..WIRE {
-        put_bands(writer, page, lane_top(class), bands.lane(class))?;
-    }
+    put_all_bands(writer, page, bands)?;
     for lane in 0..LANES {
         put_lane(writer, page, lane, shapes)?;
     }
     put_changes(writer, page, shapes.changes())?;
     put_legend(writer)?;
+    if mixed {
+        put_mixed_legend(writer)?;
+    }
     put(writer, b"</svg>\n")
 }

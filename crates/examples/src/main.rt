@@ -197,7 +197,14 @@ fn picture_agrees<R: Files + AllocGlobal>(
         width: 1200,
     };
     let mut got = Vec::new(rt.alloc());
-    let drawn = draw(rt.alloc(), script.as_slice(), &mut got, settings, options);
+    let drawn = draw(
+        rt.alloc(),
+        script.as_slice(),
+        &mut got,
+        settings,
+        options,
+        &mut Unwatched,
+    );
     Ok(drawn.is_ok() && got.as_slice() == picture.as_slice())
 }
 

@@ -3,7 +3,7 @@ use Rattle.std.proofs.Common.{◌≡◌, ℕ, List, [], ◌∷◌, Option, Resul
 use Rattle.wire_time.specs.declared.Frame.{Frame}
 use Rattle.abstract_port.specs.AbstractPort.{after_arrival, class_for, verdict}
 use Rattle.abstract_port.specs.declared.Dropped.{Dropped}
-use Rattle.frame_table.specs.Words.{AbstractPort, Arrival, Arrive, IsSoundPort, Row, answers_to, arrival_at, arrives, comes, row_line, rows_at, rows_text, settled}
+use Rattle.frame_table.specs.Words.{AbstractPort, Arrival, Arrive, IsSoundPort, Row, Stream, answers_to, arrival_at, arrives, comes, row_line, rows_at, rows_text, settled}
 use Rattle.frame_table.specs.declared.rows.Fate.TheVariants.{Lost}
 use Rattle.script.proofs.StartsLaws.{settled-sound}
 
@@ -20,21 +20,21 @@ module _ (p : AbstractPort) (f : Frame) where
     lost why is = ap (λ v. arrives (arrival_at p.now f) (class_for p f.priority) v w) is
 
     -- one that joins a class
-    pub joins-text : (joined : ℕ) → verdict p f ≡ Ok joined → rows_text (rows_at (Arrive f) p w).0 ≡ []
-    joins-text joined is = ap (λ (r : List Row × List (List Arrival)). rows_text r.0) (joins joined is)
+    pub joins-text : (streams : Option (List Stream)) (joined : ℕ) → verdict p f ≡ Ok joined → rows_text streams (rows_at (Arrive f) p w).0 ≡ []
+    joins-text streams joined is = ap (λ (r : List Row × List (List Arrival)). rows_text streams r.0) (joins joined is)
 
     pub joins-waiting : (joined now : ℕ) (v : List (List Arrival)) → verdict p f ≡ Ok joined → now ≡ p.now → v ≡ comes joined (arrival_at now f) w → v ≡ (rows_at (Arrive f) p w).1
     joins-waiting joined now v is at e =
         e ∙ ap (λ n. comes joined (arrival_at n f) w) at ∙ sym (ap (λ (r : List Row × List (List Arrival)). r.1) (joins joined is))
 
     -- one that is dropped
-    pub lost-text : (why : Dropped) (now : ℕ) (class : Option ℕ) → verdict p f ≡ Err why → now ≡ p.now → class ≡ class_for p f.priority
-        → row_line (record { arrival = arrival_at now f; class = class; fate = Lost why }) ≡ rows_text (rows_at (Arrive f) p w).0
-    lost-text why now class is at own =
-        ap (λ n. row_line (record { arrival = arrival_at n f; class = class; fate = Lost why })) at
-        ∙ ap (λ k. row_line (record { arrival = arrival_at p.now f; class = k; fate = Lost why })) own
-        ∙ sym (append-nil (row_line (record { arrival = arrival_at p.now f; class = class_for p f.priority; fate = Lost why })))
-        ∙ sym (ap (λ (r : List Row × List (List Arrival)). rows_text r.0) (lost why is))
+    pub lost-text : (streams : Option (List Stream)) (why : Dropped) (now : ℕ) (class : Option ℕ) → verdict p f ≡ Err why → now ≡ p.now → class ≡ class_for p f.priority
+        → row_line streams (record { arrival = arrival_at now f; class = class; fate = Lost why }) ≡ rows_text streams (rows_at (Arrive f) p w).0
+    lost-text streams why now class is at own =
+        ap (λ n. row_line streams (record { arrival = arrival_at n f; class = class; fate = Lost why })) at
+        ∙ ap (λ k. row_line streams (record { arrival = arrival_at p.now f; class = k; fate = Lost why })) own
+        ∙ sym (append-nil (row_line streams (record { arrival = arrival_at p.now f; class = class_for p f.priority; fate = Lost why })))
+        ∙ sym (ap (λ (r : List Row × List (List Arrival)). rows_text streams r.0) (lost why is))
 
     pub lost-waiting : (why : Dropped) → verdict p f ≡ Err why → w ≡ (rows_at (Arrive f) p w).1
     lost-waiting why is = sym (ap (λ (r : List Row × List (List Arrival)). r.1) (lost why is))

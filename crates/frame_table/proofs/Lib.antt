@@ -4,3 +4,5 @@ pub mod ArrivalLaws
 pub mod LineSteps
 pub mod LeftLaws
 pub mod OnceLaws
+pub mod ToldLaws
+pub mod TableLaws

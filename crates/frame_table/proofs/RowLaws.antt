@@ -8,14 +8,14 @@ use Rattle.abstract_port.specs.declared.Answer.TheVariants as Answered
 use Rattle.abstract_port.specs.declared.Start.{Start}
 use Rattle.abstract_port.proofs.RunLaws.{clock_by}
 use Rattle.script.proofs.StartsLaws.{settled-sound}
-use Rattle.frame_table.specs.Words.{AbstractPort, Arrival, Clock, Event, IsAfter, IsSoundPort, Row, Writes, departs, first_came, goes, greatest_moment, row_line, rows_text, sent_row, settled, starts_in}
+use Rattle.frame_table.specs.Words.{AbstractPort, Arrival, Clock, Event, IsAfter, IsSoundPort, Row, Stream, Writes, departs, first_came, goes, greatest_moment, row_line, rows_text, sent_row, settled, starts_in}
 
-pub rows-append : (xs ys : List Row) → rows_text (xs ++ ys) ≡ rows_text xs ++ rows_text ys
-rows-append xs ys = flat_map-append row_line xs ys
+pub rows-append : (streams : Option (List Stream)) (xs ys : List Row) → rows_text streams (xs ++ ys) ≡ rows_text streams xs ++ rows_text streams ys
+rows-append streams xs ys = flat_map-append (row_line streams) xs ys
 
 -- one row is its line
-pub one_row : {T E : Type 0} (r : Result T E) (old new : Option (List ℕ)) (row : Row) → Writes r old new (row_line row) → Writes r old new (rows_text (row ∷ []))
-one_row r old new row w = subst (λ text. Writes r old new text) (sym (append-nil (row_line row))) w
+pub one_row : (streams : Option (List Stream)) {T E : Type 0} (r : Result T E) (old new : Option (List ℕ)) (row : Row) → Writes r old new (row_line streams row) → Writes r old new (rows_text streams (row ∷ []))
+one_row streams r old new row w = subst (λ text. Writes r old new text) (sym (append-nil (row_line streams row))) w
 
 -- a call that fails says nothing of what it leaves
 pub fails : {T E : Type 0} {r : Result T E} {y : E} (event : Event) (p : AbstractPort) (w : List (List Arrival)) (q : AbstractPort) (v : List (List Arrival)) → r ≡ Err y → IsAfter event r p w q v
@@ -33,10 +33,10 @@ one_start answers rest s w v e f =
     ∙ ap (λ x. (sent_row s (first_came s.class w) ++ (departs (starts_in rest) x).0, (departs (starts_in rest) x).1)) (sym f)
 
 -- its text
-pub start_first : (answers rest : List Answer) (s : Start) (w v : List (List Arrival)) → Answered.Start s ∷ rest ≡ answers → v ≡ goes s.class w
-    → rows_text (departs (starts_in answers) w).0 ≡ rows_text (sent_row s (first_came s.class w)) ++ rows_text (departs (starts_in rest) v).0
-start_first answers rest s w v e f =
-    ap (λ (r : List Row × List (List Arrival)). rows_text r.0) (one_start answers rest s w v e f) ∙ rows-append (sent_row s (first_came s.class w)) (departs (starts_in rest) v).0
+pub start_first : (streams : Option (List Stream)) (answers rest : List Answer) (s : Start) (w v : List (List Arrival)) → Answered.Start s ∷ rest ≡ answers → v ≡ goes s.class w
+    → rows_text streams (departs (starts_in answers) w).0 ≡ rows_text streams (sent_row s (first_came s.class w)) ++ rows_text streams (departs (starts_in rest) v).0
+start_first streams answers rest s w v e f =
+    ap (λ (r : List Row × List (List Arrival)). rows_text streams r.0) (one_start answers rest s w v e f) ∙ rows-append streams (sent_row s (first_came s.class w)) (departs (starts_in rest) v).0
 
 -- what waits after all of them
 pub start_then : (answers rest : List Answer) (s : Start) (w v : List (List Arrival)) → Answered.Start s ∷ rest ≡ answers → v ≡ goes s.class w

@@ -1,12 +1,14 @@
 -- What a run has written, part after part.
 use Rattle.std.proofs.Common.{◌≡◌, ℕ, List, [], ◌++◌, Option, Some, None, Result, Ok, Err, refl, sym, ap, ◌∙◌, append_assoc, append-nil, subst}
 use Rattle.std.specs.Prelude.{IfSome}
-use Rattle.std.specs.Io.KnownBytes.{Appends}
+use Rattle.std.specs.Io.KnownBytes.{Appends, Keeps}
 use Rattle.octet_writer.specs.Writes.{AppendsFront}
 use Rattle.octet_writer.proofs.Fronts.{Appends-append, sent_all, sent_more, sent_none, sent_short}
-use Rattle.frame_table.specs.Words.{BadLine, FallsShort, Fault, Outcome, Runs, Sent, with_head, head_line}
+use Rattle.frame_table.specs.Words.{BadLine, FallsShort, Fault, Outcome, Runs, RunsOut, Sent, Stream, with_head, head_line}
 use Rattle.job.specs.declared.fault.Fault.TheVariants as Faults
 use Rattle.job.proofs.LineLaws.{done}
+use Rattle.job.proofs.RunEndLaws.{out_of_input, runs_out}
+use Rattle.job.specs.RunEnd.{IsOrFails}
 
 -- a prefix of the next part
 front_on : {a b : Option (List ℕ)} {text left : List ℕ} (c : Option (List ℕ)) (x rest : List ℕ) → Sent a b text left → left ≡ x ++ rest → AppendsFront b c x → AppendsFront a c text
@@ -28,22 +30,22 @@ stops_in T U c x rest whole Faults.Write s e w = sent_short c x rest s e w
 stops_in T U c x rest whole Faults.Memory s e w = front_on c x rest s e w
 
 -- the last part
-last : {T : Type 0} {a b : Option (List ℕ)} (c : Option (List ℕ)) (whole part : Outcome BadLine) (r : Result T (Fault BadLine)) → Sent a b whole.text part.text → whole.fault ≡ part.fault → Runs r b c part → Runs r a c whole
+last : {T : Type 0} {a b : Option (List ℕ)} (c : Option (List ℕ)) (whole part : Outcome BadLine) (r : Result T (Fault BadLine)) → Sent a b whole.text part.text → whole.fault ≡ part.fault → RunsOut r b c part → RunsOut r a c whole
 last c whole part (Ok x) s e w = (e ∙ w.0, sent_all (sent_more c part.text [] s (sym (append-nil part.text)) w.1) refl)
 last c whole part (Err (Faults.Input bad)) s e w = (e ∙ w.0, sent_all (sent_more c part.text [] s (sym (append-nil part.text)) w.1) refl)
 last c whole part (Err Faults.Read) s e w = front_on c part.text [] s (sym (append-nil part.text)) w
-last c whole part (Err Faults.Write) s e w = sent_short c part.text [] s (sym (append-nil part.text)) w
+last c whole part (Err Faults.Write) s e w = front_on c part.text [] s (sym (append-nil part.text)) w
 last c whole part (Err Faults.Memory) s e w = front_on c part.text [] s (sym (append-nil part.text)) w
 
 -- the head is written, and then the table
-pub behind_head : {T : Type 0} (a b c : Option (List ℕ)) (table : Outcome BadLine) (r : Result T (Fault BadLine)) → Appends a b head_line → Runs r b c table → Runs r a c (with_head table)
-behind_head a b c table r p w = last c (with_head table) table r (sent_more b head_line table.text (sent_none a (head_line ++ table.text)) refl p) refl w
+pub behind_head : (streams : Option (List Stream)) {T : Type 0} (a b c : Option (List ℕ)) (table : Outcome BadLine) (r : Result T (Fault BadLine)) → Appends a b (head_line streams) → RunsOut r b c table → RunsOut r a c (with_head streams table)
+behind_head streams a b c table r p w = last c (with_head streams table) table r (sent_more b (head_line streams) table.text (sent_none a (head_line streams ++ table.text)) refl p) refl w
 
 -- a prefix of the head is
-pub no_head : {T : Type 0} {r : Result T (Fault BadLine)} (a b : Option (List ℕ)) (table : Outcome BadLine) → r ≡ Err Faults.Write → FallsShort a b head_line → Runs r a b (with_head table)
-no_head {T} {r} a b table e w =
-    let P : Result T (Fault BadLine) → Type 0 = λ x. Runs x a b (with_head table) in
-    subst P (sym e) (sent_short b head_line table.text (sent_none a (head_line ++ table.text)) refl w)
+pub no_head : (streams : Option (List Stream)) {T : Type 0} {r : Result T (Fault BadLine)} (a b : Option (List ℕ)) (table : Outcome BadLine) → r ≡ Err Faults.Write → FallsShort a b (head_line streams) → RunsOut r a b (with_head streams table)
+no_head streams {T} {r} a b table e w =
+    let P : Result T (Fault BadLine) → Type 0 = λ x. RunsOut x a b (with_head streams table) in
+    subst P (sym e) (runs_out {T = T} (Err Faults.Write) a b (with_head streams table) (sent_short b (head_line streams) table.text (sent_none a (head_line streams ++ table.text)) refl w))
 
 -- a call stops that has written nothing, since memory is out, or a prefix, since a write failed
 pub without_memory : {T : Type 0} {r : Result T (Fault BadLine)} (a : Option (List ℕ)) (whole : Outcome BadLine) → r ≡ Err Faults.Memory → Runs r a a whole
@@ -55,10 +57,16 @@ pub not_written : {T : Type 0} {r : Result T (Fault BadLine)} (a b : Option (Lis
 not_written {T} {r} a b whole e w = let P : Result T (Fault BadLine) → Type 0 = λ x. Runs x a b whole in subst P (sym e) w
 
 -- the same of an input that is known
-pub head_of : {T X : Type 0} (a b c : Option (List ℕ)) (table : X → Outcome BadLine) (r : Result T (Fault BadLine)) (input : Option X) → Appends a b head_line → IfSome input (λ x. Runs r b c (table x)) → IfSome input (λ x. Runs r a c (with_head (table x)))
-head_of a b c table r None p w = tt
-head_of a b c table r (Some x) p w = behind_head a b c (table x) r p w
+pub head_of : (streams : Option (List Stream)) {T X : Type 0} (a b c : Option (List ℕ)) (table : X → Outcome BadLine) (r : Result T (Fault BadLine)) (input : Option X) → Appends a b (head_line streams) → IfSome input (λ x. RunsOut r b c (table x)) → IfSome input (λ x. RunsOut r a c (with_head streams (table x)))
+head_of streams a b c table r None p w = tt
+head_of streams a b c table r (Some x) p w = behind_head streams a b c (table x) r p w
 
-pub no_head_of : {T X : Type 0} {r : Result T (Fault BadLine)} (a b : Option (List ℕ)) (table : X → Outcome BadLine) (input : Option X) → r ≡ Err Faults.Write → FallsShort a b head_line → IfSome input (λ x. Runs r a b (with_head (table x)))
-no_head_of a b table None e w = tt
-no_head_of a b table (Some x) e w = no_head a b (table x) e w
+pub no_head_of : (streams : Option (List Stream)) {T X : Type 0} {r : Result T (Fault BadLine)} (a b : Option (List ℕ)) (table : X → Outcome BadLine) (input : Option X) → r ≡ Err Faults.Write → FallsShort a b (head_line streams) → IfSome input (λ x. RunsOut r a b (with_head streams (table x)))
+no_head_of streams a b table None e w = tt
+no_head_of streams a b table (Some x) e w = no_head streams a b (table x) e w
+
+-- where the octets of two inputs are known, what a run has written is let out, by the run's result or that of a last write that failed
+pub out_of_both : {I X Y : Type 0} (first : Option X) (second : Option Y) (whole : X → Y → Outcome I) (old mid out : Option (List ℕ)) (before run : Result (Unit {0}) (Fault I)) → Keeps mid out → IsOrFails run before
+    → IfSome first (λ x. IfSome second (λ y. RunsOut before old mid (whole x y))) → IfSome first (λ x. IfSome second (λ y. RunsOut run old out (whole x y)))
+out_of_both None second whole old mid out before run k same w = tt
+out_of_both (Some x) second whole old mid out before run k same w = out_of_input second (whole x) old mid out before run k same w

@@ -1,6 +1,9 @@
 pub mod Waits
+pub mod StreamOf
 pub mod RowText
 pub mod Rows
 pub mod Outcome
+pub mod ByStream
 pub mod Once
+pub mod Told
 pub mod Words

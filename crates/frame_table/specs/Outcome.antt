@@ -19,6 +19,7 @@ use Rattle.frame_table.specs.Rows.{rows_at, rows_of, table_of}
 use Rattle.frame_table.specs.Waits.{none_wait}
 use Rattle.frame_table.specs.declared.rows.Arrival.{Arrival}
 use Rattle.frame_table.specs.declared.rows.Row.{Row}
+use Rattle.traffic.specs.declared.table.Stream.{Stream}
 
 -- 1. What is written
 
@@ -28,28 +29,32 @@ table_unless None events p w = table_of events p w
 table_unless (Some fault) events p w = (rows_of events p w).0
 
 -- the table of requests, and the fault
-abbrev pub table_by : List Request → Option BadLine → AbstractPort → List (List Arrival) → Outcome BadLine
-table_by requests fault p w = record { text = rows_text (table_unless fault (events_of requests) p w); fault = fault }
+abbrev pub table_by : Option (List Stream) → List Request → Option BadLine → AbstractPort → List (List Arrival) → Outcome BadLine
+table_by streams requests fault p w = record { text = rows_text streams (table_unless fault (events_of requests) p w); fault = fault }
 
 -- of what lines say, with the clock event after them
-abbrev pub table_after : Option ℕ → Reading → AbstractPort → List (List Arrival) → Outcome BadLine
-table_after until reading p w = table_by (asked_in until reading) reading.fault p w
+abbrev pub table_after : Option (List Stream) → Option ℕ → Reading → AbstractPort → List (List Arrival) → Outcome BadLine
+table_after streams until reading p w = table_by streams (asked_in until reading) reading.fault p w
 
 -- of the lines to come, from a port and what waits on it
-abbrev pub table_from : (List (List ℕ) → Result Command TcFault) → Option ℕ → Script → AbstractPort → List (List Arrival) → Outcome BadLine
-table_from read until script p w = table_after until (reading_of read script) p w
+abbrev pub table_from : Option (List Stream) → (List (List ℕ) → Result Command TcFault) → Option ℕ → Script → AbstractPort → List (List Arrival) → Outcome BadLine
+table_from streams read until script p w = table_after streams until (reading_of read script) p w
 
 -- what is written after the lines of a script without a fault
-abbrev pub ending_text : Option ℕ → AbstractPort → List (List Arrival) → List ℕ
-ending_text until p w = (table_after until (record { requests = []; fault = None }) p w).text
+abbrev pub ending_text : Option (List Stream) → Option ℕ → AbstractPort → List (List Arrival) → List ℕ
+ending_text streams until p w = (table_after streams until (record { requests = []; fault = None }) p w).text
 
 -- the head of a table, and then the table
-abbrev pub with_head : Outcome BadLine → Outcome BadLine
-with_head table = record { text = head_line ++ table.text; fault = table.fault }
+abbrev pub with_head : Option (List Stream) → Outcome BadLine → Outcome BadLine
+with_head streams table = record { text = head_line streams ++ table.text; fault = table.fault }
 
--- the octets of an input, on a new port
+-- the octets of an input, on a new port, with a column of the streams where they are given
+abbrev pub frames_by : Option (List Stream) → (List (List ℕ) → Result Command TcFault) → Setup → List ℕ → Outcome BadLine
+frames_by streams read s input = with_head streams (table_from streams read s.until (script_of input) (new_port s.rate s.mtu s.room) none_wait)
+
+-- without such a column
 abbrev pub frames_of : (List (List ℕ) → Result Command TcFault) → Setup → List ℕ → Outcome BadLine
-frames_of read s input = with_head (table_from read s.until (script_of input) (new_port s.rate s.mtu s.room) none_wait)
+frames_of read s input = frames_by None read s input
 
 -- what is to be written for a script
 abbrev pub whole_frames : Setup → Whole
@@ -58,8 +63,8 @@ whole_frames setup read octets = frames_of read setup octets
 -- 2. One event
 
 -- what is written of an event
-abbrev pub rows_told : Event → AbstractPort → List (List Arrival) → Outcome BadLine
-rows_told event p w = record { text = rows_text (rows_at event p w).0; fault = None }
+abbrev pub rows_told : Option (List Stream) → Event → AbstractPort → List (List Arrival) → Outcome BadLine
+rows_told streams event p w = record { text = rows_text streams (rows_at event p w).0; fault = None }
 
 -- A call that takes an event and does not fail leaves the port, and what waits on it, as they are after the event.
 pub record IsAfter {T E : Type 0} (event : Event) (result : Result T E) (p : AbstractPort) (w : List (List Arrival)) (q : AbstractPort) (v : List (List Arrival)) : Type 0 where

@@ -5,15 +5,18 @@ use Rattle.answer_text.specs.Names.{dropped_name}
 use Rattle.frame_table.specs.declared.rows.Fate.{Fate}
 use Rattle.frame_table.specs.declared.rows.Fate.TheVariants.{Sent, Left, Lost}
 use Rattle.frame_table.specs.declared.rows.Row.{Row}
+use Rattle.frame_table.specs.StreamOf.{stream_in}
+use Rattle.traffic.specs.declared.table.Stream.{Stream}
 
--- the names of the columns
-abbrev pub head_line : List ℕ
-head_line = codes "id,class,len,arrival_ps,start_ps,end_ps,wait_ps,fate\n"
+-- The names of the columns. Where a table of streams is given, the last is the stream of a frame.
+abbrev pub head_line : Option (List Stream) → List ℕ
+head_line None = codes "id,class,len,arrival_ps,start_ps,end_ps,wait_ps,fate\n"
+head_line (Some streams) = codes "id,class,len,arrival_ps,start_ps,end_ps,wait_ps,fate,stream\n"
 
--- a class, if there is one
-abbrev pub class_text : Option ℕ → List ℕ
-class_text None = []
-class_text (Some class) = decimal class
+-- a number, if there is one
+abbrev pub number_text : Option ℕ → List ℕ
+number_text None = []
+number_text (Some number) = decimal number
 
 -- when a frame started
 abbrev pub start_text : Fate → List ℕ
@@ -39,19 +42,29 @@ fate_text (Sent s) = codes "sent"
 fate_text Left = codes "left"
 fate_text (Lost why) = dropped_name why
 
+-- what separates the stream from the column before it, where there is such a column, and the stream itself
+abbrev pub stream_comma : Option (List Stream) → List ℕ
+stream_comma None = []
+stream_comma (Some streams) = codes ","
+
+abbrev pub stream_text : Option (List Stream) → ℕ → List ℕ
+stream_text None id = []
+stream_text (Some streams) id = number_text (stream_in id streams)
+
 -- a row
-abbrev pub row_line : Row → List ℕ
-row_line r = concat (
+abbrev pub row_line : Option (List Stream) → Row → List ℕ
+row_line streams r = concat (
     decimal r.arrival.id
-    ∷ codes "," ∷ class_text r.class
+    ∷ codes "," ∷ number_text r.class
     ∷ codes "," ∷ decimal r.arrival.len
     ∷ codes "," ∷ decimal r.arrival.at
     ∷ codes "," ∷ start_text r.fate
     ∷ codes "," ∷ end_text r.fate
     ∷ codes "," ∷ wait_text r.arrival.at r.fate
     ∷ codes "," ∷ fate_text r.fate
+    ∷ stream_comma streams ∷ stream_text streams r.arrival.id
     ∷ codes "\n" ∷ [])
 
 -- rows, one after another
-abbrev pub rows_text : List Row → List ℕ
-rows_text rows = flat_map row_line rows
+abbrev pub rows_text : Option (List Stream) → List Row → List ℕ
+rows_text streams rows = flat_map (row_line streams) rows

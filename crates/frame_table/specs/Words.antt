@@ -9,11 +9,12 @@ pub use Rattle.abstract_port.specs.declared.Event.{Event}
 pub use Rattle.abstract_port.specs.declared.Event.TheVariants.{Arrive, Clock, Count, Install, Query}
 pub use Rattle.words.specs.Words.{words_of}
 pub use Rattle.octet_writer.specs.Writes.{FallsShort, Sent, Writes}
-pub use Rattle.line_reader.specs.LineReader.{Advances, most_lines, script_left}
+pub use Rattle.line_reader.specs.LineReader.{Advances, current_line, current_number, most_lines, script_left}
 pub use Rattle.line_reader.specs.Script.{Script}
 pub use Rattle.tc_reader.specs.Reader.{IsReader}
 pub use Rattle.tc_reader.specs.declared.fault.TcFault.{TcFault}
-pub use Rattle.job.specs.Outcome.{Outcome, Runs}
+pub use Rattle.job.specs.Lines.{Steps}
+pub use Rattle.job.specs.Outcome.{Outcome, Runs, RunsOut}
 pub use Rattle.job.specs.declared.fault.Fault.{Fault}
 pub use Rattle.script.specs.ScriptEnd.{IsEnding, settings_given}
 pub use Rattle.script.specs.Given.{words_of_values}
@@ -22,10 +23,16 @@ pub use Rattle.script.specs.Requests.{Asks, NoCommand, Request, request_of, said
 pub use Rattle.script.specs.Responses.{events_of, responses_to}
 pub use Rattle.script.specs.declared.faults.BadLine.{BadLine}
 pub use Rattle.script.specs.declared.faults.ScriptFault.{ScriptFault}
-pub use Rattle.frame_table.specs.Outcome.{IsAfter, ending_text, frames_of, rows_told, table_after, table_by, table_from, table_unless, whole_frames, with_head}
+pub use Rattle.frame_table.specs.ByStream.{IsByStreamEnding, ReadsTable, frames_by_stream, frames_in, frames_unless, of_script, script_input, script_inputs, script_run}
+pub use Rattle.frame_table.specs.Outcome.{IsAfter, ending_text, frames_by, frames_of, rows_told, table_after, table_by, table_from, table_unless, whole_frames, with_head}
 pub use Rattle.frame_table.specs.RowText.{head_line, row_line, rows_text}
+pub use Rattle.frame_table.specs.StreamOf.{has_frame, ids_table, stream_in, with_ids}
 pub use Rattle.frame_table.specs.Rows.{arrival_at, arrives, departs, left_row, left_rows, rows_at, rows_of, sent_row, table_of}
 unfoldable pub use Rattle.frame_table.specs.Rows.{left_from}
 pub use Rattle.frame_table.specs.Waits.{comes, first_came, goes, none_wait, waiting_in}
 pub use Rattle.frame_table.specs.declared.rows.Arrival.{Arrival}
 pub use Rattle.frame_table.specs.declared.rows.Row.{Row}
+pub use Rattle.traffic.specs.Faults.{streams_telling, table_fault}
+pub use Rattle.traffic.specs.Table.{Table, line_judged}
+pub use Rattle.traffic.specs.declared.faults.StreamsInput.{StreamsInput}
+pub use Rattle.traffic.specs.declared.table.Stream.{Stream}

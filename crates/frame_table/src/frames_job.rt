@@ -2,8 +2,9 @@
 
 ghost use Rattle.std.specs.Prelude.{◌≡◌, IfErr};
 ghost use Rattle.std.specs.Io.Buffered.{writer_contents};
-ghost use Rattle.frame_table.specs.Words.{IsEnding, greatest_moment, settings_given, whole_frames, words_of_values};
+ghost use Rattle.frame_table.specs.Words.{IsByStreamEnding, IsEnding, greatest_moment, settings_given, whole_frames, words_of_values};
 
+use crate::by_stream::run_frames_by_stream;
 use crate::table_run::run_frames;
 use job::{Ended, end_run};
 use script::{Values, Watch, end_with_value, settings_given};
@@ -29,6 +30,38 @@ pub fn answer_frames<A: Allocator, B: Allocator, R: Read, W: Write + Drop, E: Wr
     match settings_given(values, MAX_MOMENT) {
         Ok(settings) => {
             let run = run_frames(alloc, reader, &mut answers, settings, watch);
+            end_run(run, answers, errors)
+        }
+        Err(value) => end_with_value(value, answers, errors),
+    }
+}
+
+/// The same with the stream of each frame, by the table of streams that `table` gives, as `run_frames_by_stream` writes it. Where a value is bad
+/// nothing is read.
+pub fn answer_frames_by_stream<
+    A: Allocator,
+    B: Allocator,
+    R: Read,
+    S: Read + Drop,
+    W: Write + Drop,
+    E: Write,
+    H: Watch,
+>(
+    alloc: A,
+    values: Values<'_>,
+    table: S,
+    reader: &mut R,
+    mut answers: BufWriter<W, B>,
+    errors: &mut E,
+    watch: &mut H,
+) -> (Ended, W)
+    ensures ending { IsByStreamEnding (settings_given greatest_moment (words_of_values values.entry)) (S.remaining table)
+        (R.remaining reader.old) result.0 (writer_contents W.contents answers) (W.contents result.1) (E.contents errors.old) (E.contents errors.new) }
+    ensures unread { IfErr (settings_given greatest_moment (words_of_values values.entry)) (λ _. reader.new ≡ reader.old) }
+{
+    match settings_given(values, MAX_MOMENT) {
+        Ok(settings) => {
+            let run = run_frames_by_stream(alloc, table, reader, &mut answers, settings, watch);
             end_run(run, answers, errors)
         }
         Err(value) => end_with_value(value, answers, errors),

@@ -1,15 +1,19 @@
 //! The table of the frames of a script: of each its class, its length, when it came, started and ended, how long it waited, and its fate.
 //!
 //! The definition is specs/Rows.antt, with its text in specs/RowText.antt; the contracts of `run_frames` and
-//! `answer_frames` cite it by specs/Outcome.antt.
+//! `answer_frames` cite it by specs/Outcome.antt, and those of `run_frames_by_stream` and `answer_frames_by_stream`, which also say of which stream
+//! of a table a frame is (specs/StreamOf.antt), by specs/ByStream.antt.
 #![tactic(auto)]
 
 mod arrivals;
+mod by_stream;
 mod frames_job;
 pub mod laws;
 mod rows;
+mod streams;
 mod table_run;
 
-pub use frames_job::answer_frames;
+pub use by_stream::run_frames_by_stream;
+pub use frames_job::{answer_frames, answer_frames_by_stream};
 pub use rows::{Arrival, Fate, Row};
 pub use table_run::run_frames;

@@ -4,10 +4,12 @@ ghost use Rattle.std.specs.Prelude.{◌≡◌};
 ghost use Rattle.octet_writer.specs.Writes.{Writes};
 ghost use Rattle.answer_text.specs.Names.{dropped_name};
 ghost use Rattle.answer_text.specs.Part.{text_of};
-ghost use Rattle.frame_table.specs.RowText.{class_text, end_text, fate_text, head_line, row_line, start_text, wait_text};
+ghost use Rattle.frame_table.specs.RowText.{end_text, fate_text, head_line, number_text, row_line, start_text, stream_comma, stream_text, wait_text};
 
+use crate::streams::Streams;
 use abstract_port::{Dropped, Start};
 use answer_text::{Part, WriteFault, put, put_parts};
+use std::alloc::Allocator;
 use std::io::Write;
 
 /// A frame that came.
@@ -44,7 +46,7 @@ pub struct Row {
 }
 
 fn class_part<'a>(class: Option<u8>) -> Part<'a>
-    ensures { text_of result ≡ class_text class }
+    ensures { text_of result ≡ number_text class }
 {
     match class {
         None => Part::Text(b""),
@@ -105,19 +107,55 @@ fn fate_name(fate: &Fate) -> &'static [u8]
     }
 }
 
-/// Writes the names of the columns. At a fault a prefix of them is written.
-pub(crate) fn put_head<W: Write>(writer: &mut W) -> Result<(), WriteFault>
-    ensures { Writes result (W.contents writer.old) (W.contents writer.new) head_line }
+/// What stands before the stream of a frame, where there is a column of streams.
+fn stream_comma<'a, A: Allocator>(streams: &Option<Streams<A>>) -> Part<'a>
+    ensures { text_of result ≡ stream_comma streams.now }
 {
-    put(
-        writer,
-        b"id,class,len,arrival_ps,start_ps,end_ps,wait_ps,fate\n",
-    )
+    match streams {
+        None => Part::Text(b""),
+        Some(_) => Part::Text(b","),
+    }
+}
+
+/// The stream of a frame, where there is a column of streams.
+fn stream_part<'a, A: Allocator>(streams: &Option<Streams<A>>, id: u64) -> Part<'a>
+    ensures { text_of result ≡ stream_text streams.now id }
+{
+    match streams {
+        None => Part::Text(b""),
+        Some(streams) => match streams.stream_of(id) {
+            None => Part::Text(b""),
+            Some(stream) => Part::Number(u128::from(stream)),
+        },
+    }
+}
+
+/// Writes the names of the columns. At a fault a prefix of them is written.
+pub(crate) fn put_head<A: Allocator, W: Write>(
+    streams: &Option<Streams<A>>,
+    writer: &mut W,
+) -> Result<(), WriteFault>
+    ensures { Writes result (W.contents writer.old) (W.contents writer.new) (head_line streams.now) }
+{
+    match streams {
+        None => put(
+            writer,
+            b"id,class,len,arrival_ps,start_ps,end_ps,wait_ps,fate\n",
+        ),
+        Some(_) => put(
+            writer,
+            b"id,class,len,arrival_ps,start_ps,end_ps,wait_ps,fate,stream\n",
+        ),
+    }
 }
 
 /// Writes a row. At a fault a prefix of it is written.
-pub(crate) fn put_row<W: Write>(writer: &mut W, row: &Row) -> Result<(), WriteFault>
-    ensures { Writes result (W.contents writer.old) (W.contents writer.new) (row_line row.now) }
+pub(crate) fn put_row<A: Allocator, W: Write>(
+    streams: &Option<Streams<A>>,
+    writer: &mut W,
+    row: &Row,
+) -> Result<(), WriteFault>
+    ensures { Writes result (W.contents writer.old) (W.contents writer.new) (row_line streams.now row.now) }
 {
     put_parts(
         writer,
@@ -137,6 +175,8 @@ pub(crate) fn put_row<W: Write>(writer: &mut W, row: &Row) -> Result<(), WriteFa
             wait_part(row.arrival.at, &row.fate),
             Part::Text(b","),
             Part::Text(fate_name(&row.fate)),
+            stream_comma(streams),
+            stream_part(streams, row.arrival.id),
             Part::Text(b"\n"),
         ],
     )

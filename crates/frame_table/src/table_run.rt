@@ -1,12 +1,14 @@
 //! Runs a script, and writes the table of its frames.
 
 ghost use Rattle.std.specs.Prelude.{◌≡◌, ◌<◌, ◌≤◌, ℕ, IfSome, List, Result, map};
-ghost use Rattle.frame_table.specs.Words.{Arrive, Clock, Command, IsAfter, IsReader, IsSoundPort, Runs, TcFault, Writes, ending_text, first_came, frames_of, goes, greatest_moment, left_row, left_rows, responses_to, rows_at, rows_told, rows_text, script_left, sent_row, settled, table_from, tc_request, waiting_in, with_head, words_of};
+ghost use Rattle.frame_table.specs.Words.{Arrive, Clock, Command, IsAfter, IsReader, IsSoundPort, Runs, RunsOut, TcFault, Writes, ending_text, first_came, frames_by, frames_of, goes, greatest_moment, left_row, left_rows, responses_to, rows_at, rows_told, rows_text, script_left, sent_row, settled, table_from, tc_request, waiting_in, with_head, words_of};
 
 use crate::arrivals::Arrivals;
 use crate::rows::{Arrival, Fate, Row, put_head, put_row};
+use crate::streams::Streams;
 use abstract_port::{Event, Start};
 use answer_text::WriteFault;
+use job::next_line;
 use line_reader::LineReader;
 use script::{BadLine, RunFault, RunningPort, Said, Settings, Watch, read_line, read_tc};
 use separation::settling;
@@ -15,13 +17,14 @@ use std::io::{Read, Write};
 use wire_time::{Frame, MAX_MOMENT};
 
 /// Takes a frame that comes: it waits from now on, or it is dropped, and its row is written.
-fn take_frame<A: Allocator + Clone, W: Write>(
+fn take_frame<A: Allocator + Clone, B: Allocator, W: Write>(
     port: &mut RunningPort<A>,
     arrivals: &mut Arrivals<A>,
     frame: &Frame,
+    streams: &Option<Streams<B>>,
     writer: &mut W,
 ) -> Result<(), RunFault>
-    ensures text { Runs result (W.contents writer.old) (W.contents writer.new) (rows_told (Arrive frame.now) port.old.port arrivals.old) }
+    ensures text { Runs result (W.contents writer.old) (W.contents writer.new) (rows_told streams.now (Arrive frame.now) port.old.port arrivals.old) }
     ensures after { IsAfter (Arrive frame.now) result port.old.port arrivals.old port.new.port arrivals.new }
 {
     let now = port.now();
@@ -40,6 +43,7 @@ fn take_frame<A: Allocator + Clone, W: Write>(
         Err(why) => {
             let fate = Fate::Lost(why);
             put_row(
+                streams,
                 writer,
                 &Row {
                     arrival,
@@ -53,17 +57,19 @@ fn take_frame<A: Allocator + Clone, W: Write>(
 }
 
 /// Writes the row of a frame that starts: the first of its class that waits.
-fn put_sent<A: Allocator, W: Write>(
+fn put_sent<A: Allocator, B: Allocator, W: Write>(
     arrivals: &mut Arrivals<A>,
     start: &Start,
+    streams: &Option<Streams<B>>,
     writer: &mut W,
 ) -> Result<(), WriteFault>
-    ensures text { Writes result (W.contents writer.old) (W.contents writer.new) (rows_text (sent_row start.now (first_came start.now.class arrivals.old))) }
+    ensures text { Writes result (W.contents writer.old) (W.contents writer.new) (rows_text streams.now (sent_row start.now (first_came start.now.class arrivals.old))) }
     ensures waiting { arrivals.new ≡ goes start.now.class arrivals.old }
 {
     match arrivals.take(start.class) {
         None => Ok(()),
         Some(arrival) => put_row(
+            streams,
             writer,
             &Row {
                 arrival,
@@ -75,58 +81,61 @@ fn put_sent<A: Allocator, W: Write>(
 }
 
 /// Runs to a moment that is not refused, in picoseconds, and writes the rows of the starts before it as the port finds them.
-fn take_starts<A: Allocator, W: Write>(
+fn take_starts<A: Allocator, B: Allocator, W: Write>(
     port: &mut RunningPort<A>,
     arrivals: &mut Arrivals<A>,
     until: u128,
+    streams: &Option<Streams<B>>,
     writer: &mut W,
 ) -> Result<(), WriteFault>
     requires later { port.old.port.now ≤ until }
     requires within { until ≤ greatest_moment }
-    ensures text { Writes result (W.contents writer.old) (W.contents writer.new) (rows_text (rows_at (Clock until) port.old.port arrivals.old).0) }
+    ensures text { Writes result (W.contents writer.old) (W.contents writer.new) (rows_text streams.now (rows_at (Clock until) port.old.port arrivals.old).0) }
     ensures after { IsAfter (Clock until) result port.old.port arrivals.old port.new.port arrivals.new }
 {
     // For the prover: a call on a port says what holds of every port.
     let _now = port.now();
     while let Some(start) = port.step(until) {
-        put_sent(arrivals, &start, writer)?;
+        put_sent(arrivals, &start, streams, writer)?;
     }
     Ok(())
 }
 
 /// Takes a clock event, with its moment in picoseconds. Where the clock would go back, nothing happens.
-fn take_clock<A: Allocator, W: Write>(
+fn take_clock<A: Allocator, B: Allocator, W: Write>(
     port: &mut RunningPort<A>,
     arrivals: &mut Arrivals<A>,
     until: u128,
+    streams: &Option<Streams<B>>,
     writer: &mut W,
 ) -> Result<(), WriteFault>
-    ensures text { Writes result (W.contents writer.old) (W.contents writer.new) (rows_text (rows_at (Clock until) port.old.port arrivals.old).0) }
+    ensures text { Writes result (W.contents writer.old) (W.contents writer.new) (rows_text streams.now (rows_at (Clock until) port.old.port arrivals.old).0) }
     ensures after { IsAfter (Clock until) result port.old.port arrivals.old port.new.port arrivals.new }
 {
     if port.now() <= until && until <= MAX_MOMENT {
-        take_starts(port, arrivals, until, writer)
+        take_starts(port, arrivals, until, streams, writer)
     } else {
         Ok(())
     }
 }
 
 /// Takes an event, and writes the rows of the frames whose fate it decides. At a fault a prefix of them is written.
-fn take_event<A: Allocator + Clone, W: Write>(
+fn take_event<A: Allocator + Clone, B: Allocator, W: Write>(
     port: &mut RunningPort<A>,
     arrivals: &mut Arrivals<A>,
     event: &Event<'_>,
+    streams: &Option<Streams<B>>,
     writer: &mut W,
 ) -> Result<(), RunFault>
-    ensures text { Runs result (W.contents writer.old) (W.contents writer.new) (rows_told event.now port.old.port arrivals.old) }
+    ensures text { Runs result (W.contents writer.old) (W.contents writer.new) (rows_told streams.now event.now port.old.port arrivals.old) }
     ensures after { IsAfter event.now result port.old.port arrivals.old port.new.port arrivals.new }
 {
     // For the prover: a call on a port says what holds of every port.
     let _now = port.now();
     match event {
-        Event::Arrive(frame) => take_frame(port, arrivals, frame, writer),
+        Event::Arrive(frame) => take_frame(port, arrivals, frame, streams, writer),
         Event::Clock(until) => {
-            take_clock(port, arrivals, *until, writer)?;
+            take_clock(port, arrivals, *until, streams, writer)?;
             Ok(())
         }
         Event::Install(command) => {
@@ -154,17 +163,19 @@ fn take_tc<A: Allocator>(port: &mut RunningPort<A>, line: &[u8])
 }
 
 /// Writes the rows of the frames of a class that still wait.
-fn put_left_in<A: Allocator, W: Write>(
+fn put_left_in<A: Allocator, B: Allocator, W: Write>(
     arrivals: &Arrivals<A>,
     class: u8,
+    streams: &Option<Streams<B>>,
     writer: &mut W,
 ) -> Result<(), WriteFault>
     requires { class < 8 }
-    ensures { Writes result (W.contents writer.old) (W.contents writer.new) (rows_text (map (left_row class) (waiting_in arrivals.now class))) }
+    ensures { Writes result (W.contents writer.old) (W.contents writer.new) (rows_text streams.now (map (left_row class) (waiting_in arrivals.now class))) }
 {
     for place in 0..arrivals.len(class) {
         let arrival = arrivals.get(class, place);
         put_row(
+            streams,
             writer,
             &Row {
                 arrival,
@@ -177,56 +188,59 @@ fn put_left_in<A: Allocator, W: Write>(
 }
 
 /// Writes the rows of the frames that still wait, class by class.
-fn put_all_left<A: Allocator, W: Write>(
+fn put_all_left<A: Allocator, B: Allocator, W: Write>(
     arrivals: &Arrivals<A>,
+    streams: &Option<Streams<B>>,
     writer: &mut W,
 ) -> Result<(), WriteFault>
-    ensures { Writes result (W.contents writer.old) (W.contents writer.new) (rows_text (left_rows arrivals.now)) }
+    ensures { Writes result (W.contents writer.old) (W.contents writer.new) (rows_text streams.now (left_rows arrivals.now)) }
 {
     for class in 0..8u8 {
-        put_left_in(arrivals, class, writer)?;
+        put_left_in(arrivals, class, streams, writer)?;
     }
     Ok(())
 }
 
 /// Runs to the moment after the input, if there is one, and writes the rows that end the table.
-fn put_end<A: Allocator, W: Write>(
+fn put_end<A: Allocator, B: Allocator, W: Write>(
     port: &mut RunningPort<A>,
     arrivals: &mut Arrivals<A>,
     until: Option<u128>,
+    streams: &Option<Streams<B>>,
     writer: &mut W,
 ) -> Result<(), WriteFault>
-    ensures { Writes result (W.contents writer.old) (W.contents writer.new) (ending_text until port.old.port arrivals.old) }
+    ensures { Writes result (W.contents writer.old) (W.contents writer.new) (ending_text streams.now until port.old.port arrivals.old) }
 {
     match until {
-        None => put_all_left(arrivals, writer),
+        None => put_all_left(arrivals, streams, writer),
         Some(moment) => {
-            take_clock(port, arrivals, moment, writer)?;
-            put_all_left(arrivals, writer)
+            take_clock(port, arrivals, moment, streams, writer)?;
+            put_all_left(arrivals, streams, writer)
         }
     }
 }
 
 /// Runs the lines that are to come, and the end.
-fn run_lines<A: Allocator + Clone, B: Allocator, R: Read + Drop, W: Write, H: Watch>(
+fn run_lines<A: Allocator + Clone, B: Allocator, C: Allocator, R: Read + Drop, W: Write, H: Watch>(
     port: &mut RunningPort<A>,
     arrivals: &mut Arrivals<A>,
     lines: &mut LineReader<R, B>,
     until: Option<u128>,
+    streams: &Option<Streams<C>>,
     writer: &mut W,
     watch: &mut H,
 ) -> Result<(), RunFault>
     ensures { (read : List (List ℕ) → Result Command TcFault) → IsReader read → IfSome (script_left R.remaining lines.old) (λ script.
-        Runs result (W.contents writer.old) (W.contents writer.new) (table_from read until script port.old.port arrivals.old)) }
+        RunsOut result (W.contents writer.old) (W.contents writer.new) (table_from streams.now read until script port.old.port arrivals.old)) }
 {
     settling();
     // For the prover: a call on a port says what holds of every port.
     let _now = port.now();
-    'lines: while lines.advance()? {
+    'lines: while next_line::<BadLine, _, _, _>(lines, writer)? {
         let line = lines.line();
         match read_line(line) {
             Ok(None) => {}
-            Ok(Some(Said::Asked(event))) => take_event(port, arrivals, &event, writer)?,
+            Ok(Some(Said::Asked(event))) => take_event(port, arrivals, &event, streams, writer)?,
             Ok(Some(Said::Tc)) => take_tc(port, line),
             Err(fault) => {
                 watch.line_failed(line);
@@ -234,40 +248,38 @@ fn run_lines<A: Allocator + Clone, B: Allocator, R: Read + Drop, W: Write, H: Wa
             }
         }
     }
-    put_end(port, arrivals, until, writer)?;
+    put_end(port, arrivals, until, streams, writer)?;
     Ok(())
 }
 
 /// Writes the head of the table, and then the table of the lines that are to come.
-fn put_table<A: Allocator + Clone, B: Allocator, R: Read + Drop, W: Write, H: Watch>(
+fn put_table<A: Allocator + Clone, B: Allocator, C: Allocator, R: Read + Drop, W: Write, H: Watch>(
     port: &mut RunningPort<A>,
     arrivals: &mut Arrivals<A>,
     lines: &mut LineReader<R, B>,
     until: Option<u128>,
+    streams: &Option<Streams<C>>,
     writer: &mut W,
     watch: &mut H,
 ) -> Result<(), RunFault>
     ensures { (read : List (List ℕ) → Result Command TcFault) → IsReader read → IfSome (script_left R.remaining lines.old) (λ script.
-        Runs result (W.contents writer.old) (W.contents writer.new) (with_head (table_from read until script port.old.port arrivals.old))) }
+        RunsOut result (W.contents writer.old) (W.contents writer.new) (with_head streams.now (table_from streams.now read until script port.old.port arrivals.old))) }
 {
-    put_head(writer)?;
-    run_lines(port, arrivals, lines, until, writer, watch)
+    put_head(streams, writer)?;
+    run_lines(port, arrivals, lines, until, streams, writer, watch)
 }
 
-/// Reads a script to its end, and writes a table of its frames: a head, and a row for each frame as soon as its fate is known. A frame that
-/// is dropped has its row when it comes, one that starts when it starts, and one that still waits at the end of the run after all others.
-///
-/// A malformed line ends the run after the rows of the lines before it; what waits then has no row. A read or a write that fails, or
-/// takes nothing, isn't tried again. Of the frames only those that wait are kept. Who watches is called for a malformed line.
-pub fn run_frames<A: Allocator, R: Read + Drop, W: Write, H: Watch>(
+/// Reads a script to its end, and writes a table of its frames, with a column of the streams where they are given.
+pub(crate) fn run_with<A: Allocator, B: Allocator, R: Read + Drop, W: Write, H: Watch>(
     alloc: A,
+    streams: &Option<Streams<B>>,
     reader: R,
     writer: &mut W,
     settings: Settings,
     watch: &mut H,
 ) -> Result<(), RunFault>
     ensures { (read : List (List ℕ) → Result Command TcFault) → IsReader read → IfSome (R.remaining reader) (λ input.
-        Runs result (W.contents writer.old) (W.contents writer.new) (frames_of read settings input)) }
+        RunsOut result (W.contents writer.old) (W.contents writer.new) (frames_by streams.now read settings input)) }
 {
     let rate = settings.rate();
     // For the prover: the getter says within which limits a rate lies.
@@ -285,7 +297,28 @@ pub fn run_frames<A: Allocator, R: Read + Drop, W: Write, H: Watch>(
         &mut arrivals,
         &mut lines,
         settings.until(),
+        streams,
         writer,
         watch,
     )
+}
+
+/// Reads a script to its end, and writes a table of its frames: a head, and a row for each frame as soon as its fate is known. A frame that
+/// is dropped has its row when it comes, one that starts when it starts, and one that still waits at the end of the run after all others.
+///
+/// A malformed line ends the run after the rows of the lines before it; what waits then has no row. What was written is let out before more input is
+/// waited for. A read or a write that fails, or takes nothing, isn't tried again. Of the frames only those that wait are kept. Who watches is called
+/// for a malformed line.
+pub fn run_frames<A: Allocator, R: Read + Drop, W: Write, H: Watch>(
+    alloc: A,
+    reader: R,
+    writer: &mut W,
+    settings: Settings,
+    watch: &mut H,
+) -> Result<(), RunFault>
+    ensures { (read : List (List ℕ) → Result Command TcFault) → IsReader read → IfSome (R.remaining reader) (λ input.
+        RunsOut result (W.contents writer.old) (W.contents writer.new) (frames_of read settings input)) }
+{
+    let none: Option<Streams<A>> = None;
+    run_with(alloc, &none, reader, writer, settings, watch)
 }

@@ -1,4 +1,5 @@
-//! What helps with a fault: its line with the word marked, what was expected there, and what was perhaps meant.
+//! What helps with a fault: its line with the word marked, what was expected there, and what was perhaps meant. And what is no fault, and is
+//! perhaps not meant.
 //!
 //! No contract says these texts. They are tested.
 #![tactic(auto)]
@@ -8,6 +9,8 @@ mod faults;
 mod marks;
 mod near;
 mod script_words;
+mod warnings;
 
 pub use commands::put_failure;
 pub use faults::put_fault_hint;
+pub use warnings::{Ids, put_comment, put_no_command, put_shared_ids};

@@ -35,7 +35,7 @@ settings_at v = settings_where (rate_at v.rate) v
 abbrev pub from_at : ℕ → Result ℕ BadValue
 from_at from = if nat_le from greatest_moment then Ok from else Err From
 
--- by such a moment: the script that is to be written, or that the moment is bad
-abbrev pub streams_told_by : (ℕ → Outcome StreamsInput) → Result ℕ BadValue → Told
-streams_told_by whole (Ok from) = told_of streams_telling (whole from)
+-- by what values say, such as that moment: what is to be written by them of a table of streams and a script, or the first that is bad
+abbrev pub streams_told_by : {S : Type 0} → (S → Outcome StreamsInput) → Result S BadValue → Told
+streams_told_by whole (Ok given) = told_of streams_telling (whole given)
 streams_told_by whole (Err value) = refused value

@@ -11,6 +11,7 @@ ghost use Rattle.tc_reader.specs.declared.fault.TcFault.{TcFault};
 
 use crate::jobs::{Ran, end_in_memory, put_told, refuse_value};
 use crate::values::{PortValues, settings_at};
+use script::Unwatched;
 use std::alloc::Global;
 use stream_bounds::{BoundsSettings, BoundsValue, MAX_FRAMES, bounds};
 
@@ -58,7 +59,14 @@ fn bounds_with(
     ensures { (read : List (List ℕ) → Result Command TcFault) → IsReader read → Answers (told_of bounds_telling (outcome_of read settings table.now schedules.now)) result (slices output.old fault.old) (slices output.new fault.new) }
 {
     let mut written = Vec::new(alloc);
-    let run = bounds(alloc, table, schedules, &mut written, settings);
+    let run = bounds(
+        alloc,
+        table,
+        schedules,
+        &mut written,
+        settings,
+        &mut Unwatched,
+    );
     end_in_memory(&alloc, run, written.as_slice(), output, fault)
 }
 

@@ -2,16 +2,18 @@
 
 ghost use Rattle.std.specs.Prelude.{List, ℕ, Result};
 ghost use Rattle.abstract_port.specs.declared.Command.{Command};
+ghost use Rattle.frame_table.specs.ByStream.{frames_by_stream};
 ghost use Rattle.frame_table.specs.Outcome.{frames_of};
 ghost use Rattle.in_memory.specs.Slices.{Answers, slices, told_by, told_of};
-ghost use Rattle.in_memory.specs.Values.{settings_at};
+ghost use Rattle.in_memory.specs.Values.{settings_at, streams_told_by};
 ghost use Rattle.script.specs.Texts.{script_telling};
 ghost use Rattle.tc_reader.specs.Reader.{IsReader};
 ghost use Rattle.tc_reader.specs.declared.fault.TcFault.{TcFault};
+ghost use Rattle.traffic.specs.Faults.{streams_telling};
 
 use crate::jobs::{Ran, end_in_memory, refuse_value};
 use crate::values::{PortValues, settings_at};
-use frame_table::run_frames;
+use frame_table::{run_frames, run_frames_by_stream};
 use script::{Settings, Unwatched};
 use std::alloc::Allocator;
 
@@ -46,6 +48,44 @@ pub fn frames_octets<A: Allocator>(
 {
     match settings_at(values) {
         Ok(settings) => frames_with(alloc, settings, script, output, fault),
+        Err(value) => refuse_value(alloc, value, output, fault),
+    }
+}
+
+/// Writes the table of a script with settings, and with the streams of a table.
+fn frames_by_stream_with<A: Allocator>(
+    alloc: &A,
+    settings: Settings,
+    table: &[u8],
+    script: &[u8],
+    output: &mut [u8],
+    fault: &mut [u8],
+) -> Ran
+    ensures { (read : List (List ℕ) → Result Command TcFault) → IsReader read → Answers (told_of streams_telling (frames_by_stream read settings table.now script.now)) result (slices output.old fault.old) (slices output.new fault.new) }
+{
+    let mut written = Vec::new(alloc);
+    let run = run_frames_by_stream(alloc, table, script, &mut written, settings, &mut Unwatched);
+    end_in_memory(alloc, run, written.as_slice(), output, fault)
+}
+
+/// Runs a script with these values: the table of its frames with the stream of each, as `frame_table::run_frames_by_stream` writes it, comes into
+/// `output`, and the text of a fault into `fault`, as the program writes it on its standard error.
+///
+/// Status 2 where a value is out of its limits; 3 where a line of the table of streams has a fault, and nothing is written then, or where one of the
+/// script has, after the rows of the lines before it.
+pub fn frames_by_stream_octets<A: Allocator>(
+    alloc: &A,
+    values: PortValues,
+    table: &[u8],
+    script: &[u8],
+    output: &mut [u8],
+    fault: &mut [u8],
+) -> Ran
+    ensures { (read : List (List ℕ) → Result Command TcFault) → IsReader read →
+        Answers (streams_told_by (λ settings. frames_by_stream read settings table.now script.now) (settings_at values)) result (slices output.old fault.old) (slices output.new fault.new) }
+{
+    match settings_at(values) {
+        Ok(settings) => frames_by_stream_with(alloc, settings, table, script, output, fault),
         Err(value) => refuse_value(alloc, value, output, fault),
     }
 }

@@ -9,7 +9,7 @@ use crate::jobs::{Ran, end_in_memory, refuse_value};
 use crate::values::{PortValues, settings_at};
 use drawing::{DrawOptions, DrawValues, draw, options_given};
 use itoa::Buffer;
-use script::{BadValue, Settings};
+use script::{BadValue, Settings, Unwatched};
 use std::alloc::Global;
 
 /// What a picture shows, as numbers that are still to be judged.
@@ -53,7 +53,14 @@ fn draw_with(
     ensures { Draws script.now result (slices output.old fault.old) (slices output.new fault.new) }
 {
     let mut written = Vec::new(alloc);
-    let run = draw(alloc, script, &mut written, settings, options);
+    let run = draw(
+        alloc,
+        script,
+        &mut written,
+        settings,
+        options,
+        &mut Unwatched,
+    );
     end_in_memory(&alloc, run, written.as_slice(), output, fault)
 }
 

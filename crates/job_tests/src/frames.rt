@@ -1,12 +1,13 @@
 //! Tables of frames: readers, writers and heaps that fail.
 
-use frame_table::run_frames;
+use frame_table::{run_frames, run_frames_by_stream};
 use refusing_heap::RefusingHeap;
 use script::{RunFault, Settings, Unwatched};
 use std::alloc::Global;
 use std::process::Abort;
 use std::test::Fail;
 use test_streams::{Narrow, Pieces};
+use traffic::StreamsFault;
 use wire_time::Rate;
 
 /// A frame that is sent, three that wait in one class, and one that is dropped.
@@ -16,6 +17,13 @@ const SCRIPT: &[u8] =
 /// Their table.
 const TABLE: &[u8] = b"id,class,len,arrival_ps,start_ps,end_ps,wait_ps,fate\n\
 1,7,60,0,0,672000,0,sent\n5,,60,1,,,,NoClass\n2,0,60,1,,,,left\n3,0,60,1,,,,left\n4,0,60,1,,,,left\n";
+
+/// A table of streams: two of the frames are of one.
+const STREAMS: &[u8] = b"# none\nstream 2 0 60 1us 0us 2\n";
+
+/// The table of the frames with their streams.
+const BY_STREAM: &[u8] = b"id,class,len,arrival_ps,start_ps,end_ps,wait_ps,fate,stream\n\
+1,7,60,0,0,672000,0,sent,\n5,,60,1,,,,NoClass,\n2,0,60,1,,,,left,2\n3,0,60,1,,,,left,2\n4,0,60,1,,,,left,\n";
 
 /// The settings that a test has: 1000 Mb/s, an mtu of 1500 octets and room for 128 frames a class.
 fn usual(rt: &impl Abort) -> Settings {
@@ -61,6 +69,30 @@ fn is_refused(alloc: Global, settings: Settings, number: u64) -> Option<bool> {
     }
 }
 
+/// Whether a run whose read of this number of the table of streams fails reports that, and writes nothing; or has no such read.
+fn is_table_read(alloc: Global, settings: Settings, at: u32) -> bool {
+    let mut failing = Pieces::new(STREAMS, 9);
+    failing.fails_at = at;
+    let mut got = Vec::new(alloc);
+    let run = run_frames_by_stream(alloc, failing, SCRIPT, &mut got, settings, &mut Unwatched);
+    if run.is_ok() {
+        return got.as_slice() == BY_STREAM;
+    }
+    run == Err(StreamsFault::Read) && got.as_slice().is_empty()
+}
+
+/// Whether a growth of this number is refused with streams, as `is_refused` has it.
+fn is_refused_by_stream(alloc: Global, settings: Settings, number: u64) -> Option<bool> {
+    let heap = RefusingHeap::new(alloc, number, true);
+    let mut got = Vec::new(alloc);
+    let run = run_frames_by_stream(&heap, STREAMS, SCRIPT, &mut got, settings, &mut Unwatched);
+    if heap.asked() > number {
+        (run == Err(StreamsFault::Memory) && BY_STREAM.starts_with(got.as_slice())).then_some(true)
+    } else {
+        (run == Ok(()) && got.as_slice() == BY_STREAM).then_some(false)
+    }
+}
+
 /// Each read fails in turn, and a writer that takes no more gets a prefix.
 #[test]
 fn failed_reads_and_writes_end_it(rt: HostRuntime) -> Result<(), Fail> {
@@ -87,4 +119,29 @@ fn memory_is_wanting_only_where_it_is_refused(rt: HostRuntime) {
         }
     }
     assert!(rt; 4 < refused && refused < 64);
+}
+
+/// Each read of the table of streams fails in turn: nothing is written then.
+#[test]
+fn failed_reads_of_a_table_of_streams_end_it(rt: HostRuntime) -> Result<(), Fail> {
+    let settings = usual(&rt);
+    for at in 0..8u32 {
+        assert!(rt; is_table_read(rt.alloc(), settings, at), "read {at}");
+    }
+    Ok(())
+}
+
+/// Each growth is refused in turn, also that of the streams.
+#[test]
+fn memory_for_streams_is_wanting_only_where_it_is_refused(rt: HostRuntime) {
+    let settings = usual(&rt);
+    let mut refused = 0u32;
+    for number in 0..64u64 {
+        let met = is_refused_by_stream(rt.alloc(), settings, number);
+        assert!(rt; met.is_some(), "growth {number}");
+        if met == Some(true) {
+            refused = refused.saturating_add(1);
+        }
+    }
+    assert!(rt; 6 < refused && refused < 64);
 }

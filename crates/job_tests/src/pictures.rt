@@ -1,7 +1,7 @@
 //! Readers and writers of pictures that fail.
 
 use drawing::{DrawOptions, draw};
-use script::{RunFault, Settings};
+use script::{RunFault, Settings, Unwatched};
 use std::alloc::Global;
 use std::process::Abort;
 use std::test::Fail;
@@ -31,7 +31,7 @@ fn is_read(alloc: Global, settings: Settings) -> bool {
     let mut failing = Pieces::new(SCRIPT, 40);
     failing.fails_at = 2;
     let mut got = Vec::new(alloc);
-    let run = draw(alloc, failing, &mut got, settings, WHOLE);
+    let run = draw(alloc, failing, &mut got, settings, WHOLE, &mut Unwatched);
     run == Err(RunFault::Read) && got.is_empty()
 }
 
@@ -44,7 +44,7 @@ fn is_written(alloc: Global, settings: Settings, picture: &[u8], room: usize) ->
         fails: room % 2 == 0,
         recovers: true,
     };
-    let run = draw(alloc, SCRIPT, &mut narrow, settings, WHOLE);
+    let run = draw(alloc, SCRIPT, &mut narrow, settings, WHOLE, &mut Unwatched);
     run == Err(RunFault::Write) && picture.starts_with(narrow.got.as_slice())
 }
 
@@ -54,7 +54,14 @@ fn failed_reads_and_writes_end_it(rt: HostRuntime) -> Result<(), Fail> {
     let settings = usual(&rt);
     assert!(rt; is_read(rt.alloc(), settings));
     let mut picture = Vec::new(rt.alloc());
-    draw(rt.alloc(), SCRIPT, &mut picture, settings, WHOLE)?;
+    draw(
+        rt.alloc(),
+        SCRIPT,
+        &mut picture,
+        settings,
+        WHOLE,
+        &mut Unwatched,
+    )?;
     for room in [0, 1, 100, 3_000] {
         assert!(rt;
             is_written(rt.alloc(), settings, picture.as_slice(), room),

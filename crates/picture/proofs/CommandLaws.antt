@@ -1,5 +1,5 @@
 -- A command that a port accepts, and the gates of a picture.
-use Rattle.std.proofs.Common.{◌≡◌, ℕ, ◌+◌, List, Option, Some, None, Ok, refl, sym, ap, ◌∙◌}
+use Rattle.std.proofs.Common.{◌≡◌, ℕ, ◌+◌, List, Option, Some, None, Ok, Err, refl, sym, ap, ◌∙◌}
 use Rattle.picture.specs.Words.{lead_of, plan_fault, Accepted, with_command, accepted_at, deletion_at, AbstractPort, installs, plan_asked, Command, ClassLane, Drawing, history_with, with_plan}
 use Rattle.gate_list.specs.Gate.{Plan, ok_unless}
 use Rattle.gate_list.specs.declared.PlanFault.{PlanFault}
@@ -64,11 +64,11 @@ taken p command change ps lead m h eh em es el ok =
     ∙ installed_so (refusal p command) p command none
 
 -- what is drawn, with another history
-abbrev drawing : List Accepted → ℕ → ℕ → Option ℕ → List ClassLane → Drawing
-drawing history moment from to classes = record { history = history; moment = moment; from = from; to = to; classes = classes }
+abbrev drawing : List Accepted → ℕ → ℕ → Option ℕ → List ClassLane → List ClassLane → ℕ → Drawing
+drawing history moment from to classes mixed left = record { history = history; moment = moment; from = from; to = to; classes = classes; mixed = mixed; left = left }
 
-pub same_drawing : (h k : List Accepted) (m n from : ℕ) (to : Option ℕ) (classes : List ClassLane) → h ≡ k → m ≡ n → drawing h m from to classes ≡ drawing k n from to classes
-same_drawing h k m n from to classes eh em = ap (λ x. drawing x m from to classes) eh ∙ ap (λ x. drawing k x from to classes) em
+pub same_drawing : (h k : List Accepted) (m n from : ℕ) (to : Option ℕ) (classes mixed : List ClassLane) (left : ℕ) → h ≡ k → m ≡ n → drawing h m from to classes mixed left ≡ drawing k n from to classes mixed left
+same_drawing h k m n from to classes mixed left eh em = ap (λ x. drawing x m from to classes mixed left) eh ∙ ap (λ x. drawing k x from to classes mixed left) em
 
 pub plan_made : (fault : Option PlanFault) (plan made : Plan) → Ok made ≡ ok_unless fault plan → (fault ≡ None) × (made ≡ plan)
 plan_made None plan made e = (refl, cc)
@@ -80,3 +80,8 @@ pub planned : (fault : Option PlanFault) (plan made : Plan) (h : List Accepted) 
 planned fault plan made h m lead e =
     let both = plan_made fault plan made e in
     ap (λ x. with_command h m (accepted_at lead x)) both.1 ∙ ap (λ x. with_plan x h m (accepted_at lead plan)) (sym both.0)
+
+-- the history where no schedule could be made
+pub not_planned : (fault : Option PlanFault) (plan : Plan) (why : PlanFault) (h : List Accepted) (m : ℕ) (a : Accepted) → Err why ≡ ok_unless fault plan → h ≡ with_plan fault h m a
+not_planned None plan why h m a e = absurd (cc)
+not_planned (Some f) plan why h m a e = refl

@@ -1,10 +1,9 @@
 -- The bands of a class from gate event to gate event.
-use Rattle.std.proofs.Common.{◌≡◌, ◌<◌, ◌≤◌, ℕ, ◌+◌, ◌-◌, min, max, List, Option, Some, None, MatchOption, unwrap_or, inl, inr, sym, ap, ◌∙◌, arith, le_refl}
+use Rattle.std.proofs.Common.{◌≡◌, ◌<◌, ◌≤◌, ℕ, ◌+◌, ◌-◌, List, Option, Some, None, MatchOption, unwrap_or, sym, ap, ◌∙◌, arith, le_refl}
 use Rattle.std.specs.Prelude.{IfSome}
-use Rattle.std.proofs.lemmas.Bool.{cases_lt}
-use Rattle.picture.specs.Words.{opens, Accepted, gates, kept, IsCurrent, IsSteady, ClassLane, Drawing, begun, with_bands, stepped, drawn, up_to, gone_on, class_at}
+use Rattle.picture.specs.Words.{opens, Accepted, gates, kept, IsCurrent, IsSteady, ClassLane, Drawing, begun, with_bands, stepped, drawn, up_to, first_drawn, class_at}
 use Rattle.list_config.proofs.HistoryLaws.{kept_kept, kept_gates, past_later}
-use Rattle.picture.proofs.BandLaws.{drawn_none, drawn_on, bands_same}
+use Rattle.picture.proofs.BandLaws.{drawn_on, bands_same}
 
 -- the moment up to which one mask shows: that of the next gate event, if there is one before
 pub steady_to : (h : List Accepted) (t before : ℕ) (event : Option ℕ) → MatchOption event (IsSteady h t before) (λ u. IsSteady h t u) → IsSteady h t (unwrap_or event before)
@@ -47,22 +46,12 @@ module _ (h : List Accepted) (first : ℕ) (current : IsCurrent h first) where
   pub drawn_kept : (m n class : ℕ) (k : List Accepted) (c : ClassLane) → first ≤ m → k ≡ kept h m → drawn (gates k) class m n c ≡ drawn (gates h) class m n c
   drawn_kept m n class k c l e = ap (with_bands c) (bands_same (gates k) (gates h) class m n (begun c) (λ i from below. gates_on m i k l from e))
 
--- the moments that are drawn, where the gates go on to `first` at once
-pub drawn_gone : (d : Drawing) (m first upto class : ℕ) (k : List Accepted) → IsCurrent d.history d.moment → first ≡ min (max d.from d.moment) m → d.moment ≤ m → upto ≡ up_to d.to m → upto ≤ m → k ≡ kept d.history first
-    → drawn (gates k) class first (upto - first) (class_at d.classes class) ≡ gone_on d m class
-drawn_gone d m first upto class k current is later end within e =
-    drawn_kept d.history d.moment current first (upto - first) class k (class_at d.classes class) (omega (arith, is)) e
-    ∙ elim (cases_lt m (max d.from d.moment)) [
-      | inl out ↦
-          (let none : upto - first ≡ 0 = omega (arith, is) in
-          let none_there : upto - max d.from d.moment ≡ 0 = omega arith in
-          ap (λ n. drawn (gates d.history) class first n (class_at d.classes class)) none ∙ drawn_none (gates d.history) class first (class_at d.classes class)
-          ∙ sym (ap (λ n. drawn (gates d.history) class (max d.from d.moment) n (class_at d.classes class)) (ap (λ u. u - max d.from d.moment) (sym end) ∙ none_there) ∙ drawn_none (gates d.history) class (max d.from d.moment) (class_at d.classes class)))
-      | inr inside ↦
-          (let same : first ≡ max d.from d.moment = omega (arith, is) in
-          ap (λ f. drawn (gates d.history) class f (upto - f) (class_at d.classes class)) same
-          ∙ ap (λ u. drawn (gates d.history) class (max d.from d.moment) (u - max d.from d.moment) (class_at d.classes class)) end)
-    ]
+-- what is drawn up to a moment, where the gates go on to `first` at once
+pub drawn_gone : (d : Drawing) (m first seen class : ℕ) (k : List Accepted) → IsCurrent d.history d.moment → first ≡ first_drawn d m → d.moment ≤ m → k ≡ kept d.history first
+    → drawn (gates k) class first (seen - first) (class_at d.classes class) ≡ drawn (gates d.history) class (first_drawn d m) (seen - first_drawn d m) (class_at d.classes class)
+drawn_gone d m first seen class k current is later e =
+    drawn_kept d.history d.moment current first (seen - first) class k (class_at d.classes class) (omega (arith, is, later)) e
+    ∙ ap (λ f. drawn (gates d.history) class f (seen - f) (class_at d.classes class)) is
 
 pub up_to_within : (to : Option ℕ) (m : ℕ) → up_to to m ≤ m
 up_to_within None m = le_refl m

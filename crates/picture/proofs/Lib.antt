@@ -5,3 +5,4 @@ pub mod DrawLaws
 pub mod CommandLaws
 pub mod LongestLaws
 pub mod JoinLaws
+pub mod MixLaws

@@ -1,6 +1,9 @@
 -- The bands of eight classes, in lanes.
-use Rattle.std.specs.Prelude.{ℕ, ◌-◌, min, max, Bool, List, [], ◌∷◌, Option, Some, None, slice_index_or}
-use Rattle.gate_list.specs.Gate.{plan_fault}
+use Rattle.std.specs.Prelude.{ℕ, ◌≡◌, ◌<◌, ◌≤◌, zero, suc, ◌+◌, ◌-◌, min, max, Bool, false, ◌&&◌, ◌||◌, not, List, [], ◌∷◌, Option, Some, None, slice_index_or}
+use Rattle.wire_time.specs.declared.TheConstants.{CLASSES}
+use Rattle.gate_list.specs.Gate.{opens, plan_fault}
+use Rattle.gate_list.specs.Open.{open_while}
+use Rattle.picture.specs.declared.TheConstants.{MOST_BOUNDARIES}
 use Rattle.list_config.specs.History.{Accepted, gates}
 use Rattle.list_config.specs.Current.{accepted_at, deletion_at, with_command}
 use Rattle.abstract_port.specs.AbstractPort.{plan_asked}
@@ -22,10 +25,10 @@ pub record ClassLane : Type 0 where
 abbrev pub no_bands : ClassLane
 no_bands = record { since = None; lane = no_shapes }
 
--- a lane with bands, one after another
+-- a lane with bands, one after another; a band that is joined to another has no identifier any more
 unfoldable pub push_all : List Span → Filled → Filled
 push_all [] lane = lane
-push_all (band ∷ rest) lane = push_all rest (pushed (record { span = band; id = None }) lane)
+push_all (band ∷ rest) lane = push_all rest (pushed (record { span = band; id = Some 0 }) lane)
 
 -- where its bands go on
 abbrev pub begun : ClassLane → Going
@@ -43,6 +46,29 @@ stepped is_open m c = with_bands c (after is_open m (begun c))
 abbrev pub drawn : (ℕ → ℕ) → ℕ → ℕ → ℕ → ClassLane → ClassLane
 drawn masks class m n c = with_bands c (bands_from masks class m n (begun c))
 
+-- what no class needs
+abbrev pub no_needs : List (Option ℕ)
+no_needs = None ∷ None ∷ None ∷ None ∷ None ∷ None ∷ None ∷ None ∷ []
+
+-- whether some moment of so many, from m on, is one at which a class is open
+unfoldable pub opens_within : (ℕ → ℕ) → ℕ → ℕ → ℕ → Bool
+opens_within masks class m zero = false
+opens_within masks class m (suc n) = opens (masks m) class || opens_within masks class (m + 1) n
+
+-- over so many moments, from m on, a class is open at some and closed at others
+abbrev pub is_mixed : (ℕ → ℕ) → ℕ → ℕ → ℕ → Bool
+is_mixed masks class m n = opens_within masks class m n && not (open_while masks class m n)
+
+-- Where not each change of the gates is looked at: over so many moments, from m on, a class has a band where it is open at all of them,
+abbrev pub drawn_whole : (ℕ → ℕ) → ℕ → ℕ → ℕ → ClassLane → ClassLane
+drawn_whole masks class m zero c = c
+drawn_whole masks class m (suc n) c = stepped (open_while masks class m (suc n)) m c
+
+-- and one among the mixed where it is open at some.
+abbrev pub drawn_mixed : (ℕ → ℕ) → ℕ → ℕ → ℕ → ClassLane → ClassLane
+drawn_mixed masks class m zero c = c
+drawn_mixed masks class m (suc n) c = stepped (is_mixed masks class m (suc n)) m c
+
 -- where its bands are joined at a gap
 abbrev pub bands_joined : ℕ → ClassLane → ClassLane
 bands_joined gap c = record c { lane = joined_at gap c.lane }
@@ -57,28 +83,39 @@ class_at classes class = slice_index_or classes class no_bands
 abbrev pub no_classes : List ClassLane
 no_classes = no_bands ∷ no_bands ∷ no_bands ∷ no_bands ∷ no_bands ∷ no_bands ∷ no_bands ∷ no_bands ∷ []
 
--- the history of the gates and their moment, the moments from which and up to which bands are drawn, and the classes
+-- The history of the gates and their moment; the moments from which and up to which bands are drawn; the bands of the classes; the times at which
+-- a class is mixed; and at how many boundaries the gates may still be looked at.
 pub record Drawing : Type 0 where
   pub history : List Accepted
   pub moment : ℕ
   pub from : ℕ
   pub to : Option ℕ
   pub classes : List ClassLane
+  pub mixed : List ClassLane
+  pub left : ℕ
 
 -- gates without commands at the moment 0
 abbrev pub new_drawing : ℕ → Option ℕ → Drawing
-new_drawing from to = record { history = []; moment = 0; from = from; to = to; classes = no_classes }
+new_drawing from to = record { history = []; moment = 0; from = from; to = to; classes = no_classes; mixed = no_classes; left = MOST_BOUNDARIES }
 
 -- a moment, or the end where that is given and earlier
 abbrev pub up_to : Option ℕ → ℕ → ℕ
 up_to None m = m
 up_to (Some to) m = min to m
 
--- A class once the gates have gone on to m: its bands go on over the moments that were to come, of those that are drawn.
-abbrev pub gone_on : Drawing → ℕ → ℕ → ClassLane
-gone_on d m class =
-    let first = max d.from d.moment in
-    drawn (gates d.history) class first (up_to d.to m - first) (class_at d.classes class)
+-- from when on bands are drawn while the gates go on to m
+abbrev pub first_drawn : Drawing → ℕ → ℕ
+first_drawn d m = min (max d.from d.moment) m
+
+-- The gates have gone on to m. Each change of the gates up to some moment is drawn; that is the last that is drawn, unless no boundary is left to be
+-- looked at. From there on the times of each class are whole or mixed.
+pub record IsGoneOn (d new : Drawing) (m : ℕ) : Type 0 where
+  pub seen : ℕ
+  pub whole : 0 < new.left → up_to d.to m ≤ seen
+  pub fewer : new.left ≤ d.left
+  pub classes : (class : ℕ) → class < CLASSES → class_at new.classes class ≡
+      drawn_whole (gates d.history) class seen (up_to d.to m - seen) (drawn (gates d.history) class (first_drawn d m) (seen - first_drawn d m) (class_at d.classes class))
+  pub mixed : (class : ℕ) → class < CLASSES → class_at new.mixed class ≡ drawn_mixed (gates d.history) class seen (up_to d.to m - seen) (class_at d.mixed class)
 
 -- 3. Commands
 

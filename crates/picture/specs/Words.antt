@@ -8,7 +8,9 @@ pub use Rattle.abstract_port.specs.AbstractPort.{AbstractPort, installs, plan_as
 pub use Rattle.abstract_port.specs.declared.Command.{Command}
 pub use Rattle.picture.specs.Bands.{Going, after}
 unfoldable pub use Rattle.picture.specs.Bands.{bands_from}
-pub use Rattle.picture.specs.Drawn.{ClassLane, Drawing, bands_joined, begun, class_at, drawn, gone_on, history_with, new_drawing, no_bands, no_classes, stepped, up_to, with_bands, with_plan}
+unfoldable pub use Rattle.gate_list.specs.Open.{open_while}
+unfoldable pub use Rattle.picture.specs.Drawn.{opens_within}
+pub use Rattle.picture.specs.Drawn.{ClassLane, Drawing, IsGoneOn, bands_joined, begun, class_at, drawn, drawn_mixed, drawn_whole, first_drawn, history_with, is_mixed, new_drawing, no_bands, no_needs, no_classes, stepped, up_to, with_bands, with_plan}
 pub use Rattle.picture.specs.Lanes.{AreEarly, Filled, distance, is_near, join, joined, joined_at, no_shapes, pushed, wider}
 unfoldable pub use Rattle.picture.specs.Lanes.{join_from, least_distance, put}
 pub use Rattle.picture.specs.Laws.{AreBands, IsLaneOf, Joins}

@@ -1,8 +1,9 @@
 //! The bands of eight classes: when each is open, by gates of their own.
 
-ghost use Rattle.std.specs.Prelude.{◌≡◌, ◌≤◌, ◌<◌, ◌+◌, ◌-◌, ℕ, IfOk, Ok, false, length, max, min, slice_set};
-ghost use Rattle.picture.specs.Words.{greatest_lead, greatest_moment, lead_of, opens, plan_fault, gates, kept, IsCurrent, accepted_at, deletion_at, with_command, AbstractPort, installs, plan_asked, MOST_SHAPES, bands_joined, class_at, drawn, gone_on, history_with, new_drawing, no_bands, no_classes, stepped, up_to, with_plan};
+ghost use Rattle.std.specs.Prelude.{◌≡◌, ◌≤◌, ◌<◌, ◌+◌, ◌-◌, ℕ, IfOk, Ok, Some, false, length, max, min, slice_set};
+ghost use Rattle.picture.specs.Words.{greatest_lead, greatest_moment, lead_of, opens, plan_fault, gates, kept, IsCurrent, accepted_at, deletion_at, with_command, AbstractPort, installs, plan_asked, MOST_SHAPES, bands_joined, class_at, drawn, drawn_mixed, drawn_whole, IsGoneOn, is_mixed, no_needs, open_while, opens_within, history_with, new_drawing, no_bands, no_classes, stepped, up_to, with_plan};
 
+use crate::MOST_BOUNDARIES;
 use crate::class_bands::ClassBands;
 use crate::span::Shape;
 use abstract_port::{Change, Command};
@@ -96,32 +97,149 @@ fn join_all<A: Allocator>(classes: &mut [ClassBands<A>; CLASSES], gap: u128)
     }
 }
 
-/// Goes on from gate event to gate event up to a moment, in picoseconds, unless it is past, and draws the bands of the time until then.
-fn draw_to<A: Allocator>(own: &mut Jumping, classes: &mut [ClassBands<A>; CLASSES], upto: u128)
+/// Goes on from gate event to gate event up to a moment, in picoseconds, unless it is past, and draws the bands of the time until then. It
+/// stops where no boundary is left to be looked at.
+fn draw_to<A: Allocator>(
+    own: &mut Jumping,
+    classes: &mut [ClassBands<A>; CLASSES],
+    left: &mut u32,
+    upto: u128,
+)
     requires sound { IsCurrent own.old.history own.old.moment }
     requires within { upto ≤ greatest_moment }
     ensures sound { IsCurrent own.new.history own.new.moment }
-    ensures moment { own.new.moment ≡ max own.old.moment upto }
-    ensures history { own.new.history ≡ kept own.old.history (max own.old.moment upto) }
-    ensures classes { (class : ℕ) → class < CLASSES → class_at classes.new class ≡ drawn (gates own.old.history) class own.old.moment (upto - own.old.moment) (class_at classes.old class) }
+    ensures onward { own.old.moment ≤ own.new.moment }
+    ensures within { own.new.moment ≤ max own.old.moment upto }
+    ensures whole { 0 < left.new → upto ≤ own.new.moment }
+    ensures fewer { left.new ≤ left.old }
+    ensures history { own.new.history ≡ kept own.old.history own.new.moment }
+    ensures classes { (class : ℕ) → class < CLASSES → class_at classes.new class ≡ drawn (gates own.old.history) class own.old.moment (own.new.moment - own.old.moment) (class_at classes.old class) }
 {
     let mut now = own.now();
-    while now < upto {
+    while now < upto && *left > 0 {
         let next = own.next_boundary(upto).unwrap_or(upto);
         step_all(classes, own.mask(), now);
         own.move_to(next, &mut Visits::zero());
         now = next;
+        *left -= 1;
+    }
+}
+
+/// What one class alone needs: to be open for a picosecond.
+fn need_of(class: u8) -> [Option<u128>; CLASSES]
+    requires { class < CLASSES }
+    ensures { result ≡ slice_set no_needs class (Some 1) }
+{
+    let mut needs = [None; CLASSES];
+    needs[class as usize] = Some(1);
+    needs
+}
+
+/// Whether a class is open at some moment from now on and before another, in picoseconds.
+fn opens_before(own: &Jumping, class: u8, upto: u128) -> bool
+    requires sound { IsCurrent own.now.history own.now.moment }
+    requires class { class < CLASSES }
+    requires later { own.now.moment ≤ upto }
+    requires within { upto ≤ greatest_moment }
+    ensures { result ≡ opens_within (gates own.now.history) class own.now.moment (upto - own.now.moment) }
+{
+    let first = own.quiet(&need_of(class), upto, &mut Visits::zero());
+    if first < upto {
+        return true;
+    }
+    false
+}
+
+/// From now on and before a moment, in picoseconds, one class is open at all moments, or not.
+fn whole_in<A: Allocator>(
+    own: &Jumping,
+    classes: &mut [ClassBands<A>; CLASSES],
+    class: u8,
+    upto: u128,
+)
+    requires sound { IsCurrent own.now.history own.now.moment }
+    requires class { class < CLASSES }
+    requires later { own.now.moment < upto }
+    requires within { upto ≤ greatest_moment }
+    ensures { classes.new ≡ slice_set classes.old class (stepped (open_while (gates own.now.history) class own.now.moment (upto - own.now.moment)) own.now.moment (class_at classes.old class)) }
+{
+    let now = own.now();
+    let is_whole = own.stays_open(class, upto - now, &mut Visits::zero());
+    step_in(classes, class, is_whole, now);
+}
+
+/// From now on and before a moment, in picoseconds, each class is open at all moments, or not.
+fn whole_all<A: Allocator>(own: &Jumping, classes: &mut [ClassBands<A>; CLASSES], upto: u128)
+    requires sound { IsCurrent own.now.history own.now.moment }
+    requires later { own.now.moment < upto }
+    requires within { upto ≤ greatest_moment }
+    ensures { (class : ℕ) → class < CLASSES → class_at classes.new class ≡ stepped (open_while (gates own.now.history) class own.now.moment (upto - own.now.moment)) own.now.moment (class_at classes.old class) }
+{
+    for class in 0..CLASSES as u8 {
+        whole_in(own, classes, class, upto);
+    }
+}
+
+/// From now on and before a moment, in picoseconds, one class is open at some moments alone, or not.
+fn mixed_in<A: Allocator>(
+    own: &Jumping,
+    mixed: &mut [ClassBands<A>; CLASSES],
+    class: u8,
+    upto: u128,
+)
+    requires sound { IsCurrent own.now.history own.now.moment }
+    requires class { class < CLASSES }
+    requires later { own.now.moment < upto }
+    requires within { upto ≤ greatest_moment }
+    ensures { mixed.new ≡ slice_set mixed.old class (stepped (is_mixed (gates own.now.history) class own.now.moment (upto - own.now.moment)) own.now.moment (class_at mixed.old class)) }
+{
+    let now = own.now();
+    let is_some = opens_before(own, class, upto);
+    let is_whole = own.stays_open(class, upto - now, &mut Visits::zero());
+    step_in(mixed, class, is_some && !is_whole, now);
+}
+
+/// From now on and before a moment, in picoseconds, each class is open at some moments alone, or not.
+fn mixed_all<A: Allocator>(own: &Jumping, mixed: &mut [ClassBands<A>; CLASSES], upto: u128)
+    requires sound { IsCurrent own.now.history own.now.moment }
+    requires later { own.now.moment < upto }
+    requires within { upto ≤ greatest_moment }
+    ensures { (class : ℕ) → class < CLASSES → class_at mixed.new class ≡ stepped (is_mixed (gates own.now.history) class own.now.moment (upto - own.now.moment)) own.now.moment (class_at mixed.old class) }
+{
+    for class in 0..CLASSES as u8 {
+        mixed_in(own, mixed, class, upto);
+    }
+}
+
+/// What is left up to a moment, in picoseconds, is drawn at once.
+fn mix_to<A: Allocator>(
+    own: &Jumping,
+    classes: &mut [ClassBands<A>; CLASSES],
+    mixed: &mut [ClassBands<A>; CLASSES],
+    upto: u128,
+)
+    requires sound { IsCurrent own.now.history own.now.moment }
+    requires within { upto ≤ greatest_moment }
+    ensures classes { (class : ℕ) → class < CLASSES → class_at classes.new class ≡ drawn_whole (gates own.now.history) class own.now.moment (upto - own.now.moment) (class_at classes.old class) }
+    ensures mixed { (class : ℕ) → class < CLASSES → class_at mixed.new class ≡ drawn_mixed (gates own.now.history) class own.now.moment (upto - own.now.moment) (class_at mixed.old class) }
+{
+    if own.now() < upto {
+        whole_all(own, classes, upto);
+        mixed_all(own, mixed, upto);
     }
 }
 
 /// The bands of the eight classes of a port: gates of its commands, since when each class is open, and the bands that are complete, in
-/// lanes. A band is a longest time for which its class stays open, of the moments from one on and, where there is an end, before another.
+/// lanes. A band is a longest time for which its class stays open, of the moments from one on and, where there is an end, before another. Once
+/// `MOST_BOUNDARIES` have been looked at, a time at some of whose moments a class is open is mixed.
 #[derive(Drop)]
 pub struct Bands<A: Allocator = Global> {
     gates: Jumping,
     classes: [ClassBands<A>; CLASSES],
+    mixed: [ClassBands<A>; CLASSES],
     from: u128,
     to: Option<u128>,
+    left: u32,
 }
 
 /// A contract sees the history of the gates and their moment, the two moments, and the classes.
@@ -131,7 +249,7 @@ impl<A: Allocator> Model for Bands<A> {
 
     ghost Value = { Drawing };
 
-    ghost view = { λ b. record { history = b.gates.history; moment = b.gates.moment; from = b.from; to = b.to; classes = b.classes } };
+    ghost view = { λ b. record { history = b.gates.history; moment = b.gates.moment; from = b.from; to = b.to; classes = b.classes; mixed = b.mixed; left = b.left } };
 
     ghost invariant = { λ b. IsCurrent b.gates.history b.gates.moment };
 }
@@ -145,11 +263,14 @@ impl<A: Allocator> Bands<A> {
         ensures { IfOk result (λ bands. bands ≡ new_drawing from to) }
     {
         let classes = no_classes(alloc)?;
+        let mixed = no_classes(alloc)?;
         Ok(Bands {
             gates: Jumping::begin(),
             classes,
+            mixed,
             from,
             to,
+            left: MOST_BOUNDARIES,
         })
     }
 
@@ -199,19 +320,21 @@ impl<A: Allocator> Bands<A> {
         }
     }
 
-    /// The gates go on to a moment, in picoseconds. Each band that ends on the way is put into its lane.
+    /// The gates go on to a moment, in picoseconds. Each band that ends on the way is put into its lane. Where no boundary is left to be looked at, what is
+    /// left of the way is one time, of which each class is open at all moments, at some or at none.
     pub fn go_to(&mut self, moment: u128)
         requires later { self.old.moment ≤ moment }
         requires within { moment ≤ greatest_moment }
         ensures moment { self.new.moment ≡ moment }
         ensures history { self.new.history ≡ kept self.old.history moment }
         ensures viewport { (self.new.from ≡ self.old.from) × (self.new.to ≡ self.old.to) }
-        ensures classes { (class : ℕ) → class < CLASSES → class_at self.new.classes class ≡ gone_on self.old moment class }
+        ensures drawn { IsGoneOn self.old self.new moment }
     {
         let first = self.from.max(self.gates.now()).min(moment);
         self.gates.move_to(first, &mut Visits::zero());
         let upto = up_to(self.to, moment);
-        draw_to(&mut self.gates, &mut self.classes, upto);
+        draw_to(&mut self.gates, &mut self.classes, &mut self.left, upto);
+        mix_to(&self.gates, &mut self.classes, &mut self.mixed, upto);
         self.gates.move_to(moment, &mut Visits::zero());
     }
 
@@ -219,17 +342,21 @@ impl<A: Allocator> Bands<A> {
     pub fn end(&mut self)
         ensures same { (self.new.history ≡ self.old.history) × (self.new.moment ≡ self.old.moment) × (self.new.from ≡ self.old.from) × (self.new.to ≡ self.old.to) }
         ensures classes { (class : ℕ) → class < CLASSES → class_at self.new.classes class ≡ stepped false (up_to self.old.to self.old.moment) (class_at self.old.classes class) }
+        ensures mixed { (class : ℕ) → class < CLASSES → class_at self.new.mixed class ≡ stepped false (up_to self.old.to self.old.moment) (class_at self.old.mixed class) }
     {
         let upto = up_to(self.to, self.gates.now());
         step_all(&mut self.classes, 0, upto);
+        step_all(&mut self.mixed, 0, upto);
     }
 
     /// Bands of a class that are closer to one another than a gap, in picoseconds, are joined.
     pub fn join(&mut self, gap: u128)
         ensures same { (self.new.history ≡ self.old.history) × (self.new.moment ≡ self.old.moment) × (self.new.from ≡ self.old.from) × (self.new.to ≡ self.old.to) }
         ensures classes { (class : ℕ) → class < CLASSES → class_at self.new.classes class ≡ bands_joined gap (class_at self.old.classes class) }
+        ensures mixed { (class : ℕ) → class < CLASSES → class_at self.new.mixed class ≡ bands_joined gap (class_at self.old.mixed class) }
     {
         join_all(&mut self.classes, gap);
+        join_all(&mut self.mixed, gap);
     }
 
     /// The moment that the gates are at, in picoseconds.
@@ -246,6 +373,15 @@ impl<A: Allocator> Bands<A> {
         ensures few { length result.now ≤ MOST_SHAPES }
     {
         shapes_in(&self.classes, class)
+    }
+
+    /// The times at which a class, 0 to 7, is mixed, that are complete, by rising start.
+    pub fn mixed(&self, class: u8) -> &[Shape]
+        requires { class < CLASSES }
+        ensures value { result.now ≡ (class_at self.now.mixed class).lane.shapes }
+        ensures few { length result.now ≤ MOST_SHAPES }
+    {
+        shapes_in(&self.mixed, class)
     }
 }
 

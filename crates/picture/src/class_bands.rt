@@ -59,7 +59,7 @@ impl<A: Allocator> ClassBands<A> {
                 self.since = None;
                 self.lane.push(Shape {
                     span: Span { from, to: moment },
-                    id: None,
+                    id: Some(0),
                 });
             }
         }

@@ -24,5 +24,9 @@ pub const MIN_WIDTH: u32 = 200;
 /// The greatest width of a picture, in pixels.
 pub const MAX_WIDTH: u32 = 2400;
 
+/// At how many boundaries of the gates a picture looks at most. From there on it asks of each class, once for each step of the gates, whether it is open at all
+/// moments, at some or at none: so what it costs does not grow with the time that it shows.
+pub const MOST_BOUNDARIES: u32 = 100_000;
+
 /// How many shapes a lane has at most.
 pub const MOST_SHAPES: usize = 5_000;

@@ -9,11 +9,11 @@ pub struct Span {
     pub to: u128,
 }
 
-/// What is drawn in a lane: a time, and the identifier of the frame where it is one frame alone.
+/// What is drawn in a lane: a time, and an identifier where it is one thing alone.
 #[derive(Clone, Copy, Debug, PartialEq, Eq)]
 pub struct Shape {
     /// When it is.
     pub span: Span,
-    /// The frame's identifier; none: it is no frame, or more than one.
+    /// The frame's identifier, and of a band 0; none: it stands for more than one.
     pub id: Option<u64>,
 }

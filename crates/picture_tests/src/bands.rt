@@ -45,7 +45,7 @@ fn assert_bands(rt: &impl Abort, bands: &Bands, class: u8, expected: &[(u128, u1
             from: *from,
             to: *to,
         };
-        assert_eq!(rt; *shape, Shape { span, id: None });
+        assert_eq!(rt; *shape, Shape { span, id: Some(0) });
     }
 }
 

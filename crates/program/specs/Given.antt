@@ -5,6 +5,8 @@ use Rattle.std.specs.Option.{option_map_or}
 use Rattle.std.specs.Str.{bytes_eq}
 use Rattle.clap.specs.Matches.{first_value}
 use Rattle.clap.specs.declared.parser.matches.Found.{Found}
+use Rattle.frame_table.specs.ByStream.{IsByStreamEnding}
+use Rattle.frame_table.specs.Outcome.{whole_frames}
 use Rattle.drawing.specs.Given.{DrawWords}
 use Rattle.drawing.specs.Options.{options_of}
 use Rattle.drawing.specs.declared.options.DrawOptions.{DrawOptions}
@@ -12,7 +14,7 @@ use Rattle.replay.specs.Stamps.{stamp_given}
 use Rattle.replay.specs.Texts.{open_text}
 use Rattle.replay.specs.declared.stamps.Stamp.{Stamp}
 use Rattle.job.specs.RunEnd.{IsUnanswered}
-use Rattle.script.specs.ScriptEnd.{rate_given, settings_given}
+use Rattle.script.specs.ScriptEnd.{IsEnding, rate_given, settings_given}
 use Rattle.script.specs.Given.{GivenWords}
 use Rattle.script.specs.Setup.{Setup}
 use Rattle.job.specs.declared.report.Ended.{Ended}
@@ -76,3 +78,10 @@ abbrev pub IsGivenBounds : Result BoundsSettings BoundsValue → Option (List �
 IsGivenBounds settings None schedules ended old got errors_old errors_new = Unit {0}
 IsGivenBounds settings (Some path) schedules ended old got errors_old errors_new =
     ((table : Option (List ℕ)) × IsBoundsEnding settings table schedules ended old got errors_old errors_new) ⊎ IsUnanswered 4 (open_text path) ended old got errors_old errors_new
+
+-- The end of a run on a script, where the words name a table of streams or none. With none, that of the table of the script's frames; else that of the
+-- table with their streams and of some octets, since what a file gives is not known, or of the path that can't be opened.
+abbrev pub IsGivenFrames : Result Setup BadValue → Option (List ℕ) → Option (List ℕ) → Ended → (old got errors_old errors_new : Option (List ℕ)) → Type 0
+IsGivenFrames settings None input ended old got errors_old errors_new = IsEnding whole_frames settings input ended old got errors_old errors_new
+IsGivenFrames settings (Some path) input ended old got errors_old errors_new =
+    ((table : Option (List ℕ)) × IsByStreamEnding settings table input ended old got errors_old errors_new) ⊎ IsUnanswered 4 (open_text path) ended old got errors_old errors_new

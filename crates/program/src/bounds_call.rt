@@ -9,6 +9,7 @@ use crate::options::bounds_of;
 use crate::replay_call::{end_unopened, open};
 use clap::ArgMatches;
 use job::{Ended, end_told};
+use script::Watch;
 use std::alloc::{Allocator, Global};
 use std::io::{BufWriter, Read, Write};
 use std::rt::Files;
@@ -16,13 +17,14 @@ use stream_bounds::answer_bounds;
 
 /// Answers about the schedules that `reader` gives and the streams of the table whose file the words name, through `answers`, with the text of a
 /// fault on `errors`; and gives the writer of the answers back. The file is opened before anything is read; where it can't be, nothing is answered.
-pub fn bounds_given<F: Files, B: Allocator, R: Read, W: Write + Drop, E: Write>(
+pub fn bounds_given<F: Files, B: Allocator, R: Read, W: Write + Drop, E: Write, H: Watch>(
     files: &F,
     alloc: Global,
     matches: &ArgMatches<'_>,
     reader: &mut R,
     answers: BufWriter<W, B>,
     errors: &mut E,
+    watch: &mut H,
 ) -> (Ended, W)
     ensures { IsGivenBounds (bounds_in (found_of matches.now)) (first_value (found_of matches.now) (codes "table")) (R.remaining reader.old) result.0 (writer_contents W.contents answers) (W.contents result.1) (E.contents errors.old) (E.contents errors.new) }
 {
@@ -35,7 +37,7 @@ pub fn bounds_given<F: Files, B: Allocator, R: Read, W: Write + Drop, E: Write>(
         return end_told(ended, answers);
     };
     match open(files, path) {
-        Ok(table) => answer_bounds(alloc, words, table, reader, answers, errors),
+        Ok(table) => answer_bounds(alloc, words, table, reader, answers, errors, watch),
         Err(path) => end_unopened(path, answers, errors),
     }
 }

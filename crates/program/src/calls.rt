@@ -6,7 +6,6 @@ ghost use Rattle.clap.specs.Matches.{found_of};
 ghost use Rattle.schedule_check.specs.Checked.{whole_check};
 ghost use Rattle.schedule_check.specs.Windows.{IsTeller, Teller};
 ghost use Rattle.drawing.specs.PictureEnd.{IsDrawEnding};
-ghost use Rattle.frame_table.specs.Outcome.{whole_frames};
 ghost use Rattle.std.specs.Prelude.{codes};
 ghost use Rattle.program.specs.Given.{draws_in, flag_in, rate_in, settings_in};
 ghost use Rattle.script.specs.ScriptEnd.{IsEnding, whole_script};
@@ -14,6 +13,7 @@ ghost use Rattle.wire_time.specs.Moment.{greatest_moment};
 
 use crate::bounds_call::bounds_given;
 use crate::end_without_memory;
+use crate::frames_call::frames_given;
 use crate::onlooker::{FaultText, Onlooker};
 use crate::options::{JOBS, checks_of, command, draws_of, is_given, looks_of, values_of};
 use crate::piped::Piped;
@@ -23,7 +23,6 @@ use crate::streams_call::streams_given;
 use clap::error::ErrorKind;
 use clap::{ArgMatches, Error};
 use drawing::answer_draw;
-use frame_table::answer_frames;
 use job::Ended;
 use schedule_check::answer_check;
 use script::{Watch, answer_script};
@@ -69,12 +68,13 @@ pub fn check_given<B: Allocator, R: Read, W: Write + Drop, E: Write, H: Watch>(
 
 /// Draws the run of the script that `reader` gives, by the values that the words give to the options, through `answers`, with the text of
 /// a fault on `errors`; and gives the writer of the answers back. At a fault of the script nothing is drawn.
-pub fn draw_given<B: Allocator, R: Read, W: Write + Drop, E: Write>(
+pub fn draw_given<B: Allocator, R: Read, W: Write + Drop, E: Write, H: Watch>(
     alloc: Global,
     matches: &ArgMatches<'_>,
     reader: &mut R,
     answers: BufWriter<W, B>,
     errors: &mut E,
+    watch: &mut H,
 ) -> (Ended, W)
     ensures ending { IsDrawEnding (settings_in greatest_moment (found_of matches.now)) (draws_in (found_of matches.now))
         (R.remaining reader.old) result.0 (writer_contents W.contents answers) (W.contents result.1) (E.contents errors.old) (E.contents errors.new) }
@@ -88,24 +88,8 @@ pub fn draw_given<B: Allocator, R: Read, W: Write + Drop, E: Write>(
         reader,
         answers,
         errors,
+        watch,
     )
-}
-
-/// Writes the table of the frames of the script that `reader` gives, by the values that the words give to the options, through `answers`, with
-/// the text of a fault on `errors`; and gives the writer of the answers back.
-pub fn frames_given<B: Allocator, R: Read, W: Write + Drop, E: Write, H: Watch>(
-    alloc: Global,
-    matches: &ArgMatches<'_>,
-    reader: &mut R,
-    answers: BufWriter<W, B>,
-    errors: &mut E,
-    watch: &mut H,
-) -> (Ended, W)
-    ensures ending { IsEnding whole_frames (settings_in greatest_moment (found_of matches.now))
-        (R.remaining reader.old) result.0 (writer_contents W.contents answers) (W.contents result.1) (E.contents errors.old) (E.contents errors.new) }
-    ensures unread { IfErr (settings_in greatest_moment (found_of matches.now)) (λ _. reader.new ≡ reader.old) }
-{
-    answer_frames(alloc, values_of(matches), reader, answers, errors, watch)
 }
 
 /// Whether a text is written whole and let out.
@@ -154,10 +138,10 @@ fn answer_job<F: Files, B: Allocator, R: Read, W: Write + Drop, E: Write, H: Wat
         "script" => answer_given(alloc, matches, reader, answers, errors, watch),
         "replay" => replay_given(files, alloc, matches, reader, answers, errors, watch),
         "check" => check_given(alloc, matches, reader, answers, errors, watch),
-        "draw" => draw_given(alloc, matches, reader, answers, errors),
-        "frames" => frames_given(alloc, matches, reader, answers, errors, watch),
+        "draw" => draw_given(alloc, matches, reader, answers, errors, watch),
+        "frames" => frames_given(files, alloc, matches, reader, answers, errors, watch),
         "streams" => streams_given(files, alloc, matches, reader, answers, errors, watch),
-        _ => bounds_given(files, alloc, matches, reader, answers, errors),
+        _ => bounds_given(files, alloc, matches, reader, answers, errors, watch),
     }
 }
 
@@ -185,7 +169,7 @@ fn answer_watched<
         progress.start();
     }
     let mut text = FaultText::new();
-    let mut onlooker = Onlooker::new(progress, errors, looks_of(matches, terminal));
+    let mut onlooker = Onlooker::new(alloc, progress, errors, looks_of(matches, terminal));
     let (ended, writer) = answer_job(
         files,
         alloc,
@@ -196,6 +180,9 @@ fn answer_watched<
         &mut text,
         &mut onlooker,
     );
+    if name == "check" && ended.status == 0 && !writer.is_written() {
+        onlooker.warn_of_no_command();
+    }
     if ended.status != 4 || !writer.is_closed() {
         let capture = first_octets(files, matches);
         onlooker.report(&text, capture.as_slice());

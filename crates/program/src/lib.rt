@@ -9,17 +9,20 @@
 
 mod bounds_call;
 mod calls;
+mod frames_call;
 mod onlooker;
 mod options;
 mod piped;
 mod progress;
 mod replay_call;
 mod same_file;
+mod stream_ids;
 mod streams_call;
 
 pub use bounds_call::bounds_given;
 use calls::answer_words;
-pub use calls::{answer_given, check_given, draw_given, frames_given};
+pub use calls::{answer_given, check_given, draw_given};
+pub use frames_call::frames_given;
 use job::{Ended, say_fault};
 use options::reads_input;
 pub use options::values_of;

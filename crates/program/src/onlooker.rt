@@ -1,13 +1,16 @@
 //! Who watches a run for the program: what it finds is reported on standard error, and is counted where the run is strict.
 
 use crate::progress::Progress;
+use crate::stream_ids::{StreamIds, ids_of};
 use arrayvec::ArrayVec;
-use hints::{put_failure, put_fault_hint};
+use hints::{put_comment, put_failure, put_fault_hint, put_no_command, put_shared_ids};
 use job::Ended;
 use octet_writer::put;
-use script::{Failure, Watch};
+use script::{Failure, Watch, read_tc};
+use std::alloc::Global;
 use std::io::{self, Write};
 use std::time::Clock;
+use words::Words;
 
 /// How many octets of a line are kept, to be shown.
 const LINE: usize = 4096;
@@ -15,7 +18,7 @@ const LINE: usize = 4096;
 /// How many octets of a fault's text are kept: a path has some 4,000.
 const TEXT: usize = 8192;
 
-/// How many commands that change nothing are explained.
+/// How many commands that change nothing are explained, and how many comments.
 const EXPLAINED: u32 = 20;
 
 /// The text of a fault, before it is written.
@@ -56,8 +59,15 @@ impl Write for FaultText {
 pub(crate) struct Looks {
     /// Whether faults are explained.
     pub explain: bool,
-    /// Whether a command that changes nothing makes the status 1.
+    /// Whether what is found makes the status 1.
     pub strict: bool,
+}
+
+impl Looks {
+    /// Whether what is no fault, and is perhaps not meant, is looked for.
+    fn warns(&self) -> bool {
+        self.explain || self.strict
+    }
 }
 
 /// Watches a run.
@@ -67,12 +77,16 @@ pub(crate) struct Onlooker<'a, 'b, C: Clock, P: Write + Drop, E: Write> {
     errors: &'a mut E,
     looks: Looks,
     failures: u32,
+    comments: u32,
+    warned: bool,
+    ids: StreamIds,
     line: ArrayVec<u8, LINE>,
 }
 
 impl<'a, 'b, C: Clock, P: Write + Drop, E: Write> Onlooker<'a, 'b, C, P, E> {
     /// Nothing is found.
     pub fn new(
+        alloc: Global,
         progress: &'a mut Progress<'b, C, P>,
         errors: &'a mut E,
         looks: Looks,
@@ -82,16 +96,54 @@ impl<'a, 'b, C: Clock, P: Write + Drop, E: Write> Onlooker<'a, 'b, C, P, E> {
             errors,
             looks,
             failures: 0,
+            comments: 0,
+            warned: false,
+            ids: StreamIds::new(alloc),
             line: ArrayVec::new(),
         }
     }
 
-    /// How a run ends that ended like this: a strict one with status 1 where a command changed nothing.
+    /// How a run ends that ended like this: a strict one with status 1 where a command changed nothing, or a warning was given.
     pub fn judged(&self, ended: Ended) -> Ended {
-        if ended.status == 0 && self.looks.strict && self.failures > 0 {
+        if ended.status == 0 && self.looks.strict && (self.failures > 0 || self.warned) {
             Ended { status: 1, ..ended }
         } else {
             ended
+        }
+    }
+
+    /// Warns of an input without a schedule command, where that is wanted.
+    pub fn warn_of_no_command(&mut self) {
+        if !self.looks.warns() {
+            return;
+        }
+        self.warned = true;
+        let _ = put_no_command(self.errors);
+        let _ = self.errors.flush();
+    }
+
+    /// Looks at a line that the job didn't: whether it is a malformed command, or a comment where a command was perhaps meant.
+    fn look_at(&mut self, number: u32, line: &[u8]) {
+        let mut words = Words::new(line);
+        match words.next_word() {
+            Some(b"tc") => {
+                if let Err(fault) = read_tc(line) {
+                    self.command_failed(number, line, Failure::Malformed(fault));
+                }
+            }
+            Some(b"#") if words.next_word() == Some(b"tc".as_slice()) => {
+                self.look_at_comment(number, line)
+            }
+            _ => {}
+        }
+    }
+
+    /// Explains a comment where a command was perhaps meant.
+    fn look_at_comment(&mut self, number: u32, line: &[u8]) {
+        if self.looks.explain && self.comments < EXPLAINED {
+            self.comments += 1;
+            let _ = put_comment(self.errors, number, line);
+            let _ = self.errors.flush();
         }
     }
 
@@ -126,5 +178,25 @@ impl<C: Clock, P: Write + Drop, E: Write> Watch for Onlooker<'_, '_, C, P, E> {
     fn line_failed(&mut self, line: &[u8]) {
         self.line.clear();
         let _ = self.line.try_extend_from_slice(line);
+    }
+
+    fn line_passed(&mut self, number: u32, line: &[u8]) {
+        if self.looks.warns() {
+            self.look_at(number, line);
+        }
+    }
+
+    fn stream_read(&mut self, number: u32, first_id: u64, count: u32) {
+        if !self.looks.warns() {
+            return;
+        }
+        let Some(later) = ids_of(number, first_id, count) else {
+            return;
+        };
+        if let Some(earlier) = self.ids.take(later) {
+            self.warned = true;
+            let _ = put_shared_ids(self.errors, &earlier, &later, self.looks.explain);
+            let _ = self.errors.flush();
+        }
     }
 }

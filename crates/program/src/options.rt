@@ -252,6 +252,16 @@ const STRICT_COMMANDS: Word = Word {
     help: "End with status 1 where a tc line is no command, or its command is refused",
 };
 
+const STRICT_CHECK: Word = Word {
+    help: "End with status 1 where a tc line is no command, its command is refused, or there is no command",
+    ..STRICT_COMMANDS
+};
+
+const STRICT_STREAMS: Word = Word {
+    help: "End with status 1 where a tc line of SCRIPT is no command, or two streams share ids",
+    ..STRICT_COMMANDS
+};
+
 const EXPLAIN: Word = Word {
     given: Given::Flag,
     name: "explain",
@@ -264,6 +274,13 @@ const TABLE: Word = Word {
     name: "table",
     value: "TABLE",
     help: "The file with the table of streams",
+};
+
+const BY_STREAM: Word = Word {
+    given: Given::Value,
+    name: "by-stream",
+    value: "TABLE",
+    help: "A file with the table of streams: a last column says which of them each frame is of",
 };
 
 const TO: Word = Word {
@@ -297,6 +314,7 @@ pub(crate) const JOBS: [Job; 7] = [
             STAMP,
             SUMMARY,
             PROGRESS,
+            STRICT_COMMANDS,
             EXPLAIN,
             SCRIPT,
             CAPTURE,
@@ -306,12 +324,12 @@ pub(crate) const JOBS: [Job; 7] = [
     Job {
         name: "check",
         about: "Reports which classes the schedule commands on standard input keep apart",
-        words: &[RATE, WINDOWS, SCRIPT_LINES, STRICT_COMMANDS, EXPLAIN],
+        words: &[RATE, WINDOWS, SCRIPT_LINES, STRICT_CHECK, EXPLAIN],
     },
     Job {
         name: "streams",
         about: "Writes a script with the frames of the streams in a table on standard input",
-        words: &[LINES, OFFSETS_FROM, EXPLAIN],
+        words: &[LINES, OFFSETS_FROM, STRICT_STREAMS, EXPLAIN],
     },
     Job {
         name: "bounds",
@@ -321,12 +339,12 @@ pub(crate) const JOBS: [Job; 7] = [
     Job {
         name: "draw",
         about: "Draws the run of a script on standard input, as an SVG picture",
-        words: &[RATE, MTU, ROOM, FROM, TO, WIDTH, EXPLAIN],
+        words: &[RATE, MTU, ROOM, FROM, TO, WIDTH, STRICT_COMMANDS, EXPLAIN],
     },
     Job {
         name: "frames",
         about: "Writes a table of the frames of a script on standard input, as CSV: times, waits and fates",
-        words: &[RATE, MTU, ROOM, UNTIL, EXPLAIN],
+        words: &[RATE, MTU, ROOM, UNTIL, BY_STREAM, EXPLAIN],
     },
 ];
 

@@ -2,11 +2,12 @@
 
 use std::io::{self, ErrorKind, Write};
 
-/// A writer, and whether a write has found that nobody reads what it writes.
+/// A writer, whether it has got anything, and whether a write has found that nobody reads what it writes.
 #[derive(Drop)]
 pub struct Piped<W: Write + Drop> {
     writer: W,
     closed: bool,
+    written: bool,
 }
 
 impl<W: Write + Drop> Piped<W> {
@@ -15,7 +16,13 @@ impl<W: Write + Drop> Piped<W> {
         Piped {
             writer,
             closed: false,
+            written: false,
         }
+    }
+
+    /// Whether anything is written.
+    pub fn is_written(&self) -> bool {
+        self.written
     }
 
     /// Whether a write has found that nobody reads.
@@ -27,8 +34,9 @@ impl<W: Write + Drop> Piped<W> {
 impl<W: Write + Drop> Write for Piped<W> {
     fn write(&mut self, octets: &[u8]) -> io::Result<usize> {
         let result = self.writer.write(octets);
-        if let Err(error) = &result {
-            self.closed = error.kind() == ErrorKind::BrokenPipe;
+        match &result {
+            Ok(count) => self.written |= *count > 0,
+            Err(error) => self.closed = error.kind() == ErrorKind::BrokenPipe,
         }
         result
     }

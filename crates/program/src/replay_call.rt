@@ -11,9 +11,9 @@ ghost use Rattle.script.specs.ScriptEnd.{IsRefusal};
 ghost use Rattle.replay.specs.Stamps.{stamp_text};
 ghost use Rattle.replay.specs.Texts.{open_text};
 
-use crate::{BUFFER, end_without_memory};
 use crate::options::values_of;
-use crate::same_file::is_same_file;
+use crate::same_file::{is_regular, is_same_file};
+use crate::{BUFFER, end_without_memory};
 use answer_text::{Part, put_parts};
 use arrayvec::ArrayVec;
 use capture::CAPTURE_END;
@@ -47,10 +47,15 @@ pub(crate) fn open<'a, F: Files>(files: &F, path: &'a str) -> Result<F::File, &'
 /// How many octets of a capture are looked at.
 const FRONT: usize = 24;
 
-/// The first octets of a capture in a file, to say what the file is: none where the words name no such file or it can't be read.
+/// The first octets of a capture in a file, to say what the file is: none where the words name no such file or it can't be read. What is no regular
+/// file is left alone: a pipe that was read to its end may be waited for without an end.
 pub(crate) fn first_octets<F: Files>(files: &F, matches: &ArgMatches<'_>) -> ArrayVec<u8, FRONT> {
     let mut front = ArrayVec::new();
-    let Ok(mut file) = open(files, path_of(matches, "capture")) else {
+    let path = path_of(matches, "capture");
+    if !is_regular(files, path) {
+        return front;
+    }
+    let Ok(mut file) = open(files, path) else {
         return front;
     };
     let mut octets = [0u8; FRONT];

@@ -152,7 +152,7 @@ ends_capture {T} r number fault old new o p e is = subst (λ (q : Result T (Faul
 
 stop_at : (T U : Type 0) (y : Stop) (old new : Got) (o : Outcome) → PutsBoth {T = U} (Err y) old new o.output → Ends {T = T} (Err (fault_of_stop y)) old new o
 stop_at T U Stops.Read old new o p = (p.left, p.sent)
-stop_at T U Stops.Write old new o p = (p.left, p.short refl, p.sent)
+stop_at T U Stops.Write old new o p = (p.left, p.sent)
 stop_at T U Stops.Memory old new o p = (p.left, p.sent)
 
 pub ends_stop : {T U : Type 0} (r : Result T (Fault ReplayInput)) (y : Stop) (old new : Got) (o : Outcome) → r ≡ Err (fault_of_stop y) → PutsBoth {T = U} (Err y) old new o.output → Ends r old new o
@@ -175,11 +175,6 @@ refused_header T number fault old = (refl, nothing_written old)
 pub refused_until : (T : Type 0) (old : Got) → Ends {T = T} (Err (Faults.Input Inputs.Until)) old old (refused Inputs.Until)
 refused_until T old = (refl, nothing_written old)
 
-pub broken_off : (T : Type 0) (y : Stop) (old : Got) (o : Outcome) → (y ≡ Stops.Write → ⊥) → Ends {T = T} (Err (fault_of_stop y)) old old o
-broken_off T Stops.Read old o other = (o.output, both_none old o.output)
-broken_off T Stops.Write old o other = absurd (other refl)
-broken_off T Stops.Memory old o other = (o.output, both_none old o.output)
-
 -- ---- the header before it
 
 -- an outcome with the header of a capture before its records
@@ -199,7 +194,7 @@ pub behind_header : {T U : Type 0} {x : U} (r : Result T (Fault ReplayInput)) (o
 behind_header {T} {U} {x} (Ok y) old mid new o p e = (e.0, append_both old mid new header o.output (whole_of p.sent p.all) e.1)
 behind_header {T} {U} {x} (Err (Faults.Input fault)) old mid new o p e = (e.0, append_both old mid new header o.output (whole_of p.sent p.all) e.1)
 behind_header {T} {U} {x} (Err Faults.Read) old mid new o p (left, s) = (left, sent_behind header o.output left (both_more mid header o.output (both_none old _) refl p) s)
-behind_header {T} {U} {x} (Err Faults.Write) old mid new o p (left, some, s) = (left, some, sent_behind header o.output left (both_more mid header o.output (both_none old _) refl p) s)
+behind_header {T} {U} {x} (Err Faults.Write) old mid new o p (left, s) = (left, sent_behind header o.output left (both_more mid header o.output (both_none old _) refl p) s)
 behind_header {T} {U} {x} (Err Faults.Memory) old mid new o p (left, s) = (left, sent_behind header o.output left (both_more mid header o.output (both_none old _) refl p) s)
 
 -- the exit of a call that failed in the header

@@ -1,10 +1,11 @@
 -- The records that come from a reader, one after another.
 use Rattle.std.specs.Prelude.{IfSome, MatchOption, max}
 use Rattle.std.proofs.Common.{◌≡◌, ◌≢◌, ◌<◌, ◌+◌, ◌++◌, ℕ, List, [], ◌∷◌, length, Option, Some, None, Result, Ok, Err, refl, sym, ap, ◌∙◌, subst, append_assoc, append-nil}
+use Rattle.std.specs.Io.KnownBytes.{Keeps as Holds}
 use Rattle.std.proofs.Math.ListN.{get_or}
 use Rattle.std.proofs.Math.Seq.{get_or-append_seam}
 use Rattle.std.proofs.lemmas.List.{length-append}
-use Rattle.replay.specs.Words.{Left, Next, AreRecords, frame_of, Entry, MAX_RECORDS, CapFault, Format, End, Whole, Broken, Arrive, kept, Origin, Request, Asks, Came, Timed, before_end, came_from, lines_after, lines_by, lines_past, requests_of, kept_in, Comes, found, RunsRecords, Answers, Keeps, State, IsSoundPort, Stop}
+use Rattle.replay.specs.Words.{Left, Next, AreRecords, frame_of, Entry, MAX_RECORDS, CapFault, Format, End, Whole, Broken, Arrive, kept, Origin, Request, Asks, Came, Timed, before_end, came_from, lines_after, lines_by, lines_past, requests_of, Got, kept_in, Comes, found, RunsRecords, Answers, Keeps, State, IsSoundPort, Stop}
 use Rattle.capture.specs.CaptureReader.{IsWanting, ReadsNext, again, octets_left}
 use Rattle.capture.specs.Records.{IsWithin, entry_at, fault_at, rest_after}
 use Rattle.capture.specs.declared.fault.CapFault.TheVariants.{ShortHeader, BadMagic, BadVersion, BadLink, ShortRecord, LongRecord, BadFraction, TooManyRecords, Read, Write, Memory}
@@ -12,7 +13,7 @@ use Rattle.abstract_port.specs.declared.Event.TheVariants.{Clock}
 use Rattle.replay.specs.Outputs.{no_entry}
 use Rattle.replay.specs.RecordsLeft.{ending}
 use Rattle.replay.specs.declared.faults.Stop.TheVariants as Stops
-use Rattle.replay.proofs.RunLaws.{Done, done_exit, done_more, done_stop, done_whole}
+use Rattle.replay.proofs.RunLaws.{Done, done_exit, done_kept, done_more, done_stop, done_whole}
 
 known_at : (P : List ℕ → Type 0) (known : Option (List ℕ)) (octets : List ℕ) → known ≡ Some octets → IfSome known P → P octets
 known_at P known octets e p = let Q : Option (List ℕ) → Type 0 = λ o. IfSome o P in subst Q e p
@@ -84,6 +85,20 @@ pub record Stands {R : Type 0} (remaining : R → Option (List ℕ)) (es : Origi
   pub left : lines_after lines (came_from latest number rest) ≡ lines_after all (came_from 0 0 es.entries)
   pub run : Keeps es s → Done es s t (before_end lines (came_from latest number rest)) (before_end all (came_from 0 0 es.entries))
 
+-- what was written is let out
+pub stands_kept : {R : Type 0} {remaining : R → Option (List ℕ)} {es : Origin} {last : End} {reader : Left R} {latest number : ℕ} {all lines : List Timed} {s t : State} (h : Got)
+    → Stands remaining es last reader latest number all lines s t → Holds t.got.report h.report → Holds t.got.departures h.departures
+    → Stands remaining es last reader latest number all lines s (record t { got = h })
+stands_kept h st report departures = record {
+  front = st.front;
+  rest = st.rest;
+  split = st.split;
+  count = st.count;
+  comes = st.comes;
+  left = st.left;
+  run = λ k. done_kept h (st.run k) report departures;
+}
+
 -- the record of a number
 pub kept-at : (es front rest : List Entry) (e : Entry) (number : ℕ) → es ≡ front ++ e ∷ rest → length front ≡ number → kept_in es number ≡ kept e.original e.octets
 kept-at es front rest e number split count =
@@ -92,7 +107,7 @@ kept-at es front rest e number split count =
 
 -- what is answered, whatever the call answers
 same_ok : {T U : Type 0} {x : T} (y : U) (es : Origin) (rs : List Request) (s t : State) → Answers {T = T} es (Ok x) rs s t → Answers {T = U} es (Ok y) rs s t
-same_ok {T} {U} {x} y es rs s t a = record { port = a.port; keeps = a.keeps; seen = a.seen; out = record { left = a.out.left; sent = a.out.sent; all = a.out.all; short = λ w. cc } }
+same_ok {T} {U} {x} y es rs s t a = record { port = a.port; keeps = a.keeps; seen = a.seen; out = record { left = a.out.left; sent = a.out.sent; all = a.out.all } }
 
 module _ {R : Type 0} (remaining : R → Option (List ℕ)) (l after : Left R) (e : Entry) (begun : l.ended ≡ None) (p : Next remaining l (Ok (Some e)) after) where
   pub step_ended : after.ended ≡ None
@@ -194,12 +209,16 @@ module _ {R : Type 0} (remaining : R → Option (List ℕ)) (es : Origin) (last 
         answers = λ k. all_asked (Some (number, f)) n.0 k;
       }
 
-  over_read : RunsRecords es last all lines s t (Err Stops.Read)
-  over_read = record { ending = tt; left = tt; answers = λ k. done_stop sound (Err Stops.Read) refl (λ w. (let both : Stops.Read ≡ Stops.Write = w in cc)) (st.run k) }
+  -- a call failed
+  over_stop : (y : Stop) → RunsRecords es last all lines s t (Err y)
+  over_stop y = record { ending = tt; left = tt; answers = λ k. done_stop sound (Err y) refl (st.run k) }
+
+  pub stopped : (r : Result (Option (ℕ × CapFault)) Stop) (y : Stop) → r ≡ Err y → RunsRecords es last all lines s t r
+  stopped r y is = subst (λ (q : Result (Option (ℕ × CapFault)) Stop). RunsRecords es last all lines s t q) (sym is) (over_stop y)
 
   -- a fault was answered
   pub over : (f : CapFault) → Next remaining reader (Err f) after → RunsRecords es last all lines s t (found number f)
-  over Read p = over_read
+  over Read p = over_stop Stops.Read
   over ShortHeader p = over_fault ShortHeader (λ e. cc) p
   over BadMagic p = over_fault BadMagic (λ e. cc) p
   over BadVersion p = over_fault BadVersion (λ e. cc) p

@@ -6,7 +6,7 @@ use Rattle.replay.specs.Words.{Command, Entry, CapFault, End, IsReader, TcFault,
 use Rattle.job.specs.Texts.{run_status, run_text}
 use Rattle.job.specs.declared.report.Ended.{Ended}
 use Rattle.job.proofs.RunEndLaws.{appends_kept, sent_kept, sent_whole}
-use Rattle.replay.specs.ReplayEnd.{EndsOut, with_unwritten}
+use Rattle.replay.specs.ReplayEnd.{with_unwritten}
 use Rattle.job.specs.declared.fault.Fault.TheVariants as Faults
 
 -- both writers keep what they hold
@@ -32,26 +32,19 @@ ends_kept : (r : Result (Unit {0}) (Fault ReplayInput)) (old mid out : Got) (who
 ends_kept (Ok x) old mid out whole w k = (w.0, both_appended old mid out whole.output w.1 k)
 ends_kept (Err (Faults.Input fault)) old mid out whole w k = (w.0, both_appended old mid out whole.output w.1 k)
 ends_kept (Err Faults.Read) old mid out whole (left, s) k = (left, both_sent old mid out whole.output left s k)
-ends_kept (Err Faults.Write) old mid out whole (left, some, s) k = (left, some, both_sent old mid out whole.output left s k)
+ends_kept (Err Faults.Write) old mid out whole (left, s) k = (left, both_sent old mid out whole.output left s k)
 ends_kept (Err Faults.Memory) old mid out whole (left, s) k = (left, both_sent old mid out whole.output left s k)
-
-ends_out : (r : Result (Unit {0}) (Fault ReplayInput)) (old new : Got) (whole : Outcome) → Ends r old new whole → EndsOut r old new whole
-ends_out (Ok x) old new whole w = w
-ends_out (Err (Faults.Input fault)) old new whole w = w
-ends_out (Err Faults.Read) old new whole w = w
-ends_out (Err Faults.Write) old new whole (left, some, s) = (left, s)
-ends_out (Err Faults.Memory) old new whole w = w
 
 front_of_end : (r : Result (Unit {0}) (Fault ReplayInput)) (old new : Got) (whole : Outcome) → Ends r old new whole → (left : Output) × SentBoth old new whole.output left
 front_of_end (Ok x) old new whole w = front_of_both old new whole.output w.1
 front_of_end (Err (Faults.Input fault)) old new whole w = front_of_both old new whole.output w.1
 front_of_end (Err Faults.Read) old new whole w = w
-front_of_end (Err Faults.Write) old new whole (left, some, s) = (left, s)
+front_of_end (Err Faults.Write) old new whole w = w
 front_of_end (Err Faults.Memory) old new whole w = w
 
-out_by : (before run : Result (Unit {0}) (Fault ReplayInput)) (old new : Got) (whole : Outcome) → (run ≡ before) ⊎ (run ≡ Err Faults.Write) → Ends before old new whole → EndsOut run old new whole
-out_by before run old new whole (inl same) w = subst (λ r. EndsOut r old new whole) (sym same) (ends_out before old new whole w)
-out_by before run old new whole (inr failed) w = subst (λ r. EndsOut r old new whole) (sym failed) (front_of_end before old new whole w)
+out_by : (before run : Result (Unit {0}) (Fault ReplayInput)) (old new : Got) (whole : Outcome) → (run ≡ before) ⊎ (run ≡ Err Faults.Write) → Ends before old new whole → Ends run old new whole
+out_by before run old new whole (inl same) w = subst (λ r. Ends r old new whole) (sym same) w
+out_by before run old new whole (inr failed) w = subst (λ r. Ends r old new whole) (sym failed) (front_of_end before old new whole w)
 
 -- what a call says of the octets of both inputs
 abbrev pub Says : Result (Unit {0}) (Fault ReplayInput) → Setup → Stamp → Option (List ℕ) → Option (List ℕ) → Got → Got → Type 0
@@ -62,11 +55,11 @@ module _ (s : Setup) (stamp : Stamp) (ended : Ended) (old mid out got : Got) (er
   wrote : (script capture : Option (List ℕ)) (whole : List ℕ → Result (List Entry × End) CapFault → Outcome)
       → IfSome script (λ lines. IfSome capture (λ octets. (records : Result (List Entry × End) CapFault) → ReadsAs octets records → Ends before old mid (whole lines records)))
       → (run ≡ before) ⊎ (run ≡ Err Faults.Write) → KeepsBoth mid out → out ≡ with_unwritten got unwritten
-      → IfSome script (λ lines. IfSome capture (λ octets. (records : Result (List Entry × End) CapFault) → ReadsAs octets records → EndsOut run old (with_unwritten got unwritten) (whole lines records)))
+      → IfSome script (λ lines. IfSome capture (λ octets. (records : Result (List Entry × End) CapFault) → ReadsAs octets records → Ends run old (with_unwritten got unwritten) (whole lines records)))
   wrote None capture whole ends kept keeps same = tt
   wrote (Some lines) None whole ends kept keeps same = tt
   wrote (Some lines) (Some octets) whole ends kept keeps same = λ records reads.
-      subst (λ (o : Got). EndsOut run old o (whole lines records)) same (out_by before run old out (whole lines records) kept (ends_kept before old mid out (whole lines records) (ends records reads) keeps))
+      subst (λ (o : Got). Ends run old o (whole lines records)) same (out_by before run old out (whole lines records) kept (ends_kept before old mid out (whole lines records) (ends records reads) keeps))
 
   pub replay_ending : (script capture : Option (List ℕ)) → Says before s stamp script capture old mid
       → (run ≡ before) ⊎ (run ≡ Err Faults.Write) → (unwritten ≡ nothing) ⊎ (run ≡ Err Faults.Write) → KeepsBoth mid out → out ≡ with_unwritten got unwritten

@@ -1,13 +1,13 @@
 -- What is reported of requests, and of more after them.
+use Rattle.std.specs.Io.KnownBytes.{Keeps as Holds}
 use Rattle.std.specs.List.{flat_map}
 use Rattle.std.proofs.Common.{◌≡◌, ℕ, List, [], ◌∷◌, ◌++◌, map, Result, Ok, Err, refl, sym, ap, ◌∙◌, append_assoc, append-nil, subst}
 use Rattle.std.proofs.lemmas.Grind.{flat_map-append}
-use Rattle.replay.specs.Words.{AbstractPort, settled, answers_to, port_after, IsSoundPort, Answer, Origin, Request, Asks, NoCommand, Gave, Response, events_of, responses_of, responses_to, PutsBoth, joined, nothing, output, response_record, Answers, Keeps, State, Stop}
+use Rattle.replay.specs.Words.{AbstractPort, settled, answers_to, port_after, IsSoundPort, Answer, Origin, Request, Asks, NoCommand, Gave, Response, events_of, responses_of, responses_to, Got, PutsBoth, joined, nothing, output, response_record, Answers, IsTogether, Keeps, State, Stop}
 use Rattle.abstract_port.proofs.RunLaws.{IsTimely, same-event, settled-after, settled-current, timely-after, timely-settled, timely-sound}
 use Rattle.script.specs.Responses.{Faulted, response_lines}
-use Rattle.replay.specs.declared.faults.Stop.TheVariants as Stops
 use Rattle.replay.proofs.SeenLaws.{seen-append, seen-nil, seen-settled, seen_of}
-use Rattle.replay.proofs.Sends.{both_all, both_exit, both_none, both_stop, both_then, never, on_ok_map}
+use Rattle.replay.proofs.Sends.{both_all, both_exit, both_none, both_stop, both_then, never, on_ok_map, puts_kept}
 
 -- the port after requests
 abbrev pub after : List Request → AbstractPort → AbstractPort
@@ -106,6 +106,17 @@ pub record Done (es : Origin) (s t : State) (left all : List Request) : Type 0 w
 pub done_none : (es : Origin) (s : State) (all : List Request) → IsSoundPort s.port → Keeps es s → Done es s s all all
 done_none es s all sound k = record { done = []; parts = refl; answers = answers_none tt es s sound k }
 
+-- what was written is let out
+pub together_kept : (s : State) (h : Got) → IsTogether s → IsTogether (record s { got = h })
+together_kept s h w = record { lengths = w.lengths; room = w.room; sound = w.sound }
+
+pub done_kept : {es : Origin} {s t : State} {left all : List Request} (h : Got) → Done es s t left all → Holds t.got.report h.report → Holds t.got.departures h.departures → Done es s (record t { got = h }) left all
+done_kept h d report departures = record {
+  done = d.done;
+  parts = d.parts;
+  answers = record { port = d.answers.port; keeps = d.answers.keeps; seen = d.answers.seen; out = puts_kept (Ok tt) h d.answers.out report departures };
+}
+
 module _ {es : Origin} {s t : State} {all : List Request} (sound : IsSoundPort s.port) where
   -- more of it
   pub done_more : {T : Type 0} {x : T} {left : List Request} (u : State) (xs rest : List Request) → Done es s t left all → left ≡ xs ++ rest → Answers {T = T} es (Ok x) xs t u → Done es s u rest all
@@ -116,7 +127,7 @@ module _ {es : Origin} {s t : State} {all : List Request} (sound : IsSoundPort s
   }
     where
       same_out : PutsBoth {T = T} (Ok x) t.got u.got (output es (responses_of xs t.port)) → PutsBoth {T = Unit {0}} (Ok tt) t.got u.got (output es (responses_of xs t.port))
-      same_out p = record { left = p.left; sent = p.sent; all = p.all; short = λ w. cc }
+      same_out p = record { left = p.left; sent = p.sent; all = p.all }
 
   -- all of it
   pub done_all : Done es s t [] all → Answers {T = Unit {0}} es (Ok tt) all s t
@@ -132,8 +143,8 @@ module _ {es : Origin} {s t : State} {all : List Request} (sound : IsSoundPort s
       done_last r u d (subst (λ (x : List Request). Answers es r x t u) (sym e) (answers_exit r es xs rest t u is a))
 
   -- the exit where nothing was asked
-  pub done_stop : {T : Type 0} {y : Stop} {left : List Request} (r : Result T Stop) → r ≡ Err y → (y ≡ Stops.Write → ⊥) → Done es s t left all → Answers es r all s t
-  done_stop {T} {y} {left} r is other d = done_last r t d (record { port = never _ is; keeps = never _ is; seen = never _ is; out = both_stop r is other (both_none t.got _) })
+  pub done_stop : {T : Type 0} {y : Stop} {left : List Request} (r : Result T Stop) → r ≡ Err y → Done es s t left all → Answers es r all s t
+  done_stop {T} {y} {left} r is d = done_last r t d (record { port = never _ is; keeps = never _ is; seen = never _ is; out = both_stop r is (both_none t.got _) })
 
   pub done_whole : {left : List Request} → Done es s t left all → left ≡ [] → Answers {T = Unit {0}} es (Ok tt) all s t
   done_whole {left} d e = done_all (subst (λ (x : List Request). Done es s t x all) e d)

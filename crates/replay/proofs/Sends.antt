@@ -1,12 +1,11 @@
 -- One part of two outputs after another.
 use Rattle.std.specs.Prelude.{IfErr, OnOk}
-use Rattle.std.proofs.Common.{◌≡◌, ℕ, ◌+◌, List, [], ◌++◌, length, Option, Result, Ok, Err, refl, sym, ap, ◌∙◌, append_assoc, append-nil, subst, arith}
-use Rattle.std.proofs.lemmas.List.{length-append}
-use Rattle.std.specs.Io.KnownBytes.{Appends}
+use Rattle.std.proofs.Common.{◌≡◌, ℕ, List, [], ◌++◌, Option, Result, Ok, Err, refl, sym, ap, ◌∙◌, append_assoc, append-nil, subst}
+use Rattle.std.specs.Io.KnownBytes.{Appends, Keeps}
+use Rattle.job.proofs.RunEndLaws.{sent_kept}
 use Rattle.replay.specs.Words.{FallsShort, Writes, Got, Output, PutsBoth, SentBoth, joined, nothing, Stop}
 use Rattle.octet_writer.specs.Writes.{Sent}
 use Rattle.octet_writer.proofs.Fronts.{Appends-append, sent_none}
-use Rattle.replay.specs.declared.faults.Stop.TheVariants as Stops
 
 pub always : {T P : Type 0} (r : Result T Stop) → P → OnOk r P
 always (Ok x) p = p
@@ -34,10 +33,6 @@ sent_last {a} {b} c l s t = record {
 -- what is sent of a prefix is sent of the whole
 sent_front : {a b : Option (List ℕ)} {x left : List ℕ} (whole rest : List ℕ) → whole ≡ x ++ rest → Sent a b x left → Sent a b whole (left ++ rest)
 sent_front {a} {b} {x} {left} whole rest e s = record { done = s.done; appended = s.appended; parts = e ∙ ap (λ u. u ++ rest) s.parts ∙ append_assoc s.done left rest }
-
--- how much there is of both
-abbrev pub size : Output → ℕ
-size o = length o.report + length o.departures
 
 pub both_none : (g : Got) (whole : Output) → SentBoth g g whole whole
 both_none g whole = record { report = sent_none g.report whole.report; departures = sent_none g.departures whole.departures }
@@ -67,27 +62,33 @@ both_exit {T} {T'} {f} {g} {whole} {left} {y} r h x rest is s e p = record {
   left = joined p.left rest;
   sent = both_part h x rest p.left s e p.sent;
   all = never _ is;
-  short = λ w.
-      let same : y ≡ Stops.Write = let both : Err y ≡ r = sym is in cc in
-      let some = p.short (ap (λ (z : Stop). Err z) same) in
-      omega (arith, some, length-append p.left.report rest.report, length-append p.left.departures rest.departures);
 }
 
--- the exit of a call that wrote nothing, and reports no failed write
-pub both_stop : {T : Type 0} {f g : Got} {whole left : Output} {y : Stop} (r : Result T Stop) → r ≡ Err y → (y ≡ Stops.Write → ⊥) → SentBoth f g whole left → PutsBoth r f g whole
-both_stop {T} {f} {g} {whole} {left} {y} r is other s = record { left = left; sent = s; all = never _ is; short = λ w. absurd (other (let both : Err y ≡ r = sym is in cc)) }
+-- the exit of a call that wrote nothing
+pub both_stop : {T : Type 0} {f g : Got} {whole left : Output} {y : Stop} (r : Result T Stop) → r ≡ Err y → SentBoth f g whole left → PutsBoth r f g whole
+both_stop {T} {f} {g} {whole} {left} {y} r is s = record { left = left; sent = s; all = never _ is }
 
 -- all is put
 pub both_all : {T : Type 0} {f g : Got} {whole left : Output} (x : T) → SentBoth f g whole left → left ≡ nothing → PutsBoth (Ok x) f g whole
-both_all {T} {f} {g} {whole} {left} x s e = record { left = left; sent = s; all = e; short = λ w. cc }
+both_all {T} {f} {g} {whole} {left} x s e = record { left = left; sent = s; all = e }
 
 -- the last call, whose result is returned
 pub both_rest : {T : Type 0} {f g : Got} {whole left : Output} (r : Result T Stop) (h : Got) → SentBoth f g whole left → PutsBoth r g h left → PutsBoth r f h whole
-both_rest r h s n = record { left = n.left; sent = both_last h n.left s n.sent; all = n.all; short = n.short }
+both_rest r h s n = record { left = n.left; sent = both_last h n.left s n.sent; all = n.all }
 
 -- a part, and then the last call for the rest
 pub both_then : {T U : Type 0} {f g : Got} {x : Output} {y : U} (r : Result T Stop) (h : Got) (whole rest : Output) → whole ≡ joined x rest → PutsBoth {T = U} (Ok y) f g x → PutsBoth r g h rest → PutsBoth r f h whole
 both_then {T} {U} {f} {g} {x} {y} r h whole rest e p n = both_rest r h (both_more g x rest (both_none f whole) e p) n
+
+-- what writers keep that let out what they have
+pub both_kept : {f g : Got} {whole left : Output} (h : Got) → SentBoth f g whole left → Keeps g.report h.report → Keeps g.departures h.departures → SentBoth f h whole left
+both_kept {f} {g} {whole} {left} h s report departures = record {
+  report = sent_kept f.report g.report h.report whole.report left.report s.report report;
+  departures = sent_kept f.departures g.departures h.departures whole.departures left.departures s.departures departures;
+}
+
+pub puts_kept : {T : Type 0} {f g : Got} {whole : Output} (r : Result T Stop) (h : Got) → PutsBoth r f g whole → Keeps g.report h.report → Keeps g.departures h.departures → PutsBoth r f h whole
+puts_kept r h p report departures = record { left = p.left; sent = both_kept h p.sent report departures; all = p.all }
 
 -- 2. One writer of the two
 
@@ -98,7 +99,6 @@ report_short r c rec is (left, some, sent) = record {
   left = record { report = left; departures = rec };
   sent = record { report = sent; departures = sent_none c rec };
   all = never _ is;
-  short = λ w. omega arith;
 }
 
 sent_all_of : {a b : Option (List ℕ)} {x : List ℕ} → Appends a b x → Sent a b x []
@@ -111,13 +111,11 @@ report_and_record (Ok y) rec p n = record {
   left = nothing;
   sent = record { report = sent_all_of p; departures = sent_all_of n };
   all = refl;
-  short = λ w. cc;
 }
 report_and_record (Err y) rec p (left, some, sent) = record {
   left = record { report = []; departures = left };
   sent = record { report = sent_all_of p; departures = sent };
   all = tt;
-  short = λ w. omega arith;
 }
 
 -- a text of the report alone
@@ -127,7 +125,6 @@ report_whole {T} {a} {b} {x} y c p = record {
   left = nothing;
   sent = record { report = sent_all_of p; departures = sent_none c [] };
   all = refl;
-  short = λ w. cc;
 }
 
 -- an output capture alone: whole, and a prefix of it
@@ -137,7 +134,6 @@ capture_whole {T} {c} {d} {rec} y report p = record {
   left = nothing;
   sent = record { report = sent_none report []; departures = sent_all_of p };
   all = refl;
-  short = λ w. cc;
 }
 
 pub capture_short : {T : Type 0} {c d : Option (List ℕ)} {rec : List ℕ} {y : Stop} (r : Result T Stop) (report : Option (List ℕ)) → r ≡ Err y → FallsShort c d rec
@@ -146,5 +142,4 @@ capture_short r report is (left, some, sent) = record {
   left = record { report = []; departures = left };
   sent = record { report = sent_none report []; departures = sent };
   all = never _ is;
-  short = λ w. omega arith;
 }

@@ -1,5 +1,5 @@
 -- What is written for a script and a capture, and the fault that ends it.
-use Rattle.std.specs.Prelude.{◌≡◌, ◌<◌, ◌+◌, nat_lt, ℕ, List, [], Bool, false, Option, Some, None, Result, Ok, Err, length, IfSome, if◌then◌else◌}
+use Rattle.std.specs.Prelude.{◌≡◌, nat_lt, ℕ, List, [], Bool, false, Option, Some, None, Result, Ok, Err, length, IfSome, if◌then◌else◌}
 use Rattle.std.specs.Io.KnownBytes.{Appends}
 use Rattle.abstract_port.specs.AbstractPort.{AbstractPort, new_port}
 use Rattle.abstract_port.specs.Answers.{port_after}
@@ -123,11 +123,11 @@ pub record AppendsBoth (old new : Got) (whole : Output) : Type 0 where
   pub report : Appends old.report new.report whole.report
   pub departures : Appends old.departures new.departures whole.departures
 
--- At Ok, and at a fault of the inputs, both outputs are written whole, and the fault is theirs; at the other faults a prefix of each,
--- and after a failed write not all of both.
+-- At Ok, and at a fault of the inputs, both outputs are written whole, and the fault is theirs; at the other faults a prefix of each. That
+-- may be all of it after a failed write, since what was written is let out before more is waited for.
 abbrev pub Ends : {T : Type 0} → Result T (Fault ReplayInput) → Got → Got → Outcome → Type 0
 Ends (Ok x) old new whole = (whole.fault ≡ None) × AppendsBoth old new whole.output
 Ends (Err (Faults.Input fault)) old new whole = (whole.fault ≡ Some fault) × AppendsBoth old new whole.output
 Ends (Err Faults.Read) old new whole = (left : Output) × SentBoth old new whole.output left
-Ends (Err Faults.Write) old new whole = (left : Output) × (0 < length left.report + length left.departures) × SentBoth old new whole.output left
+Ends (Err Faults.Write) old new whole = (left : Output) × SentBoth old new whole.output left
 Ends (Err Faults.Memory) old new whole = (left : Output) × SentBoth old new whole.output left

@@ -1,5 +1,5 @@
 -- The report and the output capture of what is reported.
-use Rattle.std.specs.Prelude.{◌≡◌, ◌<◌, ◌+◌, ◌++◌, ℕ, List, [], Option, Result, Err, OnOk, length, slice_index_or}
+use Rattle.std.specs.Prelude.{◌≡◌, ◌++◌, ℕ, List, [], Option, Result, OnOk, slice_index_or}
 use Rattle.std.specs.List.{flat_map}
 use Rattle.abstract_port.specs.declared.Answer.{Answer}
 use Rattle.abstract_port.specs.declared.Answer.TheVariants as Answered
@@ -10,7 +10,6 @@ use Rattle.octet_writer.specs.Writes.{Sent}
 use Rattle.script.specs.Responses.{Response, Gave, Faulted, lines_of}
 use Rattle.replay.specs.Stamps.{stamped}
 use Rattle.replay.specs.declared.faults.Stop.{Stop}
-use Rattle.replay.specs.declared.faults.Stop.TheVariants as Stops
 use Rattle.replay.specs.declared.stamps.Stamping.{Stamping}
 
 -- 1. What is reported, as two outputs
@@ -75,10 +74,9 @@ pub record SentBoth (old new : Got) (whole left : Output) : Type 0 where
   pub report : Sent old.report new.report whole.report left.report
   pub departures : Sent old.departures new.departures whole.departures left.departures
 
--- of each output a prefix was appended: at Ok all, and after a failed write not all of both
+-- of each output a prefix was appended: at Ok all
 module _ {T : Type 0} where
   pub record PutsBoth (r : Result T Stop) (old new : Got) (whole : Output) : Type 0 where
     pub left : Output
     pub sent : SentBoth old new whole left
     pub all : OnOk r (left ≡ nothing)
-    pub short : r ≡ Err Stops.Write → 0 < length left.report + length left.departures

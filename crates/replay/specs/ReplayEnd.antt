@@ -1,5 +1,5 @@
 -- What a run of the program on a script and a capture leaves: its exit status, what the two writers got, and the text of a fault.
-use Rattle.std.specs.Prelude.{◌≡◌, ◌⊎◌, ⊤, List, ℕ, Option, Result, Ok, Err, IfSome}
+use Rattle.std.specs.Prelude.{◌≡◌, ◌⊎◌, List, ℕ, Option, Result, Err, IfSome}
 use Rattle.std.specs.Io.KnownBytes.{append_known}
 use Rattle.abstract_port.specs.declared.Command.{Command}
 use Rattle.capture.specs.Records.{Entry}
@@ -10,8 +10,8 @@ use Rattle.tc_reader.specs.declared.fault.TcFault.{TcFault}
 use Rattle.job.specs.RunEnd.{IsRunEnding}
 use Rattle.script.specs.Setup.{Setup}
 use Rattle.job.specs.declared.report.Ended.{Ended}
-use Rattle.replay.specs.Outcome.{Ends, Outcome, ReadsAs, outcome_of}
-use Rattle.replay.specs.Outputs.{Got, Output, SentBoth, nothing}
+use Rattle.replay.specs.Outcome.{Ends, ReadsAs, outcome_of}
+use Rattle.replay.specs.Outputs.{Got, Output, nothing}
 use Rattle.replay.specs.Texts.{replay_telling}
 use Rattle.job.specs.declared.fault.Fault.{Fault}
 use Rattle.job.specs.declared.fault.Fault.TheVariants as Faults
@@ -21,14 +21,6 @@ use Rattle.replay.specs.declared.stamps.Stamp.{Stamp}
 -- what two writers got, and then what no write let out
 abbrev pub with_unwritten : Got → Output → Got
 with_unwritten got unwritten = record { report = append_known got.report unwritten.report; departures = append_known got.departures unwritten.departures }
-
--- what is written where both outputs go through buffers: after a failed write a prefix of each, which the buffers' octets end
-abbrev pub EndsOut : {T : Type 0} → Result T (Fault ReplayInput) → Got → Got → Outcome → Type 0
-EndsOut (Err Faults.Write) old new whole = (left : Output) × SentBoth old new whole.output left
-EndsOut (Ok x) old new whole = Ends (Ok x) old new whole
-EndsOut (Err (Faults.Input fault)) old new whole = Ends {T = ⊤} (Err (Faults.Input fault)) old new whole
-EndsOut (Err Faults.Read) old new whole = Ends {T = ⊤} (Err Faults.Read) old new whole
-EndsOut (Err Faults.Memory) old new whole = Ends {T = ⊤} (Err Faults.Memory) old new whole
 
 -- What two writers got, with what no write let out, is as this says; and all is let out but after a failed write.
 pub record AreLetOut (run : Result (Unit {0}) (Fault ReplayInput)) (got : Got) (Wrote : Got → Type 0) : Type 0 where
@@ -41,4 +33,4 @@ pub record AreLetOut (run : Result (Unit {0}) (Fault ReplayInput)) (got : Got) (
 abbrev pub IsReplayEnding : (s : Setup) (stamp : Stamp) (script capture : Option (List ℕ)) → Ended → (old got : Got) (errors_old errors_new : Option (List ℕ)) → Type 0
 IsReplayEnding s stamp script capture ended old got errors_old errors_new =
     IsRunEnding replay_telling (λ run. AreLetOut run got (λ out. (read : List (List ℕ) → Result Command TcFault) → IsReader read → IfSome script (λ lines. IfSome capture (λ octets.
-    (records : Result (List Entry × End) CapFault) → ReadsAs octets records → EndsOut run old out (outcome_of read s stamp lines records))))) ended errors_old errors_new
+    (records : Result (List Entry × End) CapFault) → ReadsAs octets records → Ends run old out (outcome_of read s stamp lines records))))) ended errors_old errors_new

@@ -8,19 +8,20 @@ use crate::faults::Stop;
 use crate::kept_script::{KeptLine, KeptScript};
 use crate::sender::{Sending, put_clock};
 use abstract_port::Event;
-use script::{Unwatched, put_answers, put_tc};
+use script::{Watch, put_answers, put_tc};
 use std::alloc::Allocator;
 use std::io::Write;
 use tc_reader::laws::one_reader;
 
-/// Answers a line of the script.
+/// Answers a line of the script. Who watches is called where it begins with `tc` and changes nothing.
 #[inline(never)]
-fn put_line<A: Allocator, B: Allocator, W: Write, V: Write>(
+fn put_line<A: Allocator, B: Allocator, W: Write, V: Write, P: Watch>(
     sending: &mut Sending<A>,
     script: &KeptScript<B>,
     line: KeptLine,
     departures: &mut W,
     report: &mut V,
+    watch: &mut P,
 ) -> Result<(), Stop>
     requires kept { IsKept script.now.octets.items line }
     requires together { IsTogether (state sending.old (V.contents report.old) (W.contents departures.old)) }
@@ -51,7 +52,7 @@ fn put_line<A: Allocator, B: Allocator, W: Write, V: Write>(
                 number,
                 &script.octets[start..end],
                 report,
-                &mut Unwatched,
+                watch,
             )?;
         }
     }
@@ -68,15 +69,16 @@ fn kept_clock(clock: u128, line: KeptLine) -> u128
     }
 }
 
-/// Answers the lines up to a moment that are to come.
+/// Answers the lines up to a moment that are to come. Who watches is called for each that begins with `tc` and changes nothing.
 #[inline(always)]
-pub(crate) fn run_lines<A: Allocator, B: Allocator, W: Write, V: Write>(
+pub(crate) fn run_lines<A: Allocator, B: Allocator, W: Write, V: Write, P: Watch>(
     sending: &mut Sending<A>,
     script: &KeptScript<B>,
     cursor: &mut Cursor,
     upto: u128,
     departures: &mut W,
     report: &mut V,
+    watch: &mut P,
 ) -> Result<(), Stop>
     requires together { IsTogether (state sending.old (V.contents report.old) (W.contents departures.old)) }
     ensures together { OnOk result (IsTogether (state sending.new (V.contents report.new) (W.contents departures.new))) }
@@ -93,7 +95,7 @@ pub(crate) fn run_lines<A: Allocator, B: Allocator, W: Write, V: Write>(
         if clock > upto {
             return Ok(());
         }
-        put_line(sending, script, line, departures, report)?;
+        put_line(sending, script, line, departures, report, watch)?;
         cursor.clock = clock;
         cursor.at += 1;
     }

@@ -1,6 +1,9 @@
 //! The records of a capture, each after the lines up to its moment.
 
-ghost use Rattle.std.specs.Prelude.{◌≡◌, ◌≤◌, ◌∷◌, [], ℕ, List, Option, None, Result, OnOk, length, max};
+ghost use Rattle.std.specs.Prelude.{◌≡◌, ◌≤◌, ◌∷◌, [], ℕ, List, Option, None, Result, Ok, OnOk, IfErr, length, max, true};
+ghost use Rattle.std.specs.Io.KnownBytes.{Keeps as Holds};
+ghost use Rattle.capture.specs.Records.{holds_record};
+ghost use Rattle.replay.specs.declared.faults.Stop.TheVariants as Stops;
 ghost use Rattle.replay.specs.Words.{Command, left, entry, frame_of, End, Origin, CAPTURE_END, MAX_RECORD_OCTETS, kept, Asks, IsReader, TcFault, lines_left, kept_in, Comes, found, RunsRecords, Answers, IsTogether, Keeps, state};
 ghost use Rattle.abstract_port.specs.declared.Event.TheVariants as Events;
 
@@ -47,8 +50,31 @@ fn found(number: u32, fault: CapFault) -> Result<Option<(u32, CapFault)>, Stop>
     }
 }
 
-/// Runs the records that are to come, each after the lines up to its moment, and calls who watches for each; later lines are left. The
-/// number of the record at which the capture ends with a fault, and the fault.
+/// Lets out what was written where no record stands whole in hand, so that whoever waits for it has it before more of the capture is waited
+/// for: the departures first, so that the record of a start that is reported can be read.
+#[inline(always)]
+fn let_out_before<C: Allocator, R: Read, W: Write, V: Write>(
+    records: &CaptureReader<R, C>,
+    departures: &mut W,
+    report: &mut V,
+) -> Result<(), Stop>
+    ensures report { Holds (V.contents report.old) (V.contents report.new) }
+    ensures departures { Holds (W.contents departures.old) (W.contents departures.new) }
+    ensures fault { IfErr result (λ fault. fault ≡ Stops.Write) }
+    ensures in_hand { holds_record (left records.now).format (left records.now).in_hand ≡ true → (result ≡ Ok tt) × (report.new ≡ report.old) × (departures.new ≡ departures.old) }
+{
+    if records.has_record() {
+        return Ok(());
+    }
+    if departures.flush().is_err() || report.flush().is_err() {
+        return Err(Stop::Write);
+    }
+    Ok(())
+}
+
+/// Runs the records that are to come, each after the lines up to its moment, and calls who watches for each; later lines are left. What was
+/// answered is let out before more of the capture is waited for. The number of the record at which the capture ends with a fault, and the
+/// fault.
 pub(crate) fn run_records<
     A: Allocator + Clone,
     B: Allocator,
@@ -77,13 +103,14 @@ pub(crate) fn run_records<
     let mut latest = 0u128;
     let mut number = 0u32;
     'records: loop {
+        let_out_before(records, departures, report)?;
         let record = match records.next() {
             Ok(None) => return Ok(None),
             Err(fault) => return found(number, fault),
             Ok(Some(record)) => record,
         };
         latest = latest.max(record.moment);
-        run_lines(sending, script, cursor, latest, departures, report)?;
+        run_lines(sending, script, cursor, latest, departures, report, watch)?;
         take_record(sending, latest, number, &record, departures, report)?;
         number += 1;
         watch.records_taken(number, latest);

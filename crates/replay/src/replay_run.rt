@@ -1,6 +1,6 @@
 //! Runs a script and a capture.
 
-ghost use Rattle.std.specs.Prelude.{◌≡◌, ℕ, List, None, Option, Result, IfOk, IfErr, IfSome, Err, false, true, length};
+ghost use Rattle.std.specs.Prelude.{◌≡◌, ℕ, [], List, None, Option, Result, IfOk, IfErr, IfSome, Err, false, true, length};
 ghost use Rattle.replay.specs.Words.{new_port, IsSoundPort, Command, IsNewReader, left, Entry, CapFault, End, IsReader, TcFault, lines_left, new_store, kept_requests, merged, came_from, timed_from, requests_of, Ends, IsOpenFault, ReadsAs, end_fault, header, is_too_late, open_fault, outcome_of, stamping_at, told_to_end, Origin, PutsBoth, got, Comes, IsTogether, Keeps, state};
 ghost use Rattle.job.specs.declared.fault.Fault.TheVariants as Faults;
 ghost use Rattle.replay.specs.declared.faults.ReplayInput.TheVariants as Inputs;
@@ -31,14 +31,36 @@ fn is_too_late(until: Option<u128>) -> bool
     }
 }
 
-/// Answers the lines that are left, runs on, and writes how many frames are left, and the summary where one is wanted.
-fn finish<A: Allocator, B: Allocator, W: Write, V: Write>(
+/// Runs on from where both inputs have ended, and writes how many frames are left, and the summary where one is wanted.
+fn run_on<A: Allocator, W: Write, V: Write>(
+    sending: &mut Sending<A>,
+    until: Option<u128>,
+    departures: &mut W,
+    report: &mut V,
+) -> Result<(), Stop>
+    requires until { is_too_late until ≡ false }
+    requires together { IsTogether (state sending.old (V.contents report.old) (W.contents departures.old)) }
+    ensures { (origin : Origin) → Keeps origin (state sending.old (V.contents report.old) (W.contents departures.old)) →
+        PutsBoth result (got (V.contents report.old) (W.contents departures.old)) (got (V.contents report.new) (W.contents departures.new))
+        (told_to_end origin [] until sending.old.port.port sending.old.summary) }
+{
+    let from = sending.port.now();
+    sending.leaving.last = from;
+    let upto = run_end(until);
+    put_clock(sending, upto, departures, report)?;
+    put_end(sending, until, report)?;
+    Ok(())
+}
+
+/// Answers the lines that are left, and runs on. Who watches is called for each line that begins with `tc` and changes nothing.
+fn finish<A: Allocator, B: Allocator, W: Write, V: Write, P: Watch>(
     sending: &mut Sending<A>,
     script: &KeptScript<B>,
     cursor: &mut Cursor,
     until: Option<u128>,
     departures: &mut W,
     report: &mut V,
+    watch: &mut P,
 ) -> Result<(), Stop>
     requires until { is_too_late until ≡ false }
     requires together { IsTogether (state sending.old (V.contents report.old) (W.contents departures.old)) }
@@ -47,13 +69,16 @@ fn finish<A: Allocator, B: Allocator, W: Write, V: Write>(
         PutsBoth result (got (V.contents report.old) (W.contents departures.old)) (got (V.contents report.new) (W.contents departures.new))
         (told_to_end origin (requests_of (lines_left read script.now cursor.old)) until sending.old.port.port sending.old.summary) }
 {
-    run_lines(sending, script, cursor, CAPTURE_END, departures, report)?;
-    let from = sending.port.now();
-    sending.leaving.last = from;
-    let upto = run_end(until);
-    put_clock(sending, upto, departures, report)?;
-    put_end(sending, until, report)?;
-    Ok(())
+    run_lines(
+        sending,
+        script,
+        cursor,
+        CAPTURE_END,
+        departures,
+        report,
+        watch,
+    )?;
+    run_on(sending, until, departures, report)
 }
 
 /// Runs the records and the lines, to the end of both.
@@ -86,7 +111,15 @@ fn run<A: Allocator + Clone, B: Allocator, C: Allocator, R: Read, W: Write, V: W
         report,
         watch,
     )?;
-    finish(sending, script, &mut cursor, until, departures, report)?;
+    finish(
+        sending,
+        script,
+        &mut cursor,
+        until,
+        departures,
+        report,
+        watch,
+    )?;
     match broken {
         None => Ok(()),
         Some((number, fault)) => Err(ReplayFault::Input(ReplayInput::Capture(number, fault))),
@@ -170,9 +203,10 @@ fn begin<A: Allocator + Clone, W: Write>(
 /// frames each class still has comes last, and a summary where the settings want one. The records of the frames that start carry the moment
 /// that `stamp` says.
 ///
-/// A read or a write that fails, or takes nothing, isn't tried again. Nothing that is kept grows with the capture: of a script its
+/// What was answered is let out, the departures first, before more of the capture is waited for. A read or a write that fails, or takes nothing, isn't
+/// tried again. Nothing that is kept grows with the capture: of a script its
 /// lines are kept, and of a capture the octets of the frames that wait, and where a summary is wanted when they came. Who watches is called for
-/// each record once it is taken, and for a malformed line of the script.
+/// each record once it is taken, for a malformed line of the script, and for each line that begins with `tc` and changes nothing.
 pub fn replay<A: Allocator, R: Read + Drop, S: Read + Drop, W: Write, V: Write, P: Watch>(
     alloc: A,
     script: R,

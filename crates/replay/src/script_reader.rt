@@ -76,7 +76,7 @@ fn keep_lines<A: Allocator, B: Allocator, R: Read + Drop, P: Watch>(
     'lines: while lines.advance()? {
         let octets = lines.line();
         match read_line_beside(octets) {
-            Ok(None) => {}
+            Ok(None) => watch.line_passed(lines.line_number(), octets),
             Ok(Some(line)) => keep(script, line, octets, lines.line_number())?,
             Err(fault) => {
                 watch.line_failed(octets);

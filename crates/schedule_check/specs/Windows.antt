@@ -1,9 +1,10 @@
 -- What a schedule gives a class: how long its gate stays open and closed, by the gates of its plan alone, which go on for ever
 -- (IEEE Std 802.1Q-2018, 8.6.8.4, 8.6.9.2).
-use Rattle.std.specs.Prelude.{◌≡◌, ◌<◌, ◌≤◌, ℕ, zero, suc, ◌+◌, ◌-◌, true, map, Some, None, if◌then◌else◌}
+use Rattle.std.specs.Prelude.{◌≡◌, ◌<◌, ◌≤◌, ◌⊎◌, ℕ, zero, suc, ◌+◌, ◌-◌, true, map, Some, None, if◌then◌else◌}
 use Rattle.wire_time.specs.Wire.{occupancy_of}
 use Rattle.gate_list.specs.Gate.{Plan, in_ps, mask_since, opens}
 use Rattle.gate_list.specs.Open.{open_while}
+use Rattle.gate_list.specs.Stay.{stay_lasts}
 use Rattle.gate_list.specs.declared.Entry.{Entry}
 use Rattle.gate_list.specs.declared.Stay.{Stay}
 use Rattle.gate_list.specs.declared.Stay.TheVariants.{Lasts, Always}
@@ -40,6 +41,12 @@ pub record IsLongestOpen (mask : ℕ → ℕ) (class d : ℕ) : Type 0 where
 abbrev pub IsOpenStay : (ℕ → ℕ) → ℕ → Stay → Type 0
 IsOpenStay mask class (Lasts d) = IsLongestOpen mask class d
 IsOpenStay mask class Always = (x d : ℕ) → open_while mask class x d ≡ true
+
+-- a stay is the longer of two: it lasts as long as each of them
+pub record IsLonger (one other longer : Stay) : Type 0 where
+  pub either : (longer ≡ one) ⊎ (longer ≡ other)
+  pub first : (d : ℕ) → stay_lasts one d ≡ true → stay_lasts longer d ≡ true
+  pub second : (d : ℕ) → stay_lasts other d ≡ true → stay_lasts longer d ≡ true
 
 -- at how many of the first picoseconds the class is open
 unfoldable pub open_total : (ℕ → ℕ) → ℕ → ℕ → ℕ

@@ -80,8 +80,12 @@ fn put_windows<W: Write>(
     ensures { (tell : Teller) → IsTeller tell →
         Writes result (W.contents writer.old) (W.contents writer.new) (open_lines (tell rate windows.now) count 0) }
 {
+    let open = windows.open_times();
+    let closed = windows.closed_times();
     for class in 0..count {
-        put_if_open(writer, class, &windows.window(rate, class))?;
+        let place = usize::from(class);
+        let window = windows.window_of(rate, class, open[place], closed[place]);
+        put_if_open(writer, class, &window)?;
     }
     Ok(())
 }

@@ -1,10 +1,10 @@
 //! What a schedule gives each class: how long it stays open and closed, its share of a cycle, and the longest frame that can start.
 
-ghost use Rattle.std.specs.Prelude.{◌≡◌, ◌<◌, ◌≤◌, ◌⊎◌, ◌*◌, ◌^◌, ◌+◌, ℕ, Some, if◌then◌else◌, length, map, min, slice_get, true};
-ghost use Rattle.schedule_check.specs.Words.{in_ps, ok_unless, opens, plan_fault, plan_with, stay_lasts, IsLongestFrame, IsOpenStay, IsWindow, alone, open_total, turned, turned_entry, CLASSES};
+ghost use Rattle.std.specs.Prelude.{◌≡◌, ◌<◌, ◌≤◌, ◌*◌, ◌^◌, ◌+◌, ℕ, if◌then◌else◌, length, map, min, slice_index_or};
+ghost use Rattle.schedule_check.specs.Words.{in_ps, ok_unless, opens, plan_fault, plan_with, Lasts, IsLonger, IsLongestFrame, IsOpenStay, IsWindow, alone, open_total, turned, turned_entry, CLASSES};
 
 use arrayvec::ArrayVec;
-use gate_list::{Entry, GateList, MAX_ENTRIES, PlanFault, Row, Schedule, Stay, Visits, is_open};
+use gate_list::{Entry, GateList, MAX_ENTRIES, PlanFault, Schedule, Stay, Visits, is_open};
 use std::marker::Model;
 use wire_time::{CLASSES, Rate};
 
@@ -56,9 +56,7 @@ impl Model for Windows {
 
 /// The longer of two stays.
 fn longer(one: Stay, other: Stay) -> Stay
-    ensures either { (result ≡ one) ⊎ (result ≡ other) }
-    ensures first { (d : ℕ) → stay_lasts one d ≡ true → stay_lasts result d ≡ true }
-    ensures second { (d : ℕ) → stay_lasts other d ≡ true → stay_lasts result d ≡ true }
+    ensures { IsLonger one other result }
 {
     match (one, other) {
         (Stay::Lasts(a), Stay::Lasts(b)) => { if a < b { other } else { one } }
@@ -67,25 +65,25 @@ fn longer(one: Stay, other: Stay) -> Stay
     }
 }
 
-/// How long a class stays open from the start of a row's entry on, round the cycle's end too.
-fn stay_from(row: &Row, class: u8) -> Stay
-    requires { class < CLASSES }
-    ensures { slice_get row.now.stay class ≡ Some result }
+/// To each class the longer of its two stays.
+fn lengthen(longest: &mut [Stay; CLASSES], stays: &[Stay; CLASSES])
+    ensures { (class : ℕ) → class < CLASSES → IsLonger (slice_index_or longest.old class (Lasts 0)) (slice_index_or stays.now class (Lasts 0)) (slice_index_or longest.new class (Lasts 0)) }
 {
-    row.stay[usize::from(class)]
+    for class in 0..CLASSES {
+        longest[class] = longer(longest[class], stays[class]);
+    }
 }
 
-/// The longest time that a class stays open.
-fn longest_open(schedule: &Schedule, class: u8) -> Stay
-    requires { class < CLASSES }
-    ensures longest { IsOpenStay (alone schedule.now) class result }
+/// The longest time that each class stays open.
+fn longest_open(schedule: &Schedule) -> [Stay; CLASSES]
+    ensures longest { (class : ℕ) → class < CLASSES → IsOpenStay (alone schedule.now) class (slice_index_or result class (Lasts 0)) }
     ensures some { 0 < length schedule.now.entries }
 {
     let mut visits = Visits::zero();
-    let mut longest = Stay::Lasts(0);
+    let mut longest = [Stay::Lasts(0); CLASSES];
     for i in 0..schedule.len() {
         let row = schedule.row(i, &mut visits);
-        longest = longer(longest, stay_from(&row, class));
+        lengthen(&mut longest, &row.stay);
     }
     longest
 }
@@ -187,20 +185,18 @@ impl Windows {
         Ok(Windows { schedule, turned })
     }
 
-    /// The longest time that a class stays open, in picoseconds.
-    pub fn open_time(&self, class: u8) -> Stay
-        requires { class < CLASSES }
-        ensures { IsOpenStay (alone self.now) class result }
+    /// The longest time that each class stays open, in picoseconds.
+    pub(crate) fn open_times(&self) -> [Stay; CLASSES]
+        ensures { (class : ℕ) → class < CLASSES → IsOpenStay (alone self.now) class (slice_index_or result class (Lasts 0)) }
     {
-        longest_open(&self.schedule, class)
+        longest_open(&self.schedule)
     }
 
-    /// The longest time that a class stays closed, in picoseconds; 0 where it never closes.
-    pub fn closed_time(&self, class: u8) -> Stay
-        requires { class < CLASSES }
-        ensures { IsOpenStay (turned (alone self.now)) class result }
+    /// The longest time that each class stays closed, in picoseconds; 0 where it never closes.
+    pub(crate) fn closed_times(&self) -> [Stay; CLASSES]
+        ensures { (class : ℕ) → class < CLASSES → IsOpenStay (turned (alone self.now)) class (slice_index_or result class (Lasts 0)) }
     {
-        longest_open(&self.turned, class)
+        longest_open(&self.turned)
     }
 
     /// For how many picoseconds of a cycle a class is open.
@@ -211,12 +207,27 @@ impl Windows {
         share_of(&self.schedule, class)
     }
 
-    /// The longest frame of a class that can ever start at a rate, in octets, untagged and without check sequence.
-    pub fn longest_frame(&self, rate: Rate, class: u8) -> Longest
-        requires { class < CLASSES }
-        ensures { IsLongestFrame rate (alone self.now) class result }
+    /// What the schedule gives a class at a rate that stays open for so long at the longest, and closed.
+    pub(crate) fn window_of(
+        &self,
+        rate: Rate,
+        class: u8,
+        open_time: Stay,
+        closed_time: Stay,
+    ) -> Window
+        requires class { class < CLASSES }
+        requires open { IsOpenStay (alone self.now) class open_time }
+        requires closed { IsOpenStay (turned (alone self.now)) class closed_time }
+        ensures window { IsWindow rate self.now class result }
+        ensures cycle { 0 < self.now.cycle }
     {
-        longest_within(rate, self.open_time(class))
+        Window {
+            open_time,
+            closed_time,
+            share: self.share(class),
+            cycle: 1000 * u128::from(self.schedule.cycle_ns()),
+            longest_frame: longest_within(rate, open_time),
+        }
     }
 
     /// What the schedule gives a class at a rate.
@@ -225,12 +236,9 @@ impl Windows {
         ensures window { IsWindow rate self.now class result }
         ensures cycle { 0 < self.now.cycle }
     {
-        Window {
-            open_time: self.open_time(class),
-            closed_time: self.closed_time(class),
-            share: self.share(class),
-            cycle: 1000 * u128::from(self.schedule.cycle_ns()),
-            longest_frame: self.longest_frame(rate, class),
-        }
+        let open_times = self.open_times();
+        let closed_times = self.closed_times();
+        let place = usize::from(class);
+        self.window_of(rate, class, open_times[place], closed_times[place])
     }
 }

@@ -64,7 +64,7 @@ fn run_lines<A: Allocator, B: Allocator, R: Read + Drop, W: Write, H: Watch>(
         }
         let line = lines.line();
         match read_line(line) {
-            Ok(None) => {}
+            Ok(None) => watch.line_passed(lines.line_number(), line),
             Ok(Some(Said::Asked(event))) => put_answers(port, summary, &event, writer)?,
             Ok(Some(Said::Tc)) => {
                 put_tc(port, summary, lines.line_number(), line, writer, watch)?;

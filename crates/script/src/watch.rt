@@ -22,6 +22,12 @@ pub trait Watch {
 
     /// The line whose text this is has a fault that ends the run.
     fn line_failed(&mut self, _line: &[u8]) {}
+
+    /// The line of this number, whose text this is, is skipped, or passed on as it is.
+    fn line_passed(&mut self, _number: u32, _line: &[u8]) {}
+
+    /// The line of this number of a table is a stream of so many frames, whose ids count from this one.
+    fn stream_read(&mut self, _number: u32, _first_id: u64, _count: u32) {}
 }
 
 /// Nobody watches.

@@ -10,7 +10,7 @@ ghost use Rattle.words.specs.Numbers.{number_in};
 use crate::settings::{BoundsSettings, BoundsValue, MAX_FRAMES, say_bounds_value};
 use crate::table_bounds::bounds;
 use job::{Ended, end_run, end_told};
-use script::{Values, settings_given};
+use script::{Values, Watch, settings_given};
 use std::alloc::{Allocator, Global};
 use std::io::{BufWriter, Read, Write};
 use wire_time::MAX_MOMENT;
@@ -62,14 +62,15 @@ pub fn bounds_given(words: BoundsWords<'_>) -> Result<BoundsSettings, BoundsValu
 
 /// Answers about the schedules that `reader` gives and the streams of `table`, by these values, through `answers`, with the text of a fault or of a
 /// strict run's finding on `errors`; and gives the writer of the answers back. What was answered is let out before a fault is reported; after a failed
-/// write no other is tried. Where a value is bad nothing is read.
-pub fn answer_bounds<B: Allocator, R: Read, S: Read + Drop, W: Write + Drop, E: Write>(
+/// write no other is tried. Where a value is bad nothing is read. Who watches is called as by `bounds`.
+pub fn answer_bounds<B: Allocator, R: Read, S: Read + Drop, W: Write + Drop, E: Write, H: Watch>(
     alloc: Global,
     words: BoundsWords<'_>,
     table: S,
     reader: &mut R,
     mut answers: BufWriter<W, B>,
     errors: &mut E,
+    watch: &mut H,
 ) -> (Ended, W)
     ensures ending { IsBoundsEnding (bounds_given (words_of_values words.entry.port) (octets_of words.entry.frames) words.entry.strict) (S.remaining table)
         (R.remaining reader.old) result.0 (writer_contents W.contents answers) (W.contents result.1) (E.contents errors.old) (E.contents errors.new) }
@@ -77,7 +78,7 @@ pub fn answer_bounds<B: Allocator, R: Read, S: Read + Drop, W: Write + Drop, E: 
 {
     match bounds_given(words) {
         Ok(settings) => {
-            let run = bounds(alloc, table, reader, &mut answers, settings);
+            let run = bounds(alloc, table, reader, &mut answers, settings, watch);
             end_run(run, answers, errors)
         }
         Err(value) => {

@@ -11,7 +11,7 @@ ghost use Rattle.traffic.specs.Table.{line_judged, table_by};
 
 use crate::faults::{BoundsFault, BoundsInput, table_fault};
 use line_reader::LineReader;
-use script::ScriptFault;
+use script::{ScriptFault, Watch};
 use std::alloc::Allocator;
 use std::io::Read;
 use traffic::{Stream, read_stream_line};
@@ -47,10 +47,11 @@ fn keep<A: Allocator>(streams: &mut Vec<Stream, A>, stream: Stream) -> Result<()
     }
 }
 
-/// Reads the lines of a table that are to come, after the streams that are read.
-pub fn read_streams<A: Allocator, B: Allocator, R: Read + Drop>(
+/// Reads the lines of a table that are to come, after the streams that are read. Who watches is called for a malformed one.
+pub fn read_streams<A: Allocator, B: Allocator, R: Read + Drop, H: Watch>(
     lines: &mut LineReader<R, A>,
     streams: &mut Vec<Stream, B>,
+    watch: &mut H,
 ) -> Result<(), BoundsFault>
     requires { All IsPeriodic streams.old.items }
     ensures streams { IfSome (script_left R.remaining lines.old) (λ script. ReadsTable result (table_by periodic script) streams.old.items streams.new.items) }
@@ -67,10 +68,10 @@ pub fn read_streams<A: Allocator, B: Allocator, R: Read + Drop>(
         match read_periodic(lines.line()) {
             Ok(None) => {}
             Ok(Some(stream)) => keep(streams, stream)?,
-            Err(fault) => return Err(BoundsFault::Input(BoundsInput::Table(
-                lines.line_number(),
-                fault,
-            ))),
+            Err(fault) => {
+                watch.line_failed(lines.line());
+                return Err(BoundsFault::Input(BoundsInput::Table(lines.line_number(), fault)));
+            }
         }
     }
     Ok(())

@@ -20,7 +20,7 @@ use crate::stream_lines::first_of;
 use crate::table::read_streams;
 use line_reader::LineReader;
 use schedule_check::is_command;
-use script::ScriptFault;
+use script::{ScriptFault, Watch};
 use std::alloc::{Allocator, Global};
 use std::io::{Read, Write};
 use traffic::Stream;
@@ -45,13 +45,14 @@ fn end(strict: bool, first: Option<Finding>) -> Result<(), BoundsFault>
     }
 }
 
-/// Answers about the lines that are to come.
-fn bound_lines<A: Allocator, R: Read + Drop, W: Write>(
+/// Answers about the lines that are to come. Who watches is called for one that is no command's.
+fn bound_lines<A: Allocator, R: Read + Drop, W: Write, H: Watch>(
     alloc: Global,
     lines: &mut LineReader<R, A>,
     writer: &mut W,
     settings: &BoundsSettings,
     streams: &[Stream],
+    watch: &mut H,
 ) -> Result<(), BoundsFault>
     requires { All IsPeriodic streams.now }
     ensures { (read : List (List ℕ) → Result Command TcFault) → IsReader read
@@ -63,32 +64,43 @@ fn bound_lines<A: Allocator, R: Read + Drop, W: Write>(
         let number = lines.line_number();
         let line = lines.line();
         match is_command(line, false) {
-            Ok(false) => {}
+            Ok(false) => watch.line_passed(number, line),
             Ok(true) => match put_line(alloc, writer, settings, streams, number, line) {
                 Ok(found) => first = first_of(first, found),
                 Err(fault) => return Err(fault),
             },
-            Err(fault) => return Err(fault_here(lines, fault)),
+            Err(fault) => {
+                watch.line_failed(line);
+                return Err(fault_here(lines, fault));
+            }
         }
     }
     end(settings.strict, first)
 }
 
 /// Reads the lines of a table that are to come, and answers about the schedules.
-fn bound_table<A: Allocator, R: Read + Drop, S: Read + Drop, W: Write>(
+fn bound_table<A: Allocator, R: Read + Drop, S: Read + Drop, W: Write, H: Watch>(
     alloc: Global,
     table: &mut LineReader<R, A>,
     schedules: &mut LineReader<S, A>,
     writer: &mut W,
     settings: &BoundsSettings,
+    watch: &mut H,
 ) -> Result<(), BoundsFault>
     ensures { (read : List (List ℕ) → Result Command TcFault) → IsReader read
         → IfSome (script_left R.remaining table.old) (λ table. IfSome (script_left S.remaining schedules.old) (λ script.
         Runs result (W.contents writer.old) (W.contents writer.new) (outcome_in read settings.now (table_by periodic table) script))) }
 {
     let mut streams = Vec::new(alloc);
-    match read_streams(table, &mut streams) {
-        Ok(()) => bound_lines(alloc, schedules, writer, settings, streams.as_slice()),
+    match read_streams(table, &mut streams, watch) {
+        Ok(()) => bound_lines(
+            alloc,
+            schedules,
+            writer,
+            settings,
+            streams.as_slice(),
+            watch,
+        ),
         Err(fault) => Err(fault),
     }
 }
@@ -101,13 +113,14 @@ fn bound_table<A: Allocator, R: Read + Drop, S: Read + Drop, W: Write>(
 /// A malformed line of the table is the fault, and nothing is written. Lines of the schedules without words and comments are skipped; any other that
 /// isn't a command is an `UnknownLine`, which ends the call after what is answered about the lines before it. A strict run answers the same; the first
 /// finding is its fault. What is kept is the table, and for each class the bounds of its streams and as many moments as there is room for. A read or
-/// a write that fails, or takes nothing, isn't tried again.
-pub fn bounds<R: Read + Drop, S: Read + Drop, W: Write>(
+/// a write that fails, or takes nothing, isn't tried again. Who watches is called for a line of either input that ends the run.
+pub fn bounds<R: Read + Drop, S: Read + Drop, W: Write, H: Watch>(
     alloc: Global,
     table: R,
     schedules: S,
     writer: &mut W,
     settings: BoundsSettings,
+    watch: &mut H,
 ) -> Result<(), BoundsFault>
     ensures { (read : List (List ℕ) → Result Command TcFault) → IsReader read
         → IfSome (R.remaining table) (λ table. IfSome (S.remaining schedules) (λ schedules.
@@ -115,5 +128,5 @@ pub fn bounds<R: Read + Drop, S: Read + Drop, W: Write>(
 {
     let mut table = LineReader::new(&alloc, table)?;
     let mut schedules = LineReader::new(&alloc, schedules)?;
-    bound_table(alloc, &mut table, &mut schedules, writer, &settings)
+    bound_table(alloc, &mut table, &mut schedules, writer, &settings, watch)
 }

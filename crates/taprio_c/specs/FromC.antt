@@ -1,9 +1,12 @@
 -- What the values that C hands over say.
-use Rattle.std.specs.Prelude.{ℕ, ◌+◌, ◌*◌, ◌^◌, nat_lt, Bool, Option, Some, None, if◌then◌else◌}
+use Rattle.std.specs.Prelude.{ℕ, ◌+◌, ◌*◌, ◌/◌, ◌%◌, ◌^◌, nat_lt, Bool, List, Option, Some, None, if◌then◌else◌}
 use Rattle.in_memory.specs.declared.pictures.PictureValues.{PictureValues}
 use Rattle.in_memory.specs.declared.values.PortValues.{PortValues}
 use Rattle.replay.specs.declared.stamps.Stamp.{Stamp}
 use Rattle.replay.specs.declared.stamps.Stamp.TheVariants as Stamps
+use Rattle.times.specs.Times.{moment_in}
+use Rattle.wire_time.specs.Moment.{greatest_moment}
+use Rattle.taprio_c.specs.declared.values.CMoment.{CMoment}
 use Rattle.taprio_c.specs.declared.values.CPictureValues.{CPictureValues}
 use Rattle.taprio_c.specs.declared.values.CPortValues.{CPortValues}
 
@@ -30,3 +33,12 @@ port_values v = record { rate = v.rate; mtu = v.mtu; room = v.room; until = mome
 -- what a picture shows
 abbrev pub picture_values : CPictureValues → PictureValues
 picture_values v = record { from = moment_of v.from_low v.from_high; to = moment_where v.has_to v.to_low v.to_high; width = v.width }
+
+-- a moment in two halves, or that there is none
+abbrev pub moment_told : Option ℕ → CMoment
+moment_told (Some moment) = record { low = moment % 2 ^ 64; high = moment / 2 ^ 64; is_moment = 1 }
+moment_told None = record { low = 0; high = 0; is_moment = 0 }
+
+-- what a word says as a moment of at most the greatest
+abbrev pub moment_said : List ℕ → CMoment
+moment_said word = moment_told (moment_in greatest_moment word)

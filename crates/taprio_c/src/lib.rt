@@ -1,15 +1,17 @@
-//! The library as C calls it: one function for each of the program's jobs over memory, whose declarations are in `bindings/c/taprio.h`.
+//! The library as C calls it: one function for each of the program's jobs over memory, and a reader of moments, whose declarations are in
+//! `bindings/c/taprio.h`.
 //!
-//! The contract of each function is that of its job in `in_memory`; what C's values say is specs/FromC.antt.
+//! The contract of each function is that of its job in `in_memory`; what C's values say, and how a moment is told, is specs/FromC.antt.
 #![tactic(auto)]
 
 mod values;
 
-ghost use Rattle.std.specs.Prelude.{List, ℕ, Result, false};
+ghost use Rattle.std.specs.Prelude.{◌≡◌, List, ℕ, Result, false};
 ghost use Rattle.abstract_port.specs.declared.Command.{Command};
 ghost use Rattle.capture.specs.Records.{Entry};
 ghost use Rattle.capture.specs.declared.fault.CapFault.{CapFault};
 ghost use Rattle.capture.specs.declared.reader.End.{End};
+ghost use Rattle.frame_table.specs.ByStream.{frames_by_stream};
 ghost use Rattle.frame_table.specs.Outcome.{frames_of};
 ghost use Rattle.in_memory.specs.Bounds.{bounds_settings_at, bounds_told_by};
 ghost use Rattle.in_memory.specs.Captures.{Replays, outputs, told_by_replay};
@@ -22,20 +24,20 @@ ghost use Rattle.schedule_check.specs.Checked.{whole_check};
 ghost use Rattle.schedule_check.specs.Windows.{IsTeller, Teller};
 ghost use Rattle.script.specs.Outcome.{outcome_of};
 ghost use Rattle.stream_bounds.specs.Outcome.{outcome_of as bounds_outcome_of};
-ghost use Rattle.taprio_c.specs.FromC.{is_wanted, moment_of, picture_values, port_values, stamp_of};
+ghost use Rattle.taprio_c.specs.FromC.{is_wanted, moment_of, moment_said, picture_values, port_values, stamp_of};
 ghost use Rattle.tc_reader.specs.Reader.{IsReader};
 ghost use Rattle.tc_reader.specs.declared.fault.TcFault.{TcFault};
 ghost use Rattle.traffic.specs.Faults.{streams_telling};
 ghost use Rattle.traffic.specs.Outcome.{outcome_of as streams_outcome_of};
 
-use crate::values::{is_wanted, moment_of, picture_values, port_values, stamp_of};
+use crate::values::{is_wanted, moment_of, moment_said, picture_values, port_values, stamp_of};
 use in_memory::{
-    Ran, ReplayRan, bounds_octets, check_octets, draw_octets, frames_octets, replay_octets,
-    run_octets, streams_octets,
+    Ran, ReplayRan, bounds_octets, check_octets, draw_octets, frames_by_stream_octets,
+    frames_octets, replay_octets, run_octets, streams_octets,
 };
 use replay::Stamp;
 use std::alloc::Global;
-pub use values::{CPictureValues, CPortValues};
+pub use values::{CMoment, CPictureValues, CPortValues};
 
 /// Runs a script: its answers come into `output`, and the text of a fault into `fault`; how it ended is written to `ran`.
 #[unsafe(no_mangle)]
@@ -67,6 +69,31 @@ pub extern "C" fn taprio_frames(
         Answers (told_by (λ settings. frames_of read settings script.now) (settings_at (port_values values.now))) ran.new (slices output.old fault.old) (slices output.new fault.new) }
 {
     *ran = frames_octets(&alloc, port_values(values), script, output, fault);
+}
+
+/// Writes the same table with the stream of each frame, by a table of streams.
+#[unsafe(no_mangle)]
+pub extern "C" fn taprio_frames_by_stream(
+    alloc: Global,
+    values: &CPortValues,
+    table: &[u8],
+    script: &[u8],
+    output: &mut [u8],
+    fault: &mut [u8],
+    ran: &mut Ran,
+)
+    ensures { (read : List (List ℕ) → Result Command TcFault) → IsReader read →
+        Answers (streams_told_by (λ settings. frames_by_stream read settings table.now script.now) (settings_at (port_values values.now))) ran.new (slices output.old fault.old) (slices output.new fault.new) }
+{
+    *ran = frames_by_stream_octets(&alloc, port_values(values), table, script, output, fault);
+}
+
+/// Reads a word as a moment, as the options do: whole picoseconds, or a decimal number with its unit.
+#[unsafe(no_mangle)]
+pub extern "C" fn taprio_moment(word: &[u8], moment: &mut CMoment)
+    ensures { moment.new ≡ moment_said word.now }
+{
+    *moment = moment_said(word);
 }
 
 /// Checks schedule commands at a line rate in Mb/s, with windows unless `windows` is 0.

@@ -1,10 +1,13 @@
 //! Values as C hands them over: fields of a fixed size, none of which has a value that is no value.
 
-ghost use Rattle.std.specs.Prelude.{◌≡◌};
-ghost use Rattle.taprio_c.specs.FromC.{is_wanted, moment_of, moment_where, picture_values, port_values, stamp_of};
+ghost use Rattle.std.specs.Prelude.{◌≡◌, ◌≤◌, IfSome};
+ghost use Rattle.wire_time.specs.Moment.{greatest_moment};
+ghost use Rattle.taprio_c.specs.FromC.{is_wanted, moment_of, moment_said, moment_told, moment_where, picture_values, port_values, stamp_of};
 
 use in_memory::{PictureValues, PortValues};
 use replay::Stamp;
+use times::moment;
+use wire_time::MAX_MOMENT;
 
 /// 2^64.
 const TWO_TO_64: u128 = 0x1_0000_0000_0000_0000;
@@ -47,6 +50,18 @@ pub struct CPictureValues {
     pub width: u32,
     /// Nothing: it fills the last eight octets.
     pub unused: u32,
+}
+
+/// What a word says as a moment.
+#[repr(C)]
+#[derive(Clone, Copy, Debug, PartialEq, Eq)]
+pub struct CMoment {
+    /// The moment, in picoseconds: `high * 2^64 + low`. 0 where the word says none.
+    pub low: u64,
+    /// See `low`.
+    pub high: u64,
+    /// Whether the word says a moment: 1 yes, 0 no.
+    pub is_moment: u64,
 }
 
 /// Whether something is wanted.
@@ -107,4 +122,30 @@ pub fn picture_values(values: &CPictureValues) -> PictureValues
         to: moment_where(values.has_to, values.to_low, values.to_high),
         width: values.width,
     }
+}
+
+/// A moment, where there is one, as C has it.
+fn moment_told(moment: Option<u128>) -> CMoment
+    requires within { IfSome moment (λ m. m ≤ greatest_moment) }
+    ensures { result ≡ moment_told moment }
+{
+    match moment {
+        None => CMoment {
+            low: 0,
+            high: 0,
+            is_moment: 0,
+        },
+        Some(moment) => CMoment {
+            low: (moment % TWO_TO_64) as u64,
+            high: (moment / TWO_TO_64) as u64,
+            is_moment: 1,
+        },
+    }
+}
+
+/// What a word says as a moment, as C has it.
+pub fn moment_said(word: &[u8]) -> CMoment
+    ensures { result ≡ moment_said word.now }
+{
+    moment_told(moment(word, MAX_MOMENT))
 }

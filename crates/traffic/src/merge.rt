@@ -10,7 +10,7 @@ use crate::turn::Turn;
 use abstract_port::Event;
 use answer_text::{Part, WriteFault, put_parts};
 use line_reader::LineReader;
-use script::{Said, read_line};
+use script::{Said, Watch, read_line};
 use std::alloc::Allocator;
 use std::io::{Read, Write};
 
@@ -86,12 +86,13 @@ fn put_at<W: Write>(
 /// Writes the lines of a script that are to come among the frames of streams that are to come: before each line the frames before its
 /// moment, which is the greatest number of the clock lines up to it, its own included, and 0 before the first. No line is kept.
 ///
-/// A line that passes a limit is the fault, once what comes before it is written.
-pub(crate) fn write_merged<A: Allocator, R: Read + Drop, W: Write>(
+/// A line that passes a limit is the fault, once what comes before it is written. Who watches is called for each line.
+pub(crate) fn write_merged<A: Allocator, R: Read + Drop, W: Write, H: Watch>(
     lines: &mut LineReader<R, A>,
     turns: &mut [Turn],
     nodes: &mut [Option<Head>],
     writer: &mut W,
+    watch: &mut H,
 ) -> Result<(), StreamsFault>
     requires tournament { IsTournament turns.old nodes.old }
     ensures { IfSome (script_left R.remaining lines.old) (λ script. Runs result (W.contents writer.old) (W.contents writer.new) (merging None script (left_of_all turns.old))) }
@@ -106,6 +107,7 @@ pub(crate) fn write_merged<A: Allocator, R: Read + Drop, W: Write>(
             break;
         }
         let line = lines.line();
+        watch.line_passed(lines.line_number(), line);
         let now = latest(clock, clock_in(line));
         put_at(writer, turns, nodes, clock, now.unwrap_or(0), line)?;
         clock = now;

@@ -48,7 +48,10 @@ fn read_streams<A: Allocator, B: Allocator, R: Read + Drop, H: Watch>(
         }
         match read_line(lines.line(), from) {
             Ok(None) => {}
-            Ok(Some(stream)) => keep(turns, stream)?,
+            Ok(Some(stream)) => {
+                watch.stream_read(lines.line_number(), stream.first_id, stream.count);
+                keep(turns, stream)?;
+            }
             Err(fault) => {
                 watch.line_failed(lines.line());
                 return Err(StreamsFault::Input(StreamsInput::Table(lines.line_number(), fault)));
@@ -80,7 +83,13 @@ fn write_table<
     let mut turns = Vec::new(alloc.clone()?);
     read_streams(table, &mut turns, from, watch)?;
     let mut nodes = tournament(alloc, turns.as_slice())?;
-    write_merged(script, turns.as_mut_slice(), nodes.as_mut_slice(), writer)
+    write_merged(
+        script,
+        turns.as_mut_slice(),
+        nodes.as_mut_slice(),
+        writer,
+        watch,
+    )
 }
 
 /// Reads a table of streams to its end, and then writes a script that has the frames of all of them: each after a clock line of
@@ -91,7 +100,7 @@ fn write_table<
 /// A malformed line of the table is the fault, and nothing is written. What the lines of the script say is no matter, but that a good clock line
 /// sets the moment of the lines from it on; one that passes a limit is the fault, once what comes before it is written. What is kept is the
 /// table; no memory grows with how many frames come, nor with the script. A read or a write that fails, or takes nothing, isn't tried again. Who watches is called
-/// for a malformed line of the table.
+/// for each stream, for a malformed line of the table, and for each line of the script.
 pub fn write_streams<A: Allocator, R: Read + Drop, S: Read + Drop, W: Write, H: Watch>(
     alloc: A,
     table: R,

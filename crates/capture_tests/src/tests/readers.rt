@@ -66,6 +66,32 @@ fn every_read_fails(rt: HostRuntime) -> Result<(), Fail> {
     Ok(())
 }
 
+/// Before each of three calls, whether a record stands whole in hand, where so many octets are read at a time.
+fn held_before_calls(alloc: Global, piece: usize) -> Result<[bool; 3], CapFault> {
+    let mut reader = CaptureReader::new(alloc, Pieces::new(TWO_RECORDS.as_slice(), piece))?;
+    let mut held = [false; 3];
+    for place in &mut held {
+        *place = reader.has_record();
+        reader.next()?;
+    }
+    Ok(held)
+}
+
+#[test]
+fn a_record_in_hand(rt: HostRuntime) -> Result<(), Fail> {
+    assert_eq!(rt;
+        held_before_calls(rt.alloc(), 34),
+        Ok([false, false, false])
+    );
+    assert_eq!(rt;
+        held_before_calls(rt.alloc(), 67),
+        Ok([false, false, false])
+    );
+    assert_eq!(rt; held_before_calls(rt.alloc(), 68), Ok([false, true, false]));
+    assert_eq!(rt; held_before_calls(rt.alloc(), 92), Ok([false, true, false]));
+    Ok(())
+}
+
 /// Gives its octets whole, and fails where it is asked for another number of octets, or once more.
 #[derive(Drop)]
 struct Asked<'a> {

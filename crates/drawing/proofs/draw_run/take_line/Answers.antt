@@ -1,25 +1,16 @@
 use Rattle.std.proofs.Common.{◌≡◌, Option, Some, None, Result, Ok, refl, sym, ap, ◌∙◌, subst}
-use Rattle.drawing.specs.Words.{settled, Request, Asks, request_of, tc_request, ScriptFault, TakesLine}
+use Rattle.drawing.specs.Words.{Request, Asks, request_of, tc_request, ScriptFault, TakesLine}
 use Rattle.words.specs.Words.{words_of}
 use Rattle.script.specs.Requests.{request_said, said_in}
 use Rattle.script.specs.declared.script_line.Said.TheVariants as Says
-use Rattle.script.proofs.StartsLaws.{settled-sound}
 use Rattle.drawing.proofs.draw_run.take_line.Goals as goal
 
-pub returns-in-Ok-clause-taken : goal.returns-in-Ok-clause-taken
-returns-in-Ok-clause-taken g c = λ read is.
+pub returns-in-Ok-Some-Tc-clause-taken : goal.returns-in-Ok-Some-Tc-clause-taken
+returns-in-Ok-Some-Tc-clause-taken g c = λ read is.
     let said : said_in c.args.line.now ≡ Ok (Some Says.Tc) = cc in
     let asked : request_of read c.args.line.now ≡ Ok (Some (tc_request (read (words_of c.args.line.now)))) = ap (request_said (read (words_of c.args.line.now))) said in
-    let t = c.take_command.ensures in
-    let P : Result (Option Request) ScriptFault → Type 0 = λ a. TakesLine {T = Unit {0}} (Ok tt) a c.args.port.now.port c.args.course.now c.take_command.new.port.port c.take_command.new.course in
-    subst P (sym (asked ∙ ap (λ k. Ok (Some (tc_request k))) (sym (c.in-Ok.ensures read is)))) (sym (settled-sound c.take_command.new.port.port t.sound) ∙ ap settled t.port, t.course)
-
-pub returns-in-Err-read_tc-clause-taken : goal.returns-in-Err-read_tc-clause-taken
-returns-in-Err-read_tc-clause-taken g c = λ read is.
-    let said : said_in c.args.line.now ≡ Ok (Some Says.Tc) = cc in
-    let asked : request_of read c.args.line.now ≡ Ok (Some (tc_request (read (words_of c.args.line.now)))) = ap (request_said (read (words_of c.args.line.now))) said in
-    let P : Result (Option Request) ScriptFault → Type 0 = λ a. TakesLine {T = Unit {0}} (Ok tt) a c.args.port.now.port c.args.course.now c.args.port.now.port c.args.course.now in
-    subst P (sym (asked ∙ ap (λ k. Ok (Some (tc_request k))) (sym (c.in-Err-read_tc.ensures read is)))) (sym (settled-sound c.args.port.now.port c.now-now.ensures.sound), refl)
+    let P : Result (Option Request) ScriptFault → Type 0 = λ a. TakesLine {T = Unit {0}} (Ok tt) a c.args.port.now.port c.args.course.now c.take_tc.new.port.port c.take_tc.new.course in
+    subst P (sym asked) (c.take_tc.ensures.port read is, c.take_tc.ensures.course read is)
 
 pub returns-in-Err-clause-taken : goal.returns-in-Err-clause-taken
 returns-in-Err-clause-taken g c = λ read is. ap (request_said (read (words_of c.args.line.now))) (sym c.read_line.ensures ∙ c.in-Err.is)

@@ -21,7 +21,7 @@ pub returns-in-Err : goal.returns-in-Err
 returns-in-Err g c = λ read is.
     let a = rw c.if-branch.true at c.in_ok-advance.ensures.line in
     let fault = subst (λ l. request_of read l ≡ Err c.in-Err.fault) c.line.ensures (c.in-Err.ensures.taken read is) in
-    goes_wrong read {T = Unit {0}} _ _ _ _ _ _ c.take_line.new.port.port c.take_line.new.course _ _ _ c.in-Err.fault (c.lines.invariant read is) a fault (ap (λ b. Err (Faults.Input b)) c.new.ensures ∙ ap (λ n. Err (Faults.Input (bad_line n c.in-Err.fault))) c.line_number.ensures)
+    goes_wrong read {T = Unit {0}} _ _ _ _ _ _ c.take_line.new.port.port c.take_line.new.course _ _ _ c.in-Err.fault (c.lines.invariant read is) a fault (ap (λ b. Err (Faults.Input b)) c.new.ensures ∙ ap (λ n. Err (Faults.Input (bad_line n c.in-Err.fault))) c.line_number-number.ensures)
 
 pub returns-in_err-advance : goal.returns-in_err-advance
 returns-in_err-advance g c = λ read is.

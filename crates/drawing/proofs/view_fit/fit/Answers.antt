@@ -15,6 +15,10 @@ pub returns-then-count-gt-MOST_APART-clause-bands : goal.returns-then-count-gt-M
 returns-then-count-gt-MOST_APART-clause-bands g c = λ many class below.
     c.join.ensures.classes class below ∙ ap (λ pixel. bands_joined pixel (class_at c.args.bands.now.classes class)) c.pixel-pixel.ensures
 
+pub returns-then-count-gt-MOST_APART-clause-mixed : goal.returns-then-count-gt-MOST_APART-clause-mixed
+returns-then-count-gt-MOST_APART-clause-mixed g c = λ many class below.
+    c.join.ensures.mixed class below ∙ ap (λ pixel. bands_joined pixel (class_at c.args.bands.now.mixed class)) c.pixel-pixel.ensures
+
 pub returns-then-count-gt-MOST_APART-clause-shapes : goal.returns-then-count-gt-MOST_APART-clause-shapes
 returns-then-count-gt-MOST_APART-clause-shapes g c = λ many.
     subst (λ pixel. IsJoined pixel c.args.course.now.shown c.join-then-count-gt-MOST_APART.new.self.shown) c.pixel-pixel.ensures c.join-then-count-gt-MOST_APART.ensures.shown
@@ -24,6 +28,11 @@ returns-else-count-gt-MOST_APART-clause-few g c = λ few. (refl, refl)
 
 pub returns-else-count-gt-MOST_APART-clause-bands : goal.returns-else-count-gt-MOST_APART-clause-bands
 returns-else-count-gt-MOST_APART-clause-bands g c = λ many.
+    let all = c.count.ensures.value ∙ ap shape_count c.shapes.ensures in
+    absurd (omega (arith, many, c.if-count-gt-MOST_APART.false, c.count_bands.ensures.value, all))
+
+pub returns-else-count-gt-MOST_APART-clause-mixed : goal.returns-else-count-gt-MOST_APART-clause-mixed
+returns-else-count-gt-MOST_APART-clause-mixed g c = λ many.
     let all = c.count.ensures.value ∙ ap shape_count c.shapes.ensures in
     absurd (omega (arith, many, c.if-count-gt-MOST_APART.false, c.count_bands.ensures.value, all))
 

@@ -3,4 +3,4 @@ use Rattle.frame_table.specs.Words.{Sent, left_from, left_rows, rows_text}
 use Rattle.frame_table.proofs.table_run.put_all_left.Given as goal
 
 abbrev pub invariant-loop-class : goal.invariant-loop-class
-invariant-loop-class g l = Sent (g.W.Write.contents l.fn.writer) (g.W.Write.contents l.writer) (rows_text (left_rows l.arrivals)) (rows_text (left_from (8 - l.class) l.class l.arrivals))
+invariant-loop-class g l = Sent (g.W.Write.contents l.fn.writer) (g.W.Write.contents l.writer) (rows_text l.streams (left_rows l.arrivals)) (rows_text l.streams (left_from (8 - l.class) l.class l.arrivals))

@@ -1,25 +1,25 @@
 use Rattle.std.proofs.Common.{◌≡◌, ◌++◌, List, ℕ, Option, Some, ap, sym, ◌∙◌, append-nil}
 use Rattle.std.proofs.lemmas.Result.{err_from_is_err_and}
 use Rattle.octet_writer.proofs.Fronts.{sent_exit, sent_last, sent_more, sent_none}
-use Rattle.frame_table.specs.Words.{AbstractPort, Arrival, Clock, ending_text, left_rows, rows_at, rows_text}
+use Rattle.frame_table.specs.Words.{AbstractPort, Arrival, Clock, Stream, ending_text, left_rows, rows_at, rows_text}
 use Rattle.frame_table.proofs.RowLaws.{rows-append}
 use Rattle.frame_table.proofs.table_run.put_end.Goals as goal
 
 -- the rows of a clock event after the lines, and of what is left then
-ending : (until : Option ℕ) (m : ℕ) (p : AbstractPort) (w : List (List Arrival)) → until ≡ Some m → ending_text until p w ≡ rows_text (rows_at (Clock m) p w).0 ++ rows_text (left_rows (rows_at (Clock m) p w).1)
-ending until m p w is =
+ending : (streams : Option (List Stream)) (until : Option ℕ) (m : ℕ) (p : AbstractPort) (w : List (List Arrival)) → until ≡ Some m → ending_text streams until p w ≡ rows_text streams (rows_at (Clock m) p w).0 ++ rows_text streams (left_rows (rows_at (Clock m) p w).1)
+ending streams until m p w is =
     let rows = rows_at (Clock m) p w in
-    ap (λ u. ending_text u p w) is ∙ (ap (λ r. rows_text (r ++ left_rows rows.1)) (append-nil rows.0) ∙ rows-append rows.0 (left_rows rows.1))
+    ap (λ u. ending_text streams u p w) is ∙ (ap (λ r. rows_text streams (r ++ left_rows rows.1)) (append-nil rows.0) ∙ rows-append streams rows.0 (left_rows rows.1))
 
 pub returns-in_err-take_clock-in-Some : goal.returns-in_err-take_clock-in-Some
 returns-in_err-take_clock-in-Some g c =
     let p = err_from_is_err_and c.from_residual.result c.from_residual.ensures.1 in
-    sent_exit _ _ _ p.1 (sent_none _ _) (ending _ _ _ _ c.in-Some.is) c.in_err-take_clock-in-Some.ensures.text
+    sent_exit _ _ _ p.1 (sent_none _ _) (ending c.args.streams.now _ _ _ _ c.in-Some.is) c.in_err-take_clock-in-Some.ensures.text
 
 pub returns-in_ok-take_clock-in-Some : goal.returns-in_ok-take_clock-in-Some
 returns-in_ok-take_clock-in-Some g c =
     let p = c.args.port.now.port in
     let w = c.args.arrivals.now in
     let done = c.in_ok-take_clock-in-Some.ensures in
-    let all = ending _ _ p w c.in-Some.is ∙ ap (λ v. rows_text (rows_at (Clock c.in-Some.moment) p w).0 ++ rows_text (left_rows v)) (sym done.after.waiting) in
+    let all = ending c.args.streams.now _ _ p w c.in-Some.is ∙ ap (λ v. rows_text c.args.streams.now (rows_at (Clock c.in-Some.moment) p w).0 ++ rows_text c.args.streams.now (left_rows v)) (sym done.after.waiting) in
     sent_last _ _ (sent_more _ _ _ (sent_none _ _) all done.text) c.put_all_left-in-Some.ensures

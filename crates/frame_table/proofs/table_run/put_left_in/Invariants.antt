@@ -4,4 +4,4 @@ use Rattle.frame_table.proofs.table_run.put_left_in.Given as goal
 
 abbrev pub invariant-loop-place : goal.invariant-loop-place
 invariant-loop-place g l =
-    Sent (g.W.Write.contents l.fn.writer) (g.W.Write.contents l.writer) (rows_text (map (left_row l.class) (waiting_in l.arrivals l.class))) (rows_text (drop l.place (map (left_row l.class) (waiting_in l.arrivals l.class))))
+    Sent (g.W.Write.contents l.fn.writer) (g.W.Write.contents l.writer) (rows_text l.streams (map (left_row l.class) (waiting_in l.arrivals l.class))) (rows_text l.streams (drop l.place (map (left_row l.class) (waiting_in l.arrivals l.class))))

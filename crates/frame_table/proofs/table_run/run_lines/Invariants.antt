@@ -4,7 +4,7 @@ use Rattle.frame_table.proofs.LineSteps.{IsRunning}
 use Rattle.frame_table.proofs.table_run.run_lines.Given as goal
 
 abbrev pub invariant-lines : goal.invariant-lines
-invariant-lines g l = (read : List (List ℕ) → Result Command TcFault) → IsReader read → IsRunning read l.until (record { port = l.fn.port.port; waiting = l.fn.arrivals }) (script_left g.R.Read.remaining l.fn.lines) (g.W.Write.contents l.fn.writer) (g.W.Write.contents l.writer) (script_left g.R.Read.remaining l.lines) l.port.port l.arrivals
+invariant-lines g l = (read : List (List ℕ) → Result Command TcFault) → IsReader read → IsRunning l.streams read l.until (record { port = l.fn.port.port; waiting = l.fn.arrivals }) (script_left g.R.Read.remaining l.fn.lines) (g.W.Write.contents l.fn.writer) (g.W.Write.contents l.writer) (script_left g.R.Read.remaining l.lines) l.port.port l.arrivals
 
 abbrev pub decreases-lines : goal.decreases-lines
 decreases-lines g l = most_lines l.lines

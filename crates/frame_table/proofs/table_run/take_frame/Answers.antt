@@ -10,12 +10,12 @@ use Rattle.frame_table.proofs.table_run.take_frame.Goals as goal
 pub returns-in_err-put-in-Ok-clause-text : goal.returns-in_err-put-in-Ok-clause-text
 returns-in_err-put-in-Ok-clause-text g c =
     let p = err_from_is_err_and c.from_residual.result c.from_residual.ensures.1 in
-    without_memory _ (rows_told (Arrive c.args.frame.now) c.args.port.now.port c.args.arrivals.now) (p.1 ∙ ap Err p.2)
+    without_memory _ (rows_told c.args.streams.now (Arrive c.args.frame.now) c.args.port.now.port c.args.arrivals.now) (p.1 ∙ ap Err p.2)
 
 pub returns-in_ok-put-in-Ok-clause-text : goal.returns-in_ok-put-in-Ok-clause-text
 returns-in_ok-put-in-Ok-clause-text g c =
     let P : List ℕ → Type 0 = λ text. Appends (g.W.Write.contents c.args.writer.now) (g.W.Write.contents c.args.writer.now) text in
-    (refl, subst P (sym (joins-text c.args.port.now.port c.args.frame.now c.args.arrivals.now _ (sym c.arrive-verdict.ensures.answer ∙ c.in-Ok.is))) (Appends-nil _))
+    (refl, subst P (sym (joins-text c.args.port.now.port c.args.frame.now c.args.arrivals.now c.args.streams.now _ (sym c.arrive-verdict.ensures.answer ∙ c.in-Ok.is))) (Appends-nil _))
 
 pub returns-in_ok-put-in-Ok-clause-after : goal.returns-in_ok-put-in-Ok-clause-after
 returns-in_ok-put-in-Ok-clause-after g c =
@@ -31,8 +31,8 @@ pub returns-in_err-put_row-in-Err-clause-text : goal.returns-in_err-put_row-in-E
 returns-in_err-put_row-in-Err-clause-text g c =
     let p = err_from_is_err_and c.from_residual-in_err-put_row-in-Err.result c.from_residual-in_err-put_row-in-Err.ensures.1 in
     let P : List ℕ → Type 0 = λ text. FallsShort (g.W.Write.contents c.args.writer.now) (g.W.Write.contents c.put_row.new.writer) text in
-    let same = lost-text c.args.port.now.port c.args.frame.now c.args.arrivals.now c.in-Err.why c.now-now.result c.class_for-class.result (sym c.arrive-verdict.ensures.answer ∙ c.in-Err.is) c.now-now.ensures.now c.class_for-class.ensures.class in
-    not_written _ _ (rows_told (Arrive c.args.frame.now) c.args.port.now.port c.args.arrivals.now) (p.1 ∙ ap Err p.2) (subst P same c.in_err-put_row-in-Err.ensures)
+    let same = lost-text c.args.port.now.port c.args.frame.now c.args.arrivals.now c.args.streams.now c.in-Err.why c.now-now.result c.class_for-class.result (sym c.arrive-verdict.ensures.answer ∙ c.in-Err.is) c.now-now.ensures.now c.class_for-class.ensures.class in
+    not_written _ _ (rows_told c.args.streams.now (Arrive c.args.frame.now) c.args.port.now.port c.args.arrivals.now) (p.1 ∙ ap Err p.2) (subst P same c.in_err-put_row-in-Err.ensures)
 
 pub returns-in_ok-put_row-in-Err-clause-after : goal.returns-in_ok-put_row-in-Err-clause-after
 returns-in_ok-put_row-in-Err-clause-after g c =

@@ -25,7 +25,7 @@ loop-start-preserved g c =
     let rest = (answers_to (Clock c.args.until) q).0 in
     let gone = c.in_ok-put_sent.ensures.waiting in
     record {
-      sent = sent_more _ _ _ i.sent (start_first all rest c.in-Some.start c.loop-start.arrivals c.put_sent.new.arrivals given.answers gone) c.in_ok-put_sent.ensures.text;
+      sent = sent_more _ _ _ i.sent (start_first c.args.streams.now all rest c.in-Some.start c.loop-start.arrivals c.put_sent.new.arrivals given.answers gone) c.in_ok-put_sent.ensures.text;
       same_waiting = start_then all rest c.in-Some.start c.loop-start.arrivals c.put_sent.new.arrivals given.answers gone ∙ i.same_waiting;
       same_end = given.port ∙ i.same_end;
       later = later_still c.args.until c.loop-start.port.port q i.sound i.later c.requires.within c.step.result s.start s.port;
@@ -41,7 +41,7 @@ returns-in_err-put_sent-clause-text g c =
     let given = given_start c.args.until c.loop-start.port.port q i.sound i.later c.requires.within c.step.result s.start s.port c.in-Some.start c.in-Some.is in
     let all = (answers_to (Clock c.args.until) c.loop-start.port.port).0 in
     let rest = (answers_to (Clock c.args.until) q).0 in
-    sent_exit _ _ _ p.1 i.sent (start_first all rest c.in-Some.start c.loop-start.arrivals c.put_sent.new.arrivals given.answers c.in_err-put_sent.ensures.waiting) c.in_err-put_sent.ensures.text
+    sent_exit _ _ _ p.1 i.sent (start_first c.args.streams.now all rest c.in-Some.start c.loop-start.arrivals c.put_sent.new.arrivals given.answers c.in_err-put_sent.ensures.waiting) c.in_err-put_sent.ensures.text
 
 pub returns-in_err-put_sent-clause-after : goal.returns-in_err-put_sent-clause-after
 returns-in_err-put_sent-clause-after g c =
@@ -53,7 +53,7 @@ returns-clause-text g c =
     let i = c.loop-start.invariant in
     let s = c.step.ensures in
     let none = start_none c.args.until c.loop-start.port.port c.step.new.self.port i.sound i.later c.requires.within c.step.result s.start s.port s.sound c.in_default.is in
-    sent_all i.sent (ap (λ answers. rows_text (departs (starts_in answers) c.loop-start.arrivals).0) none.0)
+    sent_all i.sent (ap (λ answers. rows_text c.args.streams.now (departs (starts_in answers) c.loop-start.arrivals).0) none.0)
 
 pub returns-clause-after : goal.returns-clause-after
 returns-clause-after g c =

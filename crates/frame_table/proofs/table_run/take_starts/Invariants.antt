@@ -6,7 +6,7 @@ use Rattle.frame_table.proofs.table_run.take_starts.Given as goal
 -- What is written and the rows of the starts to come are those of all, and so is what waits after them.
 abbrev pub invariant-loop-start : goal.invariant-loop-start
 invariant-loop-start g l = record {
-  sent : Sent (g.W.Write.contents l.fn.writer) (g.W.Write.contents l.writer) (rows_text (rows_at (Clock l.until) l.fn.port.port l.fn.arrivals).0) (rows_text (rows_at (Clock l.until) l.port.port l.arrivals).0);
+  sent : Sent (g.W.Write.contents l.fn.writer) (g.W.Write.contents l.writer) (rows_text l.streams (rows_at (Clock l.until) l.fn.port.port l.fn.arrivals).0) (rows_text l.streams (rows_at (Clock l.until) l.port.port l.arrivals).0);
   same_waiting : (rows_at (Clock l.until) l.port.port l.arrivals).1 ≡ (rows_at (Clock l.until) l.fn.port.port l.fn.arrivals).1;
   same_end : settled (answers_to (Clock l.until) l.port.port).1 ≡ settled (answers_to (Clock l.until) l.fn.port.port).1;
   later : l.port.port.now ≤ l.until;

@@ -1,4 +1,4 @@
-use Rattle.std.proofs.Common.{◌≡◌, ◌<◌, ◌≤◌, ◌-◌, max, ap, sym, ◌∙◌, subst, rules, arith}
+use Rattle.std.proofs.Common.{◌≡◌, ◌<◌, ◌≤◌, ◌-◌, ap, sym, ◌∙◌, subst, rules, arith, le_refl}
 use Rattle.picture.specs.Words.{gates, kept, IsSteady, class_at, drawn}
 use Rattle.picture.proofs.BandLaws.{drawn_none}
 use Rattle.picture.proofs.DrawLaws.{drawn_to, kept_on, later_to, steady_to, within_to}
@@ -12,6 +12,7 @@ loop-now-init g c =
       here = sym c.now-now.ensures;
       onward = omega (arith, c.now-now.ensures);
       within = omega (arith, c.now-now.ensures);
+      fewer = le_refl _;
       history = sym (ap (kept c.args.own.now.history) c.now-now.ensures ∙ c.requires.sound.kept_whole);
       classes = λ class below. sym (ap (λ n. drawn (gates c.args.own.now.history) class c.args.own.now.moment n (class_at c.args.classes.now class)) none ∙ drawn_none (gates c.args.own.now.history) class c.args.own.now.moment (class_at c.args.classes.now class));
     }
@@ -32,6 +33,7 @@ loop-now-preserved g c =
       here = c.move_to.ensures.moment;
       onward = omega (arith, i.onward, later);
       within = omega (arith, within);
+      fewer = omega (arith, i.fewer);
       history = c.move_to.ensures.history ∙ kept_on c.args.own.now.history c.args.own.now.moment c.requires.sound c.loop-now.now c.unwrap_or-next.result c.loop-now.own.history i.onward (omega (arith, later)) i.history;
       classes = λ class below.
           c.step_all.ensures class below
@@ -39,16 +41,30 @@ loop-now-preserved g c =
           (drawn_to c.args.own.now.history c.args.own.now.moment c.requires.sound c.loop-now.now c.unwrap_or-next.result c.loop-now.own.history class (class_at c.args.classes.now class) i.onward later i.history steady));
     }
 
-pub returns : goal.returns
-returns g c =
+pub returns-else-left-gt0 : goal.returns-else-left-gt0
+returns-else-left-gt0 g c =
     let i = c.loop-now.invariant in
-    let there : c.loop-now.now ≡ max c.args.own.now.moment c.args.upto = omega (arith, i.onward, i.within, c.loop-now-test.false) in
-    let long : c.loop-now.now - c.args.own.now.moment ≡ c.args.upto - c.args.own.now.moment = omega (arith, there) in
     record {
       sound = i.sound;
-      moment = i.here ∙ there;
-      history = i.history ∙ ap (kept c.args.own.now.history) there;
-      classes = λ class below. i.classes class below ∙ ap (λ n. drawn (gates c.args.own.now.history) class c.args.own.now.moment n (class_at c.args.classes.now class)) long;
+      onward = omega (arith, i.onward, i.here);
+      within = omega (arith, i.within, i.here);
+      whole = λ some. absurd (omega (arith, some, c.if-left-gt0.false));
+      fewer = i.fewer;
+      history = i.history ∙ ap (kept c.args.own.now.history) (sym i.here);
+      classes = λ class below. i.classes class below ∙ ap (λ n. drawn (gates c.args.own.now.history) class c.args.own.now.moment (n - c.args.own.now.moment) (class_at c.args.classes.now class)) (sym i.here);
+    }
+
+pub returns-after-loop-now : goal.returns-after-loop-now
+returns-after-loop-now g c =
+    let i = c.loop-now.invariant in
+    record {
+      sound = i.sound;
+      onward = omega (arith, i.onward, i.here);
+      within = omega (arith, i.within, i.here);
+      whole = λ some. omega (arith, i.here, c.loop-now-test.false);
+      fewer = i.fewer;
+      history = i.history ∙ ap (kept c.args.own.now.history) (sym i.here);
+      classes = λ class below. i.classes class below ∙ ap (λ n. drawn (gates c.args.own.now.history) class c.args.own.now.moment (n - c.args.own.now.moment) (class_at c.args.classes.now class)) (sym i.here);
     }
 
 pub next_boundary-requires : goal.next_boundary-requires

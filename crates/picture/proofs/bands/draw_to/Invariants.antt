@@ -8,6 +8,7 @@ invariant-loop-now g l = record {
   sound : IsCurrent l.own.history l.own.moment;
   here : l.own.moment ≡ l.now;
   onward : l.initial.own.moment ≤ l.now;
+  fewer : l.left ≤ l.initial.left;
   within : l.now ≤ max l.initial.own.moment l.upto;
   history : l.own.history ≡ kept l.initial.own.history l.now;
   classes : (class : ℕ) → class < CLASSES → class_at l.classes class ≡ drawn (gates l.initial.own.history) class l.initial.own.moment (l.now - l.initial.own.moment) (class_at l.initial.classes class);

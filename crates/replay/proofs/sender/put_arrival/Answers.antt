@@ -17,7 +17,7 @@ put-requires g c =
 pub returns-in_err-put-in-Ok-clause-answers : goal.returns-in_err-put-in-Ok-clause-answers
 returns-in_err-put-in-Ok-clause-answers g c = λ es captured is k.
     let p = err_from_is_err_and c.from_residual.result c.from_residual.ensures.1 in
-    record { port = never _ p.1; keeps = never _ p.1; seen = never _ p.1; out = both_stop c.from_residual.result p.1 (λ w. (let both : Stops.Memory ≡ Stops.Write = sym p.2 ∙ w in cc)) (both_none _ _) }
+    record { port = never _ p.1; keeps = never _ p.1; seen = never _ p.1; out = both_stop c.from_residual.result p.1 (both_none _ _) }
 
 pub returns-in_err-put_noted_arrival-in-Ok-clause-answers : goal.returns-in_err-put_noted_arrival-in-Ok-clause-answers
 returns-in_err-put_noted_arrival-in-Ok-clause-answers g c = λ es captured is k.

@@ -1,10 +1,12 @@
-use Rattle.schedule_check.specs.Words.{alone}
+use Rattle.std.proofs.Common.{◌<◌, ℕ}
+use Rattle.std.specs.Prelude.{slice_index_or}
+use Rattle.schedule_check.specs.Words.{CLASSES, Lasts, alone}
 use Rattle.schedule_check.proofs.WindowLaws.{Reaches, Bounds}
 use Rattle.schedule_check.proofs.windows.longest_open.Given as goal
 
--- the longest of the entries so far
+-- the longest of the entries so far, of each class
 abbrev pub invariant-loop-i : goal.invariant-loop-i
 invariant-loop-i l = record {
-  reaches : Reaches (alone l.schedule) l.class l.longest;
-  bounds : Bounds l.schedule l.class l.i l.longest;
+  reaches : (class : ℕ) → class < CLASSES → Reaches (alone l.schedule) class (slice_index_or l.longest class (Lasts 0));
+  bounds : (class : ℕ) → class < CLASSES → Bounds l.schedule class l.i (slice_index_or l.longest class (Lasts 0));
 }

@@ -28,7 +28,7 @@ pub returns-in-Err-read_line : goal.returns-in-Err-read_line
 returns-in-Err-read_line g c =
     let a = rw c.if-not-more.false at c.in-Ok.ensures.line in
     let e : line_judged (judged c.args.from) (words_of c.advance.new.self.line.items) ≡ Err c.in-Err-read_line.fault = cc in
-    goes_wrong c.args.from _ _ {T = Unit {0}} _ _ _ _ _ c.in-Err-read_line.fault c.args.turns.now.items c.lines.turns.items c.lines.invariant a e (ap (λ n. Err (Faults.Input (Inputs.Table n c.in-Err-read_line.fault))) c.line_number.ensures)
+    goes_wrong c.args.from _ _ {T = Unit {0}} _ _ _ _ _ c.in-Err-read_line.fault c.args.turns.now.items c.lines.turns.items c.lines.invariant a e (ap (λ n. Err (Faults.Input (Inputs.Table n c.in-Err-read_line.fault))) c.line_number-in-Err-read_line.ensures)
 
 pub returns : goal.returns
 returns g c =

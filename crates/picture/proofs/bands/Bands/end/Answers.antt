@@ -1,5 +1,5 @@
-use Rattle.std.proofs.Common.{◌≡◌, false, refl, ◌∙◌, rules, arith}
-use Rattle.picture.specs.Words.{opens}
+use Rattle.std.proofs.Common.{refl, ◌∙◌, rules, arith}
+use Rattle.gate_list.proofs.TableLaws.{opens_none}
 use Rattle.picture.proofs.DrawLaws.{up_to_within}
 use Rattle.picture.proofs.bands.Bands.end.Goals as goal
 
@@ -14,5 +14,9 @@ returns-clause-same g c = rw (← c.self.view_is) (refl, refl, refl, refl)
 pub returns-clause-classes : goal.returns-clause-classes
 returns-clause-classes g c =
     λ class below.
-    let shut : opens 0 class ≡ false = search rules in
-    rw (← c.self.view_is) (c.step_all.ensures class below ∙ (rw (shut, c.up_to-upto.ensures, c.now.ensures) refl))
+    rw (← c.self.view_is) (c.step_all.ensures class below ∙ (rw (opens_none class, c.up_to-upto.ensures, c.now.ensures) refl))
+
+pub returns-clause-mixed : goal.returns-clause-mixed
+returns-clause-mixed g c =
+    λ class below.
+    rw (← c.self.view_is) (c.step_all-2.ensures class below ∙ (rw (opens_none class, c.up_to-upto.ensures, c.now.ensures) refl))

@@ -1,12 +1,13 @@
-use Rattle.std.proofs.Common.{◌≡◌, ◌≤◌, max, min, ap, refl, sym, ◌∙◌, rules, arith}
-use Rattle.picture.specs.Words.{kept, Drawing}
-use Rattle.picture.proofs.DrawLaws.{drawn_gone, kept_on, up_to_within}
+use Rattle.std.proofs.Common.{◌≡◌, ◌≤◌, ◌-◌, max, min, ap, refl, sym, ◌∙◌, rules, arith}
+use Rattle.picture.specs.Words.{gates, kept, Drawing, class_at, drawn_mixed, drawn_whole, up_to}
+use Rattle.picture.proofs.DrawLaws.{drawn_gone, gates_on, kept_on, up_to_within}
+use Rattle.picture.proofs.MixLaws.{mixed_same, whole_same}
 use Rattle.picture.proofs.bands.Bands.go_to.Goals as goal
 
 pub move_to-requires-2-clause-later : goal.move_to-requires-2-clause-later
 move_to-requires-2-clause-later g c =
     let upto = up_to_within c.self.inside.to c.args.moment in
-    omega (arith, c.draw_to.ensures.moment, c.move_to.ensures.moment, c.min-first.ensures, c.up_to-upto.ensures, upto)
+    omega (arith, c.draw_to.ensures.within, c.move_to.ensures.moment, c.min-first.ensures, c.up_to-upto.ensures, upto)
 
 pub returns-clause-history : goal.returns-clause-history
 returns-clause-history g c =
@@ -14,23 +15,41 @@ returns-clause-history g c =
     let within = up_to_within c.self.inside.to c.args.moment in
     let first : c.move_to.new.self.moment ≡ min (max c.self.inside.from c.self.inside.gates.moment) c.args.moment = omega (arith, c.move_to.ensures.moment, c.min-first.ensures, c.max.ensures, c.now.ensures) in
     let some : c.self.inside.gates.moment ≤ c.move_to.new.self.moment = omega (arith, first, began, c.requires.later) in
-    let last : max c.move_to.new.self.moment c.up_to-upto.result ≤ c.args.moment = omega (arith, first, c.up_to-upto.ensures, within) in
+    let onward : c.move_to.new.self.moment ≤ c.draw_to.new.own.moment = c.draw_to.ensures.onward in
+    let last : c.draw_to.new.own.moment ≤ c.args.moment = omega (arith, first, c.draw_to.ensures.within, c.up_to-upto.ensures, within) in
     let moved : c.move_to.new.self.history ≡ kept c.self.inside.gates.history c.move_to.new.self.moment = c.move_to.ensures.history ∙ ap (kept c.self.inside.gates.history) (sym c.move_to.ensures.moment) in
-    let on : c.draw_to.new.own.history ≡ kept c.self.inside.gates.history (max c.move_to.new.self.moment c.up_to-upto.result) =
-    c.draw_to.ensures.history ∙ kept_on c.self.inside.gates.history c.self.inside.gates.moment c.self.invariant c.move_to.new.self.moment (max c.move_to.new.self.moment c.up_to-upto.result) c.move_to.new.self.history some (omega arith) moved in
+    let on : c.draw_to.new.own.history ≡ kept c.self.inside.gates.history c.draw_to.new.own.moment =
+    c.draw_to.ensures.history ∙ kept_on c.self.inside.gates.history c.self.inside.gates.moment c.self.invariant c.move_to.new.self.moment c.draw_to.new.own.moment c.move_to.new.self.history some onward moved in
     rw (← c.self.view_is)
-    (c.move_to-2.ensures.history ∙ kept_on c.self.inside.gates.history c.self.inside.gates.moment c.self.invariant (max c.move_to.new.self.moment c.up_to-upto.result) c.args.moment c.draw_to.new.own.history (omega (arith, some)) last on)
+    (c.move_to-2.ensures.history ∙ kept_on c.self.inside.gates.history c.self.inside.gates.moment c.self.invariant c.draw_to.new.own.moment c.args.moment c.draw_to.new.own.history (omega (arith, some, onward)) last on)
 
-pub returns-clause-classes : goal.returns-clause-classes
-returns-clause-classes g c =
-    λ class below.
+pub returns-clause-drawn : goal.returns-clause-drawn
+returns-clause-drawn g c =
     let began : c.self.inside.gates.moment ≡ c.args.self.now.moment = ap (λ (d : Drawing). d.moment) c.self.view_is in
-    let within = up_to_within c.self.inside.to c.args.moment in
     let first : c.move_to.new.self.moment ≡ min (max c.self.inside.from c.self.inside.gates.moment) c.args.moment = omega (arith, c.move_to.ensures.moment, c.min-first.ensures, c.max.ensures, c.now.ensures) in
+    let some : c.self.inside.gates.moment ≤ c.move_to.new.self.moment = omega (arith, first, began, c.requires.later) in
+    let onward : c.move_to.new.self.moment ≤ c.draw_to.new.own.moment = c.draw_to.ensures.onward in
     let moved : c.move_to.new.self.history ≡ kept c.self.inside.gates.history c.move_to.new.self.moment = c.move_to.ensures.history ∙ ap (kept c.self.inside.gates.history) (sym c.move_to.ensures.moment) in
+    let on : c.draw_to.new.own.history ≡ kept c.self.inside.gates.history c.draw_to.new.own.moment =
+    c.draw_to.ensures.history ∙ kept_on c.self.inside.gates.history c.self.inside.gates.moment c.self.invariant c.move_to.new.self.moment c.draw_to.new.own.moment c.move_to.new.self.history some onward moved in
+    let old : Drawing = record { history = c.self.inside.gates.history; moment = c.self.inside.gates.moment; from = c.self.inside.from; to = c.self.inside.to; classes = c.self.inside.classes; mixed = c.self.inside.mixed; left = c.self.inside.left } in
+    let seen = c.draw_to.new.own.moment in
+    let h = c.self.inside.gates.history in
     rw (← c.self.view_is)
-    (c.draw_to.ensures.classes class below
-    ∙ drawn_gone (record { history = c.self.inside.gates.history; moment = c.self.inside.gates.moment; from = c.self.inside.from; to = c.self.inside.to; classes = c.self.inside.classes }) c.args.moment c.move_to.new.self.moment c.up_to-upto.result class c.move_to.new.self.history c.self.invariant first (omega (arith, began, c.requires.later)) c.up_to-upto.ensures (omega (arith, c.up_to-upto.ensures, within)) moved)
+    (record {
+      seen = c.draw_to.new.own.moment;
+      whole = λ left. let all = c.draw_to.ensures.whole left in omega (arith, all, c.up_to-upto.ensures);
+      fewer = c.draw_to.ensures.fewer;
+      classes = λ class below.
+          c.mix_to.ensures.classes class below
+          ∙ whole_same (gates c.draw_to.new.own.history) (gates h) class seen (c.up_to-upto.result - seen) (class_at c.draw_to.new.classes class) (λ i from less. gates_on h c.self.inside.gates.moment c.self.invariant seen i c.draw_to.new.own.history (omega (arith, some, onward)) from on)
+          ∙ ap (λ u. drawn_whole (gates h) class seen (u - seen) (class_at c.draw_to.new.classes class)) c.up_to-upto.ensures
+          ∙ ap (drawn_whole (gates h) class seen (up_to c.self.inside.to c.args.moment - seen)) (c.draw_to.ensures.classes class below ∙ drawn_gone old c.args.moment c.move_to.new.self.moment seen class c.move_to.new.self.history c.self.invariant first (omega (arith, began, c.requires.later)) moved);
+      mixed = λ class below.
+          c.mix_to.ensures.mixed class below
+          ∙ mixed_same (gates c.draw_to.new.own.history) (gates h) class seen (c.up_to-upto.result - seen) (class_at c.self.inside.mixed class) (λ i from less. gates_on h c.self.inside.gates.moment c.self.invariant seen i c.draw_to.new.own.history (omega (arith, some, onward)) from on)
+          ∙ ap (λ u. drawn_mixed (gates h) class seen (u - seen) (class_at c.self.inside.mixed class)) c.up_to-upto.ensures;
+    })
 
 pub move_to-requires-clause-later : goal.move_to-requires-clause-later
 move_to-requires-clause-later g c =
@@ -41,6 +60,11 @@ pub draw_to-requires : goal.draw_to-requires
 draw_to-requires g c =
     let within = up_to_within c.self.inside.to c.args.moment in
     (search rules, (c.move_to.ensures.sound, omega (arith, c.up_to-upto.ensures, within, c.requires.within)))
+
+pub mix_to-requires : goal.mix_to-requires
+mix_to-requires g c =
+    let within = up_to_within c.self.inside.to c.args.moment in
+    (search rules, (c.draw_to.ensures.sound, omega (arith, c.up_to-upto.ensures, within, c.requires.within)))
 
 pub returns-clause-moment : goal.returns-clause-moment
 returns-clause-moment g c = c.move_to-2.ensures.moment

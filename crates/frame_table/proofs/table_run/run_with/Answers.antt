@@ -2,22 +2,22 @@ use Rattle.std.proofs.Common.{◌≡◌, ℕ, List, Option, Err, refl, ap, ◌�
 use Rattle.std.specs.Prelude.{IfSome}
 use Rattle.std.proofs.lemmas.Result.{err_from_is_err_and}
 use Rattle.abstract_port.specs.AbstractPort.{PortState, new_port}
-use Rattle.job.proofs.LineLaws.{memory_left}
+use Rattle.job.proofs.LineLaws.{memory_exit}
 use Rattle.script.specs.Setup.{Setup}
 use Rattle.script.proofs.ReaderLaws.{of_input}
-use Rattle.frame_table.specs.Words.{AbstractPort, Arrival, Runs, frames_of, none_wait, script_left, table_from, with_head}
-use Rattle.frame_table.proofs.table_run.run_frames.Goals as goal
+use Rattle.frame_table.specs.Words.{AbstractPort, Arrival, RunsOut, frames_by, none_wait, script_left, table_from, with_head}
+use Rattle.frame_table.proofs.table_run.run_with.Goals as goal
 
 pub returns-in_default : goal.returns-in_default
-returns-in_default g c = λ read is. memory_left {T = Unit {0}} (frames_of read c.args.settings) _ _ refl
+returns-in_default g c = λ read is. memory_exit {T = Unit {0}} (frames_by c.args.streams.now read c.args.settings) _ _ refl
 
 pub returns-in_default-new : goal.returns-in_default-new
-returns-in_default-new g c = λ read is. memory_left {T = Unit {0}} (frames_of read c.args.settings) _ _ refl
+returns-in_default-new g c = λ read is. memory_exit {T = Unit {0}} (frames_by c.args.streams.now read c.args.settings) _ _ refl
 
 pub returns-in_err-lines : goal.returns-in_err-lines
 returns-in_err-lines g c = λ read is.
     let p = err_from_is_err_and c.from_residual.result c.from_residual.ensures.1 in
-    memory_left {T = Unit {0}} (frames_of read c.args.settings) _ _ (p.1 ∙ ap Err p.2)
+    memory_exit {T = Unit {0}} (frames_by c.args.streams.now read c.args.settings) _ _ (p.1 ∙ ap Err p.2)
 
 -- what holds of a port that is made by these numbers holds of one that the settings make
 by_settings : (P : AbstractPort → List (List Arrival) → Option ℕ → Type 0) (s : Setup) (rate mtu room : ℕ) (w : List (List Arrival)) (until : Option ℕ)
@@ -29,7 +29,7 @@ by_settings P s rate mtu room w until a b d none e h =
 
 pub returns : goal.returns
 returns g c = λ read is.
-    let W : AbstractPort → List (List Arrival) → Option ℕ → Type 0 = λ p w until. IfSome (script_left g.R.Read.remaining c.in_ok-lines.lines) (λ script. Runs c.put_table.result (g.W.Write.contents c.args.writer.now) (g.W.Write.contents c.put_table.new.writer) (with_head (table_from read until script p w))) in
+    let W : AbstractPort → List (List Arrival) → Option ℕ → Type 0 = λ p w until. IfSome (script_left g.R.Read.remaining c.in_ok-lines.lines) (λ script. RunsOut c.put_table.result (g.W.Write.contents c.args.writer.now) (g.W.Write.contents c.put_table.new.writer) (with_head c.args.streams.now (table_from c.args.streams.now read until script p w))) in
     let P : PortState → Type 0 = λ p. W p.port c.in-Ok-new.arrivals c.until.result in
     let whole = by_settings W c.args.settings c.rate-rate.result c.mtu-mtu.result c.room.result c.in-Ok-new.arrivals c.until.result c.rate-rate.ensures c.mtu-mtu.ensures.value c.room.ensures.value c.in-Ok-new.ensures c.until.ensures.value (subst P c.in-Ok.ensures.ok (c.put_table.ensures read is)) in
     of_input (g.R.Read.remaining c.args.reader) _ _ c.in_ok-lines.ensures.left whole

@@ -1,0 +1,83 @@
+//! What is no fault, and is perhaps not meant.
+
+use crate::marks::{Hint, put_hint, span_at};
+use answer_text::{Part, WriteFault, put_parts};
+use octet_writer::put;
+use std::io::Write;
+
+/// The ids of the frames of a stream, and the number of its line in a table.
+#[derive(Clone, Copy, Debug, PartialEq, Eq)]
+pub struct Ids {
+    /// The number of the line.
+    pub line: u32,
+    /// The first id.
+    pub first: u64,
+    /// The last one.
+    pub last: u64,
+}
+
+impl Ids {
+    /// Whether an id is one of both.
+    pub fn meet(&self, other: &Ids) -> bool {
+        self.first <= other.last && other.first <= self.last
+    }
+}
+
+/// Writes that the frames of two streams share ids.
+pub fn put_shared_ids<W: Write>(
+    writer: &mut W,
+    earlier: &Ids,
+    later: &Ids,
+    explain: bool,
+) -> Result<(), WriteFault> {
+    put_parts(
+        writer,
+        &[
+            Part::Text(b"taprio_port: warning: table lines "),
+            Part::Number(u128::from(earlier.line)),
+            Part::Text(b" and "),
+            Part::Number(u128::from(later.line)),
+            Part::Text(b" share ids: "),
+            Part::Number(u128::from(earlier.first)),
+            Part::Text(b" to "),
+            Part::Number(u128::from(earlier.last)),
+            Part::Text(b", "),
+            Part::Number(u128::from(later.first)),
+            Part::Text(b" to "),
+            Part::Number(u128::from(later.last)),
+            Part::Text(b"\n"),
+        ],
+    )?;
+    if explain {
+        put(
+            writer,
+            b"    answers tell a frame by its id: a stream takes COUNT of them from FIRST_ID on\n",
+        )?;
+    }
+    Ok(())
+}
+
+/// Writes that an input has no schedule command.
+pub fn put_no_command<W: Write>(writer: &mut W) -> Result<(), WriteFault> {
+    put(
+        writer,
+        b"taprio_port: warning: no schedule command: no line begins with tc\n",
+    )
+}
+
+/// Writes that the line of this number is a comment, where a command was perhaps meant.
+pub fn put_comment<W: Write>(writer: &mut W, number: u32, line: &[u8]) -> Result<(), WriteFault> {
+    put_parts(
+        writer,
+        &[
+            Part::Text(b"taprio_port: warning: script line "),
+            Part::Number(u128::from(number)),
+            Part::Text(b" is a comment\n"),
+        ],
+    )?;
+    let hint = Hint::marked(
+        span_at(line, 0),
+        b"if a prompt was pasted, leave it out: a line that begins with # is skipped",
+    );
+    put_hint(writer, line, hint)
+}
