@@ -130,7 +130,7 @@ class Page:
         status, drawn, _ = program("draw", *words, "--width", self.do("return at('frame').dataset.width"), text=text)
         self.same(f"{what}, status", str(status), "0")
         self.same(f"picture of {what}", self.saved("save-picture"), drawn)
-        self.same(f"bars of {what}", self.do("return document.querySelectorAll('#canvas rect.f').length"), drawn.count(b'<rect class="f"'))
+        self.same(f"bars of {what}", self.do("return document.querySelectorAll('#canvas rect.f').length"), len(re.findall(rb'<rect class="f[ "]', drawn)))
 
 
 def moment(text):
