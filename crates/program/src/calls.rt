@@ -1,8 +1,10 @@
 //! What is answered to the words of the program.
 
-ghost use Rattle.std.specs.Prelude.{◌≡◌, IfErr};
-ghost use Rattle.std.specs.Io.Buffered.{writer_contents};
+ghost use Rattle.std.specs.Prelude.{◌≡◌, [], IfErr, IfSome, true};
+ghost use Rattle.std.specs.Io.Buffered.{writer_buffer, writer_contents};
+ghost use Rattle.clap.specs.Values.{kind_of};
 ghost use Rattle.clap.specs.Matches.{found_of};
+ghost use Rattle.program.specs.Jobs.{IsJobEnding, IsProgramEnding, IsHelp, IsNamed, IsRefusedBy, IsUsage, IsWatchedEnding, Tells};
 ghost use Rattle.schedule_check.specs.Checked.{whole_check};
 ghost use Rattle.schedule_check.specs.Windows.{IsTeller, Teller};
 ghost use Rattle.drawing.specs.PictureEnd.{IsDrawEnding};
@@ -12,8 +14,9 @@ ghost use Rattle.script.specs.ScriptEnd.{IsEnding, whole_script};
 ghost use Rattle.wire_time.specs.Moment.{greatest_moment};
 
 use crate::bounds_call::bounds_given;
-use crate::end_without_memory;
+use crate::end_forgotten;
 use crate::frames_call::frames_given;
+use crate::job_name::JobName;
 use crate::onlooker::{FaultText, Onlooker};
 use crate::options::{JOBS, checks_of, command, draws_of, is_given, looks_of, values_of};
 use crate::piped::Piped;
@@ -23,7 +26,8 @@ use crate::streams_call::streams_given;
 use clap::error::ErrorKind;
 use clap::{ArgMatches, Error};
 use drawing::answer_draw;
-use job::Ended;
+use job::{Ended, end_told};
+use octet_writer::put;
 use schedule_check::answer_check;
 use script::{Watch, answer_script};
 use std::alloc::{Allocator, Global};
@@ -92,9 +96,35 @@ pub fn draw_given<B: Allocator, R: Read, W: Write + Drop, E: Write, H: Watch>(
     )
 }
 
-/// Whether a text is written whole and let out.
-fn is_told<W: Write>(text: &str, writer: &mut W) -> bool {
-    writer.write_all(text.as_bytes()).is_ok() && writer.flush().is_ok()
+/// Reports a text of words that are refused on `errors`, and gives the writer of the answers back. Nothing is answered.
+fn end_usage<B: Allocator, W: Write + Drop, E: Write>(
+    text: &str,
+    answers: BufWriter<W, B>,
+    errors: &mut E,
+) -> (Ended, W)
+    ensures { IsUsage text.now result.0 (writer_contents W.contents answers) (W.contents result.1) (E.contents errors.old) (E.contents errors.new) }
+{
+    let told = put(errors, text.as_bytes()).is_ok();
+    end_told(Ended { status: 2, told }, answers)
+}
+
+/// Writes a text through a buffer, and lets it out. Whether both are done.
+fn is_let_out<B: Allocator, W: Write + Drop>(text: &str, answers: &mut BufWriter<W, B>) -> bool
+    ensures told { Tells result (writer_contents W.contents answers.old) (writer_contents W.contents answers.new) text.now }
+    ensures empty { result ≡ true → writer_buffer answers.new ≡ [] }
+{
+    if put(answers, text.as_bytes()).is_err() {
+        return false;
+    }
+    answers.flush().is_ok()
+}
+
+/// Answers a text that the words ask for, lets it out, and gives the writer of the answers back.
+fn end_help<B: Allocator, W: Write + Drop>(text: &str, mut answers: BufWriter<W, B>) -> (Ended, W)
+    ensures { IsHelp text.now result.0 (writer_contents W.contents answers) (W.contents result.1) }
+{
+    let told = is_let_out(text, &mut answers);
+    end_told(Ended { status: 0, told }, answers)
 }
 
 /// Reports why the words are refused on `errors`, or the help that they ask for through `answers`. The status is 2, for help 0, and 4
@@ -102,46 +132,42 @@ fn is_told<W: Write>(text: &str, writer: &mut W) -> bool {
 fn answer_refusal<B: Allocator, W: Write + Drop, E: Write>(
     alloc: Global,
     error: &Error,
-    mut answers: BufWriter<W, B>,
+    answers: BufWriter<W, B>,
     errors: &mut E,
-) -> (Ended, W) {
-    let ended = match format!(in alloc; "{error}") {
-        Ok(text) if error.kind() != ErrorKind::OutOfMemory => {
-            let told = if error.use_stderr() {
-                is_told(text.as_str(), errors)
-            } else {
-                is_told(text.as_str(), &mut answers)
-            };
-            Ended {
-                status: error.exit_code() as u8,
-                told,
-            }
-        }
-        _ => end_without_memory(errors),
+) -> (Ended, W)
+    ensures { IsRefusedBy (kind_of error.now) result.0 (writer_contents W.contents answers) (W.contents result.1) (E.contents errors.old) (E.contents errors.new) }
+{
+    let Ok(text) = format!(in alloc; "{error}") else {
+        return end_forgotten(answers, errors);
     };
-    let (writer, _unwritten) = answers.into_parts();
-    (ended, writer)
+    match error.kind() {
+        ErrorKind::OutOfMemory => end_forgotten(answers, errors),
+        ErrorKind::DisplayHelp | ErrorKind::DisplayVersion => end_help(text.as_str(), answers),
+        _ => end_usage(text.as_str(), answers, errors),
+    }
 }
 
-/// Answers a job by its name and its options, as the words give them.
+/// Answers a job with its options, as the words give them.
 fn answer_job<F: Files, B: Allocator, R: Read, W: Write + Drop, E: Write, H: Watch>(
     files: &F,
     alloc: Global,
-    name: &str,
+    name: JobName,
     matches: &ArgMatches<'_>,
     reader: &mut R,
     answers: BufWriter<W, B>,
     errors: &mut E,
     watch: &mut H,
-) -> (Ended, W) {
+) -> (Ended, W)
+    ensures { IsJobEnding name (found_of matches.now) (R.remaining reader.old) result.0 (writer_contents W.contents answers) (W.contents result.1) (E.contents errors.old) (E.contents errors.new) }
+{
     match name {
-        "script" => answer_given(alloc, matches, reader, answers, errors, watch),
-        "replay" => replay_given(files, alloc, matches, reader, answers, errors, watch),
-        "check" => check_given(alloc, matches, reader, answers, errors, watch),
-        "draw" => draw_given(alloc, matches, reader, answers, errors, watch),
-        "frames" => frames_given(files, alloc, matches, reader, answers, errors, watch),
-        "streams" => streams_given(files, alloc, matches, reader, answers, errors, watch),
-        _ => bounds_given(files, alloc, matches, reader, answers, errors, watch),
+        JobName::Script => answer_given(alloc, matches, reader, answers, errors, watch),
+        JobName::Replay => replay_given(files, alloc, matches, reader, answers, errors, watch),
+        JobName::Check => check_given(alloc, matches, reader, answers, errors, watch),
+        JobName::Streams => streams_given(files, alloc, matches, reader, answers, errors, watch),
+        JobName::Bounds => bounds_given(files, alloc, matches, reader, answers, errors, watch),
+        JobName::Draw => draw_given(alloc, matches, reader, answers, errors, watch),
+        JobName::Frames => frames_given(files, alloc, matches, reader, answers, errors, watch),
     }
 }
 
@@ -157,19 +183,22 @@ fn answer_watched<
 >(
     files: &F,
     alloc: Global,
-    name: &str,
+    name: JobName,
     matches: &ArgMatches<'_>,
     reader: &mut R,
     answers: BufWriter<Piped<W>, B>,
     errors: &mut E,
     progress: &mut Progress<'_, C, P>,
     terminal: bool,
-) -> (Ended, Piped<W>) {
+) -> (Ended, Piped<W>)
+    ensures { IsWatchedEnding name (found_of matches.now) (R.remaining reader.old) result.0 (writer_contents (⟦<Piped<W> as Write>⟧.contents) answers) ((⟦<Piped<W> as Write>⟧.contents) result.1) }
+{
     if is_given(matches, "progress") {
         progress.start();
     }
+    let looks = looks_of(matches, terminal);
     let mut text = FaultText::new();
-    let mut onlooker = Onlooker::new(alloc, progress, errors, looks_of(matches, terminal));
+    let mut onlooker = Onlooker::new(alloc, progress, errors, looks);
     let (ended, writer) = answer_job(
         files,
         alloc,
@@ -180,14 +209,26 @@ fn answer_watched<
         &mut text,
         &mut onlooker,
     );
-    if name == "check" && ended.status == 0 && !writer.is_written() {
+    if name == JobName::Check && ended.status == 0 && !writer.is_written() {
         onlooker.warn_of_no_command();
     }
     if ended.status != 4 || !writer.is_closed() {
         let capture = first_octets(files, matches);
         onlooker.report(&text, capture.as_slice());
     }
-    (onlooker.judged(ended), writer)
+    (looks.judged(ended, onlooker.has_found()), writer)
+}
+
+/// The job that the words name, and what they give it.
+fn job_of<'m, 'a>(matches: &'m ArgMatches<'a>) -> Option<(JobName, &'m ArgMatches<'a>)>
+    ensures { IfSome result (λ found. IsNamed matches.now found.0 found.1.now) }
+{
+    for job in &JOBS {
+        if let Some(given) = matches.subcommand_matches(job.name.text()) {
+            return Some((job.name, given));
+        }
+    }
+    None
 }
 
 /// Answers the words of the program, the first of which is its name: a job, help, or why they are refused. What is answered goes through
@@ -210,25 +251,21 @@ pub(crate) fn answer_words<
     errors: &mut E,
     progress: &mut Progress<'_, C, P>,
     terminal: bool,
-) -> (Ended, Piped<W>) {
+) -> (Ended, Piped<W>)
+    ensures { IsProgramEnding (R.remaining reader.old) result.0 (writer_contents (⟦<Piped<W> as Write>⟧.contents) answers) ((⟦<Piped<W> as Write>⟧.contents) result.1) (E.contents errors.old) (E.contents errors.new) }
+{
     let Ok(command) = command(alloc) else {
-        let ended = end_without_memory(errors);
-        return (ended, answers.into_parts().0);
+        return end_forgotten(answers, errors);
     };
     let matches = match command.try_get_matches_from(words) {
         Ok(matches) => matches,
         Err(error) => return answer_refusal(alloc, &error, answers, errors),
     };
-    for job in &JOBS {
-        if let Some(given) = matches.subcommand_matches(job.name) {
-            return answer_watched(
-                files, alloc, job.name, given, reader, answers, errors, progress, terminal,
-            );
-        }
+    match job_of(&matches) {
+        Some((name, given)) => answer_watched(
+            files, alloc, name, given, reader, answers, errors, progress, terminal,
+        ),
+        // (the parser refuses words without a job)
+        None => end_usage("", answers, errors),
     }
-    let ended = Ended {
-        status: 2,
-        told: true,
-    };
-    (ended, answers.into_parts().0)
 }

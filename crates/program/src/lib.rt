@@ -7,9 +7,16 @@
 //! specs/Given.antt.
 #![tactic(auto)]
 
+ghost use Rattle.std.specs.Prelude.{◌≡◌};
+ghost use Rattle.std.specs.Io.Buffered.{writer_contents};
+ghost use Rattle.job.specs.RunEnd.{IsUnanswered};
+ghost use Rattle.job.specs.Texts.{IsTold};
+ghost use Rattle.program.specs.Jobs.{memory_text};
+
 mod bounds_call;
 mod calls;
 mod frames_call;
+mod job_name;
 mod onlooker;
 mod options;
 mod piped;
@@ -23,13 +30,14 @@ pub use bounds_call::bounds_given;
 use calls::answer_words;
 pub use calls::{answer_given, check_given, draw_given};
 pub use frames_call::frames_given;
-use job::{Ended, say_fault};
+use job::{Ended, end_told, say_fault};
 use options::reads_input;
 pub use options::values_of;
 use piped::Piped;
 pub use progress::Progress;
 pub use replay_call::replay_given;
 use script::RunFault;
+use std::alloc::Allocator;
 use std::io::{BufWriter, IsTerminal, Write};
 use std::process::ExitCode;
 pub use streams_call::streams_given;
@@ -37,9 +45,22 @@ pub use streams_call::streams_given;
 /// How many octets of each output are kept until they are let out.
 const BUFFER: usize = 131_072;
 
-/// How the program ends when out of memory before it has begun.
-fn end_without_memory<E: Write>(errors: &mut E) -> Ended {
+/// Reports that memory is out before the program has begun.
+fn end_without_memory<E: Write>(errors: &mut E) -> Ended
+    ensures status { result.status ≡ 4 }
+    ensures told { IsTold result.told (E.contents errors.old) (E.contents errors.new) memory_text }
+{
     say_fault(&RunFault::Memory, errors)
+}
+
+/// Reports that memory is out, and gives the writer of the answers back. Nothing is answered.
+fn end_forgotten<B: Allocator, W: Write + Drop, E: Write>(
+    answers: BufWriter<W, B>,
+    errors: &mut E,
+) -> (Ended, W)
+    ensures { IsUnanswered 4 memory_text result.0 (writer_contents W.contents answers) (W.contents result.1) (E.contents errors.old) (E.contents errors.new) }
+{
+    end_told(end_without_memory(errors), answers)
 }
 
 /// Says that the input is read from a terminal. Whether that can be told changes nothing.

@@ -28,8 +28,12 @@ pub(crate) struct FaultText {
 }
 
 impl FaultText {
+    ghost use Rattle.std.specs.Prelude.{◌≡◌, []};
+
     /// No text.
-    pub fn new() -> FaultText {
+    pub fn new() -> FaultText
+        ensures { result.text.items ≡ [] }
+    {
         FaultText {
             text: ArrayVec::new(),
         }
@@ -42,6 +46,10 @@ impl FaultText {
 }
 
 impl Write for FaultText {
+    ghost use Rattle.std.specs.Prelude.{Some};
+
+    ghost contents = { λ t. Some t.text.items };
+
     fn write(&mut self, octets: &[u8]) -> io::Result<usize> {
         let room = TEXT.saturating_sub(self.text.len());
         let (taken, _) = octets.split_at(octets.len().min(room));
@@ -64,9 +72,22 @@ pub(crate) struct Looks {
 }
 
 impl Looks {
+    ghost use Rattle.program.specs.Jobs.{IsJudged};
+
     /// Whether what is no fault, and is perhaps not meant, is looked for.
     fn warns(&self) -> bool {
         self.explain || self.strict
+    }
+
+    /// How a run ends that ended like this: a strict one that has found something with status 1.
+    pub fn judged(&self, ended: Ended, found: bool) -> Ended
+        ensures { IsJudged self.now.strict ended result }
+    {
+        if ended.status == 0 && self.strict && found {
+            Ended { status: 1, ..ended }
+        } else {
+            ended
+        }
     }
 }
 
@@ -103,13 +124,9 @@ impl<'a, 'b, C: Clock, P: Write + Drop, E: Write> Onlooker<'a, 'b, C, P, E> {
         }
     }
 
-    /// How a run ends that ended like this: a strict one with status 1 where a command changed nothing, or a warning was given.
-    pub fn judged(&self, ended: Ended) -> Ended {
-        if ended.status == 0 && self.looks.strict && (self.failures > 0 || self.warned) {
-            Ended { status: 1, ..ended }
-        } else {
-            ended
-        }
+    /// Whether something was found for which a strict run ends with status 1: a command changed nothing, or a warning was given.
+    pub fn has_found(&self) -> bool {
+        self.failures > 0 || self.warned
     }
 
     /// Warns of an input without a schedule command, where that is wanted.

@@ -6,6 +6,7 @@ ghost use Rattle.drawing.specs.Given.{words_of_draws};
 ghost use Rattle.script.specs.Given.{octets_of, words_of_values};
 ghost use Rattle.program.specs.Given.{draw_words_in, flag_in, words_in};
 
+use crate::job_name::JobName;
 use crate::onlooker::Looks;
 use clap::{Arg, ArgAction, ArgMatches, Command};
 use drawing::DrawValues;
@@ -19,7 +20,7 @@ pub(crate) fn reads_input(words: &[String]) -> bool {
     let mut words = words.iter().skip(1).map(|word| word.as_str());
     let waits = match words.next() {
         Some("replay") => false,
-        Some(name) => JOBS.iter().any(|job| job.name == name),
+        Some(name) => JOBS.iter().any(|job| job.name.text() == name),
         None => false,
     };
     waits && words.all(|word| word != "--help" && word != "-h")
@@ -73,7 +74,9 @@ pub(crate) fn bounds_of<'a>(matches: &ArgMatches<'a>) -> BoundsWords<'a>
 }
 
 /// What a subcommand is asked to look at, where the standard error is a terminal or isn't.
-pub(crate) fn looks_of(matches: &ArgMatches<'_>, terminal: bool) -> Looks {
+pub(crate) fn looks_of(matches: &ArgMatches<'_>, terminal: bool) -> Looks
+    ensures { result.strict ≡ flag_in (codes "strict") (found_of matches.now) }
+{
     Looks {
         explain: terminal || is_given(matches, "explain"),
         strict: is_given(matches, "strict"),
@@ -116,7 +119,7 @@ struct Word {
 /// A job of the program, with the words that it understands, in the order in which its help lists them.
 #[derive(Clone, Copy)]
 pub(crate) struct Job {
-    pub name: &'static str,
+    pub name: JobName,
     about: &'static str,
     words: &'static [Word],
 }
@@ -299,12 +302,12 @@ const WIDTH: Word = Word {
 
 pub(crate) const JOBS: [Job; 7] = [
     Job {
-        name: "script",
+        name: JobName::Script,
         about: "Answers the lines of a script on standard input",
         words: &[RATE, MTU, ROOM, UNTIL, SUMMARY, STRICT_COMMANDS, EXPLAIN],
     },
     Job {
-        name: "replay",
+        name: JobName::Replay,
         about: "Runs a script and a capture by moment: a report on standard output, and a capture of what leaves",
         words: &[
             RATE,
@@ -322,27 +325,27 @@ pub(crate) const JOBS: [Job; 7] = [
         ],
     },
     Job {
-        name: "check",
+        name: JobName::Check,
         about: "Reports which classes the schedule commands on standard input keep apart",
         words: &[RATE, WINDOWS, SCRIPT_LINES, STRICT_CHECK, EXPLAIN],
     },
     Job {
-        name: "streams",
+        name: JobName::Streams,
         about: "Writes a script with the frames of the streams in a table on standard input",
         words: &[LINES, OFFSETS_FROM, STRICT_STREAMS, EXPLAIN],
     },
     Job {
-        name: "bounds",
+        name: JobName::Bounds,
         about: "Reports how long the frames of the streams in a table can ever wait, by the schedule commands on standard input",
         words: &[RATE, MTU, ROOM, FRAMES, STRICT, EXPLAIN, TABLE],
     },
     Job {
-        name: "draw",
+        name: JobName::Draw,
         about: "Draws the run of a script on standard input, as an SVG picture",
         words: &[RATE, MTU, ROOM, FROM, TO, WIDTH, STRICT_COMMANDS, EXPLAIN],
     },
     Job {
-        name: "frames",
+        name: JobName::Frames,
         about: "Writes a table of the frames of a script on standard input, as CSV: times, waits and fates",
         words: &[RATE, MTU, ROOM, UNTIL, BY_STREAM, EXPLAIN],
     },
@@ -365,7 +368,7 @@ const STATUSES: &str =
 
 /// A job with its words as `clap` has it.
 fn command_of<'a>(alloc: Global, job: &Job) -> Result<Command<'a>, AllocError> {
-    let mut command = Command::new(alloc, job.name)
+    let mut command = Command::new(alloc, job.name.text())
         .about(job.about)
         .after_help(STATUSES);
     for word in job.words {

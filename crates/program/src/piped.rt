@@ -32,6 +32,8 @@ impl<W: Write + Drop> Piped<W> {
 }
 
 impl<W: Write + Drop> Write for Piped<W> {
+    ghost contents = { λ p. W.contents p.writer };
+
     fn write(&mut self, octets: &[u8]) -> io::Result<usize> {
         let result = self.writer.write(octets);
         match &result {

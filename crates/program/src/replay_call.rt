@@ -1,9 +1,10 @@
 //! A script and a capture from files through the port.
 
-ghost use Rattle.std.specs.Prelude.{◌≡◌, IfErr, IfNone, OnOk};
+ghost use Rattle.std.specs.Prelude.{◌≡◌, IfErr, IfNone, IfOk, None, OnOk, Some, [], codes, option_map, unwrap_or};
 ghost use Rattle.std.specs.Io.Buffered.{writer_contents};
-ghost use Rattle.clap.specs.Matches.{found_of};
+ghost use Rattle.clap.specs.Matches.{first_value, found_of};
 ghost use Rattle.program.specs.Given.{over_input_text, settings_in, stamp_in};
+ghost use Rattle.program.specs.Jobs.{IsGivenReplay, IsReplayed, IsReplayedOrForgotten};
 ghost use Rattle.capture.specs.declared.writer.TheConstants.{CAPTURE_END};
 ghost use Rattle.job.specs.RunEnd.{IsUnanswered};
 ghost use Rattle.job.specs.Texts.{IsTold};
@@ -13,7 +14,7 @@ ghost use Rattle.replay.specs.Texts.{open_text};
 
 use crate::options::values_of;
 use crate::same_file::{is_regular, is_same_file};
-use crate::{BUFFER, end_without_memory};
+use crate::{BUFFER, end_forgotten};
 use answer_text::{Part, put_parts};
 use arrayvec::ArrayVec;
 use capture::CAPTURE_END;
@@ -27,7 +28,9 @@ use std::io::{BufWriter, Read, Write};
 use std::rt::Files;
 
 /// The path that is given for one of the files.
-fn path_of<'a>(matches: &ArgMatches<'a>, name: &str) -> &'a str {
+fn path_of<'a>(matches: &ArgMatches<'a>, name: &str) -> &'a str
+    ensures { result.now ≡ unwrap_or (first_value (found_of matches.now) name.now) [] }
+{
     matches.get_str(name).unwrap_or("")
 }
 
@@ -115,7 +118,9 @@ fn create_out<'a, F: Files>(files: &F, matches: &ArgMatches<'a>) -> Result<F::Fi
 fn open_all<'a, F: Files>(
     files: &F,
     matches: &ArgMatches<'a>,
-) -> Result<Opened<F::File>, Unopened<'a>> {
+) -> Result<Opened<F::File>, Unopened<'a>>
+    ensures { IfOk result (λ opened. first_value (found_of matches.now) (codes "capture") ≡ Some (codes "-") → opened.capture ≡ None) }
+{
     let script = match open(files, path_of(matches, "script")) {
         Ok(script) => script,
         Err(path) => return Err(Unopened::Path(path)),
@@ -184,6 +189,35 @@ fn end_unstamped<B: Allocator, W: Write + Drop, E: Write>(
     end_told(say_stamp(errors), answers)
 }
 
+/// Replays these inputs, and gives the writer of the report back.
+fn replay_files<
+    T: Read + Drop,
+    S: Read + Drop,
+    B: Allocator,
+    W: Write + Drop,
+    V: Write + Drop,
+    E: Write,
+    P: Watch,
+>(
+    alloc: Global,
+    settings: Settings,
+    stamp: Stamp,
+    inputs: Inputs<T, S>,
+    report: BufWriter<W, B>,
+    departures: BufWriter<V>,
+    errors: &mut E,
+    watch: &mut P,
+) -> (Ended, W)
+    ensures { IsReplayed settings stamp (S.remaining inputs.capture) result.0
+        (writer_contents W.contents report) (W.contents result.1) (E.contents errors.old) (E.contents errors.new) }
+{
+    let outputs = Outputs { report, departures };
+    let (ended, writer, _out) = answer_replay(
+        alloc, settings, stamp, inputs, outputs, errors, watch,
+    );
+    (ended, writer)
+}
+
 /// Replays what is open, the capture from `reader` where that is the standard input.
 fn replay_opened<
     T: Read + Write + Drop,
@@ -201,33 +235,35 @@ fn replay_opened<
     answers: BufWriter<W, B>,
     errors: &mut E,
     watch: &mut P,
-) -> (Ended, W) {
+) -> (Ended, W)
+    ensures { IsReplayedOrForgotten settings stamp (option_map T.remaining opened.capture) (R.remaining reader.old) result.0
+        (writer_contents W.contents answers) (W.contents result.1) (E.contents errors.old) (E.contents errors.new) }
+{
     let Opened {
         script,
         capture,
         out,
     } = opened;
     let Ok(departures) = BufWriter::with_capacity(alloc, BUFFER, out) else {
-        return (end_without_memory(errors), answers.into_parts().0);
+        return end_forgotten(answers, errors);
     };
-    let outputs = Outputs {
-        report: answers,
-        departures,
-    };
-    let (ended, writer, _out) = match capture {
+    match capture {
         Some(capture) => {
             let inputs = Inputs { script, capture };
-            answer_replay(alloc, settings, stamp, inputs, outputs, errors, watch)
+            replay_files(
+                alloc, settings, stamp, inputs, answers, departures, errors, watch,
+            )
         }
         None => {
             let inputs = Inputs {
                 script,
                 capture: reader,
             };
-            answer_replay(alloc, settings, stamp, inputs, outputs, errors, watch)
+            replay_files(
+                alloc, settings, stamp, inputs, answers, departures, errors, watch,
+            )
         }
-    };
-    (ended, writer)
+    }
 }
 
 /// Replays a script and a capture from files into a file, by the values that the words give to the options, with the report through
@@ -246,6 +282,7 @@ pub fn replay_given<F: Files, B: Allocator, R: Read, W: Write + Drop, E: Write, 
     ensures refused { IfErr (settings_in CAPTURE_END (found_of matches.now)) (λ value.
         IsRefusal value result.0 (writer_contents W.contents answers) (W.contents result.1) (E.contents errors.old) (E.contents errors.new)) }
     ensures unread { IfErr (settings_in CAPTURE_END (found_of matches.now)) (λ _. (reader.new ≡ reader.old) × (watch.new ≡ watch.old)) }
+    ensures ending { IsGivenReplay (found_of matches.now) (R.remaining reader.old) result.0 (writer_contents W.contents answers) (W.contents result.1) (E.contents errors.old) (E.contents errors.new) }
     ensures unstamped { OnOk (settings_in CAPTURE_END (found_of matches.now)) (IfNone (stamp_in (found_of matches.now)) (
         IsUnanswered 2 stamp_text result.0 (writer_contents W.contents answers) (W.contents result.1) (E.contents errors.old) (E.contents errors.new))) }
 {

@@ -1,0 +1,1 @@
+use Rattle.program.proofs.calls.job_of.Goals as goal

@@ -1,0 +1,1 @@
+use Rattle.program.proofs.replay_call.replay_opened.Goals as goal

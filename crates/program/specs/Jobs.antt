@@ -1,0 +1,150 @@
+-- What the program answers to its words: a job, help, or why they are refused.
+use Rattle.std.specs.Prelude.{◌≡◌, ◌⊎◌, List, ℕ, [], Bool, true, false, Option, Some, None, Result, Ok, Err, codes, option_map, unwrap_or}
+use Rattle.std.specs.Io.KnownBytes.{Appends, append_known}
+use Rattle.octet_writer.specs.Writes.{AppendsFront}
+use Rattle.clap.specs.Matches.{first_value, found_of, subcommand_name_of}
+use Rattle.clap.specs.Simple.{subcommand_rows_of}
+use Rattle.clap.specs.Walk.{rows_of}
+use Rattle.clap.specs.declared.error.kind.ErrorKind.{ErrorKind}
+use Rattle.clap.specs.declared.error.kind.ErrorKind.TheVariants as Kinds
+use Rattle.clap.specs.declared.parser.matches.ArgMatches.{ArgMatches}
+use Rattle.clap.specs.declared.parser.matches.Found.{Found}
+use Rattle.wire_time.specs.Moment.{greatest_moment}
+use Rattle.capture.specs.declared.writer.TheConstants.{CAPTURE_END}
+use Rattle.job.specs.RunEnd.{IsUnanswered}
+use Rattle.job.specs.declared.report.Ended.{Ended}
+use Rattle.script.specs.ScriptEnd.{IsEnding, IsRefusal, whole_script}
+use Rattle.script.specs.Setup.{Setup}
+use Rattle.script.specs.declared.settings.BadValue.{BadValue}
+use Rattle.schedule_check.specs.Checked.{whole_check}
+use Rattle.schedule_check.specs.Windows.{IsTeller, Teller}
+use Rattle.drawing.specs.PictureEnd.{IsDrawEnding}
+use Rattle.replay.specs.Stamps.{stamp_text}
+use Rattle.replay.specs.Texts.{open_text}
+use Rattle.replay.specs.Words.{IsReplayEnding, got}
+use Rattle.replay.specs.declared.stamps.Stamp.{Stamp}
+use Rattle.program.specs.Given.{IsGivenBounds, IsGivenFrames, IsGivenStreams, bounds_in, draws_in, flag_in, from_in, over_input_text, rate_in, settings_in, stamp_in}
+use Rattle.program.specs.declared.job_name.JobName.{JobName}
+use Rattle.program.specs.declared.job_name.JobName.TheVariants as Names
+
+-- the word that names a job
+abbrev pub name_of : JobName → List ℕ
+name_of Names.Script = codes "script"
+name_of Names.Replay = codes "replay"
+name_of Names.Check = codes "check"
+name_of Names.Streams = codes "streams"
+name_of Names.Bounds = codes "bounds"
+name_of Names.Draw = codes "draw"
+name_of Names.Frames = codes "frames"
+
+-- the text where memory is out
+abbrev pub memory_text : List ℕ
+memory_text = codes "taprio_port: out of memory\n"
+
+-- The end of a replay of what is open, with the capture that is read: that of some script, since what a file gives is not known, and of some output
+-- capture.
+pub record IsReplayed (settings : Setup) (stamp : Stamp) (capture : Option (List ℕ)) (ended : Ended) (old new errors_old errors_new : Option (List ℕ)) : Type 0 where
+  pub script : Option (List ℕ)
+  pub departures_old : Option (List ℕ)
+  pub departures_new : Option (List ℕ)
+  pub ending : IsReplayEnding settings stamp script capture ended (got old departures_old) (got new departures_new) errors_old errors_new
+
+-- The end of a replay of what is open: memory is out before anything is read; or that of the files, with the standard input as the capture where none
+-- is open.
+abbrev pub IsReplayedOrForgotten : Setup → Stamp → Option (Option (List ℕ)) → Option (List ℕ) → Ended → (old new errors_old errors_new : Option (List ℕ)) → Type 0
+IsReplayedOrForgotten settings stamp capture input ended old new errors_old errors_new =
+    IsUnanswered 4 memory_text ended old new errors_old errors_new ⊎ IsReplayed settings stamp (unwrap_or capture input) ended old new errors_old errors_new
+
+-- the capture of a replay is the standard input where the words say so, and else some octets of a file
+abbrev pub IsCapture : Found → Option (List ℕ) → Option (List ℕ) → Type 0
+IsCapture found input capture = first_value found (codes "capture") ≡ Some (codes "-") → capture ≡ input
+
+-- The end of a replay with these settings: a value is refused; or the word of a stamp; or a file can't be opened, or the output is an input, or memory is
+-- out, before anything is read; or that of the files.
+abbrev pub IsReplayBy : Result Setup BadValue → Option Stamp → Found → Option (List ℕ) → Ended → (old new errors_old errors_new : Option (List ℕ)) → Type 0
+IsReplayBy (Err value) stamp found input ended old new errors_old errors_new = IsRefusal value ended old new errors_old errors_new
+IsReplayBy (Ok settings) None found input ended old new errors_old errors_new = IsUnanswered 2 stamp_text ended old new errors_old errors_new
+IsReplayBy (Ok settings) (Some stamp) found input ended old new errors_old errors_new =
+    ((path : List ℕ) × IsUnanswered 4 (open_text path) ended old new errors_old errors_new)
+    ⊎ (((path : List ℕ) × IsUnanswered 2 (over_input_text path) ended old new errors_old errors_new)
+    ⊎ (IsUnanswered 4 memory_text ended old new errors_old errors_new
+    ⊎ ((capture : Option (List ℕ)) × IsCapture found input capture × IsReplayed settings stamp capture ended old new errors_old errors_new)))
+
+-- The end of a replay by what the words give.
+abbrev pub IsGivenReplay : Found → Option (List ℕ) → Ended → (old new errors_old errors_new : Option (List ℕ)) → Type 0
+IsGivenReplay found input ended old new errors_old errors_new =
+    IsReplayBy (settings_in CAPTURE_END found) (stamp_in found) found input ended old new errors_old errors_new
+
+-- The end of a job by what the words give it, on what the standard input has.
+abbrev pub IsJobEnding : JobName → Found → Option (List ℕ) → Ended → (old new errors_old errors_new : Option (List ℕ)) → Type 0
+IsJobEnding Names.Script found input ended old new errors_old errors_new =
+    IsEnding whole_script (settings_in greatest_moment found) input ended old new errors_old errors_new
+IsJobEnding Names.Replay found input ended old new errors_old errors_new = IsGivenReplay found input ended old new errors_old errors_new
+IsJobEnding Names.Check found input ended old new errors_old errors_new =
+    (tell : Teller) → IsTeller tell → IsEnding (whole_check tell (flag_in (codes "windows") found) (flag_in (codes "script") found)) (rate_in found) input ended old new errors_old errors_new
+IsJobEnding Names.Streams found input ended old new errors_old errors_new =
+    IsGivenStreams (from_in found) (first_value found (codes "with")) input ended old new errors_old errors_new
+IsJobEnding Names.Bounds found input ended old new errors_old errors_new =
+    IsGivenBounds (bounds_in found) (first_value found (codes "table")) input ended old new errors_old errors_new
+IsJobEnding Names.Draw found input ended old new errors_old errors_new =
+    IsDrawEnding (settings_in greatest_moment found) (draws_in found) input ended old new errors_old errors_new
+IsJobEnding Names.Frames found input ended old new errors_old errors_new =
+    IsGivenFrames (settings_in greatest_moment found) (first_value found (codes "by-stream")) input ended old new errors_old errors_new
+
+-- an end, and the same of a strict run, which has status 1 where something was found and all else is done
+abbrev pub IsJudged : Bool → Ended → Ended → Type 0
+IsJudged strict run ended =
+    (ended ≡ run) ⊎ ((strict ≡ true) × (run.status ≡ 0) × (ended ≡ record { status = 1; told = run.told }))
+
+-- The end of a job whose fault's text is kept until it is told.
+pub record IsWatchedEnding (job : JobName) (found : Found) (input : Option (List ℕ)) (ended : Ended) (old new : Option (List ℕ)) : Type 0 where
+  pub run : Ended
+  pub text : List ℕ
+  pub ending : IsJobEnding job found input run old new (Some []) (Some text)
+  pub judged : IsJudged (flag_in (codes "strict") found) run ended
+
+-- a text that is written and let out, or else a prefix of it is written
+abbrev pub Tells : Bool → Option (List ℕ) → Option (List ℕ) → List ℕ → Type 0
+Tells true old new text = Appends old new text
+Tells false old new text = AppendsFront old new text
+
+-- The end where the words ask for help or for the version: this text is answered, and all of it is let out.
+pub record IsHelp (text : List ℕ) (ended : Ended) (old new : Option (List ℕ)) : Type 0 where
+  pub status : ended.status ≡ 0
+  pub unwritten : List ℕ
+  pub told : Tells ended.told old (append_known new unwritten) text
+  pub let_out : ended.told ≡ true → unwritten ≡ []
+
+-- The end where the words are refused: this text is reported, and nothing is answered.
+abbrev pub IsUsage : List ℕ → Ended → (old new errors_old errors_new : Option (List ℕ)) → Type 0
+IsUsage text ended old new errors_old errors_new = IsUnanswered 2 text ended old new errors_old errors_new
+
+-- the words ask for help or for the version
+abbrev pub IsAsked : ErrorKind → Type 0
+IsAsked kind = (kind ≡ Kinds.DisplayHelp) ⊎ (kind ≡ Kinds.DisplayVersion)
+
+-- The end where no job is answered, by the kind of why: memory is out; or some text is answered where the words ask for help or for the version, and nothing
+-- is reported; or some text is reported.
+abbrev pub IsRefusedBy : ErrorKind → Ended → (old new errors_old errors_new : Option (List ℕ)) → Type 0
+IsRefusedBy kind ended old new errors_old errors_new =
+    IsUnanswered 4 memory_text ended old new errors_old errors_new
+    ⊎ ((text : List ℕ) × ((IsAsked kind × IsHelp text ended old new × (errors_new ≡ errors_old))
+    ⊎ ((IsAsked kind → ⊥) × IsUsage text ended old new errors_old errors_new)))
+
+-- the job of this name is the one that was found among the words, with what they give it
+pub record IsNamed (matches : ArgMatches) (job : JobName) (given : ArgMatches) : Type 0 where
+  pub name : subcommand_name_of matches ≡ Some (name_of job)
+  pub rows : option_map (λ sub. sub.1) (subcommand_rows_of matches) ≡ Some (rows_of (found_of given))
+
+-- The end of a job that the words name, with what they give it.
+pub record IsNamedEnding (input : Option (List ℕ)) (ended : Ended) (old new : Option (List ℕ)) : Type 0 where
+  pub matches : ArgMatches
+  pub given : ArgMatches
+  pub job : JobName
+  pub named : IsNamed matches job given
+  pub ending : IsWatchedEnding job (found_of given) input ended old new
+
+-- The end of the program: of a job, or of help, or of words that are refused.
+abbrev pub IsProgramEnding : Option (List ℕ) → Ended → (old new errors_old errors_new : Option (List ℕ)) → Type 0
+IsProgramEnding input ended old new errors_old errors_new =
+    IsNamedEnding input ended old new ⊎ (((kind : ErrorKind) × IsRefusedBy kind ended old new errors_old errors_new) ⊎ IsUsage [] ended old new errors_old errors_new)
