@@ -1,6 +1,6 @@
 -- The end of a replay, from what its parts leave.
 use Rattle.std.proofs.Common.{◌≡◌, ◌+◌, ℕ, zero, suc, List, [], ◌∷◌, ◌++◌, length, Option, Some, None, Result, Ok, Err, refl, sym, ap, ◌∙◌, append_assoc, subst}
-use Rattle.replay.specs.Words.{AbstractPort, settled, starts_until, IsSoundPort, Entry, CapFault, End, Whole, Broken, CAPTURE_END, Timed, before_end, came_from, lines_after, merged, requests_of, timed_from, to_run_end, EndsSo, Asks, Request, events_of, responses_of, BadLine, Observed, fault_of_stop, AppendsBoth, Ends, IsOpenFault, Outcome, counted_to, end_fault, end_of, header, last_end, open_fault, refused, rest_moment, run_end, told_to_end, Got, Origin, Output, PutsBoth, SentBoth, joined, nothing, output, Answers, State, Fault, ReplayInput, Stop}
+use Rattle.replay.specs.Words.{AbstractPort, settled, starts_until, IsSoundPort, Entry, CapFault, End, Whole, Broken, CAPTURE_END, Timed, before_end, came_from, lines_after, merged, requests_of, timed_from, to_run_end, EndsSo, Asks, Request, events_of, responses_of, BadLine, Observed, fault_of_stop, AppendsBoth, Ends, IsOpenFault, Outcome, counted_to, end_fault, end_of, ended_by, header, last_end, open_fault, refused, rest_moment, run_end, told_to_end, Got, Origin, Output, PutsBoth, SentBoth, joined, nothing, output, Answers, State, Fault, ReplayInput, Stop}
 use Rattle.abstract_port.specs.AbstractPort.{counters_of}
 use Rattle.abstract_port.specs.declared.Event.TheVariants.{Clock}
 use Rattle.abstract_port.specs.declared.Start.{Start}
@@ -234,3 +234,10 @@ as_fault (Some x) = Some (Inputs.Capture x.0 x.1)
 pub some_fault : (entries : List Entry) (last : End) (number : ℕ) (fault : CapFault) → EndsSo entries last (Some (number, fault)) → end_fault (length entries) last ≡ Some (Inputs.Capture number fault)
 some_fault entries Whole number fault e = absurd (cc)
 some_fault entries (Broken f) number fault e = sym (ap as_fault e)
+
+-- the end of a run whose capture ends so
+pub ends_by : (broken : Option (ℕ × CapFault)) (entries : List Entry) (last : End) (old new : Got) (o : Outcome) → o.fault ≡ end_fault (length entries) last → EndsSo entries last broken → PutsBoth {T = Unit {0}} (Ok tt) old new o.output
+    → Ends (ended_by broken) old new o
+ends_by None entries last old new o is e p = ends_ok {T = Unit {0}} {U = Unit {0}} tt old new o p (is ∙ no_fault entries last (length entries) e)
+ends_by (Some (number, fault)) entries last old new o is e p =
+    ends_capture {T = Unit {0}} {U = Unit {0}} (Err (Faults.Input (Inputs.Capture number fault))) number fault old new o p (is ∙ some_fault entries last number fault e) refl

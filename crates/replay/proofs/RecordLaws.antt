@@ -1,18 +1,20 @@
 -- The records that come from a reader, one after another.
-use Rattle.std.specs.Prelude.{IfSome, MatchOption, max}
-use Rattle.std.proofs.Common.{◌≡◌, ◌≢◌, ◌<◌, ◌+◌, ◌++◌, ℕ, List, [], ◌∷◌, length, Option, Some, None, Result, Ok, Err, refl, sym, ap, ◌∙◌, subst, append_assoc, append-nil}
+use Rattle.std.specs.Prelude.{IfOk, IfSome, MatchOption, max}
+use Rattle.std.proofs.Common.{◌≡◌, ◌≢◌, ◌⊎◌, ◌<◌, ◌+◌, ◌++◌, ℕ, List, [], ◌∷◌, length, Option, Some, None, Result, Ok, Err, inl, inr, refl, sym, ap, ◌∙◌, subst, append_assoc, append-nil}
 use Rattle.std.specs.Io.KnownBytes.{Keeps as Holds}
 use Rattle.std.proofs.Math.ListN.{get_or}
 use Rattle.std.proofs.Math.Seq.{get_or-append_seam}
 use Rattle.std.proofs.lemmas.List.{length-append}
-use Rattle.replay.specs.Words.{Left, Next, AreRecords, frame_of, Entry, MAX_RECORDS, CapFault, Format, End, Whole, Broken, Arrive, kept, Origin, Request, Asks, Came, Timed, before_end, came_from, lines_after, lines_by, lines_past, requests_of, Got, kept_in, Comes, found, RunsRecords, Answers, Keeps, State, IsSoundPort, Stop}
-use Rattle.capture.specs.CaptureReader.{IsWanting, ReadsNext, again, octets_left}
+use Rattle.replay.specs.Words.{Left, Next, AreRecords, entry, frame_of, Entry, MAX_RECORDS, CapFault, Format, End, Whole, Broken, Arrive, kept, Origin, Request, Asks, Came, Timed, before_end, came_from, lines_after, lines_by, lines_past, requests_of, Got, kept_in, Comes, EndsSo, found, RunsRecords, Answers, Keeps, State, IsSoundPort, Stop}
+use Rattle.capture.specs.CaptureReader.{IsWanting, ReadsNext, again, answer, octets_left}
 use Rattle.capture.specs.Records.{IsWithin, entry_at, fault_at, rest_after}
+use Rattle.capture.specs.declared.record.Record.{Record}
 use Rattle.capture.specs.declared.fault.CapFault.TheVariants.{ShortHeader, BadMagic, BadVersion, BadLink, ShortRecord, LongRecord, BadFraction, TooManyRecords, Read, Write, Memory}
 use Rattle.abstract_port.specs.declared.Event.TheVariants.{Clock}
 use Rattle.replay.specs.Outputs.{no_entry}
 use Rattle.replay.specs.RecordsLeft.{ending}
 use Rattle.replay.specs.declared.faults.Stop.TheVariants as Stops
+use Rattle.replay.proofs.Sends.{never}
 use Rattle.replay.proofs.RunLaws.{Done, done_exit, done_kept, done_more, done_stop, done_whole}
 
 known_at : (P : List ℕ → Type 0) (known : Option (List ℕ)) (octets : List ℕ) → known ≡ Some octets → IfSome known P → P octets
@@ -37,6 +39,24 @@ record-next : (format : Format) (number : ℕ) (octets : List ℕ) (es : List En
 record-next format number octets [] Whole are e = absurd (no_record format number octets are e)
 record-next format number octets [] (Broken f) are e = absurd (let both = sym are.1 ∙ e in cc)
 record-next format number octets (x ∷ es) last are e = (es, ap (λ (y : Entry). y ∷ es) are.1, are.2)
+
+-- a read failed, or another fault ends the records
+pub found_by : (number : ℕ) (f : CapFault) → ((f ≡ Read) × (found number f ≡ Err Stops.Read)) ⊎ ((f ≢ Read) × (found number f ≡ Ok (Some (number, f))))
+found_by number Read = inl (refl, refl)
+found_by number ShortHeader = inr (λ e. cc, refl)
+found_by number BadMagic = inr (λ e. cc, refl)
+found_by number BadVersion = inr (λ e. cc, refl)
+found_by number BadLink = inr (λ e. cc, refl)
+found_by number ShortRecord = inr (λ e. cc, refl)
+found_by number LongRecord = inr (λ e. cc, refl)
+found_by number BadFraction = inr (λ e. cc, refl)
+found_by number TooManyRecords = inr (λ e. cc, refl)
+found_by number Write = inr (λ e. cc, refl)
+found_by number Memory = inr (λ e. cc, refl)
+
+-- a record that was answered, as its entry
+pub entry_next : {R : Type 0} (remaining : R → Option (List ℕ)) (l after : Left R) (a : Result (Option Record) CapFault) (r : Record) → Next remaining l (answer a) after → a ≡ Ok (Some r) → Next remaining l (Ok (Some (entry r))) after
+entry_next remaining l after a r p is = subst (λ (x : Result (Option Record) CapFault). Next remaining l (answer x) after) is p
 
 module _ {R : Type 0} (remaining : R → Option (List ℕ)) (l after : Left R) (es : List Entry) (last : End) (begun : l.ended ≡ None) (comes : Comes remaining l es last) where
   -- a record was answered
@@ -72,6 +92,10 @@ module _ {R : Type 0} (remaining : R → Option (List ℕ)) (l after : Left R) (
       let r = going remaining l after (Err f) begun p in
       let now = known_at _ (octets_left remaining l) comes.octets comes.known r.0.4 other in
       fault-at f es last comes.are now.0 now.1
+
+-- so there is room for one record more
+pub next_few : {R : Type 0} (remaining : R → Option (List ℕ)) (l after : Left R) (a : Result (Option Record) CapFault) (r : Record) → l.ended ≡ None → Next remaining l (answer a) after → a ≡ Ok (Some r) → l.number < MAX_RECORDS
+next_few remaining l after a r begun p is = (going remaining l after (Ok (Some (entry r))) begun (entry_next remaining l after a r p is)).0.2
 
 -- ---- the run so far
 
@@ -116,9 +140,6 @@ module _ {R : Type 0} (remaining : R → Option (List ℕ)) (l after : Left R) (
   pub step_number : after.number ≡ l.number + 1
   step_number = (going remaining l after (Ok (Some e)) begun p).0.1
 
-  pub step_few : l.number < MAX_RECORDS
-  step_few = (going remaining l after (Ok (Some e)) begun p).0.2
-
   pub step_within : IsWithin e
   step_within = (going remaining l after (Ok (Some e)) begun p).0.3
 
@@ -128,6 +149,14 @@ asked all es = before_end all (came_from 0 0 es)
 
 module _ {R : Type 0} (remaining : R → Option (List ℕ)) (es : Origin) (last : End) (reader after : Left R) (latest number : ℕ) (all lines : List Timed) (s t : State) (sound : IsSoundPort s.port)
     (st : Stands remaining es last reader latest number all lines s t) (begun : reader.ended ≡ None) where
+  -- a call failed in what comes up to the last record
+  fails : {y : Stop} (r : Result (Option (ℕ × CapFault)) Stop) (u : State) (lines' : List Timed) → r ≡ Err y → (Keeps es s → Answers es r (asked all es.entries) s u) → RunsRecords es last all lines' s u r
+  fails r u lines' failed a = record {
+    ending = subst (λ (q : Result (Option (ℕ × CapFault)) Stop). IfOk q (EndsSo es.entries last)) (sym failed) tt;
+    left = never _ failed;
+    answers = a;
+  }
+
   -- a record is taken, after the lines up to its moment
   module _ (e : Entry) (p : Next remaining reader (Ok (Some e)) after) (m : ℕ) (is : m ≡ max latest e.moment) where
     next : (rest : List Entry) × (st.rest ≡ e ∷ rest) × Comes remaining after rest last
@@ -172,17 +201,17 @@ module _ {R : Type 0} (remaining : R → Option (List ℕ)) (es : Origin) (last 
         }
 
     -- the lines failed
-    pub lines_fail : {T U : Type 0} {y : Stop} (r : Result T Stop) (u : State) → r ≡ Err y → (Keeps es t → Answers {T = U} es (Err y) (requests_of (lines_by m lines)) t u) → Keeps es s → Answers es r (asked all es.entries) s u
-    lines_fail r u failed a k = let d = st.run k in done_exit sound r u (requests_of (lines_by m lines)) _ failed d (before next.0 next.1) (a d.answers.keeps)
+    pub lines_fail : {U : Type 0} {y : Stop} (r : Result (Option (ℕ × CapFault)) Stop) (u : State) (lines' : List Timed) → r ≡ Err y → (Keeps es t → Answers {T = U} es (Err y) (requests_of (lines_by m lines)) t u) → RunsRecords es last all lines' s u r
+    lines_fail r u lines' failed a = fails r u lines' failed (λ k. let d = st.run k in done_exit sound r u (requests_of (lines_by m lines)) _ failed d (before next.0 next.1) (a d.answers.keeps))
 
     -- the record failed
-    pub record_fails : {T U V : Type 0} {x : V} {y : Stop} (r : Result T Stop) (u v : State) → r ≡ Err y → (Keeps es t → Answers {T = V} es (Ok x) (requests_of (lines_by m lines)) t u)
+    pub record_fails : {U V : Type 0} {x : V} {y : Stop} (r : Result (Option (ℕ × CapFault)) Stop) (u v : State) (lines' : List Timed) → r ≡ Err y → (Keeps es t → Answers {T = V} es (Ok x) (requests_of (lines_by m lines)) t u)
         → (kept_in es.entries number ≡ kept e.original e.octets → Keeps es u → Answers {T = U} es (Err y) (Asks (Clock m) ∷ Asks (Arrive (frame_of e number)) ∷ []) u v)
-        → Keeps es s → Answers es r (asked all es.entries) s v
-    record_fails r u v failed a b k =
+        → RunsRecords es last all lines' s v r
+    record_fails r u v lines' failed a b = fails r v lines' failed (λ k.
         let n = next in
         let d = lines_done u n.0 n.1 a k in
-        done_exit sound r v (Asks (Clock m) ∷ Asks (Arrive (frame_of e number)) ∷ []) _ failed d refl (b (its_record n.0 n.1) d.answers.keeps)
+        done_exit sound r v (Asks (Clock m) ∷ Asks (Arrive (frame_of e number)) ∷ []) _ failed d refl (b (its_record n.0 n.1) d.answers.keeps))
 
   -- no record is left
   nothing_left : st.rest ≡ [] → lines ≡ lines_after all (came_from 0 0 es.entries)
@@ -218,14 +247,9 @@ module _ {R : Type 0} (remaining : R → Option (List ℕ)) (es : Origin) (last 
 
   -- a fault was answered
   pub over : (f : CapFault) → Next remaining reader (Err f) after → RunsRecords es last all lines s t (found number f)
-  over Read p = over_stop Stops.Read
-  over ShortHeader p = over_fault ShortHeader (λ e. cc) p
-  over BadMagic p = over_fault BadMagic (λ e. cc) p
-  over BadVersion p = over_fault BadVersion (λ e. cc) p
-  over BadLink p = over_fault BadLink (λ e. cc) p
-  over ShortRecord p = over_fault ShortRecord (λ e. cc) p
-  over LongRecord p = over_fault LongRecord (λ e. cc) p
-  over BadFraction p = over_fault BadFraction (λ e. cc) p
-  over TooManyRecords p = over_fault TooManyRecords (λ e. cc) p
-  over Write p = over_fault Write (λ e. cc) p
-  over Memory p = over_fault Memory (λ e. cc) p
+  over f p =
+      let P : Result (Option (ℕ × CapFault)) Stop → Type 0 = λ r. RunsRecords es last all lines s t r in
+      elim (found_by number f) [
+        | inl w ↦ subst P (sym w.1) (over_stop Stops.Read)
+        | inr w ↦ subst P (sym w.1) (over_fault f w.0 p)
+      ]

@@ -71,6 +71,11 @@ abbrev pub end_fault : ℕ → End → Option ReplayInput
 end_fault number Whole = None
 end_fault number (Broken fault) = Some (Inputs.Capture number fault)
 
+-- how a run ends whose capture ends with this fault after so many records, if it has one
+abbrev pub ended_by : Option (ℕ × CapFault) → Result (Unit {0}) (Fault ReplayInput)
+ended_by None = Ok tt
+ended_by (Some broken) = Err (Faults.Input (Inputs.Capture broken.0 broken.1))
+
 -- what is reported of all that a script asks and of the records, from a new port: the header, the answers, how many frames are left, and the
 -- summary where one is wanted
 abbrev pub outcome_whole : Setup → Stamp → List Request → List Entry → End → Outcome

@@ -41,9 +41,9 @@ pub use Rattle.replay.specs.Faults.{fault_of_stop, script_limited}
 pub use Rattle.replay.specs.WholeScript.{GivesScript, IsScriptFault, ReadsRest}
 pub use Rattle.replay.specs.KeptScript.{AreKept, IsKept, IsKept-prop, kept_clock, kept_request, kept_requests}
 pub use Rattle.replay.specs.Lines.{IsEarly, begins_with_frame, line_in, line_request, line_said, reading_of, request_in}
-pub use Rattle.replay.specs.LinesLeft.{lines_left}
+pub use Rattle.replay.specs.LinesLeft.{GivesLine, lines_left}
 pub use Rattle.replay.specs.Merge.{Came, Timed, all_requests, before_end, came_from, latest_clock, lines_after, lines_by, lines_past, merged, requests_of, timed_from, to_run_end}
-pub use Rattle.replay.specs.Outcome.{AppendsBoth, Ends, IsOpenFault, Outcome, ReadsAs, end_fault, end_of, header, is_too_late, open_fault, outcome_of, refused, told_to_end}
+pub use Rattle.replay.specs.Outcome.{AppendsBoth, Ends, IsOpenFault, Outcome, ReadsAs, end_fault, end_of, ended_by, header, is_too_late, open_fault, outcome_of, refused, told_to_end}
 pub use Rattle.replay.specs.Outputs.{Got, Origin, Output, PutsBoth, SentBoth, answer_record, got, joined, kept_in, nothing, output, response_record, start_record}
 pub use Rattle.replay.specs.RecordsLeft.{Comes, EndsSo, found}
 pub use Rattle.replay.specs.RecordsRun.{RunsRecords}

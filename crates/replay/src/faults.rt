@@ -40,7 +40,7 @@ impl LineInput for ReplayInput {
 
 /// Why a replay stops where it stands, whatever its inputs say.
 #[derive(Clone, Copy, Debug, PartialEq, Eq)]
-pub(crate) enum Stop {
+pub enum Stop {
     /// A read failed.
     Read,
     /// A write failed, or took nothing.

@@ -6,7 +6,7 @@ use std::alloc::{Allocator, Global};
 
 /// What is kept of a line.
 #[derive(Clone, Copy, Debug, PartialEq, Eq)]
-pub(crate) enum KeptLine {
+pub enum KeptLine {
     /// The clock goes on to this moment, in picoseconds, at most `CAPTURE_END`.
     Clock(u128),
     /// A report is asked for.
@@ -26,7 +26,7 @@ pub(crate) enum KeptLine {
 
 /// The lines of a script that are not skipped. A line takes 32 octets, and its own where it begins with `tc`.
 #[derive(Drop)]
-pub(crate) struct KeptScript<A: Allocator = Global> {
+pub struct KeptScript<A: Allocator = Global> {
     /// The lines, in order.
     pub lines: Vec<KeptLine, A>,
     /// The octets of those that begin with `tc`.

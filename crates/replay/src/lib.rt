@@ -5,6 +5,7 @@
 #![tactic(auto)]
 
 mod cursor;
+mod end_lines;
 mod faults;
 mod kept_script;
 pub mod laws;
@@ -13,14 +14,18 @@ mod lines;
 mod records;
 mod replay_job;
 mod replay_run;
-mod run_end;
 mod script_reader;
 mod sender;
 mod stamps;
 mod texts;
 
-pub use faults::{ReplayFault, ReplayInput};
+pub use cursor::Cursor;
+pub use faults::{ReplayFault, ReplayInput, Stop};
+pub use kept_script::{KeptLine, KeptScript};
+pub use lines::line_by;
+pub use records::found;
 pub use replay_job::{Inputs, Outputs, answer_replay};
-pub use replay_run::replay;
+pub use replay_run::{ended_by, is_too_late, open_capture, replay, run_end};
+pub use script_reader::read_script;
 pub use stamps::{Stamp, say_stamp, stamp_given};
 pub use texts::say_unopened;

@@ -1,7 +1,7 @@
 //! The lines of a kept script, as their turn comes.
 
-ghost use Rattle.std.specs.Prelude.{◌≡◌, ◌∷◌, [], ℕ, List, Result, OnOk};
-ghost use Rattle.replay.specs.Words.{Command, IsReader, Origin, TcFault, IsKept, kept_clock, kept_request, lines_left, lines_by, lines_past, requests_of, Answers, IsTogether, Keeps, state};
+ghost use Rattle.std.specs.Prelude.{◌≡◌, ◌<◌, ◌+◌, ◌∷◌, [], ℕ, List, Result, IfSome, OnOk, length};
+ghost use Rattle.replay.specs.Words.{Command, IsReader, Origin, TcFault, IsKept, kept_clock, kept_request, GivesLine, lines_left, lines_by, lines_past, requests_of, Answers, IsTogether, Keeps, state};
 
 use crate::cursor::Cursor;
 use crate::faults::Stop;
@@ -69,6 +69,31 @@ fn kept_clock(clock: u128, line: KeptLine) -> u128
     }
 }
 
+/// The next line of a kept script, where there is one up to a moment: the cursor goes past it.
+#[inline(always)]
+pub fn line_by<A: Allocator>(
+    script: &KeptScript<A>,
+    cursor: &mut Cursor,
+    upto: u128,
+) -> Option<KeptLine>
+    ensures kept { IfSome result (IsKept script.now.octets.items) }
+    ensures fewer { IfSome result (λ _. (cursor.new.at ≡ cursor.old.at + 1) × (cursor.old.at < length script.now.lines.items)) }
+    ensures line { (read : List (List ℕ) → Result Command TcFault) → IsReader read → GivesLine read script.now upto result cursor.old cursor.new }
+{
+    let lines = script.lines.as_slice();
+    if cursor.at >= lines.len() {
+        return None;
+    }
+    let line = lines[cursor.at];
+    let clock = kept_clock(cursor.clock, line);
+    if clock > upto {
+        return None;
+    }
+    cursor.clock = clock;
+    cursor.at += 1;
+    Some(line)
+}
+
 /// Answers the lines up to a moment that are to come. Who watches is called for each that begins with `tc` and changes nothing.
 #[inline(always)]
 pub(crate) fn run_lines<A: Allocator, B: Allocator, W: Write, V: Write, P: Watch>(
@@ -88,16 +113,8 @@ pub(crate) fn run_lines<A: Allocator, B: Allocator, W: Write, V: Write, P: Watch
         → (origin : Origin) → Keeps origin (state sending.old (V.contents report.old) (W.contents departures.old)) →
         Answers origin result (requests_of (lines_by upto (lines_left read script.now cursor.old))) (state sending.old (V.contents report.old) (W.contents departures.old)) (state sending.new (V.contents report.new) (W.contents departures.new)) }
 {
-    let lines = script.lines.as_slice();
-    while cursor.at < lines.len() {
-        let line = lines[cursor.at];
-        let clock = kept_clock(cursor.clock, line);
-        if clock > upto {
-            return Ok(());
-        }
+    while let Some(line) = line_by(script, cursor, upto) {
         put_line(sending, script, line, departures, report, watch)?;
-        cursor.clock = clock;
-        cursor.at += 1;
     }
     Ok(())
 }

@@ -41,7 +41,7 @@ fn take_record<A: Allocator + Clone, W: Write, V: Write>(
 }
 
 /// A fault with which the records of a capture end, or that a read failed.
-fn found(number: u32, fault: CapFault) -> Result<Option<(u32, CapFault)>, Stop>
+pub fn found(number: u32, fault: CapFault) -> Result<Option<(u32, CapFault)>, Stop>
     ensures { result ≡ found number fault }
 {
     match fault {

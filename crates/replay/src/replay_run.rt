@@ -1,16 +1,16 @@
 //! Runs a script and a capture.
 
-ghost use Rattle.std.specs.Prelude.{◌≡◌, ℕ, [], List, None, Option, Result, IfOk, IfErr, IfSome, Err, false, true, length};
-ghost use Rattle.replay.specs.Words.{new_port, IsSoundPort, Command, IsNewReader, left, Entry, CapFault, End, IsReader, TcFault, lines_left, new_store, kept_requests, merged, came_from, timed_from, requests_of, Ends, IsOpenFault, ReadsAs, end_fault, header, is_too_late, open_fault, outcome_of, stamping_at, told_to_end, Origin, PutsBoth, got, Comes, IsTogether, Keeps, state};
+ghost use Rattle.std.specs.Prelude.{◌≡◌, ◌≤◌, ℕ, [], List, None, Option, Result, IfOk, IfErr, IfSome, Err, false, true, length};
+ghost use Rattle.replay.specs.Words.{CAPTURE_END, run_end, new_port, IsSoundPort, Command, IsNewReader, left, Entry, CapFault, End, IsReader, TcFault, lines_left, new_store, kept_requests, merged, came_from, timed_from, requests_of, Ends, IsOpenFault, ended_by, ReadsAs, end_fault, header, is_too_late, open_fault, outcome_of, stamping_at, told_to_end, Origin, PutsBoth, got, Comes, IsTogether, Keeps, state};
 ghost use Rattle.job.specs.declared.fault.Fault.TheVariants as Faults;
 ghost use Rattle.replay.specs.declared.faults.ReplayInput.TheVariants as Inputs;
 
 use crate::cursor::Cursor;
+use crate::end_lines::put_end;
 use crate::faults::{ReplayFault, ReplayInput, Stop};
 use crate::kept_script::KeptScript;
 use crate::lines::run_lines;
 use crate::records::run_records;
-use crate::run_end::{put_end, run_end};
 use crate::script_reader::read_script;
 use crate::sender::{Leaving, Sending, put_clock};
 use crate::stamps::{Stamp, stamping_at};
@@ -22,12 +22,24 @@ use std::io::{Read, Write};
 use summary::{Summary, summary_wanted};
 
 /// Whether a moment is after the last that a capture can say.
-fn is_too_late(until: Option<u128>) -> bool
+pub fn is_too_late(until: Option<u128>) -> bool
     ensures { result ≡ is_too_late until }
 {
     match until {
         None => false,
         Some(moment) => moment > CAPTURE_END,
+    }
+}
+
+/// The moment to run to after both inputs, in picoseconds: the one that is given, or else the last that a capture can say.
+pub fn run_end(until: Option<u128>) -> u128
+    requires { is_too_late until ≡ false }
+    ensures moment { result ≡ run_end until }
+    ensures within { result ≤ CAPTURE_END }
+{
+    match until {
+        None => CAPTURE_END,
+        Some(moment) => moment,
     }
 }
 
@@ -81,6 +93,16 @@ fn finish<A: Allocator, B: Allocator, W: Write, V: Write, P: Watch>(
     run_on(sending, until, departures, report)
 }
 
+/// How a run ends whose capture ends with this fault after so many records, if it has one.
+pub fn ended_by(broken: Option<(u32, CapFault)>) -> Result<(), ReplayFault>
+    ensures { result ≡ ended_by broken }
+{
+    match broken {
+        None => Ok(()),
+        Some((number, fault)) => Err(ReplayFault::Input(ReplayInput::Capture(number, fault))),
+    }
+}
+
 /// Runs the records and the lines, to the end of both.
 fn run<A: Allocator + Clone, B: Allocator, C: Allocator, R: Read, W: Write, V: Write, P: Watch>(
     sending: &mut Sending<A>,
@@ -120,10 +142,7 @@ fn run<A: Allocator + Clone, B: Allocator, C: Allocator, R: Read, W: Write, V: W
         report,
         watch,
     )?;
-    match broken {
-        None => Ok(()),
-        Some((number, fault)) => Err(ReplayFault::Input(ReplayInput::Capture(number, fault))),
-    }
+    ended_by(broken)
 }
 
 /// Why a capture is not opened.
@@ -138,7 +157,7 @@ fn open_fault(fault: CapFault) -> ReplayFault
 }
 
 /// Reads the file header of a capture.
-fn open<A: Allocator, R: Read + Drop>(
+pub fn open_capture<A: Allocator, R: Read + Drop>(
     alloc: A,
     capture: R,
 ) -> Result<CaptureReader<R, A>, ReplayFault>
@@ -229,7 +248,7 @@ pub fn replay<A: Allocator, R: Read + Drop, S: Read + Drop, W: Write, V: Write, 
     let alloc = &alloc;
     let summary = summary_wanted(&alloc, settings.summary(), settings.room())?;
     let script = read_script(&alloc, script, watch)?;
-    let mut records = open(alloc, capture)?;
+    let mut records = open_capture(alloc, capture)?;
     let mut sending = begin(&alloc, settings, stamp, summary, departures)?;
     run(
         &mut sending,

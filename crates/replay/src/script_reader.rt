@@ -91,7 +91,7 @@ fn keep_lines<A: Allocator, B: Allocator, R: Read + Drop, P: Watch>(
 }
 
 /// Reads a script to its end, or to its first fault.
-pub(crate) fn read_script<A: Allocator + Clone, R: Read + Drop, P: Watch>(
+pub fn read_script<A: Allocator + Clone, R: Read + Drop, P: Watch>(
     alloc: &A,
     reader: R,
     watch: &mut P,

@@ -4,8 +4,8 @@ use Rattle.replay.specs.Words.{Command, IsReader, Origin, TcFault, lines_left, l
 use Rattle.replay.proofs.RunLaws.{Done}
 use Rattle.replay.proofs.lines.run_lines.Given as goal
 
-abbrev pub invariant-loop-cursor : goal.invariant-loop-cursor
-invariant-loop-cursor g l = record {
+abbrev pub invariant-loop-line : goal.invariant-loop-line
+invariant-loop-line g l = record {
   together : IsTogether (state l.sending (g.V.Write.contents l.report) (g.W.Write.contents l.departures));
   left : (read : List (List ℕ) → Result Command TcFault) → IsReader read →
       lines_past l.upto (lines_left read l.script l.cursor) ≡ lines_past l.upto (lines_left read l.script l.fn.cursor);
@@ -15,5 +15,5 @@ invariant-loop-cursor g l = record {
       (requests_of (lines_by l.upto (lines_left read l.script l.cursor))) (requests_of (lines_by l.upto (lines_left read l.script l.fn.cursor)));
 }
 
-abbrev pub decreases-loop-cursor : goal.decreases-loop-cursor
-decreases-loop-cursor g l = length l.script.lines.items - l.cursor.at
+abbrev pub decreases-loop-line : goal.decreases-loop-line
+decreases-loop-line g l = length l.script.lines.items - l.cursor.at

@@ -1,9 +1,9 @@
 use Rattle.std.proofs.Common.{◌+◌, Ok, Err, ℕ, Option, Result, [], refl, sym, ap, ◌∙◌, subst, arith}
-use Rattle.std.proofs.lemmas.Result.{IfOk-from_err, err_from_is_err_and}
+use Rattle.std.proofs.lemmas.Result.{err_from_is_err_and}
 use Rattle.replay.specs.Words.{Next, left, entry, CapFault, lines_left, RunsRecords, got, state, Stop}
 use Rattle.capture.specs.CaptureReader.{answer}
 use Rattle.capture.specs.declared.record.Record.{Record}
-use Rattle.replay.proofs.RecordLaws.{lines_fail, over, over_well, record_fails, stands_kept, stands_next, stopped, step_ended, step_few, step_number, step_within}
+use Rattle.replay.proofs.RecordLaws.{entry_next, lines_fail, next_few, over, over_well, record_fails, stands_kept, stands_next, stopped, step_ended, step_number, step_within}
 use Rattle.replay.proofs.RunLaws.{done_none, together_kept}
 use Rattle.replay.proofs.Sends.{always, never}
 use Rattle.replay.proofs.records.run_records.Goals as goal
@@ -19,26 +19,14 @@ records-init g c = record {
 
 pub records-smaller : goal.records-smaller
 records-smaller g c =
-    let i = c.records.invariant in
-    let now = left c.records.records in
-    let after = left c.next.follows.lender-at-none in
-    let e = entry c.in-Ok-Some.record in
-    let P : Result (Option Record) CapFault → Type 0 = λ r. Next g.R.Read.remaining now (answer r) after in
-    let p = subst P (c.in-Ok-Some.is ∙ ap Ok c.in-Ok-Some.field-0-is) c.next.follows.holds-at-none in
-    let few = step_few g.R.Read.remaining now after e i.going p in
-    let same = i.numbered in
+    let few = next_few g.R.Read.remaining (left c.records.records) (left c.next.follows.lender-at-none) _ c.in-Ok-Some.record c.records.invariant.going c.next.follows.holds-at-none (c.in-Ok-Some.is ∙ ap Ok c.in-Ok-Some.field-0-is) in
+    let same = c.records.invariant.numbered in
     omega (arith, few, same)
 
 pub overflow_add-number : goal.overflow_add-number
 overflow_add-number g c =
-    let i = c.records.invariant in
-    let now = left c.records.records in
-    let after = left c.next.follows.lender-at-none in
-    let e = entry c.in-Ok-Some.record in
-    let P : Result (Option Record) CapFault → Type 0 = λ r. Next g.R.Read.remaining now (answer r) after in
-    let p = subst P (c.in-Ok-Some.is ∙ ap Ok c.in-Ok-Some.field-0-is) c.next.follows.holds-at-none in
-    let few = step_few g.R.Read.remaining now after e i.going p in
-    let same = i.numbered in
+    let few = next_few g.R.Read.remaining (left c.records.records) (left c.next.follows.lender-at-none) _ c.in-Ok-Some.record c.records.invariant.going c.next.follows.holds-at-none (c.in-Ok-Some.is ∙ ap Ok c.in-Ok-Some.field-0-is) in
+    let same = c.records.invariant.numbered in
     omega (arith, few, same)
 
 pub records-preserved : goal.records-preserved
@@ -47,8 +35,7 @@ records-preserved g c =
     let now = left c.records.records in
     let after = left c.next.follows.lender-at-none in
     let e = entry c.in-Ok-Some.record in
-    let P : Result (Option Record) CapFault → Type 0 = λ r. Next g.R.Read.remaining now (answer r) after in
-    let p = subst P (c.in-Ok-Some.is ∙ ap Ok c.in-Ok-Some.field-0-is) c.next.follows.holds-at-none in
+    let p = entry_next g.R.Read.remaining now after _ c.in-Ok-Some.record c.next.follows.holds-at-none (c.in-Ok-Some.is ∙ ap Ok c.in-Ok-Some.field-0-is) in
     let w = step_within g.R.Read.remaining now after e i.going p in
     record {
       together = c.in_ok-take_record.ensures.together;
@@ -58,55 +45,39 @@ records-preserved g c =
       stands = λ read is es last comes. (
           let s = state c.args.sending.now (g.V.Write.contents c.args.report.now) (g.W.Write.contents c.args.departures.now) in
           let t = state c.records.sending (g.V.Write.contents c.let_out_before.new.report) (g.W.Write.contents c.let_out_before.new.departures) in
-          let all = lines_left read c.args.script.now c.args.cursor.now in
-          let lines = lines_left read c.args.script.now c.records.cursor in
           let u = state c.run_lines.new.sending (g.V.Write.contents c.run_lines.new.report) (g.W.Write.contents c.run_lines.new.departures) in
           let v = state c.take_record.new.sending (g.V.Write.contents c.take_record.new.report) (g.W.Write.contents c.take_record.new.departures) in
-          stands_next g.R.Read.remaining es last now after c.records.latest c.records.number all lines s t c.requires.together.sound (stands_kept (got (g.V.Write.contents c.let_out_before.new.report) (g.W.Write.contents c.let_out_before.new.departures)) (i.stands read is es last comes) c.in_ok-let_out_before.ensures.report c.in_ok-let_out_before.ensures.departures) i.going e p c.max-latest.result c.max-latest.ensures u v
+          let here = stands_kept t.got (i.stands read is es last comes) c.in_ok-let_out_before.ensures.report c.in_ok-let_out_before.ensures.departures in
+          stands_next g.R.Read.remaining es last now after c.records.latest c.records.number (lines_left read c.args.script.now c.args.cursor.now) (lines_left read c.args.script.now c.records.cursor) s t c.requires.together.sound here i.going e p c.max-latest.result c.max-latest.ensures u v
           (lines_left read c.args.script.now c.run_lines.new.cursor) (c.in_ok-run_lines.ensures.left read is) (c.in_ok-run_lines.ensures.answers read is es) (c.in_ok-take_record.ensures.answers es));
     }
 
 pub returns-in_err-run_lines-clause-records : goal.returns-in_err-run_lines-clause-records
 returns-in_err-run_lines-clause-records g c = λ read is es last comes.
     let failed = err_from_is_err_and c.from_residual-in_err-run_lines.result c.from_residual-in_err-run_lines.ensures.1 in
-    let i = c.records.invariant in
     let now = left c.records.records in
     let after = left c.next.follows.lender-at-none in
-    let e = entry c.in-Ok-Some.record in
-    let P : Result (Option Record) CapFault → Type 0 = λ r. Next g.R.Read.remaining now (answer r) after in
-    let p = subst P (c.in-Ok-Some.is ∙ ap Ok c.in-Ok-Some.field-0-is) c.next.follows.holds-at-none in
-    let s = state c.args.sending.now (g.V.Write.contents c.args.report.now) (g.W.Write.contents c.args.departures.now) in
+    let p = entry_next g.R.Read.remaining now after _ c.in-Ok-Some.record c.next.follows.holds-at-none (c.in-Ok-Some.is ∙ ap Ok c.in-Ok-Some.field-0-is) in
     let t = state c.records.sending (g.V.Write.contents c.let_out_before.new.report) (g.W.Write.contents c.let_out_before.new.departures) in
-    let all = lines_left read c.args.script.now c.args.cursor.now in
-    let lines = lines_left read c.args.script.now c.records.cursor in
     let u = state c.run_lines.new.sending (g.V.Write.contents c.run_lines.new.report) (g.W.Write.contents c.run_lines.new.departures) in
-    record {
-      ending = IfOk-from_err c.from_residual-in_err-run_lines.result _ c.from_residual-in_err-run_lines.ensures.0;
-      left = never _ failed.1;
-      answers = lines_fail g.R.Read.remaining es last now after c.records.latest c.records.number all lines s t c.requires.together.sound (stands_kept (got (g.V.Write.contents c.let_out_before.new.report) (g.W.Write.contents c.let_out_before.new.departures)) (i.stands read is es last comes) c.in_ok-let_out_before.ensures.report c.in_ok-let_out_before.ensures.departures) i.going e p c.max-latest.result c.max-latest.ensures c.from_residual-in_err-run_lines.result u (failed.1 ∙ ap Err failed.2) (c.in_err-run_lines.ensures.answers read is es);
-    }
+    lines_fail g.R.Read.remaining es last now after c.records.latest c.records.number _ _ _ t c.requires.together.sound
+    (stands_kept t.got (c.records.invariant.stands read is es last comes) c.in_ok-let_out_before.ensures.report c.in_ok-let_out_before.ensures.departures) c.records.invariant.going (entry c.in-Ok-Some.record) p c.max-latest.result c.max-latest.ensures
+    c.from_residual-in_err-run_lines.result u (lines_left read c.args.script.now c.run_lines.new.cursor) (failed.1 ∙ ap Err failed.2) (c.in_err-run_lines.ensures.answers read is es)
 
 pub returns-in_err-take_record-clause-records : goal.returns-in_err-take_record-clause-records
 returns-in_err-take_record-clause-records g c = λ read is es last comes.
-    let r = c.from_residual-in_err-take_record.result in
-    let failed = err_from_is_err_and r c.from_residual-in_err-take_record.ensures.1 in
+    let failed = err_from_is_err_and c.from_residual-in_err-take_record.result c.from_residual-in_err-take_record.ensures.1 in
     let i = c.records.invariant in
     let now = left c.records.records in
     let after = left c.next.follows.lender-at-none in
     let e = entry c.in-Ok-Some.record in
-    let P : Result (Option Record) CapFault → Type 0 = λ r. Next g.R.Read.remaining now (answer r) after in
-    let p = subst P (c.in-Ok-Some.is ∙ ap Ok c.in-Ok-Some.field-0-is) c.next.follows.holds-at-none in
-    let s = state c.args.sending.now (g.V.Write.contents c.args.report.now) (g.W.Write.contents c.args.departures.now) in
+    let p = entry_next g.R.Read.remaining now after _ c.in-Ok-Some.record c.next.follows.holds-at-none (c.in-Ok-Some.is ∙ ap Ok c.in-Ok-Some.field-0-is) in
     let t = state c.records.sending (g.V.Write.contents c.let_out_before.new.report) (g.W.Write.contents c.let_out_before.new.departures) in
-    let all = lines_left read c.args.script.now c.args.cursor.now in
-    let lines = lines_left read c.args.script.now c.records.cursor in
+    let here = stands_kept t.got (i.stands read is es last comes) c.in_ok-let_out_before.ensures.report c.in_ok-let_out_before.ensures.departures in
     let u = state c.run_lines.new.sending (g.V.Write.contents c.run_lines.new.report) (g.W.Write.contents c.run_lines.new.departures) in
     let v = state c.take_record.new.sending (g.V.Write.contents c.take_record.new.report) (g.W.Write.contents c.take_record.new.departures) in
-    record {
-      ending = IfOk-from_err r _ c.from_residual-in_err-take_record.ensures.0;
-      left = never _ failed.1;
-      answers = record_fails g.R.Read.remaining es last now after c.records.latest c.records.number all lines s t c.requires.together.sound (stands_kept (got (g.V.Write.contents c.let_out_before.new.report) (g.W.Write.contents c.let_out_before.new.departures)) (i.stands read is es last comes) c.in_ok-let_out_before.ensures.report c.in_ok-let_out_before.ensures.departures) i.going e p c.max-latest.result c.max-latest.ensures r u v (failed.1 ∙ ap Err failed.2) (c.in_ok-run_lines.ensures.answers read is es) (c.in_err-take_record.ensures.answers es);
-    }
+    record_fails g.R.Read.remaining es last now after c.records.latest c.records.number _ _ _ t c.requires.together.sound here i.going e p c.max-latest.result c.max-latest.ensures
+    c.from_residual-in_err-take_record.result u v (lines_left read c.args.script.now c.run_lines.new.cursor) (failed.1 ∙ ap Err failed.2) (c.in_ok-run_lines.ensures.answers read is es) (c.in_err-take_record.ensures.answers es)
 
 pub returns-in-Ok-None-clause-records : goal.returns-in-Ok-None-clause-records
 returns-in-Ok-None-clause-records g c = λ read is es last comes.

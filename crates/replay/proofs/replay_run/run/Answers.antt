@@ -1,9 +1,7 @@
-use Rattle.std.proofs.Common.{◌++◌, ℕ, List, length, Ok, Err, Option, refl, ap, ◌∙◌, subst}
+use Rattle.std.proofs.Common.{◌++◌, List, length, Result, Ok, Err, refl, sym, ap, ◌∙◌, subst}
 use Rattle.std.proofs.lemmas.Result.{err_from_is_err_and}
-use Rattle.replay.specs.Words.{CapFault, Request, kept_requests, lines_left, before_end, merged, came_from, lines_after, requests_of, timed_from, Outcome, end_fault, told_to_end, PutsBoth, got, EndsSo, state}
-use Rattle.job.specs.declared.fault.Fault.TheVariants as Faults
-use Rattle.replay.specs.declared.faults.ReplayInput.TheVariants as Inputs
-use Rattle.replay.proofs.EndLaws.{asked_split, ends_capture, ends_ok, ends_stop, no_fault, some_fault, told_fail, told_then}
+use Rattle.replay.specs.Words.{Ends, Fault, ReplayInput, Request, kept_requests, lines_left, before_end, merged, came_from, lines_after, requests_of, timed_from, Outcome, end_fault, told_to_end, PutsBoth, got, state}
+use Rattle.replay.proofs.EndLaws.{asked_split, ends_by, ends_stop, told_fail, told_then}
 use Rattle.replay.proofs.RunLaws.{answers_exit}
 use Rattle.replay.proofs.replay_run.run.Goals as goal
 
@@ -40,36 +38,18 @@ returns-in_err-finish g c = λ read is es last comes k.
     let P : List Request → Type 0 = λ rs. PutsBoth {T = Unit {0}} (Err y) s.got v (told_to_end es rs c.args.until s.port s.seen) in
     ends_stop {U = Unit {0}} r y s.got v o (p.1 ∙ ap Err p.2) (subst P (asked_split script es.entries ls left) (told_then {T = Unit {0}} (Err y) es c.args.until xs ys s t v c.requires.together.sound a (c.in_err-finish.ensures read is es a.keeps)))
 
-pub returns-in-None : goal.returns-in-None
-returns-in-None g c = λ read is es last comes k.
+pub returns : goal.returns
+returns g c = λ read is es last comes k.
     let s = state c.args.sending.now (g.V.Write.contents c.args.report.now) (g.W.Write.contents c.args.departures.now) in
     let t = state c.run_records.new.sending (g.V.Write.contents c.run_records.new.report) (g.W.Write.contents c.run_records.new.departures) in
     let script = kept_requests read c.args.script.now.octets.items c.args.script.now.lines.items in
     let xs = before_end (timed_from 0 script) (came_from 0 0 es.entries) in
     let o : Outcome = record { output = told_to_end es (merged (timed_from 0 script) (came_from 0 0 es.entries)) c.args.until s.port s.seen; fault = end_fault (length es.entries) last } in
     let v = got (g.V.Write.contents c.finish.new.report) (g.W.Write.contents c.finish.new.departures) in
-    let a = (c.in_ok-broken.ensures.records read is es last comes).answers k in
-    let left = (c.in_ok-broken.ensures.records read is es last comes).left in
+    let taken = c.in_ok-broken.ensures.records read is es last comes in
+    let a = taken.answers k in
     let ls = lines_left read c.args.script.now c.run_records.new.cursor in
-    let ys = requests_of ls in
     let P : List Request → Type 0 = λ rs. PutsBoth {T = Unit {0}} (Ok tt) s.got v (told_to_end es rs c.args.until s.port s.seen) in
-    let Q : Option (ℕ × CapFault) → Type 0 = λ b. EndsSo es.entries last b in
-    ends_ok {T = Unit {0}} {U = Unit {0}} tt s.got v o (subst P (asked_split script es.entries ls left) (told_then {T = Unit {0}} (Ok tt) es c.args.until xs ys s t v c.requires.together.sound a (c.in_ok-finish.ensures read is es a.keeps)))
-    (no_fault es.entries last (length es.entries) (subst Q c.in-None.is (c.in_ok-broken.ensures.records read is es last comes).ending))
-
-pub returns-in-Some : goal.returns-in-Some
-returns-in-Some g c = λ read is es last comes k.
-    let s = state c.args.sending.now (g.V.Write.contents c.args.report.now) (g.W.Write.contents c.args.departures.now) in
-    let t = state c.run_records.new.sending (g.V.Write.contents c.run_records.new.report) (g.W.Write.contents c.run_records.new.departures) in
-    let script = kept_requests read c.args.script.now.octets.items c.args.script.now.lines.items in
-    let xs = before_end (timed_from 0 script) (came_from 0 0 es.entries) in
-    let o : Outcome = record { output = told_to_end es (merged (timed_from 0 script) (came_from 0 0 es.entries)) c.args.until s.port s.seen; fault = end_fault (length es.entries) last } in
-    let v = got (g.V.Write.contents c.finish.new.report) (g.W.Write.contents c.finish.new.departures) in
-    let a = (c.in_ok-broken.ensures.records read is es last comes).answers k in
-    let left = (c.in_ok-broken.ensures.records read is es last comes).left in
-    let ls = lines_left read c.args.script.now c.run_records.new.cursor in
-    let ys = requests_of ls in
-    let P : List Request → Type 0 = λ rs. PutsBoth {T = Unit {0}} (Ok tt) s.got v (told_to_end es rs c.args.until s.port s.seen) in
-    let Q : Option (ℕ × CapFault) → Type 0 = λ b. EndsSo es.entries last b in
-    ends_capture {T = Unit {0}} {U = Unit {0}} (Err (Faults.Input (Inputs.Capture c.in-Some.number c.in-Some.fault))) c.in-Some.number c.in-Some.fault s.got v o (subst P (asked_split script es.entries ls left) (told_then {T = Unit {0}} (Ok tt) es c.args.until xs ys s t v c.requires.together.sound a (c.in_ok-finish.ensures read is es a.keeps)))
-    (some_fault es.entries last c.in-Some.number c.in-Some.fault (subst Q c.in-Some.is (c.in_ok-broken.ensures.records read is es last comes).ending)) refl
+    let whole = subst P (asked_split script es.entries ls taken.left) (told_then {T = Unit {0}} (Ok tt) es c.args.until xs (requests_of ls) s t v c.requires.together.sound a (c.in_ok-finish.ensures read is es a.keeps)) in
+    let Q : Result (Unit {0}) (Fault ReplayInput) → Type 0 = λ r. Ends r s.got v o in
+    subst Q (sym c.ended_by.ensures) (ends_by c.in_ok-broken.broken es.entries last s.got v o refl taken.ending whole)

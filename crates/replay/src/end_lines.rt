@@ -1,12 +1,12 @@
 //! When a run ends, and what is written then.
 
-ghost use Rattle.std.specs.Prelude.{◌≡◌, ◌≤◌, ◌<◌, false};
+ghost use Rattle.std.specs.Prelude.{◌≡◌, ◌≤◌, ◌<◌};
 ghost use Rattle.abstract_port.specs.AbstractPort.{counters_of};
 ghost use Rattle.script.specs.Responses.{end_lines};
 ghost use Rattle.summary.specs.Lines.{class_text, summary_lines};
 ghost use Rattle.summary.specs.Observed.{class_at};
 ghost use Rattle.wire_time.specs.Moment.{greatest_moment};
-ghost use Rattle.replay.specs.Words.{CAPTURE_END, Writes, counted_to, is_too_late, run_end};
+ghost use Rattle.replay.specs.Words.{Writes, counted_to};
 
 use crate::sender::Sending;
 use answer_text::WriteFault;
@@ -15,18 +15,6 @@ use script::{RunningPort, put_all_left};
 use std::alloc::Allocator;
 use std::io::Write;
 use summary::Summary;
-
-/// The moment to run to after both inputs, in picoseconds: the one that is given, or else the last that a capture can say.
-pub(crate) fn run_end(until: Option<u128>) -> u128
-    requires { is_too_late until ≡ false }
-    ensures moment { result ≡ run_end until }
-    ensures within { result ≤ CAPTURE_END }
-{
-    match until {
-        None => CAPTURE_END,
-        Some(moment) => moment,
-    }
-}
 
 /// The moment up to which a summary counts, in picoseconds: that of the port now, where a moment to run to is given, and else the end of the
 /// last frame.

@@ -2,7 +2,7 @@
 use Rattle.std.proofs.Common.{◌-◌, ◌++◌}
 use Rattle.octet_writer.specs.Writes.{Sent}
 use Rattle.summary.specs.Lines.{classes_from, summary_lines, wire_text}
-use Rattle.replay.proofs.run_end.put_summary.Given as goal
+use Rattle.replay.proofs.end_lines.put_summary.Given as goal
 
 abbrev pub invariant-loop-class : goal.invariant-loop-class
 invariant-loop-class g l =

@@ -5,7 +5,7 @@ use Rattle.octet_writer.specs.Writes.{Sent}
 use Rattle.replay.specs.Words.{AbstractPort}
 use Rattle.script.proofs.LeftLaws.{summary-class, summary-over}
 use Rattle.summary.specs.Lines.{summary_lines, wire_text}
-use Rattle.replay.proofs.run_end.put_summary.Goals as goal
+use Rattle.replay.proofs.end_lines.put_summary.Goals as goal
 
 pub loop-class-init : goal.loop-class-init
 loop-class-init g c = sent_none _ _

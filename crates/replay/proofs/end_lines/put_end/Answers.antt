@@ -6,7 +6,7 @@ use Rattle.summary.specs.Lines.{summary_lines}
 use Rattle.summary.specs.Observed.{Observed}
 use Rattle.replay.specs.Words.{AbstractPort, Writes, counted_to}
 use Rattle.replay.proofs.EndLaws.{left-now}
-use Rattle.replay.proofs.run_end.put_end.Goals as goal
+use Rattle.replay.proofs.end_lines.put_end.Goals as goal
 
 -- the moment that is counted to
 at : (until : Option ℕ) (p : AbstractPort) (last now moment : ℕ) → now ≡ p.now → moment ≡ counted_to until last now → moment ≡ counted_to until last p.now
