@@ -140,7 +140,7 @@ fn take_line<A: Allocator, H: Watch>(
             watch.line_failed(line);
             return Err(fault);
         }
-        Ok(None) => {}
+        Ok(None) => watch.line_passed(number, line),
         Ok(Some(Said::Asked(event))) => {
             take(port, course, &event);
             follow(port, bands);
