@@ -59,7 +59,9 @@ complete -c taprio_port -n '__fish_seen_subcommand_from frames' -l rate -x -d 'T
 complete -c taprio_port -n '__fish_seen_subcommand_from frames' -l mtu -x -d 'The greatest service data unit, 68 to 9216 octets [default: 1500]'
 complete -c taprio_port -n '__fish_seen_subcommand_from frames' -l room -x -d 'How many frames a class holds, 1 to 4096 [default: 128]'
 complete -c taprio_port -n '__fish_seen_subcommand_from frames' -l until -x -d 'Run to this moment after the input: picoseconds, or a number with its unit, such as 2ms'
+complete -c taprio_port -n '__fish_seen_subcommand_from frames' -l capture -r -F -d 'A file with a capture: the table is that of its frames, run beside the script as by replay'
 complete -c taprio_port -n '__fish_seen_subcommand_from frames' -l by-stream -r -F -d 'A file with the table of streams: a last column says which of them each frame is of'
+complete -c taprio_port -n '__fish_seen_subcommand_from frames' -l strict -d 'End with status 1 where a tc line is no command, or its command is refused'
 complete -c taprio_port -n '__fish_seen_subcommand_from frames' -l explain -d 'Report with a fault its line and what was expected, also where standard error is no terminal'
 complete -c taprio_port -n '__fish_seen_subcommand_from frames' -l help -d 'Print help'
 complete -c taprio_port -n '__fish_seen_subcommand_from frames' -f

@@ -1,8 +1,11 @@
-"""Tables of frames beside the answers of the same scripts: random ones, with schedules, drops and moments that go back."""
+"""Tables of frames beside the answers of the same scripts: random ones, with schedules, drops and moments that go back; and those of random scripts and
+captures beside the reports of their replays, and beside the tables of the scripts that merge both."""
 import collections
+import os
 import random
+import tempfile
 
-from rows import run
+from rows import captured, run, tagged
 
 HEAD = "id,class,len,arrival_ps,start_ps,end_ps,wait_ps,fate"
 TC = "tc qdisc replace dev eth0 root taprio num_tc 8 map 0 1 2 3 4 5 6 7 base-time"
@@ -98,6 +101,88 @@ def case_a_table_of_many_frames_keeps_those_that_wait(program):
     frames = 50_000
     octets = "".join(f"clock {number * 1_000_000}\nframe {number} {number % 8} 60\n" for number in range(frames)).encode()
     ran = run(program, ["frames", "--until", "1s"], octets)
+    rows = ran.output.decode().splitlines()[1:]
+    assert ran.status == 0 and len(rows) == frames
+    for number in (0, 1, 7777, frames - 1):
+        came = number * 1_000_000
+        assert rows[number] == f"{number},{number % 8},60,{came},{came},{came + 672_000},0,sent", rows[number]
+
+
+def moments(lines):
+    """Each line of a script with the greatest clock number up to it."""
+    now = 0
+    for line in lines:
+        words = line.split()
+        if words[:1] == ["clock"] and words[1].isdigit():
+            now = max(now, int(words[1]))
+        yield now, line
+
+
+def merged(lines, records):
+    """A script of what a script and records `(moment in nanoseconds, octets, original length)` ask: before each record the lines up to its moment."""
+    lines, latest, found = list(moments(lines)), 0, []
+    for number, (moment, octets, original) in enumerate(records):
+        latest = max(latest, moment * 1000)
+        while lines and lines[0][0] <= latest:
+            found.append(lines.pop(0)[1])
+        with_tag = len(octets) >= 16 and octets[12:14] == b"\x81\x00"
+        priority = octets[14] >> 5 if with_tag else 0
+        found += [f"clock {latest}", f"frame {number} {priority} {max(len(octets), original)}{' tagged' if with_tag else ''}"]
+    return found + [line for _, line in lines]
+
+
+def records(dice):
+    """Records of a capture, in bursts, some of which are stamped before the one before them."""
+    now, found = 0, []
+    for _ in range(dice.randrange(25)):
+        now += dice.choice([0, dice.randrange(30_000), dice.randrange(30_000)])
+        for _ in range(dice.choice([1, 1, 3, 12])):
+            length = dice.choice([13, 14, 60, 60, 64, 400, 1514, 1515])
+            octets = dice.choice([tagged(dice.randrange(8), length), bytes(length), tagged(5, length)[:15]])
+            found.append((max(0, now - dice.choice([0, 0, 0, 700])), octets, dice.choice([len(octets), 60, 1514])))
+    return found
+
+
+def case_tables_of_captures_agree_with_replays(program):
+    """Each record has the row that the report of the replay says; and the table is that of the script that merges both."""
+    fates = collections.Counter()
+    with tempfile.TemporaryDirectory() as room:
+        paths = [os.path.join(room, name) for name in ("script", "capture", "out")]
+        for seed in range(60):
+            dice = random.Random(f"captures {seed}")
+            lines = [line for line in script(dice) if not line.startswith("frame")]
+            taken = records(dice)
+            words = [] if dice.random() < 0.5 else ["--room", str(dice.choice([1, 2, 7, 30]))]
+            until = [] if dice.random() < 0.5 else ["--until", str(dice.randrange(2_000_000_000))]
+            end = until or ["--until", "4294967296s"]
+            octets = "".join(f"{line}\n" for line in lines).encode()
+            whole = captured(taken)
+            cut = whole[:len(whole) - 1] if taken and dice.random() < 0.2 else whole
+            for path, content in zip(paths, (octets, cut)):
+                with open(path, "wb") as file:
+                    file.write(content)
+            told = run(program, ["replay", *words, *until, *paths], b"")
+            table = run(program, ["frames", *words, *until, "--capture", paths[1]], octets)
+            assert (table.status, table.errors) == (told.status, told.errors), (seed, table.status, table.errors)
+            if told.status == 3 and told.errors.startswith(b"taprio_port: script"):
+                assert table.output == b"", seed
+                continue
+            both = merged(lines, taken if cut == whole else taken[:-1])
+            found = table.output.decode().splitlines()
+            assert found == joined(both, told.output.decode().splitlines(), 0), seed
+            alone = run(program, ["frames", *words, *end], "".join(f"{line}\n" for line in both).encode())
+            assert found == alone.output.decode().splitlines(), seed
+            fates.update(row.rpartition(",")[2] for row in found[1:])
+    assert set(fates) == {"sent", "left", "Runt", "TooLong", "OverSdu", "Full"}, fates
+
+
+def case_the_rows_of_a_capture_come_with_its_frames(program):
+    """A long capture of frames that leave at once: as many rows, each with its own numbers."""
+    frames = 20_000
+    with tempfile.NamedTemporaryFile() as file:
+        file.write(captured([(number * 1000, tagged(number % 8, 60)) for number in range(frames)]))
+        file.flush()
+        ran = run(program, ["frames", "--capture", file.name], b"")
     rows = ran.output.decode().splitlines()[1:]
     assert ran.status == 0 and len(rows) == frames
     for number in (0, 1, 7777, frames - 1):

@@ -2,6 +2,9 @@ pub mod RunLaws
 pub mod RowLaws
 pub mod ArrivalLaws
 pub mod LineSteps
+pub mod WalkLaws
+pub mod RecordWalk
+pub mod CaptureLaws
 pub mod LeftLaws
 pub mod OnceLaws
 pub mod ToldLaws

@@ -44,7 +44,7 @@ unless-more None event rest p w =
     append_assoc here.0 later.0 (left_rows later.1)
 unless-more (Some fault) event rest p w = refl
 
-by-more : (streams : Option (List Stream)) (r : Request) (rest : List Request) (fault : Option BadLine) (p : AbstractPort) (w : List (List Arrival))
+pub by-more : (streams : Option (List Stream)) (r : Request) (rest : List Request) (fault : Option BadLine) (p : AbstractPort) (w : List (List Arrival))
     → table_by streams (r ∷ rest) fault p w ≡ behind (rows_text streams (rows_by r p w).0) (table_by streams rest fault (responses_to r p).1 (rows_by r p w).1)
 by-more streams (Asks event) rest fault p w =
     ap (λ (text : List ℕ). record { text = text; fault = fault })

@@ -4,14 +4,16 @@ use Rattle.std.specs.Prelude.{IfSome}
 use Rattle.std.specs.Io.KnownBytes.{Appends, Keeps}
 use Rattle.octet_writer.specs.Writes.{AppendsFront}
 use Rattle.octet_writer.proofs.Fronts.{Appends-append, sent_all, sent_more, sent_none, sent_short}
-use Rattle.frame_table.specs.Words.{BadLine, FallsShort, Fault, Outcome, Runs, RunsOut, Sent, Stream, with_head, head_line}
+use Rattle.abstract_port.specs.AbstractPort.{new_port}
+use Rattle.script.specs.Setup.{Setup}
+use Rattle.frame_table.specs.Words.{AbstractPort, Arrival, BadLine, FallsShort, Fault, Outcome, Runs, RunsOut, Sent, Stream, none_wait, with_head, head_line}
 use Rattle.job.specs.declared.fault.Fault.TheVariants as Faults
 use Rattle.job.proofs.LineLaws.{done}
 use Rattle.job.proofs.RunEndLaws.{out_of_input, runs_out}
 use Rattle.job.specs.RunEnd.{IsOrFails}
 
 -- a prefix of the next part
-front_on : {a b : Option (List ℕ)} {text left : List ℕ} (c : Option (List ℕ)) (x rest : List ℕ) → Sent a b text left → left ≡ x ++ rest → AppendsFront b c x → AppendsFront a c text
+pub front_on : {a b : Option (List ℕ)} {text left : List ℕ} (c : Option (List ℕ)) (x rest : List ℕ) → Sent a b text left → left ≡ x ++ rest → AppendsFront b c x → AppendsFront a c text
 front_on {a} {b} c x rest s e (back, t) = (
   back ++ rest,
   record {
@@ -70,3 +72,11 @@ pub out_of_both : {I X Y : Type 0} (first : Option X) (second : Option Y) (whole
     → IfSome first (λ x. IfSome second (λ y. RunsOut before old mid (whole x y))) → IfSome first (λ x. IfSome second (λ y. RunsOut run old out (whole x y)))
 out_of_both None second whole old mid out before run k same w = tt
 out_of_both (Some x) second whole old mid out before run k same w = out_of_input second (whole x) old mid out before run k same w
+
+-- what holds of a port that is made by these numbers holds of one that the settings make
+pub by_settings : (P : AbstractPort → List (List Arrival) → Option ℕ → Type 0) (s : Setup) (rate mtu room : ℕ) (w : List (List Arrival)) (until : Option ℕ)
+    → rate ≡ s.rate → mtu ≡ s.mtu → room ≡ s.room → w ≡ none_wait → until ≡ s.until → P (new_port rate mtu room) w until → P (new_port s.rate s.mtu s.room) none_wait s.until
+by_settings P s rate mtu room w until a b d none e h =
+    subst (λ x. P (new_port s.rate s.mtu s.room) none_wait x) e
+    (subst (λ x. P (new_port s.rate s.mtu s.room) x until) none
+    (subst (λ x. P (new_port s.rate s.mtu x) w until) d (subst (λ x. P (new_port s.rate x room) w until) b (subst (λ x. P (new_port x mtu room) w until) a h))))

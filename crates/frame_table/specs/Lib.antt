@@ -4,6 +4,8 @@ pub mod RowText
 pub mod Rows
 pub mod Outcome
 pub mod ByStream
+pub mod Walk
+pub mod OfCapture
 pub mod Once
 pub mod Told
 pub mod Words

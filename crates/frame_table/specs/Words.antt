@@ -24,6 +24,21 @@ pub use Rattle.script.specs.Responses.{events_of, responses_to}
 pub use Rattle.script.specs.declared.faults.BadLine.{BadLine}
 pub use Rattle.script.specs.declared.faults.ScriptFault.{ScriptFault}
 pub use Rattle.frame_table.specs.ByStream.{IsByStreamEnding, ReadsTable, frames_by_stream, frames_in, frames_unless, of_script, script_input, script_inputs, script_run}
+pub use Rattle.capture.specs.CaptureReader.{left}
+pub use Rattle.capture.specs.Record.{entry, frame_of}
+pub use Rattle.capture.specs.Records.{Entry}
+pub use Rattle.capture.specs.declared.fault.CapFault.{CapFault}
+pub use Rattle.capture.specs.declared.reader.End.{End}
+pub use Rattle.replay.specs.KeptScript.{IsKept, kept_request, kept_requests}
+pub use Rattle.replay.specs.LinesLeft.{lines_left}
+pub use Rattle.replay.specs.Merge.{Timed, all_requests, before_end, came_from, lines_after, lines_by, lines_past, merged, requests_of, timed_from, to_run_end}
+pub use Rattle.replay.specs.Outcome.{ReadsAs, end_fault, is_too_late}
+pub use Rattle.replay.specs.RecordsLeft.{Comes, EndsSo}
+pub use Rattle.replay.specs.RunEnd.{run_end}
+pub use Rattle.replay.specs.Texts.{replay_telling}
+pub use Rattle.replay.specs.declared.faults.ReplayInput.{ReplayInput}
+pub use Rattle.frame_table.specs.OfCapture.{IsCaptureEnding, RunsBoth, frames_of_capture, run_of_both, stopped_at, table_of_both}
+pub use Rattle.frame_table.specs.Walk.{Carries, GoesOn, Place, Stands, TakesRecords, place, table_at}
 pub use Rattle.frame_table.specs.Outcome.{IsAfter, ending_text, frames_by, frames_of, rows_told, table_after, table_by, table_from, table_unless, whole_frames, with_head}
 pub use Rattle.frame_table.specs.RowText.{head_line, row_line, rows_text}
 pub use Rattle.frame_table.specs.StreamOf.{has_frame, ids_table, stream_in, with_ids}

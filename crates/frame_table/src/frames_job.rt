@@ -2,12 +2,13 @@
 
 ghost use Rattle.std.specs.Prelude.{◌≡◌, IfErr};
 ghost use Rattle.std.specs.Io.Buffered.{writer_contents};
-ghost use Rattle.frame_table.specs.Words.{IsByStreamEnding, IsEnding, greatest_moment, settings_given, whole_frames, words_of_values};
+ghost use Rattle.frame_table.specs.Words.{IsByStreamEnding, IsCaptureEnding, IsEnding, greatest_moment, settings_given, whole_frames, words_of_values};
 
 use crate::by_stream::run_frames_by_stream;
+use crate::capture_run::run_frames_of_capture;
 use crate::table_run::run_frames;
 use job::{Ended, end_run};
-use script::{Values, Watch, end_with_value, settings_given};
+use script::{Settings, Values, Watch, end_with_value, settings_given};
 use std::alloc::Allocator;
 use std::io::{BufWriter, Read, Write};
 use wire_time::MAX_MOMENT;
@@ -36,7 +37,33 @@ pub fn answer_frames<A: Allocator, B: Allocator, R: Read, W: Write + Drop, E: Wr
     }
 }
 
-/// The same with the stream of each frame, by the table of streams that `table` gives, as `run_frames_by_stream` writes it. Where a value is bad
+/// Writes the table of the frames of a replay of the script that `reader` gives and of the capture that `capture` gives, with settings whose moment is
+/// judged as that of a replay, through `answers`, with the text of a fault on `errors`; and gives the writer of the answers back. What was written is let
+/// out before a fault is reported; after a failed write no other is tried.
+pub fn answer_frames_of_capture<
+    A: Allocator,
+    B: Allocator,
+    R: Read,
+    S: Read + Drop,
+    W: Write + Drop,
+    E: Write,
+    H: Watch,
+>(
+    alloc: A,
+    settings: Settings,
+    capture: S,
+    reader: &mut R,
+    mut answers: BufWriter<W, B>,
+    errors: &mut E,
+    watch: &mut H,
+) -> (Ended, W)
+    ensures { IsCaptureEnding settings (R.remaining reader.old) (S.remaining capture) result.0 (writer_contents W.contents answers) (W.contents result.1) (E.contents errors.old) (E.contents errors.new) }
+{
+    let run = run_frames_of_capture(alloc, reader, capture, &mut answers, settings, watch);
+    end_run(run, answers, errors)
+}
+
+/// The same as `answer_frames` with the stream of each frame, by the table of streams that `table` gives, as `run_frames_by_stream` writes it. Where a value is bad
 /// nothing is read.
 pub fn answer_frames_by_stream<
     A: Allocator,

@@ -2,18 +2,23 @@
 //!
 //! The definition is specs/Rows.antt, with its text in specs/RowText.antt; the contracts of `run_frames` and
 //! `answer_frames` cite it by specs/Outcome.antt, and those of `run_frames_by_stream` and `answer_frames_by_stream`, which also say of which stream
-//! of a table a frame is (specs/StreamOf.antt), by specs/ByStream.antt.
+//! of a table a frame is (specs/StreamOf.antt), by specs/ByStream.antt. Those of `run_frames_of_capture` and `answer_frames_of_capture`, for the frames of
+//! a replay, cite it by specs/OfCapture.antt.
 #![tactic(auto)]
 
 mod arrivals;
 mod by_stream;
+mod capture_run;
 mod frames_job;
+mod kept_lines;
 pub mod laws;
+mod records;
 mod rows;
 mod streams;
 mod table_run;
 
 pub use by_stream::run_frames_by_stream;
-pub use frames_job::{answer_frames, answer_frames_by_stream};
+pub use capture_run::run_frames_of_capture;
+pub use frames_job::{answer_frames, answer_frames_by_stream, answer_frames_of_capture};
 pub use rows::{Arrival, Fate, Row};
 pub use table_run::run_frames;

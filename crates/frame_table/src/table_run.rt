@@ -6,11 +6,11 @@ ghost use Rattle.frame_table.specs.Words.{Arrive, Clock, Command, IsAfter, IsRea
 use crate::arrivals::Arrivals;
 use crate::rows::{Arrival, Fate, Row, put_head, put_row};
 use crate::streams::Streams;
-use abstract_port::{Event, Start};
+use abstract_port::{Event, Refused, Start};
 use answer_text::WriteFault;
 use job::next_line;
 use line_reader::LineReader;
-use script::{BadLine, RunFault, RunningPort, Said, Settings, Watch, read_line, read_tc};
+use script::{BadLine, Failure, RunFault, RunningPort, Said, Settings, Watch, read_line, read_tc};
 use separation::settling;
 use std::alloc::Allocator;
 use std::io::{Read, Write};
@@ -120,7 +120,7 @@ fn take_clock<A: Allocator, B: Allocator, W: Write>(
 }
 
 /// Takes an event, and writes the rows of the frames whose fate it decides. At a fault a prefix of them is written.
-fn take_event<A: Allocator + Clone, B: Allocator, W: Write>(
+pub(crate) fn take_event<A: Allocator + Clone, B: Allocator, W: Write>(
     port: &mut RunningPort<A>,
     arrivals: &mut Arrivals<A>,
     event: &Event<'_>,
@@ -146,8 +146,20 @@ fn take_event<A: Allocator + Clone, B: Allocator, W: Write>(
     }
 }
 
-/// Gives the port the command that a line which begins with `tc` is, if it is one.
-fn take_tc<A: Allocator>(port: &mut RunningPort<A>, line: &[u8])
+/// Calls who watches where the command of the line of this number is refused.
+fn tell_refusal<H: Watch>(watch: &mut H, number: u32, line: &[u8], answer: Result<u128, Refused>) {
+    if let Err(why) = answer {
+        watch.command_failed(number, line, Failure::Refused(why));
+    }
+}
+
+/// Gives the port the command that the line of this number is, which begins with `tc`, if it is one. Who watches is called where it changes nothing.
+pub(crate) fn take_tc<A: Allocator, H: Watch>(
+    port: &mut RunningPort<A>,
+    number: u32,
+    line: &[u8],
+    watch: &mut H,
+)
     ensures port { (read : List (List ℕ) → Result Command TcFault) → IsReader read →
         port.new.port ≡ settled (responses_to (tc_request (read (words_of line.now))) port.old.port).1 }
     ensures sound { IsSoundPort port.new.port }
@@ -155,9 +167,10 @@ fn take_tc<A: Allocator>(port: &mut RunningPort<A>, line: &[u8])
     // For the prover: a call on a port says what holds of every port.
     let _now = port.now();
     match read_tc(line) {
-        Err(_) => {}
+        Err(fault) => watch.command_failed(number, line, Failure::Malformed(fault)),
         Ok(command) => {
-            let _ = port.install(&command);
+            let answer = port.install(&command);
+            tell_refusal(watch, number, line, answer);
         }
     }
 }
@@ -202,7 +215,7 @@ fn put_all_left<A: Allocator, B: Allocator, W: Write>(
 }
 
 /// Runs to the moment after the input, if there is one, and writes the rows that end the table.
-fn put_end<A: Allocator, B: Allocator, W: Write>(
+pub(crate) fn put_end<A: Allocator, B: Allocator, W: Write>(
     port: &mut RunningPort<A>,
     arrivals: &mut Arrivals<A>,
     until: Option<u128>,
@@ -239,9 +252,9 @@ fn run_lines<A: Allocator + Clone, B: Allocator, C: Allocator, R: Read + Drop, W
     'lines: while next_line::<BadLine, _, _, _>(lines, writer)? {
         let line = lines.line();
         match read_line(line) {
-            Ok(None) => {}
+            Ok(None) => watch.line_passed(lines.line_number(), line),
             Ok(Some(Said::Asked(event))) => take_event(port, arrivals, &event, streams, writer)?,
-            Ok(Some(Said::Tc)) => take_tc(port, line),
+            Ok(Some(Said::Tc)) => take_tc(port, lines.line_number(), line, watch),
             Err(fault) => {
                 watch.line_failed(line);
                 return Err(RunFault::Input(BadLine::new(lines.line_number(), fault)));
@@ -308,7 +321,7 @@ pub(crate) fn run_with<A: Allocator, B: Allocator, R: Read + Drop, W: Write, H: 
 ///
 /// A malformed line ends the run after the rows of the lines before it; what waits then has no row. What was written is let out before more input is
 /// waited for. A read or a write that fails, or takes nothing, isn't tried again. Of the frames only those that wait are kept. Who watches is called
-/// for a malformed line.
+/// for a malformed line, for one that is skipped, and for each that begins with `tc` and changes nothing.
 pub fn run_frames<A: Allocator, R: Read + Drop, W: Write, H: Watch>(
     alloc: A,
     reader: R,

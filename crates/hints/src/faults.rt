@@ -168,7 +168,7 @@ fn kind_of(octets: &[u8]) -> Option<&'static [u8]> {
         [b'f', b'r', b'a', b'm', b'e', b' ', ..]
         | [b't', b'c', b' ', ..]
         | [b'c', b'l', b'o', b'c', b'k', b' ', ..] => {
-            Some(b"this is a script: the order is SCRIPT CAPTURE OUT")
+            Some(b"this is a script, no capture: the order of a replay is SCRIPT CAPTURE OUT")
         }
         _ => None,
     }

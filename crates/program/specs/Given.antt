@@ -1,12 +1,15 @@
 -- What the words of the program say of its settings.
-use Rattle.std.specs.Prelude.{◌⊎◌, List, ℕ, [], ◌∷◌, Bool, false, Option, Some, None, Result, codes}
+use Rattle.std.specs.Prelude.{◌⊎◌, List, ℕ, [], ◌∷◌, Bool, false, Option, Some, None, Result, Ok, Err, codes}
 use Rattle.std.specs.List.{concat}
 use Rattle.std.specs.Option.{option_map_or}
 use Rattle.std.specs.Str.{bytes_eq}
 use Rattle.clap.specs.Matches.{first_value}
 use Rattle.clap.specs.declared.parser.matches.Found.{Found}
 use Rattle.frame_table.specs.ByStream.{IsByStreamEnding}
+use Rattle.frame_table.specs.OfCapture.{IsCaptureEnding}
 use Rattle.frame_table.specs.Outcome.{whole_frames}
+use Rattle.capture.specs.declared.writer.TheConstants.{CAPTURE_END}
+use Rattle.wire_time.specs.Moment.{greatest_moment}
 use Rattle.drawing.specs.Given.{DrawWords}
 use Rattle.drawing.specs.Options.{options_of}
 use Rattle.drawing.specs.declared.options.DrawOptions.{DrawOptions}
@@ -14,7 +17,7 @@ use Rattle.replay.specs.Stamps.{stamp_given}
 use Rattle.replay.specs.Texts.{open_text}
 use Rattle.replay.specs.declared.stamps.Stamp.{Stamp}
 use Rattle.job.specs.RunEnd.{IsUnanswered}
-use Rattle.script.specs.ScriptEnd.{IsEnding, rate_given, settings_given}
+use Rattle.script.specs.ScriptEnd.{IsEnding, IsRefusal, rate_given, settings_given}
 use Rattle.script.specs.Given.{GivenWords}
 use Rattle.script.specs.Setup.{Setup}
 use Rattle.job.specs.declared.report.Ended.{Ended}
@@ -79,9 +82,26 @@ IsGivenBounds settings None schedules ended old got errors_old errors_new = Unit
 IsGivenBounds settings (Some path) schedules ended old got errors_old errors_new =
     ((table : Option (List ℕ)) × IsBoundsEnding settings table schedules ended old got errors_old errors_new) ⊎ IsUnanswered 4 (open_text path) ended old got errors_old errors_new
 
+-- the settings of the values that are given to `frames`: with a capture the moment to run to is one of a replay
+abbrev pub frames_settings : Option (List ℕ) → Found → Result Setup BadValue
+frames_settings None found = settings_in greatest_moment found
+frames_settings (Some path) found = settings_in CAPTURE_END found
+
+-- The end of a run on a script and a capture that the words name: that of the script and of some octets, since what a file gives is not known, or of the
+-- path that can't be opened; or of a value that is bad, which comes first.
+abbrev pub IsGivenCapture : Result Setup BadValue → List ℕ → Option (List ℕ) → Ended → (old got errors_old errors_new : Option (List ℕ)) → Type 0
+IsGivenCapture (Ok setup) path input ended old got errors_old errors_new =
+    ((capture : Option (List ℕ)) × IsCaptureEnding setup input capture ended old got errors_old errors_new) ⊎ IsUnanswered 4 (open_text path) ended old got errors_old errors_new
+IsGivenCapture (Err value) path input ended old got errors_old errors_new = IsRefusal value ended old got errors_old errors_new
+
 -- The end of a run on a script, where the words name a table of streams or none. With none, that of the table of the script's frames; else that of the
 -- table with their streams and of some octets, since what a file gives is not known, or of the path that can't be opened.
-abbrev pub IsGivenFrames : Result Setup BadValue → Option (List ℕ) → Option (List ℕ) → Ended → (old got errors_old errors_new : Option (List ℕ)) → Type 0
-IsGivenFrames settings None input ended old got errors_old errors_new = IsEnding whole_frames settings input ended old got errors_old errors_new
-IsGivenFrames settings (Some path) input ended old got errors_old errors_new =
+abbrev pub IsGivenTable : Result Setup BadValue → Option (List ℕ) → Option (List ℕ) → Ended → (old got errors_old errors_new : Option (List ℕ)) → Type 0
+IsGivenTable settings None input ended old got errors_old errors_new = IsEnding whole_frames settings input ended old got errors_old errors_new
+IsGivenTable settings (Some path) input ended old got errors_old errors_new =
     ((table : Option (List ℕ)) × IsByStreamEnding settings table input ended old got errors_old errors_new) ⊎ IsUnanswered 4 (open_text path) ended old got errors_old errors_new
+
+-- the end of a run of `frames`, where the words name a capture or none: a table of streams does not go with one
+abbrev pub IsGivenFrames : Found → (capture streams : Option (List ℕ)) → Option (List ℕ) → Ended → (old got errors_old errors_new : Option (List ℕ)) → Type 0
+IsGivenFrames found None streams input ended old got errors_old errors_new = IsGivenTable (frames_settings None found) streams input ended old got errors_old errors_new
+IsGivenFrames found (Some path) streams input ended old got errors_old errors_new = IsGivenCapture (frames_settings (Some path) found) path input ended old got errors_old errors_new

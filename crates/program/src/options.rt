@@ -114,6 +114,8 @@ struct Word {
     name: &'static str,
     value: &'static str,
     help: &'static str,
+    /// The name of a word that may not stand beside it.
+    without: Option<&'static str>,
 }
 
 /// A job of the program, with the words that it understands, in the order in which its help lists them.
@@ -129,6 +131,7 @@ const RATE: Word = Word {
     name: "rate",
     value: "MBPS",
     help: "The line rate, in Mb/s [default: 1000]",
+    without: None,
 };
 
 const MTU: Word = Word {
@@ -136,6 +139,7 @@ const MTU: Word = Word {
     name: "mtu",
     value: "OCTETS",
     help: "The greatest service data unit, 68 to 9216 octets [default: 1500]",
+    without: None,
 };
 
 const ROOM: Word = Word {
@@ -143,6 +147,7 @@ const ROOM: Word = Word {
     name: "room",
     value: "FRAMES",
     help: "How many frames a class holds, 1 to 4096 [default: 128]",
+    without: None,
 };
 
 const UNTIL: Word = Word {
@@ -150,6 +155,7 @@ const UNTIL: Word = Word {
     name: "until",
     value: "MOMENT",
     help: "Run to this moment after the input: picoseconds, or a number with its unit, such as 2ms",
+    without: None,
 };
 
 const UNTIL_AFTER_BOTH: Word = Word {
@@ -162,6 +168,7 @@ const STAMP: Word = Word {
     name: "stamp",
     value: "POINT",
     help: "Which moment the records of OUT have: start, or end, when the last octet has been sent [default: start]",
+    without: None,
 };
 
 const SUMMARY: Word = Word {
@@ -169,6 +176,7 @@ const SUMMARY: Word = Word {
     name: "summary",
     value: "",
     help: "Report at the end how long the frames of each class waited, and how long the wire was busy",
+    without: None,
 };
 
 const PROGRESS: Word = Word {
@@ -176,6 +184,7 @@ const PROGRESS: Word = Word {
     name: "progress",
     value: "",
     help: "Report progress on standard error, also where that is no terminal",
+    without: None,
 };
 
 const SCRIPT: Word = Word {
@@ -183,6 +192,7 @@ const SCRIPT: Word = Word {
     name: "script",
     value: "SCRIPT",
     help: "The file with the script",
+    without: None,
 };
 
 const CAPTURE: Word = Word {
@@ -190,6 +200,7 @@ const CAPTURE: Word = Word {
     name: "capture",
     value: "CAPTURE",
     help: "The file with the capture, or - for the standard input",
+    without: None,
 };
 
 const OUT: Word = Word {
@@ -197,6 +208,7 @@ const OUT: Word = Word {
     name: "out",
     value: "OUT",
     help: "The file for the capture of what leaves, created or overwritten",
+    without: None,
 };
 
 const WINDOWS: Word = Word {
@@ -204,6 +216,7 @@ const WINDOWS: Word = Word {
     name: "windows",
     value: "",
     help: "Report for how long each class is open and closed, and its longest frame",
+    without: None,
 };
 
 const SCRIPT_LINES: Word = Word {
@@ -211,6 +224,7 @@ const SCRIPT_LINES: Word = Word {
     name: "script",
     value: "",
     help: "Read a script: lines that are no schedule commands are passed over",
+    without: None,
 };
 
 const LINES: Word = Word {
@@ -218,6 +232,7 @@ const LINES: Word = Word {
     name: "with",
     value: "SCRIPT",
     help: "A file with a script whose lines are put among the frames, each at its moment",
+    without: None,
 };
 
 const FROM: Word = Word {
@@ -225,6 +240,7 @@ const FROM: Word = Word {
     name: "from",
     value: "MOMENT",
     help: "The moment that the picture begins at: picoseconds, or a number with its unit [default: 0]",
+    without: None,
 };
 
 const OFFSETS_FROM: Word = Word {
@@ -232,6 +248,7 @@ const OFFSETS_FROM: Word = Word {
     name: "from",
     value: "MOMENT",
     help: "A moment that is added to each offset: picoseconds, or a number with its unit [default: 0]",
+    without: None,
 };
 
 const FRAMES: Word = Word {
@@ -239,6 +256,7 @@ const FRAMES: Word = Word {
     name: "frames",
     value: "FRAMES",
     help: "Look at so many frames of a class at most, 1 to 1000000000 [default: 1000000]",
+    without: None,
 };
 
 const STRICT: Word = Word {
@@ -246,6 +264,7 @@ const STRICT: Word = Word {
     name: "strict",
     value: "",
     help: "End with status 1 where a deadline is missed or unknown, or a command is refused",
+    without: None,
 };
 
 const STRICT_COMMANDS: Word = Word {
@@ -253,6 +272,7 @@ const STRICT_COMMANDS: Word = Word {
     name: "strict",
     value: "",
     help: "End with status 1 where a tc line is no command, or its command is refused",
+    without: None,
 };
 
 const STRICT_CHECK: Word = Word {
@@ -270,6 +290,7 @@ const EXPLAIN: Word = Word {
     name: "explain",
     value: "",
     help: "Report with a fault its line and what was expected, also where standard error is no terminal",
+    without: None,
 };
 
 const TABLE: Word = Word {
@@ -277,6 +298,7 @@ const TABLE: Word = Word {
     name: "table",
     value: "TABLE",
     help: "The file with the table of streams",
+    without: None,
 };
 
 const BY_STREAM: Word = Word {
@@ -284,6 +306,15 @@ const BY_STREAM: Word = Word {
     name: "by-stream",
     value: "TABLE",
     help: "A file with the table of streams: a last column says which of them each frame is of",
+    without: None,
+};
+
+const CAPTURE_OF_FRAMES: Word = Word {
+    given: Given::Value,
+    name: "capture",
+    value: "CAPTURE",
+    help: "A file with a capture: the table is that of its frames, run beside the script as by replay",
+    without: Some("by-stream"),
 };
 
 const TO: Word = Word {
@@ -291,6 +322,7 @@ const TO: Word = Word {
     name: "to",
     value: "MOMENT",
     help: "The moment that it ends at: picoseconds, or a number with its unit [default: the end of the run]",
+    without: None,
 };
 
 const WIDTH: Word = Word {
@@ -298,6 +330,7 @@ const WIDTH: Word = Word {
     name: "width",
     value: "PX",
     help: "Its width, 400 to 2400 pixels [default: 1200]",
+    without: None,
 };
 
 pub(crate) const JOBS: [Job; 7] = [
@@ -347,17 +380,30 @@ pub(crate) const JOBS: [Job; 7] = [
     Job {
         name: JobName::Frames,
         about: "Writes a table of the frames of a script on standard input, as CSV: times, waits and fates",
-        words: &[RATE, MTU, ROOM, UNTIL, BY_STREAM, EXPLAIN],
+        words: &[
+            RATE,
+            MTU,
+            ROOM,
+            UNTIL,
+            CAPTURE_OF_FRAMES,
+            BY_STREAM,
+            STRICT_COMMANDS,
+            EXPLAIN,
+        ],
     },
 ];
 
 /// A word as `clap` has it.
-fn arg_of<'a>(alloc: Global, word: &Word) -> Arg<'a> {
+fn arg_of<'a>(alloc: Global, word: &Word) -> Result<Arg<'a>, AllocError> {
     let arg = Arg::new(alloc, word.name).help(word.help);
-    match word.given {
+    let arg = match word.given {
         Given::Value => arg.long(word.name).value_name(word.value),
         Given::Flag => arg.long(word.name).action(ArgAction::SetTrue),
         Given::File => arg.value_name(word.value).required(true),
+    };
+    match word.without {
+        None => Ok(arg),
+        Some(other) => arg.conflicts_with(other),
     }
 }
 
@@ -372,7 +418,7 @@ fn command_of<'a>(alloc: Global, job: &Job) -> Result<Command<'a>, AllocError> {
         .about(job.about)
         .after_help(STATUSES);
     for word in job.words {
-        command = command.arg(arg_of(alloc, word))?;
+        command = command.arg(arg_of(alloc, word)?)?;
     }
     Ok(command)
 }

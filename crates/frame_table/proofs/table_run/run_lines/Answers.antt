@@ -62,7 +62,7 @@ returns-in-Err g c = λ read is.
     let said : said_in line ≡ Err c.in-Err.fault = ap said_in (sym c.line-line.ensures) ∙ sym c.read_line.ensures ∙ c.in-Err.is in
     let e : request_of read line ≡ Err c.in-Err.fault = ap (request_said (read (words_of line))) said in
     let a = rw c.if-branch.true at c.in_ok-next_line.ensures.step in
-    goes_wrong c.args.streams.now read _ _ _ _ _ _ _ _ _ _ _ i {T = Unit {0}} c.in-Err.fault a e (ap (λ b. Err (Faults.Input b)) c.new.ensures ∙ ap (λ n. Err (Faults.Input (bad_line n c.in-Err.fault))) c.line_number.ensures)
+    goes_wrong c.args.streams.now read _ _ _ _ _ _ _ _ _ _ _ i {T = Unit {0}} c.in-Err.fault a e (ap (λ b. Err (Faults.Input b)) c.new.ensures ∙ ap (λ n. Err (Faults.Input (bad_line n c.in-Err.fault))) c.line_number-in-Err.ensures)
 
 pub returns-in_err-put_end : goal.returns-in_err-put_end
 returns-in_err-put_end g c = λ read is.

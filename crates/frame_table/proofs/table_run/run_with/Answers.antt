@@ -1,11 +1,11 @@
-use Rattle.std.proofs.Common.{◌≡◌, ℕ, List, Option, Err, refl, ap, ◌∙◌, subst}
+use Rattle.std.proofs.Common.{ℕ, List, Option, Err, refl, ap, ◌∙◌, subst}
 use Rattle.std.specs.Prelude.{IfSome}
 use Rattle.std.proofs.lemmas.Result.{err_from_is_err_and}
-use Rattle.abstract_port.specs.AbstractPort.{PortState, new_port}
+use Rattle.abstract_port.specs.AbstractPort.{PortState}
 use Rattle.job.proofs.LineLaws.{memory_exit}
-use Rattle.script.specs.Setup.{Setup}
 use Rattle.script.proofs.ReaderLaws.{of_input}
-use Rattle.frame_table.specs.Words.{AbstractPort, Arrival, RunsOut, frames_by, none_wait, script_left, table_from, with_head}
+use Rattle.frame_table.specs.Words.{AbstractPort, Arrival, RunsOut, frames_by, script_left, table_from, with_head}
+use Rattle.frame_table.proofs.RunLaws.{by_settings}
 use Rattle.frame_table.proofs.table_run.run_with.Goals as goal
 
 pub returns-in_default : goal.returns-in_default
@@ -18,14 +18,6 @@ pub returns-in_err-lines : goal.returns-in_err-lines
 returns-in_err-lines g c = λ read is.
     let p = err_from_is_err_and c.from_residual.result c.from_residual.ensures.1 in
     memory_exit {T = Unit {0}} (frames_by c.args.streams.now read c.args.settings) _ _ (p.1 ∙ ap Err p.2)
-
--- what holds of a port that is made by these numbers holds of one that the settings make
-by_settings : (P : AbstractPort → List (List Arrival) → Option ℕ → Type 0) (s : Setup) (rate mtu room : ℕ) (w : List (List Arrival)) (until : Option ℕ)
-    → rate ≡ s.rate → mtu ≡ s.mtu → room ≡ s.room → w ≡ none_wait → until ≡ s.until → P (new_port rate mtu room) w until → P (new_port s.rate s.mtu s.room) none_wait s.until
-by_settings P s rate mtu room w until a b d none e h =
-    subst (λ x. P (new_port s.rate s.mtu s.room) none_wait x) e
-    (subst (λ x. P (new_port s.rate s.mtu s.room) x until) none
-    (subst (λ x. P (new_port s.rate s.mtu x) w until) d (subst (λ x. P (new_port s.rate x room) w until) b (subst (λ x. P (new_port x mtu room) w until) a h))))
 
 pub returns : goal.returns
 returns g c = λ read is.

@@ -5,8 +5,8 @@ use Rattle.frame_table.proofs.table_run.take_tc.Goals as goal
 
 pub returns-in-Ok-clause-port : goal.returns-in-Ok-clause-port
 returns-in-Ok-clause-port g c = λ read is.
-    let i = c.install.ensures in
-    let q = c.install.new.self.port in
+    let i = c.install-answer.ensures in
+    let q = c.install-answer.new.self.port in
     subst (λ (r : Result Command TcFault). q ≡ settled (responses_to (tc_request r) c.args.port.now.port).1) (c.in-Ok.ensures read is) (sym (settled-sound q i.sound) ∙ ap settled i.port)
 
 pub returns-in-Err-clause-port : goal.returns-in-Err-clause-port

@@ -1,0 +1,76 @@
+-- A run on a script and a capture, from what its parts leave.
+use Rattle.std.proofs.Common.{◌≡◌, ℕ, List, length, false, Option, Some, None, Result, Ok, Err, refl, sym, ap, ◌∙◌, subst}
+use Rattle.octet_writer.proofs.Fronts.{Appends-nil, sent_none}
+use Rattle.capture.specs.FileHeader.{format_of}
+use Rattle.job.specs.declared.fault.Fault.TheVariants as Faults
+use Rattle.line_reader.specs.Script.{script_of}
+use Rattle.replay.specs.Lines as Beside
+use Rattle.replay.specs.Outcome.{IsOpenFault}
+use Rattle.replay.specs.WholeScript.{IsScriptFault}
+use Rattle.replay.specs.declared.faults.ReplayInput.TheVariants as Inputs
+use Rattle.replay.proofs.EndLaws.{no_fault, some_fault}
+use Rattle.replay.proofs.ReplayLaws.{known_at}
+use Rattle.script.specs.Setup.{Setup}
+use Rattle.frame_table.specs.OfCapture.{frames_read, frames_said, refused}
+use Rattle.frame_table.specs.Words.{BadLine, CapFault, Command, End, Entry, Fault, Outcome, ReadsAs, Reading, ReplayInput, RunsBoth, RunsOut, TcFault, end_fault, frames_of_capture, is_too_late, run_of_both}
+
+-- a call failed before the end of the records is known to be met
+pub both_fail : {fault : Fault BadLine} (entries : List Entry) (last : End) (r : Result (Option (ℕ × CapFault)) (Fault BadLine)) (old new : Option (List ℕ)) (whole : Outcome BadLine) → r ≡ Err fault → RunsOut {T = Unit {0}} (Err fault) old new whole → RunsBoth entries last r old new whole
+both_fail {fault} entries last r old new whole is w = subst (λ (q : Result (Option (ℕ × CapFault)) (Fault BadLine)). RunsBoth entries last q old new whole) (sym is) (failed fault w)
+  where
+    failed : (fault : Fault BadLine) → RunsOut {T = Unit {0}} (Err fault) old new whole → RunsBoth entries last (Err fault) old new whole
+    failed (Faults.Input bad) w = record { ending = tt; out = w }
+    failed Faults.Read w = record { ending = tt; out = w }
+    failed Faults.Write w = record { ending = tt; out = w }
+    failed Faults.Memory w = record { ending = tt; out = w }
+
+-- how a run ends whose capture ends so
+pub both_ended : (entries : List Entry) (last : End) (r : Result (Option (ℕ × CapFault)) (Fault BadLine)) (old new : Option (List ℕ)) (whole : Outcome BadLine) → whole.fault ≡ None → RunsBoth entries last r old new whole
+    → RunsOut (run_of_both r) old new (record { text = whole.text; fault = end_fault (length entries) last })
+both_ended entries last (Ok None) old new whole none b = (no_fault entries last (length entries) b.ending, b.out.1)
+both_ended entries last (Ok (Some (number, fault))) old new whole none b = (some_fault entries last number fault b.ending, b.out.1)
+both_ended entries last (Err (Faults.Input bad)) old new whole none b = absurd (let both : ◌≡◌ {A = Option BadLine} None (Some bad) = sym none ∙ b.out.0 in cc)
+both_ended entries last (Err Faults.Read) old new whole none b = b.out
+both_ended entries last (Err Faults.Write) old new whole none b = b.out
+both_ended entries last (Err Faults.Memory) old new whole none b = b.out
+
+-- out of memory before anything is written
+pub memory_wanting : (old : Option (List ℕ)) (whole : Outcome ReplayInput) → RunsOut {T = Unit {0}} (Err Faults.Memory) old old whole
+memory_wanting old whole = (whole.text, sent_none old whole.text)
+
+module _ (read : List (List ℕ) → Result Command TcFault) (s : Setup) (lines : List ℕ) (records : Result (List Entry × End) CapFault) (late : is_too_late s.until ≡ false) where
+  abbrev reading : Reading
+  reading = Beside.reading_of read (script_of lines)
+
+  now : frames_of_capture read s lines records ≡ frames_said s reading.requests reading.fault records
+  now = rw late refl
+
+  pub frames_good : reading.fault ≡ None → frames_of_capture read s lines records ≡ frames_read s reading.requests records
+  frames_good e = now ∙ ap (λ (f : Option BadLine). frames_said s reading.requests f records) e
+
+  -- the script has a fault, or can't be read
+  pub script_refused : (fault : Fault ReplayInput) (old : Option (List ℕ)) → IsScriptFault fault reading → RunsOut {T = Unit {0}} (Err fault) old old (frames_of_capture read s lines records)
+  script_refused (Faults.Input (Inputs.Script bad)) old h =
+      let P : Outcome ReplayInput → Type 0 = λ o. RunsOut {T = Unit {0}} (Err (Faults.Input (Inputs.Script bad))) old old o in
+      subst P (sym (now ∙ ap (λ (f : Option BadLine). frames_said s reading.requests f records) h)) (refl, Appends-nil old)
+  script_refused Faults.Read old h = ((frames_of_capture read s lines records).text, sent_none old _)
+  script_refused Faults.Memory old h = ((frames_of_capture read s lines records).text, sent_none old _)
+  script_refused Faults.Write old h = absurd h
+  script_refused (Faults.Input Inputs.Until) old h = absurd h
+  script_refused (Faults.Input (Inputs.Capture number fault)) old h = absurd h
+
+  header_read : (octets : List ℕ) (fault : CapFault) (rs : Result (List Entry × End) CapFault) → ReadsAs octets rs → format_of octets ≡ Err fault → frames_read s reading.requests rs ≡ refused (Inputs.Capture 0 fault)
+  header_read octets fault (Ok x) reads e = absurd (let both = sym reads.1.0 ∙ e in cc)
+  header_read octets fault (Err f) reads e = (let both : Err f ≡ Err fault = sym reads ∙ e in cc)
+
+  -- the header of the capture has a fault, or can't be read
+  pub header_refused : (octets : List ℕ) → ReadsAs octets records → reading.fault ≡ None → (known : Option (List ℕ)) → known ≡ Some octets → (fault : Fault ReplayInput) (old : Option (List ℕ)) → IsOpenFault known fault
+      → RunsOut {T = Unit {0}} (Err fault) old old (frames_of_capture read s lines records)
+  header_refused octets reads good known is (Faults.Input (Inputs.Capture number fault)) old h =
+      let P : Outcome ReplayInput → Type 0 = λ o. RunsOut {T = Unit {0}} (Err (Faults.Input (Inputs.Capture number fault))) old old o in
+      subst P (sym (frames_good good ∙ header_read octets fault records reads (known_at known octets _ is h.1) ∙ ap (λ (n : ℕ). refused (Inputs.Capture n fault)) (sym h.0))) (refl, Appends-nil old)
+  header_refused octets reads good known is Faults.Read old h = ((frames_of_capture read s lines records).text, sent_none old _)
+  header_refused octets reads good known is Faults.Memory old h = ((frames_of_capture read s lines records).text, sent_none old _)
+  header_refused octets reads good known is Faults.Write old h = absurd h
+  header_refused octets reads good known is (Faults.Input Inputs.Until) old h = absurd h
+  header_refused octets reads good known is (Faults.Input (Inputs.Script bad)) old h = absurd h
