@@ -1,5 +1,5 @@
 -- A run on a script and a capture, from what its parts leave.
-use Rattle.std.proofs.Common.{◌≡◌, ℕ, List, length, false, Option, Some, None, Result, Ok, Err, refl, sym, ap, ◌∙◌, subst}
+use Rattle.std.proofs.Common.{◌≡◌, ℕ, List, length, false, Option, Some, None, Result, Ok, Err, refl, sym, ap, ◌∙◌, subst, ◌++◌, ◌∷◌, append_assoc, []}
 use Rattle.octet_writer.proofs.Fronts.{Appends-nil, sent_none}
 use Rattle.capture.specs.FileHeader.{format_of}
 use Rattle.job.specs.declared.fault.Fault.TheVariants as Faults
@@ -12,7 +12,12 @@ use Rattle.replay.proofs.EndLaws.{no_fault, some_fault}
 use Rattle.replay.proofs.ReplayLaws.{known_at}
 use Rattle.script.specs.Setup.{Setup}
 use Rattle.frame_table.specs.OfCapture.{frames_read, frames_said, refused}
-use Rattle.frame_table.specs.Words.{BadLine, CapFault, Command, End, Entry, Fault, Outcome, ReadsAs, Reading, ReplayInput, RunsBoth, RunsOut, TcFault, end_fault, frames_of_capture, is_too_late, run_of_both}
+use Rattle.capture.specs.declared.writer.TheConstants.{CAPTURE_END}
+use Rattle.replay.specs.declared.cursor.Cursor.{Cursor}
+use Rattle.replay.specs.declared.kept_script.KeptScript.{KeptScript}
+use Rattle.replay.proofs.LineLaws.{all_lines}
+use Rattle.frame_table.proofs.WalkLaws.{begun}
+use Rattle.frame_table.specs.Words.{Asks, Clock, IsSoundPort, Place, Request, Stands, Stream, TakesRecords, Timed, all_requests, before_end, came_from, lines_after, lines_by, lines_left, requests_of, run_end, timed_from, to_run_end, BadLine, CapFault, Command, End, Entry, Fault, Outcome, ReadsAs, Reading, ReplayInput, RunsBoth, RunsOut, TcFault, end_fault, frames_of_capture, is_too_late, run_of_both}
 
 -- a call failed before the end of the records is known to be met
 pub both_fail : {fault : Fault BadLine} (entries : List Entry) (last : End) (r : Result (Option (ℕ × CapFault)) (Fault BadLine)) (old new : Option (List ℕ)) (whole : Outcome BadLine) → r ≡ Err fault → RunsOut {T = Unit {0}} (Err fault) old new whole → RunsBoth entries last r old new whole
@@ -74,3 +79,30 @@ module _ (read : List (List ℕ) → Result Command TcFault) (s : Setup) (lines 
   header_refused octets reads good known is Faults.Write old h = absurd h
   header_refused octets reads good known is (Faults.Input Inputs.Until) old h = absurd h
   header_refused octets reads good known is (Faults.Input (Inputs.Script bad)) old h = absurd h
+
+-- ---- what is asked, in parts
+
+module _ (streams : Option (List Stream)) (script : List Request) (entries : List Entry) (until : Option ℕ) where
+  -- what comes after the records
+  abbrev pub behind_records : List Request
+  behind_records = to_run_end until (requests_of (lines_after (timed_from 0 script) (came_from 0 0 entries)))
+
+  -- before the first record
+  pub begun_both : (x : Place) → IsSoundPort x.port → Stands streams x (all_requests script entries until) (before_end (timed_from 0 script) (came_from 0 0 entries) ++ behind_records) x
+  begun_both x sound =
+      let xs = before_end (timed_from 0 script) (came_from 0 0 entries) in
+      let ys = requests_of (lines_after (timed_from 0 script) (came_from 0 0 entries)) in
+      subst (λ rs. Stands streams x (all_requests script entries until) rs x) (append_assoc xs ys (Asks (Clock (run_end until)) ∷ [])) (begun streams (all_requests script entries until) x sound)
+
+  -- after the last
+  pub records_taken : (last : End) (lines : List Timed) (broken : Option (ℕ × CapFault)) (x y : Place) → IsSoundPort x.port → TakesRecords streams entries last (timed_from 0 script) lines (Ok broken) x y
+      → Stands streams x (all_requests script entries until) (to_run_end until (requests_of lines)) y
+  records_taken last lines broken x y sound taken =
+      subst (λ (ls : List Timed). Stands streams x (all_requests script entries until) (to_run_end until (requests_of ls)) y) (sym taken.left) (taken.rows x (all_requests script entries until) behind_records (begun_both x sound))
+
+-- no line that is kept is after the last moment that a capture can say
+module _ {A : Type 0} (streams : Option (List Stream)) (read : List (List ℕ) → Result Command TcFault) (script : KeptScript A) (cursor : Cursor) (until : Option ℕ) (first : Place) (all : List Request) (x : Place) where
+  pub every_line : Stands streams first all (to_run_end until (requests_of (lines_left read script cursor))) x → Stands streams first all (requests_of (lines_by CAPTURE_END (lines_left read script cursor)) ++ Asks (Clock (run_end until)) ∷ []) x
+  every_line st =
+      let every = all_lines read script.octets.items script.lines.items cursor.at cursor.clock script.kept cursor.early in
+      subst (λ (ls : List Timed). Stands streams first all (requests_of ls ++ Asks (Clock (run_end until)) ∷ []) x) (sym every) st
