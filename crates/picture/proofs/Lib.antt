@@ -6,3 +6,4 @@ pub mod CommandLaws
 pub mod LongestLaws
 pub mod JoinLaws
 pub mod MixLaws
+pub mod PieceLaws

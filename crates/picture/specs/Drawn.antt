@@ -1,9 +1,9 @@
 -- The bands of eight classes, in lanes.
-use Rattle.std.specs.Prelude.{ℕ, ◌≡◌, ◌<◌, ◌≤◌, zero, suc, ◌+◌, ◌-◌, min, max, Bool, false, ◌&&◌, ◌||◌, not, List, [], ◌∷◌, Option, Some, None, slice_index_or}
+use Rattle.std.specs.Prelude.{ℕ, ◌≡◌, ◌<◌, ◌≤◌, zero, suc, ◌+◌, ◌-◌, ◌/◌, ◌%◌, ◌⊎◌, min, max, Bool, false, ◌&&◌, ◌||◌, not, List, [], ◌∷◌, length, Option, Some, None, unwrap_or, slice_index_or}
 use Rattle.wire_time.specs.declared.TheConstants.{CLASSES}
 use Rattle.gate_list.specs.Gate.{opens, plan_fault}
 use Rattle.gate_list.specs.Open.{open_while}
-use Rattle.picture.specs.declared.TheConstants.{MOST_BOUNDARIES}
+use Rattle.picture.specs.declared.TheConstants.{MAX_WIDTH, MOST_BOUNDARIES}
 use Rattle.list_config.specs.History.{Accepted, gates}
 use Rattle.list_config.specs.Current.{accepted_at, deletion_at, with_command}
 use Rattle.abstract_port.specs.AbstractPort.{plan_asked}
@@ -69,6 +69,27 @@ abbrev pub drawn_mixed : (ℕ → ℕ) → ℕ → ℕ → ℕ → ClassLane →
 drawn_mixed masks class m zero c = c
 drawn_mixed masks class m (suc n) c = stepped (is_mixed masks class m (suc n)) m c
 
+-- A piece of a time, from m on and before another moment: it is as long as given, or longer while no gate changes; the last may be shorter.
+pub record IsPiece (masks : ℕ → ℕ) (piece m upto next : ℕ) : Type 0 where
+  pub onward : m < next
+  pub within : next ≤ upto
+  pub near : (next ≤ m + piece) ⊎ ((k : ℕ) → m ≤ k → k < next → masks k ≡ masks m)
+  pub long : (m + piece ≤ next) ⊎ (next ≡ upto)
+
+-- The time from m on and before another moment is cut into pieces with these ends.
+abbrev pub ArePieces : (ℕ → ℕ) → ℕ → ℕ → ℕ → List ℕ → Type 0
+ArePieces masks piece m upto [] = upto ≤ m
+ArePieces masks piece m upto (next ∷ rest) = IsPiece masks piece m upto next × ArePieces masks piece next upto rest
+
+-- piece by piece
+unfoldable pub whole_pieces : (ℕ → ℕ) → ℕ → ℕ → List ℕ → ClassLane → ClassLane
+whole_pieces masks class m [] c = c
+whole_pieces masks class m (next ∷ rest) c = whole_pieces masks class next rest (drawn_whole masks class m (next - m) c)
+
+unfoldable pub mixed_pieces : (ℕ → ℕ) → ℕ → ℕ → List ℕ → ClassLane → ClassLane
+mixed_pieces masks class m [] c = c
+mixed_pieces masks class m (next ∷ rest) c = mixed_pieces masks class next rest (drawn_mixed masks class m (next - m) c)
+
 -- where its bands are joined at a gap
 abbrev pub bands_joined : ℕ → ClassLane → ClassLane
 bands_joined gap c = record c { lane = joined_at gap c.lane }
@@ -103,19 +124,31 @@ abbrev pub up_to : Option ℕ → ℕ → ℕ
 up_to None m = m
 up_to (Some to) m = min to m
 
+-- how long a piece is: what a pixel shows of the widest picture, which begins at a moment and ends at another, or, where no end is known, at m or later
+abbrev pub piece_of : ℕ → Option ℕ → ℕ → ℕ
+piece_of from to m = let shown = unwrap_or to m - from in max (shown / MAX_WIDTH + min 1 (shown % MAX_WIDTH)) 1
+
+-- The time from m on and before another moment is drawn in pieces: of each the classes have what they are whole or mixed in.
+pub record IsDrawnInPieces (masks : ℕ → ℕ) (piece m upto : ℕ) (classes some new_classes new_some : List ClassLane) : Type 0 where
+  pub ends : List ℕ
+  pub pieces : ArePieces masks piece m upto ends
+  pub whole : (class : ℕ) → class < CLASSES → class_at new_classes class ≡ whole_pieces masks class m ends (class_at classes class)
+  pub mixed : (class : ℕ) → class < CLASSES → class_at new_some class ≡ mixed_pieces masks class m ends (class_at some class)
+
 -- from when on bands are drawn while the gates go on to m
 abbrev pub first_drawn : Drawing → ℕ → ℕ
 first_drawn d m = min (max d.from d.moment) m
 
 -- The gates have gone on to m. Each change of the gates up to some moment is drawn; that is the last that is drawn, unless no boundary is left to be
--- looked at. From there on the times of each class are whole or mixed.
+-- looked at. From there on the time is drawn in pieces.
 pub record IsGoneOn (d new : Drawing) (m : ℕ) : Type 0 where
   pub seen : ℕ
   pub whole : 0 < new.left → up_to d.to m ≤ seen
   pub fewer : new.left ≤ d.left
-  pub classes : (class : ℕ) → class < CLASSES → class_at new.classes class ≡
-      drawn_whole (gates d.history) class seen (up_to d.to m - seen) (drawn (gates d.history) class (first_drawn d m) (seen - first_drawn d m) (class_at d.classes class))
-  pub mixed : (class : ℕ) → class < CLASSES → class_at new.mixed class ≡ drawn_mixed (gates d.history) class seen (up_to d.to m - seen) (class_at d.mixed class)
+  pub each : List ClassLane
+  pub bands : (class : ℕ) → class < CLASSES → class_at each class ≡ drawn (gates d.history) class (first_drawn d m) (seen - first_drawn d m) (class_at d.classes class)
+  pub pieces : IsDrawnInPieces (gates d.history) (piece_of d.from d.to (up_to d.to m)) seen (up_to d.to m) each d.mixed new.classes new.mixed
+  pub few : length pieces.ends ≤ MAX_WIDTH + 1
 
 -- 3. Commands
 

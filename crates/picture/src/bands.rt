@@ -1,11 +1,11 @@
 //! The bands of eight classes: when each is open, by gates of their own.
 
-ghost use Rattle.std.specs.Prelude.{◌≡◌, ◌≤◌, ◌<◌, ◌+◌, ◌-◌, ℕ, IfOk, Ok, Some, false, length, max, min, slice_set};
-ghost use Rattle.picture.specs.Words.{greatest_lead, greatest_moment, lead_of, opens, plan_fault, gates, kept, IsCurrent, accepted_at, deletion_at, with_command, AbstractPort, installs, plan_asked, MOST_SHAPES, bands_joined, class_at, drawn, drawn_mixed, drawn_whole, IsGoneOn, is_mixed, no_needs, open_while, opens_within, history_with, new_drawing, no_bands, no_classes, stepped, up_to, with_plan};
+ghost use Rattle.std.specs.Prelude.{◌≡◌, ◌≤◌, ◌<◌, ◌+◌, ◌-◌, ℕ, IfOk, Ok, Some, false, if◌then◌else◌, is_some, length, max, min, slice_set};
+ghost use Rattle.picture.specs.Words.{greatest_lead, greatest_moment, lead_of, opens, plan_fault, gates, kept, IsCurrent, accepted_at, deletion_at, with_command, AbstractPort, installs, plan_asked, MOST_BOUNDARIES, MOST_SHAPES, bands_joined, class_at, drawn, IsDrawnInPieces, IsGoneOn, IsPiece, is_mixed, no_needs, open_while, opens_within, history_with, new_drawing, no_bands, no_classes, piece_of, stepped, up_to, with_plan};
 
-use crate::MOST_BOUNDARIES;
 use crate::class_bands::ClassBands;
 use crate::span::Shape;
+use crate::{MAX_WIDTH, MOST_BOUNDARIES};
 use abstract_port::{Change, Command};
 use gate_list::{Schedule, Visits, is_open};
 use jumping::Jumping;
@@ -97,6 +97,34 @@ fn join_all<A: Allocator>(classes: &mut [ClassBands<A>; CLASSES], gap: u128)
     }
 }
 
+/// One class has no bands any more.
+fn clear_in<A: Allocator>(classes: &mut [ClassBands<A>; CLASSES], class: u8)
+    requires { class < CLASSES }
+    ensures { classes.new ≡ slice_set classes.old class no_bands }
+{
+    classes[class as usize].clear()
+}
+
+/// No class has bands any more.
+fn clear_all<A: Allocator>(classes: &mut [ClassBands<A>; CLASSES])
+    ensures { (class : ℕ) → class < CLASSES → class_at classes.new class ≡ no_bands }
+{
+    for class in 0..CLASSES as u8 {
+        clear_in(classes, class);
+    }
+}
+
+/// How many boundaries may still be looked at, where one is, or none is.
+fn left_after(left: u32, boundary: Option<u128>) -> u32
+    requires { 0 < left }
+    ensures { result ≡ left - (if is_some boundary then 1 else 0) }
+{
+    match boundary {
+        None => left,
+        Some(_) => left - 1,
+    }
+}
+
 /// Goes on from gate event to gate event up to a moment, in picoseconds, unless it is past, and draws the bands of the time until then. It
 /// stops where no boundary is left to be looked at.
 fn draw_to<A: Allocator>(
@@ -117,11 +145,12 @@ fn draw_to<A: Allocator>(
 {
     let mut now = own.now();
     while now < upto && *left > 0 {
-        let next = own.next_boundary(upto).unwrap_or(upto);
+        let boundary = own.next_boundary(upto);
+        let next = boundary.unwrap_or(upto);
         step_all(classes, own.mask(), now);
         own.move_to(next, &mut Visits::zero());
         now = next;
-        *left -= 1;
+        *left = left_after(*left, boundary);
     }
 }
 
@@ -211,27 +240,59 @@ fn mixed_all<A: Allocator>(own: &Jumping, mixed: &mut [ClassBands<A>; CLASSES], 
     }
 }
 
-/// What is left up to a moment, in picoseconds, is drawn at once.
+/// How long the time is that a pixel shows of the widest picture, in picoseconds, rounded up; the picture begins at a moment and ends at another,
+/// or, where no end is known, at this one or later.
+fn piece_of(from: u128, to: Option<u128>, upto: u128) -> u128
+    ensures value { result ≡ piece_of from to upto }
+    ensures some { 0 < result }
+{
+    let length = to.unwrap_or(upto).saturating_sub(from);
+    length.div_ceil(u128::from(MAX_WIDTH)).max(1)
+}
+
+/// Where a piece ends that begins now: it is as long as given, or longer while no gate changes, and ends at the end of the time at the latest.
+fn piece_end(own: &Jumping, piece: u128, upto: u128) -> u128
+    requires sound { IsCurrent own.now.history own.now.moment }
+    requires some { 0 < piece }
+    requires later { own.now.moment < upto }
+    requires within { upto ≤ greatest_moment }
+    ensures { IsPiece (gates own.now.history) piece own.now.moment upto result }
+{
+    let steady = own.next_boundary(upto).unwrap_or(upto);
+    let whole = own.now().saturating_add(piece).min(upto);
+    steady.max(whole)
+}
+
+/// What is left up to a moment, in picoseconds, is drawn piece by piece: of each piece each class is open at all moments, at some or at none.
 fn mix_to<A: Allocator>(
-    own: &Jumping,
+    own: &mut Jumping,
     classes: &mut [ClassBands<A>; CLASSES],
     mixed: &mut [ClassBands<A>; CLASSES],
+    piece: u128,
     upto: u128,
 )
-    requires sound { IsCurrent own.now.history own.now.moment }
+    requires sound { IsCurrent own.old.history own.old.moment }
+    requires some { 0 < piece }
     requires within { upto ≤ greatest_moment }
-    ensures classes { (class : ℕ) → class < CLASSES → class_at classes.new class ≡ drawn_whole (gates own.now.history) class own.now.moment (upto - own.now.moment) (class_at classes.old class) }
-    ensures mixed { (class : ℕ) → class < CLASSES → class_at mixed.new class ≡ drawn_mixed (gates own.now.history) class own.now.moment (upto - own.now.moment) (class_at mixed.old class) }
+    ensures sound { IsCurrent own.new.history own.new.moment }
+    ensures moment { own.new.moment ≡ max own.old.moment upto }
+    ensures history { own.new.history ≡ kept own.old.history own.new.moment }
+    ensures drawn { IsDrawnInPieces (gates own.old.history) piece own.old.moment upto classes.old mixed.old classes.new mixed.new }
 {
-    if own.now() < upto {
-        whole_all(own, classes, upto);
-        mixed_all(own, mixed, upto);
+    let mut now = own.now();
+    while now < upto {
+        let next = piece_end(own, piece, upto);
+        whole_all(own, classes, next);
+        mixed_all(own, mixed, next);
+        own.move_to(next, &mut Visits::zero());
+        now = next;
     }
 }
 
 /// The bands of the eight classes of a port: gates of its commands, since when each class is open, and the bands that are complete, in
 /// lanes. A band is a longest time for which its class stays open, of the moments from one on and, where there is an end, before another. Once
-/// `MOST_BOUNDARIES` have been looked at, a time at some of whose moments a class is open is mixed.
+/// `MOST_BOUNDARIES` have been looked at, the time is drawn in pieces as long as a pixel, or longer while no gate changes: a piece at some of whose
+/// moments a class is open is mixed.
 #[derive(Drop)]
 pub struct Bands<A: Allocator = Global> {
     gates: Jumping,
@@ -320,8 +381,22 @@ impl<A: Allocator> Bands<A> {
         }
     }
 
+    /// What was drawn is dropped: from now on nothing before `from` is drawn, in picoseconds, and nothing from `to` on, where it is given.
+    pub fn begin_at(&mut self, from: u128, to: Option<u128>)
+        ensures gates { (self.new.history ≡ self.old.history) × (self.new.moment ≡ self.old.moment) }
+        ensures viewport { (self.new.from ≡ from) × (self.new.to ≡ to) × (self.new.left ≡ MOST_BOUNDARIES) }
+        ensures classes { (class : ℕ) → class < CLASSES → class_at self.new.classes class ≡ no_bands }
+        ensures mixed { (class : ℕ) → class < CLASSES → class_at self.new.mixed class ≡ no_bands }
+    {
+        clear_all(&mut self.classes);
+        clear_all(&mut self.mixed);
+        self.from = from;
+        self.to = to;
+        self.left = MOST_BOUNDARIES;
+    }
+
     /// The gates go on to a moment, in picoseconds. Each band that ends on the way is put into its lane. Where no boundary is left to be looked at, what is
-    /// left of the way is one time, of which each class is open at all moments, at some or at none.
+    /// left of the way is drawn in pieces.
     pub fn go_to(&mut self, moment: u128)
         requires later { self.old.moment ≤ moment }
         requires within { moment ≤ greatest_moment }
@@ -334,7 +409,14 @@ impl<A: Allocator> Bands<A> {
         self.gates.move_to(first, &mut Visits::zero());
         let upto = up_to(self.to, moment);
         draw_to(&mut self.gates, &mut self.classes, &mut self.left, upto);
-        mix_to(&self.gates, &mut self.classes, &mut self.mixed, upto);
+        let piece = piece_of(self.from, self.to, upto);
+        mix_to(
+            &mut self.gates,
+            &mut self.classes,
+            &mut self.mixed,
+            piece,
+            upto,
+        );
         self.gates.move_to(moment, &mut Visits::zero());
     }
 
@@ -357,6 +439,20 @@ impl<A: Allocator> Bands<A> {
     {
         join_all(&mut self.classes, gap);
         join_all(&mut self.mixed, gap);
+    }
+
+    /// The moment from which on bands are drawn, in picoseconds.
+    pub fn from(&self) -> u128
+        ensures { result ≡ self.now.from }
+    {
+        self.from
+    }
+
+    /// The moment up to which bands are drawn, in picoseconds; none: as far as the gates go on.
+    pub fn to(&self) -> Option<u128>
+        ensures { result ≡ self.now.to }
+    {
+        self.to
     }
 
     /// The moment that the gates are at, in picoseconds.

@@ -72,6 +72,14 @@ impl<A: Allocator> ClassBands<A> {
         self.lane.join(gap);
     }
 
+    /// No bands any more; the room stays.
+    pub(crate) fn clear(&mut self)
+        ensures { self.new ≡ no_bands }
+    {
+        self.since = None;
+        self.lane.clear();
+    }
+
     /// The bands that are complete.
     pub(crate) fn shapes(&self) -> &[Shape]
         ensures value { result.now ≡ self.now.lane.shapes }

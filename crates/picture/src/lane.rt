@@ -149,6 +149,14 @@ impl<A: Allocator> Lane<A> {
         self.gap = self.gap.max(gap);
     }
 
+    /// No shapes any more; the room stays.
+    pub fn clear(&mut self)
+        ensures { self.new ≡ no_shapes }
+    {
+        self.shapes.truncate(0);
+        self.gap = 0;
+    }
+
     /// The shapes, in the order in which they came.
     pub fn shapes(&self) -> &[Shape]
         ensures value { result.now ≡ self.now.shapes }

@@ -1,6 +1,7 @@
 //! Laws of bands and of lanes. The functions run nothing: the contract of each is its law.
-ghost use Rattle.std.specs.Prelude.{◌≡◌, ℕ, ◌+◌, ◌<◌, ◌≤◌, [], List, None};
-ghost use Rattle.picture.specs.Words.{Shape, Going, bands_from, AreEarly, no_shapes, ClassLane, drawn, AreBands, IsLaneOf, Joins, push_shapes};
+ghost use Rattle.std.specs.Prelude.{◌≡◌, ℕ, ◌+◌, ◌-◌, ◌<◌, ◌≤◌, [], List, Option, None, true, unwrap_or};
+ghost use Rattle.picture.specs.Pane.{Pane, IsPane};
+ghost use Rattle.picture.specs.Words.{Shape, Going, bands_from, AreEarly, no_shapes, ClassLane, drawn, AreBands, IsLaneOf, IsPiece, Joins, is_mixed, piece_of, pixel_of, push_shapes};
 
 /// Where drawing begins there are no bands, and from one moment to another they go on as the longest times for which the class is open.
 pub fn bands_law()
@@ -28,4 +29,11 @@ pub fn lane_law()
 /// What joining neighbours does to shapes.
 pub fn join_law()
     ensures { (gap : ℕ) (shapes : List Shape) → Joins gap shapes }
+{}
+
+/// Where not each change of the gates is looked at, a class is grey in pieces alone that are at most so long; and a piece is at most as long as what a
+/// pixel shows of the picture.
+pub fn grey_law()
+    ensures short { (masks : ℕ → ℕ) (class piece m upto next : ℕ) → IsPiece masks piece m upto next → is_mixed masks class m (next - m) ≡ true → next ≤ m + piece }
+    ensures pixel { (w : Pane) (to : Option ℕ) (m : ℕ) → IsPane w.from w.to w.width → unwrap_or to m ≤ w.to → piece_of w.from to m ≤ pixel_of w }
 {}

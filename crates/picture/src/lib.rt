@@ -6,6 +6,7 @@
 
 mod bands;
 mod class_bands;
+mod cycle;
 mod lane;
 pub mod laws;
 mod span;
@@ -13,6 +14,7 @@ mod ticks;
 mod viewport;
 
 pub use bands::Bands;
+pub use cycle::cycle_of;
 pub use lane::Lane;
 pub use span::{Shape, Span};
 pub use ticks::{Unit, tick_step, unit_of};
@@ -24,7 +26,7 @@ pub const MIN_WIDTH: u32 = 200;
 /// The greatest width of a picture, in pixels.
 pub const MAX_WIDTH: u32 = 2400;
 
-/// At how many boundaries of the gates a picture looks at most. From there on it asks of each class, once for each step of the gates, whether it is open at all
+/// At how many boundaries of the gates a picture looks at most. From there on it asks of each class, for each pixel at most, whether it is open at all
 /// moments, at some or at none: so what it costs does not grow with the time that it shows.
 pub const MOST_BOUNDARIES: u32 = 100_000;
 

@@ -22,18 +22,18 @@ loop-now-preserved g c =
     let i = c.loop-now.invariant in
     let steady : IsSteady c.loop-now.own.history c.loop-now.now c.unwrap_or-next.result =
     subst (λ n. IsSteady c.loop-now.own.history c.loop-now.now n) (sym c.unwrap_or-next.ensures)
-    (steady_to c.loop-now.own.history c.loop-now.now c.args.upto c.next_boundary.result (rw i.here at c.next_boundary.ensures.none)) in
+    (steady_to c.loop-now.own.history c.loop-now.now c.args.upto c.next_boundary-boundary.result (rw i.here at c.next_boundary-boundary.ensures.none)) in
     let later : c.loop-now.now < c.unwrap_or-next.result =
     subst (λ n. c.loop-now.now < n) (sym c.unwrap_or-next.ensures)
-    (later_to c.loop-now.now c.args.upto c.next_boundary.result c.loop-now-test.true (rw i.here at c.next_boundary.ensures.between)) in
+    (later_to c.loop-now.now c.args.upto c.next_boundary-boundary.result c.loop-now-test.true (rw i.here at c.next_boundary-boundary.ensures.between)) in
     let within : c.unwrap_or-next.result ≤ c.args.upto =
-    subst (λ n. n ≤ c.args.upto) (sym c.unwrap_or-next.ensures) (within_to c.loop-now.now c.args.upto c.next_boundary.result (rw i.here at c.next_boundary.ensures.between)) in
+    subst (λ n. n ≤ c.args.upto) (sym c.unwrap_or-next.ensures) (within_to c.loop-now.now c.args.upto c.next_boundary-boundary.result (rw i.here at c.next_boundary-boundary.ensures.between)) in
     record {
       sound = c.move_to.ensures.sound;
       here = c.move_to.ensures.moment;
       onward = omega (arith, i.onward, later);
       within = omega (arith, within);
-      fewer = omega (arith, i.fewer);
+      fewer = omega (arith, i.fewer, c.left_after.ensures);
       history = c.move_to.ensures.history ∙ kept_on c.args.own.now.history c.args.own.now.moment c.requires.sound c.loop-now.now c.unwrap_or-next.result c.loop-now.own.history i.onward (omega (arith, later)) i.history;
       classes = λ class below.
           c.step_all.ensures class below
@@ -67,8 +67,8 @@ returns-after-loop-now g c =
       classes = λ class below. i.classes class below ∙ ap (λ n. drawn (gates c.args.own.now.history) class c.args.own.now.moment (n - c.args.own.now.moment) (class_at c.args.classes.now class)) (sym i.here);
     }
 
-pub next_boundary-requires : goal.next_boundary-requires
-next_boundary-requires g c =
+pub next_boundary-boundary-requires : goal.next_boundary-boundary-requires
+next_boundary-boundary-requires g c =
     let i = c.loop-now.invariant in
     record { sound = i.sound; later = omega (arith, i.here, c.loop-now-test.true); within = c.requires.within }
 
@@ -78,14 +78,14 @@ step_all-requires g c = (search rules, omega (arith, c.loop-now-test.true, c.req
 pub move_to-requires : goal.move_to-requires
 move_to-requires g c =
     let i = c.loop-now.invariant in
-    let between = rw i.here at c.next_boundary.ensures.between in
-    let later = later_to c.loop-now.now c.args.upto c.next_boundary.result c.loop-now-test.true between in
-    let within = within_to c.loop-now.now c.args.upto c.next_boundary.result between in
+    let between = rw i.here at c.next_boundary-boundary.ensures.between in
+    let later = later_to c.loop-now.now c.args.upto c.next_boundary-boundary.result c.loop-now-test.true between in
+    let within = within_to c.loop-now.now c.args.upto c.next_boundary-boundary.result between in
     record { sound = i.sound; later = omega (arith, i.here, c.unwrap_or-next.ensures, later); within = omega (arith, c.unwrap_or-next.ensures, within, c.requires.within) }
 
 pub loop-now-smaller : goal.loop-now-smaller
 loop-now-smaller g c =
     let i = c.loop-now.invariant in
-    let between = rw i.here at c.next_boundary.ensures.between in
-    let later = later_to c.loop-now.now c.args.upto c.next_boundary.result c.loop-now-test.true between in
+    let between = rw i.here at c.next_boundary-boundary.ensures.between in
+    let later = later_to c.loop-now.now c.args.upto c.next_boundary-boundary.result c.loop-now-test.true between in
     omega (arith, c.unwrap_or-next.ensures, later, c.loop-now-test.true)

@@ -1,13 +1,13 @@
-use Rattle.std.proofs.Common.{◌≡◌, ◌≤◌, ◌-◌, max, min, ap, refl, sym, ◌∙◌, rules, arith}
-use Rattle.picture.specs.Words.{gates, kept, Drawing, class_at, drawn_mixed, drawn_whole, up_to}
-use Rattle.picture.proofs.DrawLaws.{drawn_gone, gates_on, kept_on, up_to_within}
-use Rattle.picture.proofs.MixLaws.{mixed_same, whole_same}
+use Rattle.std.proofs.Common.{◌≡◌, ◌≤◌, max, min, ap, refl, sym, ◌∙◌, rules, arith, subst}
+use Rattle.picture.specs.Words.{gates, kept, Drawing, IsDrawnInPieces, piece_of, up_to}
+use Rattle.picture.proofs.DrawLaws.{drawn_gone, kept_on, up_to_within}
+use Rattle.picture.proofs.PieceLaws.{few_pieces, pieces_same}
 use Rattle.picture.proofs.bands.Bands.go_to.Goals as goal
 
 pub move_to-requires-2-clause-later : goal.move_to-requires-2-clause-later
 move_to-requires-2-clause-later g c =
     let upto = up_to_within c.self.inside.to c.args.moment in
-    omega (arith, c.draw_to.ensures.within, c.move_to.ensures.moment, c.min-first.ensures, c.up_to-upto.ensures, upto)
+    omega (arith, c.draw_to.ensures.within, c.mix_to.ensures.moment, c.move_to.ensures.moment, c.min-first.ensures, c.up_to-upto.ensures, upto)
 
 pub returns-clause-history : goal.returns-clause-history
 returns-clause-history g c =
@@ -16,12 +16,15 @@ returns-clause-history g c =
     let first : c.move_to.new.self.moment ≡ min (max c.self.inside.from c.self.inside.gates.moment) c.args.moment = omega (arith, c.move_to.ensures.moment, c.min-first.ensures, c.max.ensures, c.now.ensures) in
     let some : c.self.inside.gates.moment ≤ c.move_to.new.self.moment = omega (arith, first, began, c.requires.later) in
     let onward : c.move_to.new.self.moment ≤ c.draw_to.new.own.moment = c.draw_to.ensures.onward in
-    let last : c.draw_to.new.own.moment ≤ c.args.moment = omega (arith, first, c.draw_to.ensures.within, c.up_to-upto.ensures, within) in
+    let further : c.draw_to.new.own.moment ≤ c.mix_to.new.own.moment = omega (arith, c.mix_to.ensures.moment) in
+    let last : c.mix_to.new.own.moment ≤ c.args.moment = omega (arith, first, c.mix_to.ensures.moment, c.draw_to.ensures.within, c.up_to-upto.ensures, within) in
     let moved : c.move_to.new.self.history ≡ kept c.self.inside.gates.history c.move_to.new.self.moment = c.move_to.ensures.history ∙ ap (kept c.self.inside.gates.history) (sym c.move_to.ensures.moment) in
     let on : c.draw_to.new.own.history ≡ kept c.self.inside.gates.history c.draw_to.new.own.moment =
     c.draw_to.ensures.history ∙ kept_on c.self.inside.gates.history c.self.inside.gates.moment c.self.invariant c.move_to.new.self.moment c.draw_to.new.own.moment c.move_to.new.self.history some onward moved in
+    let mixed : c.mix_to.new.own.history ≡ kept c.self.inside.gates.history c.mix_to.new.own.moment =
+    c.mix_to.ensures.history ∙ kept_on c.self.inside.gates.history c.self.inside.gates.moment c.self.invariant c.draw_to.new.own.moment c.mix_to.new.own.moment c.draw_to.new.own.history (omega (arith, some, onward)) further on in
     rw (← c.self.view_is)
-    (c.move_to-2.ensures.history ∙ kept_on c.self.inside.gates.history c.self.inside.gates.moment c.self.invariant c.draw_to.new.own.moment c.args.moment c.draw_to.new.own.history (omega (arith, some, onward)) last on)
+    (c.move_to-2.ensures.history ∙ kept_on c.self.inside.gates.history c.self.inside.gates.moment c.self.invariant c.mix_to.new.own.moment c.args.moment c.mix_to.new.own.history (omega (arith, some, onward, further)) last mixed)
 
 pub returns-clause-drawn : goal.returns-clause-drawn
 returns-clause-drawn g c =
@@ -35,20 +38,21 @@ returns-clause-drawn g c =
     let old : Drawing = record { history = c.self.inside.gates.history; moment = c.self.inside.gates.moment; from = c.self.inside.from; to = c.self.inside.to; classes = c.self.inside.classes; mixed = c.self.inside.mixed; left = c.self.inside.left } in
     let seen = c.draw_to.new.own.moment in
     let h = c.self.inside.gates.history in
+    let piece : c.piece_of-piece.result ≡ piece_of c.self.inside.from c.self.inside.to (up_to c.self.inside.to c.args.moment) = c.piece_of-piece.ensures.value ∙ ap (piece_of c.self.inside.from c.self.inside.to) c.up_to-upto.ensures in
+    let pieces : IsDrawnInPieces (gates h) (piece_of c.self.inside.from c.self.inside.to (up_to c.self.inside.to c.args.moment)) seen (up_to c.self.inside.to c.args.moment) c.draw_to.new.classes c.self.inside.mixed c.mix_to.new.classes c.mix_to.new.mixed =
+    subst (λ p. IsDrawnInPieces (gates h) p seen (up_to c.self.inside.to c.args.moment) c.draw_to.new.classes c.self.inside.mixed c.mix_to.new.classes c.mix_to.new.mixed) piece
+    (subst (λ u. IsDrawnInPieces (gates h) c.piece_of-piece.result seen u c.draw_to.new.classes c.self.inside.mixed c.mix_to.new.classes c.mix_to.new.mixed) c.up_to-upto.ensures
+    (pieces_same h c.self.inside.gates.moment c.self.invariant seen c.draw_to.new.own.history (omega (arith, some, onward)) on _ _ _ _ _ _ c.mix_to.ensures.drawn)) in
+    let within = up_to_within c.self.inside.to c.args.moment in
     rw (← c.self.view_is)
     (record {
       seen = c.draw_to.new.own.moment;
       whole = λ left. let all = c.draw_to.ensures.whole left in omega (arith, all, c.up_to-upto.ensures);
       fewer = c.draw_to.ensures.fewer;
-      classes = λ class below.
-          c.mix_to.ensures.classes class below
-          ∙ whole_same (gates c.draw_to.new.own.history) (gates h) class seen (c.up_to-upto.result - seen) (class_at c.draw_to.new.classes class) (λ i from less. gates_on h c.self.inside.gates.moment c.self.invariant seen i c.draw_to.new.own.history (omega (arith, some, onward)) from on)
-          ∙ ap (λ u. drawn_whole (gates h) class seen (u - seen) (class_at c.draw_to.new.classes class)) c.up_to-upto.ensures
-          ∙ ap (drawn_whole (gates h) class seen (up_to c.self.inside.to c.args.moment - seen)) (c.draw_to.ensures.classes class below ∙ drawn_gone old c.args.moment c.move_to.new.self.moment seen class c.move_to.new.self.history c.self.invariant first (omega (arith, began, c.requires.later)) moved);
-      mixed = λ class below.
-          c.mix_to.ensures.mixed class below
-          ∙ mixed_same (gates c.draw_to.new.own.history) (gates h) class seen (c.up_to-upto.result - seen) (class_at c.self.inside.mixed class) (λ i from less. gates_on h c.self.inside.gates.moment c.self.invariant seen i c.draw_to.new.own.history (omega (arith, some, onward)) from on)
-          ∙ ap (λ u. drawn_mixed (gates h) class seen (u - seen) (class_at c.self.inside.mixed class)) c.up_to-upto.ensures;
+      each = c.draw_to.new.classes;
+      bands = λ class below. c.draw_to.ensures.classes class below ∙ drawn_gone old c.args.moment c.move_to.new.self.moment seen class c.move_to.new.self.history c.self.invariant first (omega (arith, began, c.requires.later)) moved;
+      pieces = pieces;
+      few = few_pieces (gates h) c.self.inside.from c.self.inside.to seen c.args.moment pieces.ends (omega (arith, first, onward, within)) pieces.pieces;
     })
 
 pub move_to-requires-clause-later : goal.move_to-requires-clause-later
@@ -64,7 +68,7 @@ draw_to-requires g c =
 pub mix_to-requires : goal.mix_to-requires
 mix_to-requires g c =
     let within = up_to_within c.self.inside.to c.args.moment in
-    (search rules, (c.draw_to.ensures.sound, omega (arith, c.up_to-upto.ensures, within, c.requires.within)))
+    (search rules, (c.draw_to.ensures.sound, (c.piece_of-piece.ensures.some, omega (arith, c.up_to-upto.ensures, within, c.requires.within))))
 
 pub returns-clause-moment : goal.returns-clause-moment
 returns-clause-moment g c = c.move_to-2.ensures.moment
