@@ -12,8 +12,8 @@ _taprio_port() {
         check) words='--rate --windows --script --strict --explain --help' values='--rate' ;;
         streams) words='--with --from --strict --explain --help' values='--with --from' ;;
         bounds) words='--rate --mtu --room --frames --strict --explain --help' values='--rate --mtu --room --frames' ;;
-        draw) words='--rate --mtu --room --from --to --width --strict --explain --help' values='--rate --mtu --room --from --to --width' ;;
-        frames) words='--rate --mtu --room --until --capture --by-stream --strict --explain --help' values='--rate --mtu --room --until --capture --by-stream' ;;
+        draw) words='--rate --mtu --room --until --from --to --width --strict --explain --help' values='--rate --mtu --room --until --from --to --width' ;;
+        frames) words='--rate --mtu --room --until --by-stream --explain --help' values='--rate --mtu --room --until --by-stream' ;;
         *) return ;;
     esac
     case " $values " in

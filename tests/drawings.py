@@ -13,6 +13,7 @@ LEFT, RIGHT = 64, 32
 # The least width of a band and of a bar, and of what has an edge, in hundredths of a pixel.
 LEAST = {"o": 100, "f": 200}
 LEAST_EDGED = 400
+PS = {"ps": 1, "ns": 10**3, "us": 10**6, "ms": 10**9, "s": 10**12}
 TOPS = [310, 274, 238, 202, 166, 130, 94, 58, 346]
 WIRE = 8
 RECT = re.compile(r'<rect class="([opf])( s)?" x="(\d+\.\d\d)" y="(\d+)" width="(\d+\.\d\d)" height="(\d+)"/>')
@@ -26,6 +27,8 @@ class Run:
 
     def __init__(self, number):
         rng = random.Random(f"drawings {number}")
+        # Each third says no moment to the picture, which covers what the run has; each ninth run has no frame.
+        self.is_open = number % 3 == 0
         self.classes = rng.randint(1, 8)
         self.entries = [(rng.randrange(1 << self.classes), rng.randint(600, 40_000)) for _ in range(rng.randint(1, 5))]
         self.base = rng.randrange(200_000)
@@ -34,19 +37,34 @@ class Run:
             f"tc qdisc replace dev eth0 root taprio num_tc {self.classes} map {' '.join(str(c) for c in range(self.classes))} "
             f"base-time {self.base} {' '.join(f'sched-entry S {mask:02x} {interval}' for mask, interval in self.entries)}"
         ]
-        for identifier in range(1, rng.randint(2, 40)):
+        for identifier in range(1, 1 if number % 9 == 0 else rng.randint(2, 40)):
             if rng.random() < 0.6:
                 self.now += rng.choice([1, 700, 50_000, 1_000_000, 30_000_000]) * rng.randint(1, 20)
                 lines.append(f"clock {self.now}")
             length = rng.choice([13, 60, 60, 200, 1514, 1515])
-            number = rng.randrange(self.classes)
-            lines.append(f"frame {identifier} {number} {length}")
-            self.frames.append((self.now, number))
+            priority = rng.randrange(self.classes)
+            lines.append(f"frame {identifier} {priority} {length}")
+            self.frames.append((self.now, priority))
         self.to = self.now + rng.choice([1_000, 5_000_000, 100_000_000]) * rng.randint(1, 9)
         self.begin = rng.choice([0, 0, rng.randrange(self.to)])
         self.width = rng.choice([400, 777, 1200, 2400])
         self.room = rng.choice([1, 2, 128])
         self.script = "".join(f"{line}\n" for line in lines).encode()
+
+    def words(self):
+        """The options that say which time is drawn."""
+        return [] if self.is_open else ["--from", str(self.begin), "--to", str(self.to)]
+
+    def cover(self, answers):
+        """What a picture covers that is told no moment: from the first frame to the run's end, or two cycles of the schedule."""
+        ends = [int(line.split()[7]) for line in answers.split("\n") if line.startswith("start ")]
+        if self.frames:
+            self.begin = self.frames[0][0]
+            last = max([self.now, *ends[-1:]])
+            self.to = last if self.begin < last else self.begin + 1_000_000
+        else:
+            change = int(re.search(r"installed change (\d+)", answers)[1])
+            self.begin, self.to = change, change + 2000 * sum(interval for _, interval in self.entries)
 
     def x(self, moment):
         """The place of a moment, in hundredths of a pixel; before and after the picture that of its edge."""
@@ -141,10 +159,14 @@ def compare(program, number):
     """Compares the picture of a run with its answers."""
     one = Run(number)
     room = ["--room", str(one.room)]
-    told = run(program, ["script", "--until", str(one.to), *room], one.script)
-    words = ["draw", "--from", str(one.begin), "--to", str(one.to), "--width", str(one.width), *room]
-    picture = run(program, words, one.script)
+    if one.is_open:
+        one.cover(run(program, ["script", *room], one.script).output.decode())
+    told = run(program, ["script", "--until", str(max(one.to, one.now)), *room], one.script)
+    picture = run(program, ["draw", *one.words(), "--width", str(one.width), *room], one.script)
     assert (told.status, picture.status, told.errors, picture.errors) == (0, 0, b"", b""), (number, told, picture)
+    assert picture.output.startswith(b"<svg ") and picture.output.endswith(b"\n</svg>\n"), (number, picture.output[-40:])
+    counted = re.findall(r">counted from (\d+) (\w+)<", picture.output.decode())
+    assert [int(many) * PS[unit] for many, unit in counted] == [one.begin] * (one.is_open and one.begin > 0), (number, counted, one.begin)
     wanted, got = expected(one, told.output.decode()), drawn(picture.output.decode())
     for kind in wanted:
         assert sorted(wanted[kind]) == sorted(got[kind]), f"run {number}, marks {kind}: wanted {sorted(wanted[kind])}, got {sorted(got[kind])}"

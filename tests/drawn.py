@@ -50,7 +50,7 @@ frame 1 0 60
 frame 2 0 60
 clock 50000000
 """
-    words = ["draw", "--rate", "1000", "--mtu", "1500", "--room", "128", "--from", "0", "--width", "1200"]
+    words = ["draw", "--rate", "1000", "--mtu", "1500", "--room", "128", "--from", "0", "--to", "50us", "--width", "1200"]
     without, ran = run(program, ["draw"], script), run(program, words, script)
     assert (without.status, ran.status) == (0, 0) and without.output == ran.output
     assert without.output.startswith(b"<svg "), shown(without.output)

@@ -181,6 +181,24 @@ static void of_files(struct call c, const char *input, const char *second, const
     free(none.at);
 }
 
+/* A run goes on to a moment, and its picture to the run's end. */
+static void runs_on(void) {
+    struct octets script = text("frame 1 0 60\n"), picture = lent(1 << 16), fault = lent(64), none = text("");
+    struct call on = {DRAW, usual, whole, 0, 0, {0}, {0}}, up_to = on;
+    on.input = up_to.input = script;
+    on.values.has_until = 1;
+    on.values.until_low = 5000000;
+    up_to.shown.from_low = up_to.shown.from_high = 0;
+    up_to.shown.has_to = 1;
+    up_to.shown.to_low = 5000000;
+    struct octets wanted = {picture.at, call(&up_to, picture, fault).output};
+    agrees("a picture that runs on", &on, TAPRIO_DONE, wanted, none);
+    free(script.at);
+    free(picture.at);
+    free(fault.at);
+    free(none.at);
+}
+
 /* worked scripts: a script and its answers are parted by four dashes, one script from the next by four equals signs */
 static void worked(void) {
     struct octets all = file("worked.txt");
@@ -680,6 +698,7 @@ int main(int count, char **words) {
     struct call table = {STREAMS, usual, whole, 0, 0, {0}, {0}};
     of_files(table, "planned.streams", "planned.schedule", "planned.script");
     struct call later = {STREAMS_FROM, usual, whole, 0, 0, {0}, {0}};
+    later.shown.from_low = later.shown.from_high = 0;
     of_files(later, "planned.streams", "planned.schedule", "planned.script");
     later.shown.from_low = 5;
     later.shown.from_high = 3; /* 3 * 2^64 + 5 */
@@ -698,6 +717,7 @@ int main(int count, char **words) {
     part.shown.has_to = 1;
     part.shown.to_low = 60000000;
     of_files(part, "schedule.script", NULL, "schedule.svg");
+    part.shown.from_high = 0;
     part.shown.from_low = 100000000;
     part.shown.to_low = 130000000;
     of_files(part, "guard_band.script", NULL, "guard_band.svg");
@@ -709,6 +729,7 @@ int main(int count, char **words) {
     part.shown.from_low = 16110481865816767488u;
     part.shown.to_low = 16110481868816767488u;
     of_files(part, "manual.script", NULL, "manual.svg");
+    runs_on();
     machine();
     nulls();
     schedules();

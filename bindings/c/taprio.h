@@ -72,18 +72,19 @@ struct taprio_port_values {
 #define TAPRIO_PORT_VALUES {1000, 1500, 128, 0, 0, 0, 0}
 #define TAPRIO_FRAMES 1000000
 
-/* What a picture shows; 48 octets. The program's values where no words are given: TAPRIO_PICTURE_VALUES. */
+/* What a picture shows; 48 octets. The program's values where no words are given: TAPRIO_PICTURE_VALUES. Where there is neither a moment that it begins
+ * at nor one that it ends at, it covers the frames, or without a frame two cycles of the first schedule, as `taprio_port draw` does. */
 struct taprio_picture_values {
     uint64_t from_low;  /* the moment that it begins at, in picoseconds: from_high * 2^64 + from_low, */
-    uint64_t from_high; /* at most 9223372036854774807000 */
-    uint64_t has_to;    /* 0: it ends where the run ends; else there is a moment that it ends at */
+    uint64_t from_high; /* at most 9223372036854774807000; both UINT64_MAX: no moment */
+    uint64_t has_to;    /* 0: no moment that it ends at; else there is one */
     uint64_t to_low;    /* that moment, in picoseconds: to_high * 2^64 + to_low, after the one that it begins at, */
     uint64_t to_high;   /* at most 9223372036854775807000 */
     uint32_t width;     /* pixels, 400 to 2400 */
     uint32_t unused;    /* any */
 };
 
-#define TAPRIO_PICTURE_VALUES {0, 0, 0, 0, 0, 1200, 0}
+#define TAPRIO_PICTURE_VALUES {UINT64_MAX, UINT64_MAX, 0, 0, 0, 1200, 0}
 
 /* How a call ended; 24 octets. */
 struct taprio_ran {
@@ -156,7 +157,8 @@ void taprio_bounds(const struct taprio_port_values *values, uint64_t frames, con
                    const uint8_t *schedules, size_t schedules_length, uint8_t *output, size_t output_length, uint8_t *fault,
                    size_t fault_length, struct taprio_ran *ran);
 
-/* Draws the run of a script as an SVG picture, as `taprio_port draw` does. There is no output at TAPRIO_BAD_INPUT. */
+/* Draws the run of a script as an SVG picture, as `taprio_port draw` does. The run goes on to `until`, where it is given. There is no output at
+ * TAPRIO_BAD_INPUT. */
 void taprio_draw(const struct taprio_port_values *values, const struct taprio_picture_values *shown, const uint8_t *script,
                  size_t script_length, uint8_t *output, size_t output_length, uint8_t *fault, size_t fault_length,
                  struct taprio_ran *ran);

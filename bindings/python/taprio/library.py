@@ -312,22 +312,30 @@ def bounds(
     return _one("taprio_bounds", given, 4 * (len(table) + len(schedules)) + 4096)
 
 
+def _beginning(begin: int | None) -> tuple[int, int]:
+    """The halves of the moment that a picture begins at: 2^128 - 1 says that there is none, and no moment is so great."""
+    moment = 2**128 - 1 if begin is None else min(number(begin, 128, "begin"), 2**128 - 2)
+    return moment % 2**64, moment >> 64
+
+
 def draw(
     script: Octets,
     rate: int = 1000,
     mtu: int = 1500,
     room: int = 128,
     until: int | None = None,
-    begin: int = 0,
+    begin: int | None = None,
     end: int | None = None,
     width: int = 1200,
 ) -> bytes:
-    """Draws the run of a script as an SVG picture, of the time from `begin` to `end` or to the run's end, `width` pixels wide.
+    """Draws the run of a script as an SVG picture, of the time from `begin` to `end`, `width` pixels wide.
 
-    `begin` is at most 9223372036854774807000, `end` after it and at most 9223372036854775807000, `width` 400 to 2400.
+    `begin` is at most 9223372036854774807000, `end` after it and at most 9223372036854775807000, `width` 400 to 2400. With `begin` alone the picture goes to
+    the run's end, and with `end` alone it begins at 0. With neither it begins with the first frame, and goes to the run's end; without a frame it shows two
+    cycles of the first schedule. The run goes on to `until`, as that of `run`.
     """
     script = octets(script)
-    _, from_low, from_high = _halves(begin, "begin")
+    from_low, from_high = _beginning(begin)
     has_to, to_low, to_high = _halves(end, "end")
     shown = _PictureValues(from_low, from_high, has_to, to_low, to_high, number(width, 32, "width"), 0)
     given = [ctypes.byref(_port(rate, mtu, room, until, False)), ctypes.byref(shown), script, len(script)]

@@ -53,7 +53,7 @@ class Backend(Protocol):
         mtu: int = 1500,
         room: int = 128,
         until: int | None = None,
-        begin: int = 0,
+        begin: int | None = None,
         end: int | None = None,
         width: int = 1200,
     ) -> bytes:
@@ -173,15 +173,14 @@ class Program:
         mtu: int = 1500,
         room: int = 128,
         until: int | None = None,
-        begin: int = 0,
+        begin: int | None = None,
         end: int | None = None,
         width: int = 1200,
     ) -> bytes:
-        """Draws the run of a script, as `taprio.draw` does, but that `until` has to be None: the program runs to `end`."""
+        """Draws the run of a script, as `taprio.draw` does."""
         script = octets(script)
-        if until is not None:
-            raise TypeError("the program draws to `end`, and takes no `until`")
-        words = ["draw", *self._port(rate, mtu, room, None, False), "--from", str(number(begin, 128, "begin"))]
+        words = ["draw", *self._port(rate, mtu, room, until, False)]
+        words += [] if begin is None else ["--from", str(number(begin, 128, "begin"))]
         words += [] if end is None else ["--to", str(number(end, 128, "end"))]
         return self._one([*words, "--width", str(number(width, 32, "width"))], script)
 

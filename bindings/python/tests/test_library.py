@@ -160,6 +160,20 @@ class Examples:
             with self.subTest(name):
                 self.assertEqual(self.port.draw(octets(f"{name}.script"), begin=begin, end=end), octets(f"{name}.svg"))
 
+    def test_a_picture_that_runs_on(self):
+        """A run goes on to `until`, and its picture to the run's end."""
+        script = "frame 1 0 60\n"
+        self.assertEqual(self.port.draw(script, until=5_000_000), self.port.draw(script, begin=0, end=5_000_000))
+        self.assertNotEqual(self.port.draw(script), self.port.draw(script, until=5_000_000))
+
+    def test_a_picture_that_says_when_it_begins(self):
+        """Where neither moment is given a picture begins with the first frame, or with the first schedule."""
+        schedule = "tc qdisc replace dev eth0 root taprio num_tc 1 map 0 base-time 1000000 sched-entry S 01 300000 sched-entry S 00 200000\n"
+        self.assertIn(b">counted from 1 ms<", self.port.draw(schedule))
+        self.assertIn(b">counted from 3 ms<", self.port.draw(f"{schedule}clock 3000000000\nframe 1 0 60\n"))
+        self.assertNotIn(b">counted from ", self.port.draw(schedule, begin=0))
+        self.assertNotIn(b">counted from ", self.port.draw(schedule, end=5_000_000_000))
+
     def test_replays(self):
         script, capture = octets("machine.script"), octets("machine.pcap")
         got = self.port.replay(script, capture, until=2_000_000_000)
@@ -287,10 +301,6 @@ class OverTheLibrary(Examples, Faults, Room, unittest.TestCase):
             with self.assertRaisesRegex(taprio.LibraryMissing, "no taprio_streams_from"):
                 taprio.streams("", from_=1)
 
-    def test_a_picture_that_runs_on(self):
-        script = octets("first.script")
-        self.assertEqual(taprio.draw(script, until=5_000_000, end=5_000_000), taprio.draw(script, end=5_000_000))
-
 
 @support.wants_library
 @unittest.skipUnless(support.HAS_BOUNDS, "the library has no bounds: bindings/c/build makes it anew")
@@ -326,10 +336,6 @@ class Moments(unittest.TestCase):
 @support.wants_program
 class OverTheProgram(Examples, Faults, Room, Bounds, Frames, FramesByStream, unittest.TestCase):
     port = taprio.Program(support.PROGRAM or "taprio_port")
-
-    def test_what_it_can_not_do(self):
-        with self.assertRaises(TypeError):
-            self.port.draw("", until=5)
 
     def test_no_program(self):
         with self.assertRaisesRegex(taprio.TaprioError, "the program can't be run"):

@@ -17,7 +17,8 @@ use Rattle.job.specs.Lines.{fault_of_line}
 use Rattle.script.specs.Outcome.{long_line, with_line}
 use Rattle.job.specs.declared.fault.Fault.TheVariants as Faults
 use Rattle.script.proofs.LineSteps.{StandsFor, stands_for_itself, stands-after, event-answers}
-use Rattle.drawing.specs.Course.{class_at, seen_after}
+use Rattle.drawing.specs.Course.{asked_at, class_at, cycle_at, seen_after}
+use Rattle.drawing.specs.declared.course.Asked.{Asked}
 
 module _ (law : IsSettling) (q p : AbstractPort) (s : StandsFor q p) where
   same-class : (e : Event) → class_at e q ≡ class_at e p
@@ -27,11 +28,14 @@ module _ (law : IsSettling) (q p : AbstractPort) (s : StandsFor q p) where
   same-class Query = refl
   same-class (Count class) = refl
 
+  same-asked : (e : Event) → asked_at e q ≡ asked_at e p
+  same-asked e = ap (λ class. let a : Asked = record { class = class; cycle = cycle_at e } in a) (same-class e)
+
   event-drawn : (e : Event) (x : Course) → seen_at e q x ≡ seen_at e p x
   event-drawn e x =
-      ap (λ n. seen_all n (class_at e q) (answers_to e q).0 x) (ap (λ y. y.now) s.same)
-      ∙ ap (λ class. seen_all p.now class (answers_to e q).0 x) (same-class e)
-      ∙ ap (λ answers. seen_all p.now (class_at e p) answers x) (event-answers law q p s e)
+      ap (λ n. seen_all n (asked_at e q) (answers_to e q).0 x) (ap (λ y. y.now) s.same)
+      ∙ ap (λ asked. seen_all p.now asked (answers_to e q).0 x) (same-asked e)
+      ∙ ap (λ answers. seen_all p.now (asked_at e p) answers x) (event-answers law q p s e)
 
   -- a request draws the same of the port that runs and of the abstract one that it stands for
   pub same-drawn : (r : Request) (x : Course) → seen_by r q x ≡ seen_by r p x

@@ -1,5 +1,6 @@
 pub mod Layout
 pub mod View
+pub mod Scope
 pub mod Shapes
 pub mod Arrivals
 pub mod Course

@@ -1,7 +1,9 @@
 -- What the lines of a script draw, and the fault that ends them.
-use Rattle.std.specs.Prelude.{◌≡◌, ⊤, Option, Some, None, Result, Ok, Err}
+use Rattle.std.specs.Prelude.{ℕ, ◌≡◌, min, max, ⊤, Option, Some, None, Result, Ok, Err}
 use Rattle.abstract_port.specs.AbstractPort.{AbstractPort, settled}
-use Rattle.abstract_port.specs.Answers.{port_after}
+use Rattle.wire_time.specs.Moment.{greatest_moment}
+use Rattle.abstract_port.specs.Answers.{answers_to, port_after}
+use Rattle.abstract_port.specs.declared.Event.TheVariants.{Clock}
 use Rattle.script.specs.Requests.{Request, Asks, NoCommand}
 use Rattle.script.specs.Responses.{events_of, responses_to}
 use Rattle.script.specs.Outcome.{Reading}
@@ -32,3 +34,12 @@ Takes (Err (Faults.Input bad)) reading p x q y = reading.fault ≡ Some bad
 Takes (Err Faults.Read) reading p x q y = ⊤
 Takes (Err Faults.Write) reading p x q y = ⊥
 Takes (Err Faults.Memory) reading p x q y = ⊥
+
+-- The run has gone on to a moment, where one is given.
+abbrev pub IsRunOn : Option ℕ → AbstractPort → Course → AbstractPort → Course → Type 0
+IsRunOn None p x q y = (q ≡ p) × (y ≡ x)
+IsRunOn (Some until) p x q y = (q ≡ settled (answers_to (Clock until) p).1) × (y ≡ seen_at (Clock until) p x)
+
+-- the last moment of a run: that of the port, or the end of the last frame
+abbrev pub last_moment : AbstractPort → Course → ℕ
+last_moment p x = min (max p.now x.last) greatest_moment

@@ -4,27 +4,39 @@ ghost use Rattle.std.specs.Prelude.{◌≡◌, ◌<◌, ◌≤◌, IfOk};
 ghost use Rattle.drawing.specs.Words.{all_wait_on, greatest_moment, nothing_seen, waiting_in, waits_on};
 
 use crate::arrivals::Arrivals;
+use crate::scope::Scope;
 use crate::shapes::Shapes;
 use crate::view::View;
 use abstract_port::{Answer, Start};
 use std::alloc::{AllocError, Allocator};
 use std::marker::Model;
 
-/// When the frames that wait have come, what is drawn so far, and when the last frame so far ends, in picoseconds.
+/// What an event says beside its answers.
+#[derive(Clone, Copy, Debug, PartialEq, Eq)]
+pub struct Asked {
+    /// The class of a frame that comes, if it has one.
+    pub class: Option<u8>,
+    /// How long the cycle of a schedule is that is given, in picoseconds.
+    pub cycle: Option<u128>,
+}
+
+/// When the frames that wait have come, what is drawn so far, when the last frame so far ends, in picoseconds, and what the run has had so far.
 #[derive(Drop)]
 pub struct Course<A: Allocator> {
     arrivals: Arrivals<A>,
     shapes: Shapes<A>,
     last: u128,
+    lead: u128,
+    scope: Scope,
 }
 
-/// A contract sees the three.
+/// A contract sees them.
 impl<A: Allocator> Model for Course<A> {
     ghost use Rattle.drawing.specs.Course.{Course};
 
     ghost Value = { Course };
 
-    ghost view = { λ c. record { waiting = c.arrivals; shown = c.shapes; last = c.last } };
+    ghost view = { λ c. record { waiting = c.arrivals; shown = c.shapes; last = c.last; lead = c.lead; scope = c.scope } };
 }
 
 /// The frames of a class that wait wait on to this moment, in picoseconds.
@@ -49,7 +61,7 @@ fn all_wait_on<A: Allocator>(arrivals: &Arrivals<A>, shapes: &mut Shapes<A>, upt
 }
 
 impl<A: Allocator> Course<A> {
-    ghost use Rattle.drawing.specs.Course.{ended_at, seen, started};
+    ghost use Rattle.drawing.specs.Course.{changed, dropped, ended_at, queued, seen, started};
     ghost use Rattle.drawing.specs.Shapes.{IsJoined};
 
     /// Nothing is drawn, and of what comes what this view shows will be; there is room for so many frames a class, and a command has its lead moment so
@@ -65,6 +77,8 @@ impl<A: Allocator> Course<A> {
             arrivals,
             shapes,
             last: 0,
+            lead,
+            scope: Scope::Nothing,
         })
     }
 
@@ -77,19 +91,41 @@ impl<A: Allocator> Course<A> {
         self.last = start.end;
     }
 
-    /// Draws an answer to an event that a port gives at this moment, in picoseconds; a frame that comes then has this class, if it has one.
-    pub fn see(&mut self, now: u128, class: Option<u8>, answer: &Answer)
+    /// A frame of a class is queued at this moment, in picoseconds.
+    fn see_queued(&mut self, now: u128, class: u8)
+        ensures { self.new ≡ queued now class self.old }
+    {
+        self.arrivals.put(class, now);
+        self.scope = self.scope.with_frame(now);
+    }
+
+    /// A frame is dropped at this moment, in picoseconds.
+    fn see_dropped(&mut self, now: u128, class: Option<u8>, id: u64)
         requires { now ≤ greatest_moment }
-        ensures { self.new ≡ seen now class answer.now self.old }
+        ensures { self.new ≡ dropped now class id self.old }
+    {
+        self.shapes.put_drop(id, class, now);
+        self.scope = self.scope.with_frame(now);
+    }
+
+    /// A command is accepted at this moment, by which the schedule changes at another, to one with this cycle; all are in picoseconds.
+    fn see_change(&mut self, now: u128, change: u128, cycle: Option<u128>)
+        ensures { self.new ≡ changed now change cycle self.old }
+    {
+        self.shapes.mark_change(now, change);
+        self.scope = self.scope.with_command(self.lead, now, change, cycle);
+    }
+
+    /// Draws an answer to an event that a port gives at this moment, in picoseconds; the event says so much beside.
+    pub fn see(&mut self, now: u128, asked: Asked, answer: &Answer)
+        requires { now ≤ greatest_moment }
+        ensures { self.new ≡ seen now asked answer.now self.old }
     {
         match answer {
-            Answer::Queued {
-                id: _,
-                class: taken,
-            } => self.arrivals.put(*taken, now),
+            Answer::Queued { id: _, class } => self.see_queued(now, *class),
             Answer::Start(start) => self.see_start(start),
-            Answer::Dropped { id, why: _ } => self.shapes.put_drop(*id, class, now),
-            Answer::Installed(change) => self.shapes.mark_change(now, *change),
+            Answer::Dropped { id, why: _ } => self.see_dropped(now, asked.class, *id),
+            Answer::Installed(change) => self.see_change(now, *change, asked.cycle),
             Answer::Refused(_)
             | Answer::Backward
             | Answer::Report(_)
@@ -117,9 +153,16 @@ impl<A: Allocator> Course<A> {
     /// Neighbours in a lane that are closer to one another than a gap, in picoseconds, are joined.
     pub fn join(&mut self, gap: u128)
         ensures shown { IsJoined gap self.old.shown self.new.shown }
-        ensures same { (self.new.waiting ≡ self.old.waiting) × (self.new.last ≡ self.old.last) }
+        ensures same { (self.new.waiting ≡ self.old.waiting) × (self.new.last ≡ self.old.last) × (self.new.lead ≡ self.old.lead) × (self.new.scope ≡ self.old.scope) }
     {
         self.shapes.join(gap);
+    }
+
+    /// What the run has had so far.
+    pub fn scope(&self) -> Scope
+        ensures { result ≡ self.now.scope }
+    {
+        self.scope
     }
 
     /// When the last frame so far ends, in picoseconds; 0 where none started.

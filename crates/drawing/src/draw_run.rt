@@ -4,18 +4,21 @@ ghost use Rattle.std.specs.Prelude.{◌≡◌, ◌≤◌, ℕ, IfSome, List, Ok,
 ghost use Rattle.words.specs.Words.{words_of};
 ghost use Rattle.script.specs.Responses.{responses_to};
 ghost use Rattle.wire_time.specs.Moment.{greatest_lead};
-ghost use Rattle.drawing.specs.Words.{installs, settled, answers_to, IsSoundPort, greatest_moment, Command, script_left, IsReader, TcFault, reading_of, request_of, tc_request, seen_at, IsDrawn, fault_in, Takes, TakesLine, seen_by};
-ghost use Rattle.drawing.specs.Course.{class_at};
+ghost use Rattle.drawing.specs.Words.{installs, settled, answers_to, IsSoundPort, greatest_moment, Command, script_left, IsReader, TcFault, reading_of, request_of, tc_request, seen_at, IsDrawn, IsRunOn, fault_in, last_moment, Takes, TakesLine, seen_by};
+ghost use Rattle.abstract_port.specs.declared.Event.TheVariants.{Clock};
+ghost use Rattle.drawing.specs.Course.{asked_at, class_at, cycle_at, cycle_in, ended_at};
 
-use crate::course::Course;
+use crate::course::{Asked, Course};
 use crate::options::DrawOptions;
 use crate::page::Page;
+use crate::scope::Scope;
 use crate::svg::put_picture;
+use crate::view::View;
 use crate::view_fit::fit;
 use abstract_port::{Answer, Command, Event, Refused};
 use answer_text::WriteFault;
 use line_reader::LineReader;
-use picture::Bands;
+use picture::{Bands, cycle_of};
 use script::{
     BadLine, Failure, RunFault, RunningPort, Said, ScriptFault, Settings, Watch, read_line, read_tc,
 };
@@ -34,6 +37,36 @@ fn class_at<A: Allocator>(port: &RunningPort<A>, event: &Event<'_>) -> Option<u8
     }
 }
 
+/// How long the cycle of a command's schedule is, in picoseconds.
+fn cycle_in(command: &Command) -> Option<u128>
+    ensures { result ≡ cycle_in command.now }
+{
+    match command {
+        Command::Delete => None,
+        Command::Replace(change) => Some(cycle_of(change)),
+    }
+}
+
+/// How long the cycle of a schedule is that is given, in picoseconds.
+fn cycle_at(event: &Event<'_>) -> Option<u128>
+    ensures { result ≡ cycle_at event.now }
+{
+    match event {
+        Event::Install(command) => cycle_in(command),
+        _ => None,
+    }
+}
+
+/// What an event says beside its answers.
+fn asked_at<A: Allocator>(port: &RunningPort<A>, event: &Event<'_>) -> Asked
+    ensures { result ≡ asked_at event.now port.now.port }
+{
+    Asked {
+        class: class_at(port, event),
+        cycle: cycle_at(event),
+    }
+}
+
 /// Takes an event, and draws the answers to it.
 pub fn take<A: Allocator>(port: &mut RunningPort<A>, course: &mut Course<A>, event: &Event<'_>)
     ensures course { course.new ≡ seen_at event.now port.old.port course.old }
@@ -41,16 +74,20 @@ pub fn take<A: Allocator>(port: &mut RunningPort<A>, course: &mut Course<A>, eve
     ensures sound { IsSoundPort port.new.port }
 {
     let now = port.now();
-    let class = class_at(port, event);
+    let beside = asked_at(port, event);
     let mut asked = Some(*event);
     while let Some(answer) = port.next_answer(&mut asked) {
-        course.see(now, class, &answer);
+        course.see(now, beside, &answer);
     }
 }
 
-/// The bands go on to where the port is.
-fn follow<A: Allocator>(port: &RunningPort<A>, bands: &mut Bands<A>) {
+/// The bands go on to where the port is. Where another time is shown than so far, they begin anew once the port reaches it: until then a later command may
+/// change it.
+fn follow<A: Allocator>(port: &RunningPort<A>, bands: &mut Bands<A>, view: View) {
     let now = port.now();
+    if view.from <= now && (bands.from() != view.from || bands.to() != view.to) {
+        bands.begin_at(view.from, view.to);
+    }
     if bands.now() <= now {
         bands.go_to(now);
     }
@@ -86,7 +123,11 @@ fn take_command<A: Allocator>(
             if bands.now() < lead {
                 bands.install(command, settings.rate(), lead);
             }
-            course.see(now, None, &Answer::Installed(change));
+            let beside = Asked {
+                class: None,
+                cycle: cycle_in(command),
+            };
+            course.see(now, beside, &Answer::Installed(change));
             Ok(())
         }
     }
@@ -127,6 +168,7 @@ fn take_line<A: Allocator, H: Watch>(
     number: u32,
     line: &[u8],
     settings: Settings,
+    options: DrawOptions,
     watch: &mut H,
 ) -> Result<(), ScriptFault>
     ensures taken { (read : List (List ℕ) → Result Command TcFault) → IsReader read →
@@ -143,7 +185,7 @@ fn take_line<A: Allocator, H: Watch>(
         Ok(None) => watch.line_passed(number, line),
         Ok(Some(Said::Asked(event))) => {
             take(port, course, &event);
-            follow(port, bands);
+            follow(port, bands, options.view(course.scope()));
         }
         Ok(Some(Said::Tc)) => take_tc(port, bands, course, number, line, settings, watch),
     }
@@ -157,6 +199,7 @@ fn take_lines<A: Allocator, B: Allocator, R: Read + Drop, H: Watch>(
     course: &mut Course<A>,
     lines: &mut LineReader<R, B>,
     settings: Settings,
+    options: DrawOptions,
     watch: &mut H,
 ) -> Result<(), RunFault>
     ensures { (read : List (List ℕ) → Result Command TcFault) → IsReader read → IfSome (script_left R.remaining lines.old) (λ script.
@@ -167,7 +210,8 @@ fn take_lines<A: Allocator, B: Allocator, R: Read + Drop, H: Watch>(
     let _now = port.now();
     'lines: while lines.advance()? {
         let number = lines.line_number();
-        match take_line(port, bands, course, number, lines.line(), settings, watch) {
+        let line = lines.line();
+        match take_line(port, bands, course, number, line, settings, options, watch) {
             Ok(()) => {}
             Err(fault) => return Err(RunFault::Input(BadLine::new(number, fault))),
         }
@@ -175,48 +219,51 @@ fn take_lines<A: Allocator, B: Allocator, R: Read + Drop, H: Watch>(
     Ok(())
 }
 
+/// The run goes on to a moment, in picoseconds, where one is given that isn't past.
+fn run_on<A: Allocator>(port: &mut RunningPort<A>, course: &mut Course<A>, until: Option<u128>)
+    ensures on { IsRunOn until port.old.port course.old port.new.port course.new }
+    ensures sound { IsSoundPort port.new.port }
+{
+    // For the prover: a call on a port says what holds of every port.
+    let _now = port.now();
+    match until {
+        None => {}
+        Some(until) => take(port, course, &Event::Clock(until)),
+    }
+}
+
 /// The last moment of the run: now, or the end of the last frame.
 fn last_moment<A: Allocator>(port: &RunningPort<A>, course: &Course<A>) -> u128
-    ensures { result ≤ greatest_moment }
+    ensures value { result ≡ last_moment port.now.port course.now }
+    ensures within { result ≤ greatest_moment }
 {
     port.now().max(course.last()).min(MAX_MOMENT)
 }
 
-/// Runs to the end of the picture of a run that ends at this moment, unless that is past, and ends the bands.
-fn end<A: Allocator>(
-    port: &mut RunningPort<A>,
-    bands: &mut Bands<A>,
-    course: &mut Course<A>,
-    options: DrawOptions,
-    last: u128,
-) {
-    if let Some(viewport) = options.viewport(last) {
-        take(port, course, &Event::Clock(viewport.to()));
-        course.end_at(viewport.to());
-    }
-    follow(port, bands);
+/// What is drawn of a run up to the end of its picture.
+fn end_course<A: Allocator>(port: &mut RunningPort<A>, course: &mut Course<A>, to: u128)
+    requires { to ≤ greatest_moment }
+    ensures course { course.new ≡ ended_at to (seen_at (Clock to) port.old.port course.old) }
+{
+    take(port, course, &Event::Clock(to));
+    course.end_at(to);
+}
+
+/// The bands go on to where the port is, and end.
+fn end_bands<A: Allocator>(port: &RunningPort<A>, bands: &mut Bands<A>, view: View) {
+    follow(port, bands, view);
     bands.end();
 }
 
-/// Writes the picture of a run that ends at this moment.
-fn put_run<A: Allocator, W: Write>(
+/// Writes the picture of what is drawn.
+fn put_course<A: Allocator, W: Write>(
     bands: &mut Bands<A>,
     course: &mut Course<A>,
     writer: &mut W,
-    settings: Settings,
-    options: DrawOptions,
-    last: u128,
+    page: &Page,
 ) -> Result<(), WriteFault> {
-    let Some(viewport) = options.viewport(last) else {
-        return Ok(());
-    };
-    let page = Page {
-        viewport,
-        rate: settings.rate(),
-        mtu: settings.mtu(),
-    };
     fit(bands, course, &page.viewport);
-    put_picture(writer, &page, bands, course.shapes())
+    put_picture(writer, page, bands, course.shapes())
 }
 
 /// Runs to the end of the picture, and writes it.
@@ -228,9 +275,20 @@ fn draw_end<A: Allocator, W: Write>(
     settings: Settings,
     options: DrawOptions,
 ) -> Result<(), WriteFault> {
-    let last = last_moment(port, course);
-    end(port, bands, course, options, last);
-    put_run(bands, course, writer, settings, options, last)
+    run_on(port, course, settings.until());
+    let scope = course.scope();
+    let Some(viewport) = options.viewport(scope, last_moment(port, course)) else {
+        return Ok(());
+    };
+    end_course(port, course, viewport.to());
+    end_bands(port, bands, options.view(scope));
+    let page = Page {
+        viewport,
+        origin: options.origin(scope),
+        rate: settings.rate(),
+        mtu: settings.mtu(),
+    };
+    put_course(bands, course, writer, &page)
 }
 
 /// Runs the lines of a script, and writes the picture of what happens.
@@ -247,7 +305,7 @@ fn draw_lines<A: Allocator, B: Allocator, R: Read + Drop, W: Write, H: Watch>(
     ensures { (read : List (List ℕ) → Result Command TcFault) → IsReader read → IfSome (script_left R.remaining lines.old) (λ script.
         IsDrawn result (W.contents writer.old) (W.contents writer.new) (reading_of read script).fault) }
 {
-    take_lines(port, bands, course, lines, settings, watch)?;
+    take_lines(port, bands, course, lines, settings, options, watch)?;
     draw_end(port, bands, course, writer, settings, options)?;
     Ok(())
 }
@@ -266,7 +324,8 @@ fn draw_course<B: Allocator, R: Read + Drop, W: Write, H: Watch>(
     ensures { (read : List (List ℕ) → Result Command TcFault) → IsReader read → IfSome (script_left R.remaining lines.old) (λ script.
         IsDrawn result (W.contents writer.old) (W.contents writer.new) (reading_of read script).fault) }
 {
-    let mut course = Course::new(alloc, settings.room(), options.view(), lead_of(settings))?;
+    let view = options.view(Scope::Nothing);
+    let mut course = Course::new(alloc, settings.room(), view, lead_of(settings))?;
     draw_lines(
         port,
         bands,
@@ -292,7 +351,8 @@ fn draw_bands<B: Allocator, R: Read + Drop, W: Write, H: Watch>(
     ensures { (read : List (List ℕ) → Result Command TcFault) → IsReader read → IfSome (script_left R.remaining lines.old) (λ script.
         IsDrawn result (W.contents writer.old) (W.contents writer.new) (reading_of read script).fault) }
 {
-    let mut bands = Bands::new(alloc, options.from, options.to)?;
+    let view = options.view(Scope::Nothing);
+    let mut bands = Bands::new(alloc, view.from, view.to)?;
     draw_course(
         alloc, port, &mut bands, lines, writer, settings, options, watch,
     )

@@ -1,6 +1,6 @@
 //! Draws the run of a script as an SVG picture: a lane for each class with its open time, its frames and how long they wait, and a lane for the wire.
 //!
-//! What is drawn is defined in specs/Course.antt and specs/Taken.antt; `take` promises it of the drawn run. How a
+//! What is drawn is defined in specs/Course.antt and specs/Taken.antt, and the time that it covers in specs/Scope.antt; `take` promises it of the drawn run. How a
 //! run ends is specs/PictureEnd.antt; no contract says what the SVG text is.
 #![tactic(auto)]
 
@@ -11,17 +11,19 @@ mod draw_run;
 mod marks;
 mod options;
 mod page;
+mod scope;
 mod shapes;
 mod svg;
 mod view;
 mod view_fit;
 
 pub use arrivals::Arrivals;
-pub use course::Course;
+pub use course::{Asked, Course};
 pub use draw_job::answer_draw;
 pub use draw_run::{draw, take};
 pub use options::{DrawOptions, DrawValues, options_given};
 pub use page::{Page, Place, lane_top};
+pub use scope::Scope;
 pub use shapes::Shapes;
 pub use svg::put_picture;
 pub use view::View;

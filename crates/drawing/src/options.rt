@@ -1,9 +1,10 @@
 //! What a picture shows, by the values of options.
 
 ghost use Rattle.std.specs.Prelude.{◌≡◌, ◌≤◌, IfSome};
-ghost use Rattle.drawing.specs.Words.{octets_of, words_of_draws, beginning_in, end_in, options_of, width_in, width_where, viewport_shown};
+ghost use Rattle.drawing.specs.Words.{octets_of, words_of_draws, beginning_in, end_in, is_open, options_of, origin_of, view_of, width_in, width_where, viewport_shown};
 
 use crate::page::{LEFT, MAX_WIDTH, MIN_WIDTH, RIGHT};
+use crate::scope::Scope;
 use crate::view::View;
 use picture::Viewport;
 use script::BadValue;
@@ -28,52 +29,74 @@ pub struct DrawValues<'a> {
     pub width: Option<&'a str>,
 }
 
-/// What a picture shows: from a moment on, up to another or to the run's end, in picoseconds; and its width, 400 to 2400 pixels.
+/// What a picture shows: from a moment on and up to another, in picoseconds, as far as they are given; and its width, 400 to 2400 pixels. Where neither is
+/// given it covers what the run has (`Scope`).
 #[derive(Clone, Copy, Debug, PartialEq, Eq)]
 pub struct DrawOptions {
-    /// The moment that the picture begins at.
-    pub from: u128,
-    /// The moment that it ends at; none: the run's last.
+    /// The moment that the picture begins at; none: moment 0, where its end is given.
+    pub from: Option<u128>,
+    /// The moment that it ends at; none: the run's last, where its beginning is given.
     pub to: Option<u128>,
     /// Its width, in pixels.
     pub width: u32,
 }
 
 impl DrawOptions {
-    /// What is shown, as far as it is known before a run.
-    pub fn view(&self) -> View
-        ensures { result ≡ record { from = self.now.from; to = self.now.to } }
+    /// Whether the options say neither moment.
+    fn is_open(&self) -> bool
+        ensures { result ≡ is_open self.now }
     {
+        self.from.is_none() && self.to.is_none()
+    }
+
+    /// What is shown of a run that has had so much, as far as it is known.
+    pub fn view(&self, scope: Scope) -> View
+        ensures { result ≡ view_of self.now scope }
+    {
+        if self.is_open() {
+            return scope.view();
+        }
         View {
-            from: self.from,
+            from: self.from.unwrap_or(0),
             to: self.to,
         }
     }
 
-    /// The time that the picture shows, where the run ends at this moment, in picoseconds: up to the end that is given, or to the run's; a
-    /// microsecond where the run ends before the picture begins.
-    pub fn viewport(&self, last: u128) -> Option<Viewport>
-        ensures { result ≡ viewport_shown self.now last }
+    /// The moment that the axis counts from, in picoseconds: that at which the picture begins, where no option says it; else moment 0.
+    pub fn origin(&self, scope: Scope) -> u128
+        ensures { result ≡ origin_of self.now scope }
     {
-        let to = match self.to {
+        if self.is_open() { scope.view().from } else { 0 }
+    }
+
+    /// The time that the picture shows, where the run has had so much and ends at this moment, in picoseconds: up to the end that is known, or to the
+    /// run's; a microsecond where the run ends before the picture begins.
+    pub fn viewport(&self, scope: Scope, last: u128) -> Option<Viewport>
+        ensures { result ≡ viewport_shown self.now scope last }
+    {
+        let view = self.view(scope);
+        let to = match view.to {
             Some(to) => to,
-            None => if self.from < last {
+            None => if view.from < last {
                 last
             } else {
-                self.from.saturating_add(SHORTEST)
+                view.from.saturating_add(SHORTEST)
             },
         };
-        Viewport::new(self.from, to, self.width.saturating_sub(LEFT + RIGHT))
+        Viewport::new(view.from, to, self.width.saturating_sub(LEFT + RIGHT))
     }
 }
 
-/// The moment that a picture begins at, a microsecond or more before the greatest; where there is no word, moment 0.
-fn beginning_in(value: Option<&str>) -> Option<u128>
+/// The moment that a picture begins at, a microsecond or more before the greatest, if one is given; the outer None is a bad value.
+fn beginning_in(value: Option<&str>) -> Option<Option<u128>>
     ensures { result ≡ beginning_in (octets_of value.entry) }
 {
     match value {
-        Some(text) => moment(text.as_bytes(), MAX_MOMENT - SHORTEST),
-        None => Some(0),
+        None => Some(None),
+        Some(text) => {
+            let from = moment(text.as_bytes(), MAX_MOMENT - SHORTEST)?;
+            Some(Some(from))
+        }
     }
 }
 
@@ -88,15 +111,19 @@ fn width_in(value: Option<&str>) -> Option<u128>
     }
 }
 
-/// The end of a picture, after its beginning, if one is given; the outer None is a bad value.
-fn end_in(from: u128, value: Option<&str>) -> Option<Option<u128>>
+/// The end of a picture, after its beginning, which is moment 0 where none is given, if an end is; the outer None is a bad value.
+fn end_in(from: Option<u128>, value: Option<&str>) -> Option<Option<u128>>
     ensures { result ≡ end_in from (octets_of value.entry) }
 {
     match value {
         None => Some(None),
         Some(text) => {
             let to = moment(text.as_bytes(), MAX_MOMENT)?;
-            if from < to { Some(Some(to)) } else { None }
+            if from.unwrap_or(0) < to {
+                Some(Some(to))
+            } else {
+                None
+            }
         }
     }
 }

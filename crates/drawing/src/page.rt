@@ -39,6 +39,9 @@ pub(crate) const BOTTOM: u32 = CLASS_TOP + 9 * LANE_STEP;
 /// The line of the axis' labels, in pixels from above.
 pub(crate) const AXIS: u32 = BOTTOM + 16;
 
+/// The line that says what the axis counts from, in pixels from above.
+pub(crate) const ORIGIN: u32 = BOTTOM + 29;
+
 /// The line of the legend, in pixels from above.
 pub(crate) const LEGEND: u32 = BOTTOM + 44;
 
@@ -58,11 +61,13 @@ pub struct Place {
     pub width: u64,
 }
 
-/// The viewport of a picture, its width, and the rate and the mtu that it shows.
+/// The viewport of a picture, its width, what its axis counts from, and the rate and the mtu that it shows.
 #[derive(Clone, Copy, Debug)]
 pub struct Page {
     /// The time that is shown, and the width of that part of the picture.
     pub viewport: Viewport,
+    /// The moment that the axis counts from, in picoseconds: that at which the picture begins, or moment 0.
+    pub origin: u128,
     /// The line rate.
     pub rate: Rate,
     /// The mtu, in octets.

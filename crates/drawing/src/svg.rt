@@ -6,7 +6,8 @@ use crate::marks::{
     MIXED, digits, put_bands, put_bars, put_changes, put_drops, put_line, put_rect, put_waits,
 };
 use crate::page::{
-    AXIS, BOTTOM, CLASS_TOP, HALF_CHARACTER, HEIGHT, LANES, LEFT, LEGEND, Page, WIRE, lane_top,
+    AXIS, BOTTOM, CLASS_TOP, HALF_CHARACTER, HEIGHT, LANES, LEFT, LEGEND, ORIGIN, Page, WIRE,
+    lane_top,
 };
 use crate::shapes::Shapes;
 use answer_text::{Part, WriteFault, put, put_parts};
@@ -94,6 +95,11 @@ fn put_head<W: Write>(writer: &mut W, page: &Page, height: u32) -> Result<(), Wr
     put(writer, b"</text>\n")
 }
 
+/// How long after the moment that the axis counts from another is, both in picoseconds.
+fn counted(page: &Page, moment: u128) -> u128 {
+    moment.saturating_sub(page.origin)
+}
+
 /// The step of the axis, in picoseconds, such that the labels of its ticks stand apart.
 fn axis_step(page: &Page) -> u128
     ensures { 0 < result }
@@ -102,7 +108,8 @@ fn axis_step(page: &Page) -> u128
     let plot = u128::from(page.viewport.width()) * 100;
     let step = tick_step(length, (plot / 8_000) as u32);
     let unit = unit_of(step);
-    let label = u128::from(digits(page.viewport.to() / unit.ps())) + 3;
+    let last = counted(page, page.viewport.to());
+    let label = u128::from(digits(last / unit.ps())) + 3;
     let most = (plot / (label * u128::from(2 * HALF_CHARACTER) + 1_200)).max(2);
     tick_step(length, most as u32).max(step).max(1)
 }
@@ -133,24 +140,45 @@ fn put_tick<W: Write>(
     )
 }
 
-/// Writes the axis of time: a tick at each multiple of a round number of a unit.
+/// Writes the axis of time: a tick at each multiple of a round number of a unit, counted from the origin.
 fn put_axis<W: Write>(writer: &mut W, page: &Page) -> Result<(), WriteFault> {
     let step = axis_step(page);
     let unit = unit_of(step);
-    let from = page.viewport.from();
-    let first = from.div_ceil(step);
-    let last = page.viewport.to() / step;
+    let first = counted(page, page.viewport.from()).div_ceil(step);
+    let last = counted(page, page.viewport.to()) / step;
     for tick in first..=last {
-        let moment = tick * step;
+        let time = tick * step;
         put_tick(
             writer,
             page,
-            page.x(moment),
-            moment / unit.ps(),
+            page.x(page.origin.saturating_add(time)),
+            time / unit.ps(),
             unit.name().as_bytes(),
         )?;
     }
     Ok(())
+}
+
+/// Writes what the axis counts from, where that isn't moment 0.
+fn put_origin<W: Write>(writer: &mut W, page: &Page) -> Result<(), WriteFault> {
+    if page.origin == 0 {
+        return Ok(());
+    }
+    let unit = unit_of(page.origin);
+    put_parts(
+        writer,
+        &[
+            Part::Text(b"<text x=\""),
+            Part::Number(u128::from(LEFT)),
+            Part::Text(b"\" y=\""),
+            Part::Number(u128::from(ORIGIN)),
+            Part::Text(b"\">counted from "),
+            Part::Number(page.origin / unit.ps()),
+            Part::Text(b" "),
+            Part::Text(unit.name().as_bytes()),
+            Part::Text(b"</text>\n"),
+        ],
+    )
 }
 
 /// Writes the names of the lanes.
@@ -318,6 +346,7 @@ pub fn put_picture<A: Allocator, W: Write>(
     let more = if mixed { MIXED_LINE } else { 0 };
     put_head(writer, page, HEIGHT + more)?;
     put_axis(writer, page)?;
+    put_origin(writer, page)?;
     put_names(writer)?;
     put_all_bands(writer, page, bands)?;
     for lane in 0..LANES {

@@ -32,41 +32,41 @@ const CHECKS: [(&str, &str, bool); 2] = [
 ];
 
 /// The examples of a picture, each with its script, its picture, and the moments that it begins and ends at, in picoseconds.
-const PICTURES: [(&str, &str, u128, Option<u128>); 11] = [
-    ("first.script", "first.svg", 0, None),
-    ("priorities.script", "priorities.svg", 0, None),
-    ("schedule.script", "schedule.svg", 0, Some(60_000_000)),
+const PICTURES: [(&str, &str, Option<u128>, Option<u128>); 11] = [
+    ("first.script", "first.svg", None, None),
+    ("priorities.script", "priorities.svg", None, None),
+    ("schedule.script", "schedule.svg", None, Some(60_000_000)),
     (
         "manual.script",
         "manual.svg",
-        1_528_743_495_910_000_000_000,
+        Some(1_528_743_495_910_000_000_000),
         Some(1_528_743_495_913_000_000_000),
     ),
     (
         "guard_band.script",
         "guard_band.svg",
-        100_000_000,
+        Some(100_000_000),
         Some(130_000_000),
     ),
     (
         "extension.script",
         "extension.svg",
-        3_000_000_000,
+        Some(3_000_000_000),
         Some(6_000_000_000),
     ),
-    ("summary.script", "summary.svg", 0, None),
-    ("planned.script", "planned.svg", 0, Some(60_000_000)),
-    ("machine.script", "machine.svg", 0, Some(1_000_000_000)),
+    ("summary.script", "summary.svg", None, None),
+    ("planned.script", "planned.svg", None, Some(60_000_000)),
+    ("machine.script", "machine.svg", None, Some(1_000_000_000)),
     (
         "apart.schedules",
         "apart.svg",
-        1_528_743_495_910_000_000_000,
+        Some(1_528_743_495_910_000_000_000),
         Some(1_528_743_495_913_000_000_000),
     ),
     (
         "windows.schedules",
         "windows.svg",
-        1_528_743_495_910_000_000_000,
+        Some(1_528_743_495_910_000_000_000),
         Some(1_528_743_495_913_000_000_000),
     ),
 ];
@@ -183,7 +183,7 @@ fn picture_agrees<R: Files + AllocGlobal>(
     rt: &R,
     script: &str,
     picture: &str,
-    from: u128,
+    from: Option<u128>,
     to: Option<u128>,
 ) -> io::Result<bool> {
     let script = fs::read(rt, script)?;

@@ -17,7 +17,7 @@ use Rattle.in_memory.specs.declared.pictures.PictureValues.{PictureValues}
 
 -- the options of numbers: those of the words that spell them in decimal
 abbrev pub options_at : PictureValues → Result DrawOptions BadValue
-options_at v = options_of (record { from = Some (decimal v.from); to = option_map decimal v.to; width = Some (decimal v.width) })
+options_at v = options_of (record { from = option_map decimal v.from; to = option_map decimal v.to; width = Some (decimal v.width) })
 
 -- this picture, or, where the script has a fault, no picture and its first fault
 abbrev pub drawn_with : List ℕ → Option BadLine → Outcome BadLine

@@ -1,6 +1,7 @@
 //! A picture in memory.
 
-ghost use Rattle.std.specs.Prelude.{◌≡◌};
+ghost use Rattle.std.specs.Prelude.{◌≡◌, decimal, option_map};
+ghost use Rattle.script.specs.Given.{octets_of};
 ghost use Rattle.in_memory.specs.Pictures.{Draws, DrawsWith, options_at};
 ghost use Rattle.in_memory.specs.Slices.{slices};
 ghost use Rattle.in_memory.specs.Values.{settings_at};
@@ -15,12 +16,23 @@ use std::alloc::Global;
 /// What a picture shows, as numbers that are still to be judged.
 #[derive(Clone, Copy, Debug, PartialEq, Eq)]
 pub struct PictureValues {
-    /// The moment that the picture begins at, in picoseconds, at most the greatest moment less a microsecond.
-    pub from: u128,
-    /// The moment that it ends at, in picoseconds, after the one that it begins at; none: the end of the run.
+    /// The moment that the picture begins at, in picoseconds, at most the greatest moment less a microsecond; none: moment 0 where its end is given.
+    pub from: Option<u128>,
+    /// The moment that it ends at, in picoseconds, after the one that it begins at; none: the end of the run where its beginning is given. With neither the
+    /// picture covers what the run has (`drawing::Scope`).
     pub to: Option<u128>,
     /// Its width, 400 to 2400 pixels.
     pub width: u32,
+}
+
+/// The word that spells a moment, where there is one, in decimal.
+fn spelled<'a>(buffer: &'a mut Buffer, moment: Option<u128>) -> Option<&'a str>
+    ensures { octets_of result ≡ option_map decimal moment }
+{
+    match moment {
+        None => None,
+        Some(moment) => Some(buffer.format(moment)),
+    }
 }
 
 /// The options of these values, which are judged as the words that spell them in decimal. The first that is out of its limits is the fault.
@@ -30,13 +42,9 @@ pub fn options_at(values: PictureValues) -> Result<DrawOptions, BadValue>
     let mut from = Buffer::new();
     let mut to = Buffer::new();
     let mut width = Buffer::new();
-    let to = match values.to {
-        None => None,
-        Some(moment) => Some(to.format(moment)),
-    };
     options_given(DrawValues {
-        from: Some(from.format(values.from)),
-        to,
+        from: spelled(&mut from, values.from),
+        to: spelled(&mut to, values.to),
         width: Some(width.format(values.width)),
     })
 }

@@ -15,7 +15,7 @@ clock 25000000\nframe 12 0 60\nframe 13 16 60\nframe 14 7 13\nclock 100000000\n"
 
 /// The whole run.
 const WHOLE: DrawOptions = DrawOptions {
-    from: 0,
+    from: Some(0),
     to: Some(100_000_000),
     width: 1096,
 };

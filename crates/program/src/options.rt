@@ -239,8 +239,7 @@ const FROM: Word = Word {
     given: Given::Value,
     name: "from",
     value: "MOMENT",
-    help: "The moment that the picture begins at: picoseconds, or a number with its unit [default: 0]",
-    without: None,
+    help: "The moment that the picture begins at: picoseconds, or a number with its unit [default: with --to 0, else the first frame]",
 };
 
 const OFFSETS_FROM: Word = Word {
@@ -375,7 +374,17 @@ pub(crate) const JOBS: [Job; 7] = [
     Job {
         name: JobName::Draw,
         about: "Draws the run of a script on standard input, as an SVG picture",
-        words: &[RATE, MTU, ROOM, FROM, TO, WIDTH, STRICT_COMMANDS, EXPLAIN],
+        words: &[
+            RATE,
+            MTU,
+            ROOM,
+            UNTIL,
+            FROM,
+            TO,
+            WIDTH,
+            STRICT_COMMANDS,
+            EXPLAIN,
+        ],
     },
     Job {
         name: JobName::Frames,

@@ -1,5 +1,5 @@
 -- What the values that C hands over say.
-use Rattle.std.specs.Prelude.{ℕ, ◌+◌, ◌*◌, ◌/◌, ◌%◌, ◌^◌, nat_lt, Bool, List, Option, Some, None, if◌then◌else◌}
+use Rattle.std.specs.Prelude.{ℕ, ◌+◌, ◌-◌, ◌*◌, ◌/◌, ◌%◌, ◌^◌, nat_lt, Bool, List, Option, Some, None, if◌then◌else◌}
 use Rattle.in_memory.specs.declared.pictures.PictureValues.{PictureValues}
 use Rattle.in_memory.specs.declared.values.PortValues.{PortValues}
 use Rattle.replay.specs.declared.stamps.Stamp.{Stamp}
@@ -30,9 +30,13 @@ moment_where is_there low high = if is_wanted is_there then Some (moment_of low 
 abbrev pub port_values : CPortValues → PortValues
 port_values v = record { rate = v.rate; mtu = v.mtu; room = v.room; until = moment_where v.has_until v.until_low v.until_high; summary = is_wanted v.summary }
 
+-- the moment of two halves, where it isn't the greatest number that they say, which is no moment
+abbrev pub moment_unless_none : ℕ → ℕ → Option ℕ
+moment_unless_none low high = if nat_lt (moment_of low high) (2 ^ 128 - 1) then Some (moment_of low high) else None
+
 -- what a picture shows
 abbrev pub picture_values : CPictureValues → PictureValues
-picture_values v = record { from = moment_of v.from_low v.from_high; to = moment_where v.has_to v.to_low v.to_high; width = v.width }
+picture_values v = record { from = moment_unless_none v.from_low v.from_high; to = moment_where v.has_to v.to_low v.to_high; width = v.width }
 
 -- a moment in two halves, or that there is none
 abbrev pub moment_told : Option ℕ → CMoment

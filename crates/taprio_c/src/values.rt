@@ -2,7 +2,7 @@
 
 ghost use Rattle.std.specs.Prelude.{◌≡◌, ◌≤◌, IfSome};
 ghost use Rattle.wire_time.specs.Moment.{greatest_moment};
-ghost use Rattle.taprio_c.specs.FromC.{is_wanted, moment_of, moment_said, moment_told, moment_where, picture_values, port_values, stamp_of};
+ghost use Rattle.taprio_c.specs.FromC.{is_wanted, moment_of, moment_said, moment_told, moment_unless_none, moment_where, picture_values, port_values, stamp_of};
 
 use in_memory::{PictureValues, PortValues};
 use replay::Stamp;
@@ -11,6 +11,9 @@ use wire_time::MAX_MOMENT;
 
 /// 2^64.
 const TWO_TO_64: u128 = 0x1_0000_0000_0000_0000;
+
+/// What C says where a picture has no moment that it begins at: 2^128 - 1, in picoseconds, which is no moment.
+const NO_MOMENT: u128 = 0xffff_ffff_ffff_ffff_ffff_ffff_ffff_ffff;
 
 /// What a port runs with.
 #[repr(C)]
@@ -36,7 +39,7 @@ pub struct CPortValues {
 #[repr(C)]
 #[derive(Clone, Copy, Debug, PartialEq, Eq)]
 pub struct CPictureValues {
-    /// The moment that it begins at, in picoseconds: `from_high * 2^64 + from_low`.
+    /// The moment that it begins at, in picoseconds: `from_high * 2^64 + from_low`; 2^128 - 1: none.
     pub from_low: u64,
     /// See `from_low`.
     pub from_high: u64,
@@ -113,12 +116,24 @@ pub fn port_values(values: &CPortValues) -> PortValues
     }
 }
 
+/// The moment of two halves, where it isn't `NO_MOMENT`.
+fn moment_unless_none(low: u64, high: u64) -> Option<u128>
+    ensures { result ≡ moment_unless_none low high }
+{
+    let moment = moment_of(low, high);
+    if moment < NO_MOMENT {
+        Some(moment)
+    } else {
+        None
+    }
+}
+
 /// What a picture shows, as Rattle has it.
 pub fn picture_values(values: &CPictureValues) -> PictureValues
     ensures { result ≡ picture_values values.now }
 {
     PictureValues {
-        from: moment_of(values.from_low, values.from_high),
+        from: moment_unless_none(values.from_low, values.from_high),
         to: moment_where(values.has_to, values.to_low, values.to_high),
         width: values.width,
     }

@@ -6,7 +6,7 @@ use std::alloc::Global;
 
 /// The whole run, as wide as a picture is where no width is given.
 const SHOWN: PictureValues = PictureValues {
-    from: 0,
+    from: None,
     to: None,
     width: 1200,
 };

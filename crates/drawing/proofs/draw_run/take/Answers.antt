@@ -20,8 +20,8 @@ loop-answer-preserved g c =
     let all = sym n.answers ∙ ap (λ x. with_answer x (answers_left c.next_answer.new.asked c.next_answer.new.self.port).0) c.in-Some.is in
     record {
       seen =
-          ap (λ x. seen_all c.now-now.result c.class_at-class.result (answers_left c.next_answer.new.asked c.next_answer.new.self.port).0 x) c.see.ensures
-          ∙ ap (λ answers. seen_all c.now-now.result c.class_at-class.result answers c.loop-answer.course) (sym all)
+          ap (λ x. seen_all c.now-now.result c.asked_at-beside.result (answers_left c.next_answer.new.asked c.next_answer.new.self.port).0 x) c.see.ensures
+          ∙ ap (λ answers. seen_all c.now-now.result c.asked_at-beside.result answers c.loop-answer.course) (sym all)
           ∙ i.seen;
       same_end = n.port ∙ i.same_end;
     }

@@ -6,7 +6,7 @@ use Rattle.drawing.proofs.draw_run.take.Given as goal
 -- What is drawn, and then the answers to come, are what all of them draw.
 abbrev pub invariant-loop-answer : goal.invariant-loop-answer
 invariant-loop-answer g l = record {
-  seen : seen_all l.now l.class (answers_left l.asked l.port.port).0 l.course ≡ seen_all l.now l.class (answers_to l.event l.fn.port.port).0 l.fn.course;
+  seen : seen_all l.now l.beside (answers_left l.asked l.port.port).0 l.course ≡ seen_all l.now l.beside (answers_to l.event l.fn.port.port).0 l.fn.course;
   same_end : settled (answers_left l.asked l.port.port).1 ≡ settled (answers_to l.event l.fn.port.port).1;
 }
 

@@ -14,13 +14,13 @@ lines-smaller g c = c.in_ok-advance.ensures.fewer (ap Ok c.if-branch.true)
 pub lines-preserved : goal.lines-preserved
 lines-preserved g c = λ read is.
     let a = rw c.if-branch.true at c.in_ok-advance.ensures.line in
-    let done = subst (λ l. TakesLine {T = Unit {0}} (Ok c.in-Ok.field-0) (request_of read l) c.lines.port.port c.lines.course c.take_line.new.port.port c.take_line.new.course) c.line.ensures (c.in-Ok.ensures.taken read is) in
+    let done = subst (λ l. TakesLine {T = Unit {0}} (Ok c.in-Ok.field-0) (request_of read l) c.lines.port.port c.lines.course c.take_line.new.port.port c.take_line.new.course) c.line-line.ensures (c.in-Ok.ensures.taken read is) in
     taken_on read c.in-Ok.field-0 c.settling.ensures _ _ _ _ _ _ _ _ _ _ _ (c.lines.invariant read is) a done c.in-Ok.ensures.sound
 
 pub returns-in-Err : goal.returns-in-Err
 returns-in-Err g c = λ read is.
     let a = rw c.if-branch.true at c.in_ok-advance.ensures.line in
-    let fault = subst (λ l. request_of read l ≡ Err c.in-Err.fault) c.line.ensures (c.in-Err.ensures.taken read is) in
+    let fault = subst (λ l. request_of read l ≡ Err c.in-Err.fault) c.line-line.ensures (c.in-Err.ensures.taken read is) in
     goes_wrong read {T = Unit {0}} _ _ _ _ _ _ c.take_line.new.port.port c.take_line.new.course _ _ _ c.in-Err.fault (c.lines.invariant read is) a fault (ap (λ b. Err (Faults.Input b)) c.new.ensures ∙ ap (λ n. Err (Faults.Input (bad_line n c.in-Err.fault))) c.line_number-number.ensures)
 
 pub returns-in_err-advance : goal.returns-in_err-advance
