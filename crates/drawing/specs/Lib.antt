@@ -1,4 +1,5 @@
 pub mod Layout
+pub mod Marks
 pub mod View
 pub mod Scope
 pub mod Shapes

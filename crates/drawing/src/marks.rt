@@ -1,8 +1,10 @@
 //! The marks of a picture: bands, frames, waits, drops and changes.
 
-ghost use Rattle.std.specs.Prelude.{◌≡◌, ◌≤◌, decimal, length};
+ghost use Rattle.std.specs.Prelude.{◌≡◌, ◌≤◌, ◌+◌, ◌*◌, decimal, length, nat_le};
+ghost use Rattle.octet_writer.specs.Writes.{Writes};
+ghost use Rattle.drawing.specs.Marks.{arrival_text, bar_text, bars_text, cross_text, drop_text, drops_text, id_text, line_text, number_text, point_text, rect_text, second_cross, wait_line, wait_text, waits_text};
 
-use crate::page::{BOTTOM, CLASS_TOP, LANE_HEIGHT, Page};
+use crate::page::{BOTTOM, CLASS_TOP, LANE_HEIGHT, LEFT, MAX_WIDTH, Page, Place};
 use answer_text::{Part, WriteFault, put, put_parts};
 use picture::Shape;
 use std::io::Write;
@@ -30,7 +32,9 @@ pub(crate) fn put_rect<W: Write>(
     width: u64,
     top: u32,
     height: u32,
-) -> Result<(), WriteFault> {
+) -> Result<(), WriteFault>
+    ensures { Writes result (W.contents writer.old) (W.contents writer.new) (rect_text look.now left width top height) }
+{
     let edge: &[u8] = if width < LEAST_EDGED { b" s" } else { b"" };
     put_parts(
         writer,
@@ -64,7 +68,9 @@ pub(crate) fn put_line<W: Write>(
     x: u64,
     top: u32,
     bottom: u32,
-) -> Result<(), WriteFault> {
+) -> Result<(), WriteFault>
+    ensures { Writes result (W.contents writer.old) (W.contents writer.new) (line_text look.now x top bottom) }
+{
     put_parts(
         writer,
         &[
@@ -126,13 +132,16 @@ pub(crate) fn digits(number: u128) -> u32
 }
 
 /// Whether a bar of this width, in hundredths of a pixel, has room for the number of a frame.
-fn has_room(width: u64, id: u64) -> bool {
+fn has_room(width: u64, id: u64) -> bool
+    ensures { result ≡ nat_le (400 + 600 * length (decimal id)) width }
+{
     400 + 600 * u64::from(digits(u128::from(id))) <= width
 }
 
 /// Writes the number of a frame in the middle of its bar.
 fn put_id<W: Write>(writer: &mut W, middle: u64, top: u32, id: u64) -> Result<(), WriteFault>
     requires { top ≤ BOTTOM }
+    ensures { Writes result (W.contents writer.old) (W.contents writer.new) (id_text middle top id) }
 {
     put_parts(
         writer,
@@ -148,9 +157,29 @@ fn put_id<W: Write>(writer: &mut W, middle: u64, top: u32, id: u64) -> Result<()
     )
 }
 
+/// Writes the number of a frame, where its bar has room for it.
+fn put_number<W: Write>(
+    writer: &mut W,
+    place: Place,
+    top: u32,
+    id: Option<u64>,
+) -> Result<(), WriteFault>
+    requires top { top ≤ BOTTOM }
+    requires few { place.left + place.width ≤ 100 * (LEFT + MAX_WIDTH) }
+    ensures { Writes result (W.contents writer.old) (W.contents writer.new) (number_text place top id) }
+{
+    match id {
+        Some(id) if has_room(place.width, id) => {
+            put_id(writer, place.left + place.width / 2, top, id)
+        }
+        _ => Ok(()),
+    }
+}
+
 /// Writes the bar of a frame, or of frames that are joined, and its number where there is room.
 fn put_bar<W: Write>(writer: &mut W, page: &Page, top: u32, shape: &Shape) -> Result<(), WriteFault>
     requires { top ≤ BOTTOM }
+    ensures { Writes result (W.contents writer.old) (W.contents writer.new) (bar_text page.now top shape.now) }
 {
     let Some(span) = page.viewport.cut(shape.span) else {
         return Ok(());
@@ -164,12 +193,7 @@ fn put_bar<W: Write>(writer: &mut W, page: &Page, top: u32, shape: &Shape) -> Re
         top + 10,
         LANE_HEIGHT - 12,
     )?;
-    match shape.id {
-        Some(id) if has_room(place.width, id) => {
-            put_id(writer, place.left + place.width / 2, top, id)
-        }
-        _ => Ok(()),
-    }
+    put_number(writer, place, top, shape.id)
 }
 
 /// Writes the frames of a lane that begins at this height.
@@ -180,6 +204,7 @@ pub(crate) fn put_bars<W: Write>(
     shapes: &[Shape],
 ) -> Result<(), WriteFault>
     requires { top ≤ BOTTOM }
+    ensures { Writes result (W.contents writer.old) (W.contents writer.new) (bars_text page.now top shapes.now) }
 {
     for shape in shapes {
         put_bar(writer, page, top, shape)?;
@@ -187,29 +212,35 @@ pub(crate) fn put_bars<W: Write>(
     Ok(())
 }
 
-/// Writes the wait of a frame: a line from its arrival, which is marked where it lies within the viewport, to its start. Where the wait goes on at the
-/// end of the picture the line ends there in a point.
-fn put_wait<W: Write>(
+/// Writes the mark of an arrival, where it is shown.
+fn put_arrival<W: Write>(writer: &mut W, is_shown: bool, x: u64, top: u32) -> Result<(), WriteFault>
+    requires { top ≤ BOTTOM }
+    ensures { Writes result (W.contents writer.old) (W.contents writer.new) (arrival_text is_shown x top) }
+{
+    if is_shown {
+        return put_line(writer, b"w", x, top + 2, top + 26);
+    }
+    Ok(())
+}
+
+/// The point of a wait that goes on at the end of the picture; none where it is over.
+fn point(is_over: bool) -> &'static [u8]
+    ensures { result.now ≡ point_text is_over }
+{
+    if is_over { b"" } else { b"l-6 -4m6 4l-6 4" }
+}
+
+/// Writes the line of a wait from one place to another.
+fn put_wait_line<W: Write>(
     writer: &mut W,
-    page: &Page,
+    left: u64,
+    right: u64,
     top: u32,
-    shape: &Shape,
+    is_over: bool,
 ) -> Result<(), WriteFault>
     requires { top ≤ BOTTOM }
+    ensures { Writes result (W.contents writer.old) (W.contents writer.new) (wait_line left right top is_over) }
 {
-    let Some(span) = page.viewport.cut(shape.span) else {
-        return Ok(());
-    };
-    let left = page.x(span.from);
-    let right = page.x(span.to);
-    if span.from == shape.span.from {
-        put_line(writer, b"w", left, top + 2, top + 26)?;
-    }
-    let end: &[u8] = if shape.span.to < page.viewport.to() {
-        b""
-    } else {
-        b"l-6 -4m6 4l-6 4"
-    };
     put_parts(
         writer,
         &[
@@ -225,10 +256,31 @@ fn put_wait<W: Write>(
             Part::Text(b"."),
             Part::Number(u128::from(right / 10 % 10)),
             Part::Number(u128::from(right % 10)),
-            Part::Text(end),
+            Part::Text(point(is_over)),
             Part::Text(b"\"/>\n"),
         ],
     )
+}
+
+/// Writes the wait of a frame: a line from its arrival, which is marked where it lies within the viewport, to its start. Where the wait goes on at the
+/// end of the picture the line ends there in a point.
+fn put_wait<W: Write>(
+    writer: &mut W,
+    page: &Page,
+    top: u32,
+    shape: &Shape,
+) -> Result<(), WriteFault>
+    requires { top ≤ BOTTOM }
+    ensures { Writes result (W.contents writer.old) (W.contents writer.new) (wait_text page.now top shape.now) }
+{
+    let Some(span) = page.viewport.cut(shape.span) else {
+        return Ok(());
+    };
+    let left = page.x(span.from);
+    let right = page.x(span.to);
+    let is_over = shape.span.to < page.viewport.to();
+    put_arrival(writer, span.from == shape.span.from, left, top)?;
+    put_wait_line(writer, left, right, top, is_over)
 }
 
 /// Writes the waits of a class, whose lane begins at this height.
@@ -239,6 +291,7 @@ pub(crate) fn put_waits<W: Write>(
     shapes: &[Shape],
 ) -> Result<(), WriteFault>
     requires { top ≤ BOTTOM }
+    ensures { Writes result (W.contents writer.old) (W.contents writer.new) (waits_text page.now top shapes.now) }
 {
     for shape in shapes {
         put_wait(writer, page, top, shape)?;
@@ -246,10 +299,11 @@ pub(crate) fn put_waits<W: Write>(
     Ok(())
 }
 
-/// Writes the mark of frames that were dropped, from the first to the last of them: a cross, or two that are joined.
-fn put_drop<W: Write>(writer: &mut W, left: u64, right: u64, top: u32) -> Result<(), WriteFault>
+/// Writes the first cross of frames that were dropped.
+fn put_cross<W: Write>(writer: &mut W, left: u64, top: u32) -> Result<(), WriteFault>
     requires left { 400 ≤ left }
     requires top { top ≤ BOTTOM }
+    ensures { Writes result (W.contents writer.old) (W.contents writer.new) (cross_text left top) }
 {
     put_parts(
         writer,
@@ -260,18 +314,43 @@ fn put_drop<W: Write>(writer: &mut W, left: u64, right: u64, top: u32) -> Result
             Part::Number(u128::from(top + 10)),
             Part::Text(b"l8 8m0 -8l-8 8"),
         ],
-    )?;
+    )
+}
+
+/// Writes the last cross of frames that were dropped, where it lies elsewhere than the first, and the end of the mark.
+fn put_second_cross<W: Write>(writer: &mut W, left: u64, right: u64) -> Result<(), WriteFault>
+    ensures { Writes result (W.contents writer.old) (W.contents writer.new) (second_cross left right) }
+{
     if left / 100 < right / 100 {
-        put_parts(
+        return put_parts(
             writer,
             &[
                 Part::Text(b"m4 -4H"),
                 Part::Number(u128::from(right / 100)),
-                Part::Text(b"m-4 -4l8 8m0 -8l-8 8"),
+                Part::Text(b"m-4 -4l8 8m0 -8l-8 8\"/>\n"),
             ],
-        )?;
+        );
     }
     put(writer, b"\"/>\n")
+}
+
+/// Writes the mark of frames that were dropped, from the first to the last of them: a cross, or two that are joined.
+fn put_drop<W: Write>(
+    writer: &mut W,
+    page: &Page,
+    top: u32,
+    shape: &Shape,
+) -> Result<(), WriteFault>
+    requires { top ≤ BOTTOM }
+    ensures { Writes result (W.contents writer.old) (W.contents writer.new) (drop_text page.now top shape.now) }
+{
+    let Some(span) = page.viewport.cut(shape.span) else {
+        return Ok(());
+    };
+    let left = page.x(span.from);
+    let right = page.x(span.to);
+    put_cross(writer, left, top)?;
+    put_second_cross(writer, left, right)
 }
 
 /// Writes a mark for each frame that was dropped, in a lane that begins at this height.
@@ -282,11 +361,10 @@ pub(crate) fn put_drops<W: Write>(
     shapes: &[Shape],
 ) -> Result<(), WriteFault>
     requires { top ≤ BOTTOM }
+    ensures { Writes result (W.contents writer.old) (W.contents writer.new) (drops_text page.now top shapes.now) }
 {
     for shape in shapes {
-        if let Some(span) = page.viewport.cut(shape.span) {
-            put_drop(writer, page.x(span.from), page.x(span.to), top)?;
-        }
+        put_drop(writer, page, top, shape)?;
     }
     Ok(())
 }

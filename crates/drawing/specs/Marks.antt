@@ -1,0 +1,101 @@
+-- The marks of a picture, as text. Places are in hundredths of a pixel, heights in pixels.
+use Rattle.std.specs.Prelude.{ℕ, ◌+◌, ◌-◌, ◌*◌, ◌/◌, ◌%◌, nat_lt, nat_le, ◌==◌, Bool, Option, Some, None, List, [], ◌∷◌, ◌++◌, length, codes, decimal, if◌then◌else◌}
+use Rattle.std.specs.List.{concat, flat_map}
+use Rattle.picture.specs.Viewports.{cut_to, x_in}
+use Rattle.picture.specs.declared.span.Shape.{Shape}
+use Rattle.picture.specs.declared.span.Span.{Span}
+use Rattle.drawing.specs.Layout.{place_of}
+use Rattle.drawing.specs.declared.page.Page.{Page}
+use Rattle.drawing.specs.declared.page.Place.{Place}
+use Rattle.drawing.specs.declared.page.TheConstants.{LANE_HEIGHT, LEFT}
+use Rattle.drawing.specs.declared.marks.TheConstants.{LEAST_BAR, LEAST_EDGED}
+
+-- a place in pixels, with two digits behind the point, before what follows it
+abbrev pub at_place : ℕ → List (List ℕ) → List (List ℕ)
+at_place place rest = decimal (place / 100) ∷ codes "." ∷ decimal (place / 10 % 10) ∷ decimal (place % 10) ∷ rest
+
+-- a rectangle that looks so; where it is narrow it has no edge
+abbrev pub rect_text : (look : List ℕ) → (left width top height : ℕ) → List ℕ
+rect_text look left width top height = concat (
+    codes "<rect class=\"" ∷ look ∷ (if nat_lt width LEAST_EDGED then codes " s" else [])
+    ∷ codes "\" x=\"" ∷ at_place left (codes "\" y=\"" ∷ decimal top
+    ∷ codes "\" width=\"" ∷ at_place width (codes "\" height=\"" ∷ decimal height ∷ codes "\"/>\n" ∷ [])))
+
+-- a line from above to below
+abbrev pub line_text : (look : List ℕ) → (x top bottom : ℕ) → List ℕ
+line_text look x top bottom = concat (
+    codes "<path class=\"" ∷ look ∷ codes "\" d=\"M" ∷ at_place x (codes " " ∷ decimal top ∷ codes "V" ∷ decimal bottom ∷ codes "\"/>\n" ∷ []))
+
+-- the number of a frame in the middle of its bar
+abbrev pub id_text : (middle top id : ℕ) → List ℕ
+id_text middle top id = concat (
+    codes "<text class=\"n\" x=\"" ∷ decimal (middle / 100) ∷ codes "\" y=\"" ∷ decimal (top + 22) ∷ codes "\">" ∷ decimal id ∷ codes "</text>\n" ∷ [])
+
+-- where a moment lies, and where a part of a row does that shows a time
+abbrev pub at_x : Page → ℕ → ℕ
+at_x page m = 100 * LEFT + x_in page.viewport m
+
+abbrev pub place_in : Page → ℕ → Span → Place
+place_in page least s = place_of (100 * (LEFT + page.viewport.width)) least (at_x page s.from) (at_x page s.to)
+
+-- the number of a frame, where its bar has room for it
+abbrev pub number_text : Place → ℕ → Option ℕ → List ℕ
+number_text p top None = []
+number_text p top (Some id) = if nat_le (400 + 600 * length (decimal id)) p.width then id_text (p.left + p.width / 2) top id else []
+
+-- the bar of a frame, or of frames that are joined, in a row that begins at this height: what of it is shown
+abbrev pub bar_of : Page → ℕ → Option ℕ → Option Span → List ℕ
+bar_of page top id None = []
+bar_of page top id (Some s) =
+    rect_text (codes "f") (place_in page LEAST_BAR s).left (place_in page LEAST_BAR s).width (top + 10) (LANE_HEIGHT - 12) ++ number_text (place_in page LEAST_BAR s) top id
+
+abbrev pub bar_text : Page → ℕ → Shape → List ℕ
+bar_text page top shape = bar_of page top shape.id (cut_to page.viewport shape.span)
+
+-- the bars of a row, one after another
+abbrev pub bars_text : Page → ℕ → List Shape → List ℕ
+bars_text page top shapes = flat_map (bar_text page top) shapes
+
+-- the mark of an arrival, where it is shown
+abbrev pub arrival_text : Bool → ℕ → ℕ → List ℕ
+arrival_text is_shown x top = if is_shown then line_text (codes "w") x (top + 2) (top + 26) else []
+
+-- the point of a wait that goes on at the end of the picture
+abbrev pub point_text : Bool → List ℕ
+point_text is_over = if is_over then codes "" else codes "l-6 -4m6 4l-6 4"
+
+-- the line of a wait
+abbrev pub wait_line : (left right top : ℕ) → Bool → List ℕ
+wait_line left right top is_over = concat (
+    codes "<path class=\"w\" d=\"M" ∷ at_place left (codes " " ∷ decimal (top + 6) ∷ codes "H" ∷ at_place right (point_text is_over ∷ codes "\"/>\n" ∷ [])))
+
+-- the wait of a frame: what of it is shown
+abbrev pub wait_of : Page → ℕ → Span → Option Span → List ℕ
+wait_of page top whole None = []
+wait_of page top whole (Some s) = arrival_text (s.from == whole.from) (at_x page s.from) top ++ wait_line (at_x page s.from) (at_x page s.to) top (nat_lt whole.to page.viewport.to)
+
+abbrev pub wait_text : Page → ℕ → Shape → List ℕ
+wait_text page top shape = wait_of page top shape.span (cut_to page.viewport shape.span)
+
+abbrev pub waits_text : Page → ℕ → List Shape → List ℕ
+waits_text page top shapes = flat_map (wait_text page top) shapes
+
+-- frames that were dropped, from the first to the last of them: a cross, or two that are joined
+abbrev pub cross_text : (left top : ℕ) → List ℕ
+cross_text left top = concat (codes "<path class=\"d\" d=\"M" ∷ decimal (left / 100 - 4) ∷ codes " " ∷ decimal (top + 10) ∷ codes "l8 8m0 -8l-8 8" ∷ [])
+
+abbrev pub second_cross : (left right : ℕ) → List ℕ
+second_cross left right =
+    if nat_lt (left / 100) (right / 100)
+    then concat (codes "m4 -4H" ∷ decimal (right / 100) ∷ codes "m-4 -4l8 8m0 -8l-8 8\"/>\n" ∷ [])
+    else codes "\"/>\n"
+
+abbrev pub drop_of : Page → ℕ → Option Span → List ℕ
+drop_of page top None = []
+drop_of page top (Some s) = cross_text (at_x page s.from) top ++ second_cross (at_x page s.from) (at_x page s.to)
+
+abbrev pub drop_text : Page → ℕ → Shape → List ℕ
+drop_text page top shape = drop_of page top (cut_to page.viewport shape.span)
+
+abbrev pub drops_text : Page → ℕ → List Shape → List ℕ
+drops_text page top shapes = flat_map (drop_text page top) shapes
