@@ -1,5 +1,7 @@
 mod BeforeLaws
 mod FirstLaws
+mod CountLaws
+mod CountedLaws
 mod FrameLaws
 mod LineLaws
 mod MergeLaws

@@ -6,6 +6,7 @@ pub mod Tournament
 pub mod Turns
 pub mod Written
 pub mod Merge
+pub mod Room
 pub mod Outcome
 pub mod StreamsEnd
 pub mod Words

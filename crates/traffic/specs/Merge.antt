@@ -58,12 +58,16 @@ frames_from moment (f ∷ fs) = if nat_lt f.moment moment then frames_from momen
 
 -- 3. All lines
 
--- What ends a line: a line feed. The last line, where the input ended it in place of a line feed, may ask to be joined with the next: then
--- an empty line comes next.
-abbrev pub line_end : List ℕ → List ℕ
-line_end line = if joins line then codes "\n\n" else codes "\n"
+-- A line as it is passed on: it stays, but for a last line that ends with a backslash, and with the input in place of a line feed. Before a line
+-- feed that backslash would join the next line: a blank comes between.
+abbrev pub passed_line : List ℕ → List ℕ
+passed_line line = if joins line then line ++ codes " " else line
 
--- a line as it was written
+-- what comes after a line: a line feed, and that blank before it
+abbrev pub line_end : List ℕ → List ℕ
+line_end line = if joins line then codes " \n" else codes "\n"
+
+-- a line as it is written
 abbrev pub line_text : List ℕ → List ℕ
 line_text line = line ++ line_end line
 

@@ -1,14 +1,19 @@
 -- What is written for a table of streams and a script, and the fault that ends it.
-use Rattle.std.specs.Prelude.{ℕ, List, [], Option, Some, None}
+use Rattle.std.specs.Prelude.{ℕ, ◌-◌, List, [], Option, Some, None}
+use Rattle.line_reader.specs.declared.lines.TheConstants.{MAX_LINES}
+use Rattle.line_reader.specs.declared.lines.Limit.TheVariants.{TooManyLines}
 use Rattle.line_reader.specs.Script.{Script, End, Broken, Line, script_of}
 use Rattle.script.specs.Outcome.{limit_fault}
 use Rattle.script.specs.declared.faults.ScriptFault.{ScriptFault}
 use Rattle.traffic.specs.Frames.{frames_in_turn}
 use Rattle.traffic.specs.Merge.{merged}
-use Rattle.traffic.specs.Table.{Table, table_of}
+use Rattle.traffic.specs.Room.{counted_in, crowded_line, line_count, lines_taken, passed_on}
+use Rattle.traffic.specs.Table.{Table, judged, table_of}
 use Rattle.job.specs.Outcome.{Outcome}
 use Rattle.traffic.specs.declared.faults.StreamsInput.{StreamsInput}
 use Rattle.traffic.specs.declared.faults.StreamsInput.TheVariants as Inputs
+use Rattle.traffic.specs.declared.frame_count.FrameCount.{FrameCount}
+use Rattle.traffic.specs.declared.frame_count.FrameCount.TheVariants.{Few}
 use Rattle.traffic.specs.declared.table.Stream.{Stream}
 use Rattle.traffic.specs.declared.turn.Coming.{Coming}
 
@@ -22,15 +27,29 @@ fault_in (Line number line rest) = fault_in rest
 abbrev pub merging : Option ℕ → Script → List Coming → Outcome StreamsInput
 merging clock script frames = record { text = merged clock script frames; fault = fault_in script }
 
--- the outcome of a table's streams and the lines of a script: where the table has a fault nothing is written
-abbrev pub outcome_unless : Option (ℕ × ScriptFault) → List Stream → Script → Outcome StreamsInput
-outcome_unless None streams script = merging None script (frames_in_turn streams)
-outcome_unless (Some (number, fault)) streams script = record { text = []; fault = Some (Inputs.Table number fault) }
+-- the outcome where the frames take so many lines of the script, if it has room for them: the script's lines have what is left; and where it
+-- has no room, nothing is written, and the fault is at the line with which the frames become many
+abbrev pub outcome_within : Option ℕ → FrameCount → List Coming → Script → Outcome StreamsInput
+outcome_within (Some count) counted frames script = merging None (passed_on (MAX_LINES - count) script) frames
+outcome_within None counted frames script = record { text = []; fault = Some (Inputs.Table (crowded_line counted) (limit_fault TooManyLines)) }
 
--- the outcome of a table and a script
-abbrev pub outcome_in : Table → Script → Outcome StreamsInput
-outcome_in table script = outcome_unless table.fault table.streams script
+-- the outcome of frames by rising moment and the lines of a script
+abbrev pub outcome_among : FrameCount → List Coming → Script → Outcome StreamsInput
+outcome_among counted frames script = outcome_within (lines_taken (line_count None frames)) counted frames script
+
+-- the outcome of a table's streams and the lines of a script: where the table has a fault nothing is written
+abbrev pub outcome_unless : Option (ℕ × ScriptFault) → FrameCount → List Stream → Script → Outcome StreamsInput
+outcome_unless None counted streams script = outcome_among counted (frames_in_turn streams) script
+outcome_unless (Some (number, fault)) counted streams script = record { text = []; fault = Some (Inputs.Table number fault) }
+
+-- the outcome of a table and a script, by how many frames the table has
+abbrev pub outcome_in : FrameCount → Table → Script → Outcome StreamsInput
+outcome_in counted table script = outcome_unless table.fault counted table.streams script
+
+-- the outcome of the lines of both
+abbrev pub outcome_by_lines : ℕ → Script → Script → Outcome StreamsInput
+outcome_by_lines from table script = outcome_in (counted_in (judged from) (Few 0) table) (table_of from table) script
 
 -- the outcome by the octets of both inputs, with each frame so much later; a script with no octets is none
 abbrev pub outcome_of : ℕ → List ℕ → List ℕ → Outcome StreamsInput
-outcome_of from table script = outcome_in (table_of from (script_of table)) (script_of script)
+outcome_of from table script = outcome_by_lines from (script_of table) (script_of script)

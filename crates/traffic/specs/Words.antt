@@ -15,9 +15,11 @@ pub use Rattle.traffic.specs.StreamsEnd.{IsStreamsEnding, from_given}
 pub use Rattle.traffic.specs.Faults.{script_fault, streams_telling, table_fault}
 pub use Rattle.traffic.specs.Frames.{first_of, frame_after, frames_of, next_of_stream}
 unfoldable pub use Rattle.traffic.specs.Frames.{by_moment, frames_after}
-pub use Rattle.traffic.specs.Merge.{clock_after, clock_in, clock_said, latest, line_end, line_text}
+pub use Rattle.traffic.specs.Merge.{clock_after, clock_in, clock_said, latest, line_end, line_text, passed_line}
 unfoldable pub use Rattle.traffic.specs.Merge.{frames_before, frames_from}
-pub use Rattle.traffic.specs.Outcome.{merging, outcome_in, outcome_of}
+pub use Rattle.traffic.specs.Outcome.{merging, outcome_among, outcome_by_lines, outcome_in, outcome_of}
+pub use Rattle.traffic.specs.Room.{clock_count, counted_line, counted_with, crowded_line, limit_passed, line_feeds, lines_taken, unless_passed}
+unfoldable pub use Rattle.traffic.specs.Room.{counted_in, line_count, passed_on}
 pub use Rattle.traffic.specs.TableRead.{ReadsTable}
 pub use Rattle.traffic.specs.Table.{HasTimes, IsStream, Table, deadline_in, ends_in, judged, line_judged, line_said, moved, stream_in_words, stream_said, table_of}
 pub use Rattle.traffic.specs.Tournament.{IsBefore, IsNode, IsTournament, first_of_two, found_at, head_of, is_before}
@@ -27,6 +29,8 @@ unfoldable pub use Rattle.traffic.specs.Turns.{first_place}
 pub use Rattle.traffic.specs.Written.{clock_to, frame_end, frame_line}
 unfoldable pub use Rattle.traffic.specs.Written.{lines_of}
 pub use Rattle.traffic.specs.declared.faults.StreamsInput.{StreamsInput}
+pub use Rattle.traffic.specs.declared.frame_count.FrameCount.{FrameCount}
+pub use Rattle.traffic.specs.declared.frame_count.FrameCount.TheVariants.{Few, Many}
 pub use Rattle.traffic.specs.declared.table.Stream.{Stream}
 pub use Rattle.traffic.specs.declared.turn.Coming.{Coming}
 pub use Rattle.traffic.specs.declared.turn.Turn.{Turn}

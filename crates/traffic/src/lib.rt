@@ -1,12 +1,14 @@
 //! Traffic by streams: a table of streams becomes a script with the frames of all of them, and with the lines of another script among them.
 //!
-//! The definition is specs/Outcome.antt, over specs/Table.antt, specs/Frames.antt and specs/Merge.antt; the
+//! The definition is specs/Outcome.antt, over specs/Table.antt, specs/Frames.antt, specs/Merge.antt and specs/Room.antt; the
 //! contracts of `write_streams` and `answer_streams` cite it.
 #![tactic(auto)]
 
 mod faults;
+mod frame_count;
 mod frame_lines;
 mod merge;
+mod room;
 mod streams;
 mod streams_job;
 mod table;

@@ -1,15 +1,16 @@
 //! The lines of a script among the frames of streams, each at its moment.
 
 ghost use Rattle.std.specs.Prelude.{◌≡◌, ◌++◌, IfSome, OnOk, None};
-ghost use Rattle.traffic.specs.Words.{IsTournament, Writes, script_left, clock_in, clock_said, frames_before, frames_from, latest, line_end, line_text, Runs, merging, left_of_all, lines_of};
+ghost use Rattle.traffic.specs.Words.{IsTournament, Writes, script_left, clock_in, clock_said, frames_before, frames_from, latest, line_end, line_text, Runs, merging, passed_on, left_of_all, lines_of};
 
 use crate::faults::{StreamsFault, script_fault};
 use crate::frame_lines::{write_frames, write_frames_before};
+use crate::room::{joins, limit_passed};
 use crate::tournament::Head;
 use crate::turn::Turn;
 use abstract_port::Event;
 use answer_text::{Part, WriteFault, put_parts};
-use line_reader::LineReader;
+use line_reader::{LineFault, LineReader};
 use script::{Said, Watch, read_line};
 use std::alloc::Allocator;
 use std::io::{Read, Write};
@@ -48,17 +49,14 @@ fn latest(clock: Option<u128>, number: Option<u128>) -> Option<u128>
     }
 }
 
-/// What ends a line: an empty line too, where it would be joined with the next.
+/// What comes after a line: a line feed, and before it a blank where it would join the next line.
 fn line_end(line: &[u8]) -> &'static [u8]
     ensures { result.now ≡ line_end line.now }
 {
-    match line {
-        [.., b'\\'] | [.., b'\\', b'\r'] => b"\n\n",
-        _ => b"\n",
-    }
+    if joins(line) { b" \n" } else { b"\n" }
 }
 
-/// Writes a line as it was written.
+/// Writes a line as it is passed on.
 fn put_line<W: Write>(writer: &mut W, line: &[u8]) -> Result<(), WriteFault>
     ensures { Writes result (W.contents writer.old) (W.contents writer.new) (line_text line.now) }
 {
@@ -86,16 +84,18 @@ fn put_at<W: Write>(
 /// Writes the lines of a script that are to come among the frames of streams that are to come: before each line the frames before its
 /// moment, which is the greatest number of the clock lines up to it, its own included, and 0 before the first. No line is kept.
 ///
-/// A line that passes a limit is the fault, once what comes before it is written. Who watches is called for each line.
+/// `room` is for how many physical lines of the script there is room. A line that passes a limit, or has no room, is the fault, once what comes
+/// before it is written. Who watches is called for each line.
 pub(crate) fn write_merged<A: Allocator, R: Read + Drop, W: Write, H: Watch>(
     lines: &mut LineReader<R, A>,
     turns: &mut [Turn],
     nodes: &mut [Option<Head>],
     writer: &mut W,
+    room: u32,
     watch: &mut H,
 ) -> Result<(), StreamsFault>
     requires tournament { IsTournament turns.old nodes.old }
-    ensures { IfSome (script_left R.remaining lines.old) (λ script. Runs result (W.contents writer.old) (W.contents writer.new) (merging None script (left_of_all turns.old))) }
+    ensures { IfSome (script_left R.remaining lines.old) (λ script. Runs result (W.contents writer.old) (W.contents writer.new) (merging None (passed_on room script) (left_of_all turns.old))) }
 {
     let mut clock = None;
     'lines: loop {
@@ -107,7 +107,11 @@ pub(crate) fn write_merged<A: Allocator, R: Read + Drop, W: Write, H: Watch>(
             break;
         }
         let line = lines.line();
-        watch.line_passed(lines.line_number(), line);
+        let number = lines.line_number();
+        if let Some(limit) = limit_passed(room, number, line) {
+            return Err(script_fault(LineFault::Limit(number, limit)));
+        }
+        watch.line_passed(number, line);
         let now = latest(clock, clock_in(line));
         put_at(writer, turns, nodes, clock, now.unwrap_or(0), line)?;
         clock = now;

@@ -1,16 +1,18 @@
 //! A table of streams becomes a script.
 
-ghost use Rattle.std.specs.Prelude.{◌≡◌, ◌≤◌, ◌++◌, IfErr, IfSome, OnOk};
-ghost use Rattle.traffic.specs.Words.{greatest_moment, script_left, Runs, outcome_in, outcome_of, ReadsTable, IsStream, table_of, frames_of, left_of};
+ghost use Rattle.std.specs.Prelude.{◌≡◌, ◌≤◌, ◌++◌, IfErr, IfOk, IfSome, OnOk};
+ghost use Rattle.traffic.specs.Words.{greatest_moment, script_left, Runs, outcome_among, outcome_by_lines, outcome_of, ReadsTable, IsStream, counted_in, judged, table_of, frames_of, left_of, left_of_all, Few};
 ghost use Rattle.std.specs.List.{flat_map};
 ghost use Rattle.job.specs.declared.fault.Fault.TheVariants as Faults;
 
 use crate::faults::{StreamsFault, StreamsInput, table_fault};
+use crate::frame_count::FrameCount;
 use crate::merge::write_merged;
+use crate::room::lines_taken;
 use crate::table::{Stream, read_line};
 use crate::tournament::tournament;
 use crate::turn::Turn;
-use line_reader::LineReader;
+use line_reader::{Limit, LineFault, LineReader, MAX_LINES};
 use script::Watch;
 use std::alloc::Allocator;
 use std::io::{Read, Write};
@@ -28,16 +30,18 @@ fn keep<A: Allocator>(turns: &mut Vec<Turn, A>, stream: Stream) -> Result<(), St
     }
 }
 
-/// Reads the lines of a table that are to come, whose frames come so much later, after the streams that are read.
+/// Reads the lines of a table that are to come, whose frames come so much later, after the streams that are read; and counts their frames.
 fn read_streams<A: Allocator, B: Allocator, R: Read + Drop, H: Watch>(
     lines: &mut LineReader<R, A>,
     turns: &mut Vec<Turn, B>,
     from: u128,
     watch: &mut H,
-) -> Result<(), StreamsFault>
+) -> Result<FrameCount, StreamsFault>
     requires { from ≤ greatest_moment }
-    ensures { IfSome (script_left R.remaining lines.old) (λ script. ReadsTable result (table_of from script) turns.old.items turns.new.items) }
+    ensures table { IfSome (script_left R.remaining lines.old) (λ script. ReadsTable result (table_of from script) turns.old.items turns.new.items) }
+    ensures counted { IfSome (script_left R.remaining lines.old) (λ script. IfOk result (λ counted. counted ≡ counted_in (judged from) (Few 0) script)) }
 {
+    let mut counted = FrameCount::Few(0);
     'lines: loop {
         let more = match lines.advance() {
             Ok(more) => more,
@@ -50,6 +54,7 @@ fn read_streams<A: Allocator, B: Allocator, R: Read + Drop, H: Watch>(
             Ok(None) => {}
             Ok(Some(stream)) => {
                 watch.stream_read(lines.line_number(), stream.first_id, stream.count);
+                counted = counted.with(lines.line_number(), stream.count);
                 keep(turns, stream)?;
             }
             Err(fault) => {
@@ -58,7 +63,26 @@ fn read_streams<A: Allocator, B: Allocator, R: Read + Drop, H: Watch>(
             }
         }
     }
-    Ok(())
+    Ok(counted)
+}
+
+/// Writes the frames of streams that are read among the lines of a script, if the frames have room in a script; else nothing is written.
+fn write_streams_read<A: Allocator, B: Allocator + Clone, R: Read + Drop, W: Write, H: Watch>(
+    alloc: B,
+    turns: &mut [Turn],
+    counted: FrameCount,
+    script: &mut LineReader<R, A>,
+    writer: &mut W,
+    watch: &mut H,
+) -> Result<(), StreamsFault>
+    ensures { IfSome (script_left R.remaining script.old) (λ script. Runs result (W.contents writer.old) (W.contents writer.new) (outcome_among counted (left_of_all turns.old) script)) }
+{
+    let Some(taken) = lines_taken(alloc.clone()?, turns)? else {
+        return Err(table_fault(LineFault::Limit(counted.crowded_line(), Limit::TooManyLines)));
+    };
+    let mut nodes = tournament(alloc, turns)?;
+    let room = MAX_LINES.saturating_sub(taken);
+    write_merged(script, turns, nodes.as_mut_slice(), writer, room, watch)
 }
 
 /// Reads the lines of a table that are to come, and writes the frames of its streams among the lines of a script.
@@ -78,18 +102,11 @@ fn write_table<
     watch: &mut H,
 ) -> Result<(), StreamsFault>
     requires { from ≤ greatest_moment }
-    ensures { IfSome (script_left R.remaining table.old) (λ table. IfSome (script_left S.remaining script.old) (λ script. Runs result (W.contents writer.old) (W.contents writer.new) (outcome_in (table_of from table) script))) }
+    ensures { IfSome (script_left R.remaining table.old) (λ table. IfSome (script_left S.remaining script.old) (λ script. Runs result (W.contents writer.old) (W.contents writer.new) (outcome_by_lines from table script))) }
 {
     let mut turns = Vec::new(alloc.clone()?);
-    read_streams(table, &mut turns, from, watch)?;
-    let mut nodes = tournament(alloc, turns.as_slice())?;
-    write_merged(
-        script,
-        turns.as_mut_slice(),
-        nodes.as_mut_slice(),
-        writer,
-        watch,
-    )
+    let counted = read_streams(table, &mut turns, from, watch)?;
+    write_streams_read(alloc, turns.as_mut_slice(), counted, script, writer, watch)
 }
 
 /// Reads a table of streams to its end, and then writes a script that has the frames of all of them: each after a clock line of
@@ -97,9 +114,11 @@ fn write_table<
 /// script, each at its moment and before the frames of that moment; where that script has no octets there are the frames alone. `from`, in
 /// picoseconds, is added to each offset.
 ///
-/// A malformed line of the table is the fault, and nothing is written. What the lines of the script say is no matter, but that a good clock line
-/// sets the moment of the lines from it on; one that passes a limit is the fault, once what comes before it is written. What is kept is the
-/// table; no memory grows with how many frames come, nor with the script. A read or a write that fails, or takes nothing, isn't tried again. Who watches is called
+/// A malformed line of the table is the fault, and nothing is written; so it is where the frames take more lines than a script may have, at the
+/// line with which there are more than 2,000,000 of them. What the lines of the script say is no matter, but that a good clock line
+/// sets the moment of the lines from it on; one that passes a limit is the fault, once what comes before it is written, and so is one that has no
+/// room beside the lines that the frames alone take. What is kept is the table, twice while the lines are counted; no memory grows with how
+/// many frames come, nor with the script. A read or a write that fails, or takes nothing, isn't tried again. Who watches is called
 /// for each stream, for a malformed line of the table, and for each line of the script.
 pub fn write_streams<A: Allocator, R: Read + Drop, S: Read + Drop, W: Write, H: Watch>(
     alloc: A,
