@@ -5,29 +5,29 @@ use Rattle.std.proofs.lemmas.Bool.{lt-ltb, le-ltb}
 use Rattle.traffic.specs.Words.{by_moment, frames_before, frames_from, first_place, left_of, left_of_all, Turn, Coming}
 use Rattle.traffic.proofs.FirstLaws.{first_comes, first_found, some_next, takes}
 
-none_before : (m : ℕ) → frames_before m [] ≡ []
+pub none_before : (m : ℕ) → frames_before m [] ≡ []
 unfolding frames_before
 none_before m = refl
 
-none_from : (m : ℕ) → frames_from m [] ≡ []
+pub none_from : (m : ℕ) → frames_from m [] ≡ []
 unfolding frames_from
 none_from m = refl
 
 -- the first comes before the moment
-one_before : (m : ℕ) (f : Coming) (fs : List Coming) → f.moment < m → frames_before m (f ∷ fs) ≡ f ∷ frames_before m fs
+pub one_before : (m : ℕ) (f : Coming) (fs : List Coming) → f.moment < m → frames_before m (f ∷ fs) ≡ f ∷ frames_before m fs
 unfolding frames_before
 one_before m f fs lt = ap (λ t. cond t (f ∷ frames_before m fs) []) (lt-ltb f.moment m lt)
 
-past_one : (m : ℕ) (f : Coming) (fs : List Coming) → f.moment < m → frames_from m (f ∷ fs) ≡ frames_from m fs
+pub past_one : (m : ℕ) (f : Coming) (fs : List Coming) → f.moment < m → frames_from m (f ∷ fs) ≡ frames_from m fs
 unfolding frames_from
 past_one m f fs lt = ap (λ t. cond t (frames_from m fs) (f ∷ fs)) (lt-ltb f.moment m lt)
 
 -- or no earlier
-not_before : (m : ℕ) (f : Coming) (fs : List Coming) → m ≤ f.moment → frames_before m (f ∷ fs) ≡ []
+pub not_before : (m : ℕ) (f : Coming) (fs : List Coming) → m ≤ f.moment → frames_before m (f ∷ fs) ≡ []
 unfolding frames_before
 not_before m f fs le = ap (λ t. cond t (f ∷ frames_before m fs) []) (le-ltb f.moment m le)
 
-all_from : (m : ℕ) (f : Coming) (fs : List Coming) → m ≤ f.moment → frames_from m (f ∷ fs) ≡ f ∷ fs
+pub all_from : (m : ℕ) (f : Coming) (fs : List Coming) → m ≤ f.moment → frames_from m (f ∷ fs) ≡ f ∷ fs
 unfolding frames_from
 all_from m f fs le = ap (λ t. cond t (frames_from m fs) (f ∷ fs)) (le-ltb f.moment m le)
 

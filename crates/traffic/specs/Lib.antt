@@ -8,5 +8,6 @@ pub mod Written
 pub mod Merge
 pub mod Room
 pub mod Outcome
+pub mod Merged
 pub mod StreamsEnd
 pub mod Words

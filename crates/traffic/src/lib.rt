@@ -7,6 +7,7 @@
 mod faults;
 mod frame_count;
 mod frame_lines;
+pub mod laws;
 mod merge;
 mod room;
 mod streams;

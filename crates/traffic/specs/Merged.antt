@@ -1,0 +1,70 @@
+-- What a merged script says, read as scripts are read: the law.
+use Rattle.std.specs.Prelude.{◌≡◌, ◌≤◌, ◌<◌, ◌+◌, ◌^◌, ◌==◌, ℕ, Bool, true, false, List, [], ◌∷◌, ◌++◌, Option, Some, None, option_map, decimal, codes, if◌then◌else◌}
+use Rattle.std.specs.List.{concat}
+use Rattle.wire_time.specs.Moment.{greatest_moment}
+use Rattle.wire_time.specs.declared.Frame.{Frame}
+use Rattle.line_reader.specs.Script.{Script, End, Broken, Line, script_of}
+use Rattle.line_reader.specs.declared.lines.TheConstants.{MAX_LINES}
+use Rattle.words.specs.Words.{words_of}
+use Rattle.traffic.specs.Merge.{clock_after, frames_before, frames_from, merged, moment_of, passed_line}
+use Rattle.traffic.specs.Room.{line_count, passed_on}
+use Rattle.traffic.specs.declared.turn.Coming.{Coming}
+
+-- 1. The lines of a merged script, without their line feeds
+
+-- a clock line, unless the one of the same moment is written
+abbrev pub clock_words : ℕ → List ℕ
+clock_words moment = concat (codes "clock " ∷ decimal moment ∷ [])
+
+abbrev pub clock_lines : Option ℕ → ℕ → List (List ℕ)
+clock_lines None moment = clock_words moment ∷ []
+clock_lines (Some written) moment = if written == moment then [] else clock_words moment ∷ []
+
+-- the line of a frame
+abbrev pub tag_words : Bool → List ℕ
+tag_words true = codes " tagged"
+tag_words false = []
+
+abbrev pub frame_words : Frame → List ℕ
+frame_words f = concat (codes "frame " ∷ decimal f.id ∷ codes " " ∷ decimal f.priority ∷ codes " " ∷ decimal f.len ∷ tag_words f.tagged ∷ [])
+
+-- the lines of frames by rising moment
+unfoldable pub frame_lines : Option ℕ → List Coming → List (List ℕ)
+frame_lines written [] = []
+frame_lines written (f ∷ fs) = clock_lines written f.moment ++ (frame_words f.frame ∷ frame_lines (Some f.moment) fs)
+
+-- the lines of a script, each as it is passed on, among them
+unfoldable pub merged_lines : Option ℕ → Script → List Coming → List (List ℕ)
+merged_lines clock End frames = frame_lines clock frames
+merged_lines clock (Broken number limit) frames = []
+merged_lines clock (Line number line rest) frames =
+    frame_lines clock (frames_before (moment_of (clock_after clock line)) frames)
+    ++ (passed_line line ∷ merged_lines (clock_after clock line) rest (frames_from (moment_of (clock_after clock line)) frames))
+
+-- 2. The law
+
+-- the lines of a script, where none passes a limit
+unfoldable pub lines_in : Script → Option (List (List ℕ))
+lines_in End = Some []
+lines_in (Broken number limit) = None
+lines_in (Line number line rest) = option_map (λ lines. line ∷ lines) (lines_in rest)
+
+-- a frame whose numbers are those of a script's frame
+pub record IsComing (f : Coming) : Type 0 where
+  pub moment : f.moment ≤ greatest_moment
+  pub id : f.frame.id < 2 ^ 64
+  pub priority : f.frame.priority < 2 ^ 8
+  pub len : f.frame.len < 2 ^ 32
+
+abbrev pub AreComing : List Coming → Type 0
+AreComing [] = Unit {0}
+AreComing (f ∷ fs) = IsComing f × AreComing fs
+
+-- What is written for a script and frames has just the lines of the frames and those of the script, each as it is passed on, and so it is read:
+-- none is joined with another, and none passes a limit, where the lines of the frames and the room for those of the script are together a script's.
+-- A line as it is passed on has the words of the line.
+pub record MergedLaw : Type 0 where
+  pub lines : (room : ℕ) (script : List ℕ) (frames : List Coming) → AreComing frames
+      → room + line_count None frames ≤ MAX_LINES
+      → lines_in (script_of (merged None (passed_on room (script_of script)) frames)) ≡ Some (merged_lines None (passed_on room (script_of script)) frames)
+  pub words : (line : List ℕ) → words_of (passed_line line) ≡ words_of line
