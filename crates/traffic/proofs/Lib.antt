@@ -1,6 +1,7 @@
 mod BeforeLaws
 mod FirstLaws
 mod FitLaws
+mod ComingLaws
 mod CountLaws
 mod CountedLaws
 mod FrameLaws
@@ -10,5 +11,6 @@ mod MergedLaws
 mod OrderLaws
 mod OutcomeLaws
 mod ReadLaws
+mod SaidLaws
 pub mod TableLaws
 pub mod TournamentLaws

@@ -1,5 +1,5 @@
 -- What is merged is read line by line.
-use Rattle.std.proofs.Common.{◌≡◌, ℕ, zero, suc, ◌+◌, ◌-◌, ◌%◌, ◌^◌, ◌<◌, ◌≤◌, Bool, true, false, eqb, ltb, cond, List, [], ◌∷◌, ◌++◌, length, get_or, Option, Some, None, refl, sym, ap, ◌∙◌, subst, append_assoc, append-nil, length-append, arith, decimal}
+use Rattle.std.proofs.Common.{◌≡◌, ℕ, zero, suc, ◌+◌, ◌-◌, ◌%◌, ◌^◌, ◌<◌, ◌≤◌, Bool, true, false, eqb, leb, ltb, cond, List, [], ◌∷◌, ◌++◌, length, get_or, Option, Some, None, refl, sym, ap, ◌∙◌, subst, append_assoc, append-nil, length-append, arith, decimal}
 use Rattle.std.specs.Prelude.{not, ◌&&◌, ◌||◌, codes}
 use Rattle.std.specs.List.{concat, list_all, onto_first}
 use Rattle.std.proofs.Math.Seq.{get_or-append_seam}
@@ -10,14 +10,23 @@ use Rattle.words.specs.Words.{is_blank, starts_blank, starts_with_break, starts_
 use Rattle.line_reader.specs.Script.{Script, End, Broken, Line, joins, fresh, ends, script_of}
 use Rattle.line_reader.specs.declared.lines.Limit.{Limit}
 use Rattle.line_reader.specs.declared.lines.Limit.TheVariants.{LongLine, TooManyLines}
-use Rattle.line_reader.specs.declared.lines.TheConstants.{MAX_LINE_OCTETS}
+use Rattle.line_reader.specs.declared.lines.TheConstants.{MAX_LINE_OCTETS, MAX_LINES}
 use Rattle.traffic.specs.Merge.{clock_after, frames_before, frames_from, line_text, merged, moment_of, passed_line}
 use Rattle.traffic.specs.Merged.{AreComing, IsComing, MergedLaw, clock_lines, clock_words, frame_lines, frame_words, lines_in, merged_lines, tag_words}
-use Rattle.traffic.specs.Room.{clock_count, limit_passed, line_count, line_feeds, passed_on, unless_passed}
+use Rattle.traffic.specs.Room.{clock_count, counted_in, limit_passed, line_count, lines_taken, line_feeds, passed_on, unless_passed}
 use Rattle.traffic.specs.Written.{clock_line, clock_to, frame_end, frame_line, lines_of}
 use Rattle.traffic.specs.declared.turn.Coming.{Coming}
+use Rattle.script.specs.declared.faults.ScriptFault.{ScriptFault}
+use Rattle.traffic.specs.Frames.{frames_in_turn}
+use Rattle.traffic.specs.Outcome.{fault_in, outcome_unless, outcome_within}
+use Rattle.traffic.specs.Table.{judged, table_of}
+use Rattle.traffic.specs.declared.frame_count.FrameCount.{FrameCount}
+use Rattle.traffic.specs.declared.frame_count.FrameCount.TheVariants.{Few}
+use Rattle.traffic.specs.declared.table.Stream.{Stream}
+use Rattle.traffic.proofs.ComingLaws.{table_coming}
 use Rattle.traffic.proofs.CountLaws.{one_left}
 use Rattle.traffic.proofs.FitLaws.{Numbered, all_numbered, has_room, no_count, split_at}
+use Rattle.traffic.proofs.SaidLaws.{clock_says, frame_says}
 use Rattle.traffic.proofs.ReadLaws.{feeds-append, feeds-cons, AllLines, AreReadable, IsReadable, Walks, all_walk, none_walked, one_walked, read_lines, readable-append, shorter, with_feeds, with_feeds-append}
 
 -- ---- the blank
@@ -410,14 +419,62 @@ fits room (Line number line rest) breaks clock frames numbered within are =
 
 -- ---- the law
 
+-- what is written of a script, up to a fault of it
+front : (room : ℕ) (script : List ℕ) (frames : List Coming) → AreComing frames → room + line_count None frames ≤ MAX_LINES
+    → lines_in (script_of (merged None (passed_on room (script_of script)) frames)) ≡ Some (merged_lines None (passed_on room (script_of script)) frames)
+front room script frames are within =
+    let passed = passed_on room (script_of script) in
+    let is = merged_is passed None frames in
+    let readable = merged_readable passed None frames (all_pass room (script_of script) (all_walk script (fresh 0) none_walked)) are in
+    let count = ap (λ x. line_feeds x) is in
+    let few = fits room (script_of script) 0 None frames (all_numbered script (fresh 0) 0 refl refl) (omega arith) are in
+    ap (λ x. lines_in (script_of x)) is ∙ read_lines (merged_lines None passed frames) 0 readable (omega (arith, within, few, count))
+
+-- a script without a fault is passed on whole
+fault_behind : (number : ℕ) (line : List ℕ) (rest : Script) → fault_in (Line number line rest) ≡ fault_in rest
+unfolding fault_in
+fault_behind number line rest = refl
+
+fault_there : (number : ℕ) (limit : Limit) → fault_in (Broken number limit) ≡ None → ⊥
+unfolding fault_in
+fault_there number limit e = absurd cc
+
+all_passed : (room : ℕ) (script : Script) → fault_in (passed_on room script) ≡ None → passed_on room script ≡ script
+unfolding passed_on
+all_passed room End e = refl
+all_passed room (Broken number limit) e = refl
+all_passed room (Line number line rest) e = by_limit (limit_passed room number line) e (all_passed room rest)
+  where
+    by_limit : (passed : Option Limit) → fault_in (unless_passed passed number line (passed_on room rest)) ≡ None → (fault_in (passed_on room rest) ≡ None → passed_on room rest ≡ rest)
+        → unless_passed passed number line (passed_on room rest) ≡ Line number line rest
+    by_limit None f more = ap (Line number line) (more (sym (fault_behind number line (passed_on room rest)) ∙ f))
+    by_limit (Some limit) f more = absurd (fault_there number limit f)
+
+module _ (counted : FrameCount) (frames : List Coming) (script : List ℕ) (are : AreComing frames) where
+  taken_is : (t : Bool) (n count : ℕ) → leb n MAX_LINES ≡ t → ◌≡◌ {A = Option ℕ} (cond t (Some n) None) (Some count) → (count ≡ n) × (n ≤ MAX_LINES)
+  taken_is true n count e f = (cc, grind (arith, e))
+  taken_is false n count e f = absurd cc
+
+  of_taken : (taken : Option ℕ) → lines_taken (line_count None frames) ≡ taken → (outcome_within taken counted frames (script_of script)).fault ≡ None
+      → lines_in (script_of (outcome_within taken counted frames (script_of script)).text) ≡ Some (merged_lines None (script_of script) frames)
+  of_taken None e f = absurd cc
+  of_taken (Some count) e f =
+      let is = taken_is (leb (line_count None frames) MAX_LINES) (line_count None frames) count refl e in
+      front (MAX_LINES - count) script frames are (omega (arith, is.0, is.1))
+      ∙ ap (λ x. Some (merged_lines None x frames)) (all_passed (MAX_LINES - count) (script_of script) f)
+
+of_table : (fault : Option (ℕ × ScriptFault)) (counted : FrameCount) (streams : List Stream) (script : List ℕ) → AreComing (frames_in_turn streams) → (outcome_unless fault counted streams (script_of script)).fault ≡ None
+    → lines_in (script_of (outcome_unless fault counted streams (script_of script)).text) ≡ Some (merged_lines None (script_of script) (frames_in_turn streams))
+of_table (Some (number, fault)) counted streams script are e = absurd cc
+of_table None counted streams script are e = of_taken counted (frames_in_turn streams) script are (lines_taken (line_count None (frames_in_turn streams))) refl e
+
 pub merged_law : MergedLaw
 merged_law = record {
-  lines = λ room script frames are within.
-      let passed = passed_on room (script_of script) in
-      let is = merged_is passed None frames in
-      let readable = merged_readable passed None frames (all_pass room (script_of script) (all_walk script (fresh 0) none_walked)) are in
-      let count = ap (λ x. line_feeds x) is in
-      let few = fits room (script_of script) 0 None frames (all_numbered script (fresh 0) 0 refl refl) (omega arith) are in
-      ap (λ x. lines_in (script_of x)) is ∙ read_lines (merged_lines None passed frames) 0 readable (omega (arith, within, few, count));
+  whole = λ from table script e.
+      let lines = script_of table in
+      of_table (table_of from lines).fault (counted_in (judged from) (Few 0) lines) (table_of from lines).streams script (table_coming from lines) e;
+  front = front;
   words = passed_words;
+  frames = frame_says;
+  clocks = clock_says;
 }

@@ -1,12 +1,18 @@
 -- What a merged script says, read as scripts are read: the law.
-use Rattle.std.specs.Prelude.{◌≡◌, ◌≤◌, ◌<◌, ◌+◌, ◌^◌, ◌==◌, ℕ, Bool, true, false, List, [], ◌∷◌, ◌++◌, Option, Some, None, option_map, decimal, codes, if◌then◌else◌}
+use Rattle.std.specs.Prelude.{◌≡◌, ◌≤◌, ◌<◌, ◌+◌, ◌^◌, ◌==◌, ℕ, Bool, true, false, List, [], ◌∷◌, ◌++◌, Option, Some, None, Ok, option_map, decimal, codes, if◌then◌else◌}
 use Rattle.std.specs.List.{concat}
 use Rattle.wire_time.specs.Moment.{greatest_moment}
 use Rattle.wire_time.specs.declared.Frame.{Frame}
 use Rattle.line_reader.specs.Script.{Script, End, Broken, Line, script_of}
 use Rattle.line_reader.specs.declared.lines.TheConstants.{MAX_LINES}
+use Rattle.abstract_port.specs.declared.Event.TheVariants.{Arrive, Clock}
 use Rattle.words.specs.Words.{words_of}
+use Rattle.script.specs.Requests.{said_in}
+use Rattle.script.specs.declared.script_line.Said.TheVariants as Says
+use Rattle.traffic.specs.Frames.{frames_in_turn}
 use Rattle.traffic.specs.Merge.{clock_after, frames_before, frames_from, merged, moment_of, passed_line}
+use Rattle.traffic.specs.Outcome.{outcome_of}
+use Rattle.traffic.specs.Table.{table_of}
 use Rattle.traffic.specs.Room.{line_count, passed_on}
 use Rattle.traffic.specs.declared.turn.Coming.{Coming}
 
@@ -60,11 +66,15 @@ abbrev pub AreComing : List Coming → Type 0
 AreComing [] = Unit {0}
 AreComing (f ∷ fs) = IsComing f × AreComing fs
 
--- What is written for a script and frames has just the lines of the frames and those of the script, each as it is passed on, and so it is read:
--- none is joined with another, and none passes a limit, where the lines of the frames and the room for those of the script are together a script's.
--- A line as it is passed on has the words of the line.
+-- 1. Where a table and a script have no fault, what is written has just the lines of the table's frames and those of the script, each as it is
+-- passed on, and so it is read: none is joined with another, and none passes a limit. 2. So it is of the lines before a fault of the script, and of
+-- any frames, where their lines and the room for those of the script are together a script's. 3. A line as it is passed on has the words of the line.
+-- 4. The line of a frame says that frame, and a clock line its moment.
 pub record MergedLaw : Type 0 where
-  pub lines : (room : ℕ) (script : List ℕ) (frames : List Coming) → AreComing frames
-      → room + line_count None frames ≤ MAX_LINES
+  pub whole : (from : ℕ) (table script : List ℕ) → (outcome_of from table script).fault ≡ None
+      → lines_in (script_of (outcome_of from table script).text) ≡ Some (merged_lines None (script_of script) (frames_in_turn (table_of from (script_of table)).streams))
+  pub front : (room : ℕ) (script : List ℕ) (frames : List Coming) → AreComing frames → room + line_count None frames ≤ MAX_LINES
       → lines_in (script_of (merged None (passed_on room (script_of script)) frames)) ≡ Some (merged_lines None (passed_on room (script_of script)) frames)
   pub words : (line : List ℕ) → words_of (passed_line line) ≡ words_of line
+  pub frames : (f : Coming) → IsComing f → said_in (frame_words f.frame) ≡ Ok (Some (Says.Asked (Arrive f.frame)))
+  pub clocks : (moment : ℕ) → moment ≤ greatest_moment → said_in (clock_words moment) ≡ Ok (Some (Says.Asked (Clock moment)))
