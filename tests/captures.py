@@ -43,7 +43,7 @@ start 0 class 3 at 2000500000000 end 2000500672000
 """
 # What a summary tells of it.
 FIRST_SUMMED = b"""summary class 3 queued 1 sent 1 dropped 0 octets 60 least 0 mean 0 greatest 0 most 1
-summary wire busy 672000 ppm 0
+summary wire busy 672000 ppm 0 from 2000500000000 ppm 0
 """
 # Late enough for all that comes of two frames.
 END = "3000000000000"
@@ -314,7 +314,7 @@ start 2 class 0 at 2344000 end 3336000
 """,
         b"""summary class 0 queued 1 sent 1 dropped 1 octets 100 least 1344000 mean 1344000 greatest 1344000 most 1
 summary class 3 queued 2 sent 2 dropped 0 octets 120 least 0 mean 336000 greatest 672000 most 2
-summary wire busy 2336000 ppm 233600
+summary wire busy 2336000 ppm 233600 from 1000000 ppm 259555
 """,
         ALL_BUT_THE_DROPPED,
     )
@@ -332,7 +332,7 @@ left class 3 frames 1
 """,
         b"""summary class 0 queued 1 sent 0 dropped 1 octets 0 least - mean - greatest - most 1
 summary class 3 queued 2 sent 1 dropped 0 octets 60 least 0 mean 0 greatest 0 most 2
-summary wire busy 1 ppm 0
+summary wire busy 1 ppm 0 from 1000000 ppm 1000000
 """,
         captured([(1000, PRIORITY_3, 60)]),
     )

@@ -96,6 +96,29 @@ def case_tables_agree_with_the_answers(program):
     assert set(fates) == {"sent", "left", "NoClass", "Runt", "TooLong", "OverSdu", "Full"}, fates
 
 
+def case_the_share_of_the_wire_counts_from_the_first_frame_too(program):
+    """The line of the wire by the table of the frames: the least arrival of those that are queued, and how long they have the wire."""
+    begun = 0
+    for seed in range(80):
+        dice = random.Random(f"shares {seed}")
+        day = dice.choice([0, 0, 1, 10**18])
+        octets = "".join(f"{line}\n" for line in [f"clock {day}", *script(dice)]).encode()
+        words = ["--until", str(day + 2_000_000_000)]
+        told, table = run(program, ["script", "--summary", *words], octets), run(program, ["frames", *words], octets)
+        if told.status != 0:
+            continue
+        rows = [row.split(",") for row in table.output.decode().splitlines()[1:]]
+        queued = [row for row in rows if row[-1] in ("sent", "left")]
+        last = max([day + 2_000_000_000] + [int(line.split()[1]) for line in octets.decode().splitlines() if line.startswith("clock ") and line.split()[1].isdigit()])
+        busy = sum(min(int(row[5]), last) - int(row[4]) for row in queued if row[-1] == "sent")
+        first = min((int(row[3]) for row in queued), default=None)
+        since = 0 if first is None or first == last else busy * 10**6 // (last - first)
+        wanted = f"summary wire busy {busy} ppm {busy * 10**6 // last} from {'-' if first is None else first} ppm {since}"
+        assert told.output.decode().splitlines()[-1] == wanted, (seed, told.output.decode().splitlines()[-1], wanted)
+        begun += bool(first)
+    assert begun > 20, begun
+
+
 def case_a_table_of_many_frames_keeps_those_that_wait(program):
     """A long script of frames that leave at once: as many rows, each with its own numbers."""
     frames = 50_000

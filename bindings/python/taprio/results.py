@@ -175,10 +175,14 @@ class ClassSummary:
 
 @dataclasses.dataclass(frozen=True)
 class WireSummary:
-    """For how many picoseconds the wire was busy, and the share of the run in parts per million."""
+    """For how many picoseconds the wire was busy, and the share of the run in parts per million: from moment 0, and from `first`."""
 
     busy: int
     ppm: int
+    first: int | None = None
+    """The moment at which the first frame was queued, in picoseconds, where one was."""
+    ppm_since: int | None = None
+    """The share of the time since then. None of a summary that doesn't tell it."""
 
 
 Answer = Union[Queued, Dropped, Started, Installed, Refused, TcFault, Backward, Counted, Report, Left, ClassSummary, WireSummary]
@@ -419,7 +423,10 @@ _LINES: list[tuple[re.Pattern[str], Callable[..., Answer]]] = [
             int(it[0]), int(it[1]), int(it[2]), int(it[3]), int(it[4]), _wait(it[5]), _wait(it[6]), _wait(it[7]), int(it[8])
         ),
     ),
-    (re.compile(r"summary wire busy (\d+) ppm (\d+)"), lambda *it: WireSummary(*map(int, it))),
+    (
+        re.compile(r"summary wire busy (\d+) ppm (\d+)(?: from (\d+|-) ppm (\d+))?"),
+        lambda *it: WireSummary(int(it[0]), int(it[1]), _wait(it[2] or "-"), None if it[3] is None else int(it[3])),
+    ),
 ]
 _BY_WORD: dict[str, list[tuple[re.Pattern[str], Callable[..., Answer]]]] = {}
 for _pattern, _make in _LINES:

@@ -54,7 +54,7 @@ class Runs(unittest.TestCase):
             ],
         )
         self.assertEqual(found.summary[0], results.ClassSummary(0, 3, 3, 0, 180, 0, 4439999, 12647999, 2))
-        self.assertEqual(found.wire, results.WireSummary(14320000, 716000))
+        self.assertEqual(found.wire, results.WireSummary(14320000, 716000, 0, 716000))
         self.assertEqual(found.left, {})
         self.assertEqual(
             found.rows()[3],
@@ -92,9 +92,11 @@ pending change 1000000000 base 1 cycle 2 extension 3 entries 4
 announced none
 left class 0 frames 1
 summary class 0 queued 1 sent 0 dropped 1 octets 0 least - mean - greatest - most 1
-summary wire busy 0 ppm 0
+summary wire busy 0 ppm 0 from - ppm 0
 """
         found = taprio.read_run(text)
+        self.assertEqual(found.wire, results.WireSummary(0, 0, None, 0))
+        self.assertEqual(taprio.read_run("summary wire busy 5 ppm 7\n").wire, results.WireSummary(5, 7))
         self.assertEqual(
             list(found.answers[2:12]),
             [

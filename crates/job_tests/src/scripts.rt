@@ -163,7 +163,7 @@ const FRAMES_TOLD: &[u8] =
 
 /// Their summary: class 0 waited for 0, 672000 and 12647999, a third of a picosecond more than a whole mean.
 const FRAMES_SUMMED: &[u8] =
-    b"summary class 0 queued 3 sent 3 dropped 0 octets 180 least 0 mean 4439999 greatest 12647999 most 2\nsummary class 5 queued 1 sent 1 dropped 0 octets 1514 least 343999 mean 343999 greatest 343999 most 1\nsummary wire busy 14320000 ppm 716000\n";
+    b"summary class 0 queued 3 sent 3 dropped 0 octets 180 least 0 mean 4439999 greatest 12647999 most 2\nsummary class 5 queued 1 sent 1 dropped 0 octets 1514 least 343999 mean 343999 greatest 343999 most 1\nsummary wire busy 14320000 ppm 716000 from 0 ppm 716000\n";
 
 /// Where there is no room for the arrivals of a summary, nothing is read or written.
 #[test]

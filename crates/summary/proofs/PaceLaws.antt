@@ -151,7 +151,9 @@ drop_room p why (Some class) = refl
 drop_room p why None = refl
 
 arrives : (p : AbstractPort) (o : Observed) (f : Frame) (v : Result ℕ Dropped) → verdict p f ≡ v → InPace p o → InPace (after_arrival p f v) (seen p.now (arrival_answer f v) o)
-arrives p o f (Ok d) h i = queued p o f d (by_room p f (class_for p f.priority) d h) i (cases_lt d 8)
+arrives p o f (Ok d) h i =
+    let after = queued p o f d (by_room p f (class_for p f.priority) d h) i (cases_lt d 8) in
+    record { queues = after.queues; classes = after.classes; pace = after.pace; rooms = after.rooms }
 arrives p o f (Err why) h i = same_queues p (after_arrival p f (Err why)) o (drop_queues p why (class_for p f.priority)) (drop_room p why (class_for p f.priority)) i
 
 -- ---- starts

@@ -1,5 +1,5 @@
 -- The lines of a summary.
-use Rattle.std.specs.Prelude.{ℕ, zero, suc, ◌++◌, ◌+◌, ◌-◌, ◌*◌, ◌/◌, ◌==◌, ◌&&◌, List, [], ◌∷◌, decimal, codes, slice_index, if◌then◌else◌}
+use Rattle.std.specs.Prelude.{ℕ, zero, suc, ◌++◌, ◌+◌, ◌-◌, ◌*◌, ◌/◌, ◌==◌, ◌&&◌, List, [], ◌∷◌, Option, Some, None, decimal, codes, slice_index, if◌then◌else◌}
 use Rattle.std.specs.List.{concat}
 use Rattle.abstract_port.specs.AbstractPort.{AbstractPort, counters_of}
 use Rattle.abstract_port.specs.declared.Counters.{Counters}
@@ -40,13 +40,29 @@ busy_by now o = o.busy - (o.free - now)
 abbrev pub share_of : ℕ → ℕ → ℕ
 share_of busy now = if now == 0 then 0 else busy * 1000000 / now
 
--- how long the wire was busy, in picoseconds, and the share of the time up to a moment
-abbrev pub wire_line : ℕ → ℕ → List ℕ
-wire_line busy now = concat (codes "summary wire busy " ∷ decimal busy ∷ codes " ppm " ∷ decimal (share_of busy now) ∷ codes "\n" ∷ [])
+-- the time up to a moment since the first frame was queued; none where none was
+abbrev pub time_since : Option ℕ → ℕ → ℕ
+time_since None now = 0
+time_since (Some first) now = now - first
+
+-- the moment at which the first frame was queued, or - where none was
+abbrev pub first_text : Option ℕ → List ℕ
+first_text None = codes "-"
+first_text (Some first) = decimal first
+
+-- how long the wire was busy, in picoseconds; the share of the time up to a moment; and the moment at which the first frame was queued, with the
+-- share of the time since
+abbrev pub wire_line : ℕ → ℕ → Option ℕ → List ℕ
+wire_line busy now first = concat (
+    codes "summary wire busy " ∷ decimal busy
+    ∷ codes " ppm " ∷ decimal (share_of busy now)
+    ∷ codes " from " ∷ first_text first
+    ∷ codes " ppm " ∷ decimal (share_of busy (time_since first now))
+    ∷ codes "\n" ∷ [])
 
 -- the line of the wire, by what is seen
 abbrev pub wire_text : ℕ → Observed → List ℕ
-wire_text now o = wire_line (busy_by now o) now
+wire_text now o = wire_line (busy_by now o) now o.first
 
 -- the lines of so many classes from one on, of a port of which this is seen
 unfoldable pub classes_from : ℕ → ℕ → AbstractPort → Observed → List ℕ

@@ -1,6 +1,6 @@
 -- What is seen of a run, answer by answer: how long frames wait, and how long the wire is busy. Moments and durations are in
 -- picoseconds.
-use Rattle.std.specs.Prelude.{ℕ, ◌+◌, ◌-◌, ◌^◌, ◌==◌, ◌/◌, nat_lt, min, max, List, [], ◌∷◌, ◌++◌, length, slice_set, slice_index_or, if◌then◌else◌}
+use Rattle.std.specs.Prelude.{ℕ, ◌+◌, ◌-◌, ◌^◌, ◌==◌, ◌/◌, nat_lt, min, max, List, [], ◌∷◌, ◌++◌, length, Option, Some, None, slice_set, slice_index_or, if◌then◌else◌}
 use Rattle.abstract_port.specs.AbstractPort.{AbstractPort}
 use Rattle.abstract_port.specs.Answers.{answers_to}
 use Rattle.abstract_port.specs.declared.Answer.{Answer}
@@ -68,11 +68,13 @@ with_start at c = starts_first at c.arrivals c
 
 -- 3. A port
 
--- what is seen of each class; for how long some frame has had the wire; and the moment from which it is free
+-- what is seen of each class; for how long some frame has had the wire; the moment from which it is free; and the moment at which the first
+-- frame was queued, if one was
 pub record Observed : Type 0 where
   pub classes : List ClassSeen
   pub busy : ℕ
   pub free : ℕ
+  pub first : Option ℕ
 
 -- nothing, with room for so many frames a class
 abbrev pub nothing_seen : ℕ → Observed
@@ -80,6 +82,7 @@ nothing_seen room = record {
   classes = no_frames room ∷ no_frames room ∷ no_frames room ∷ no_frames room ∷ no_frames room ∷ no_frames room ∷ no_frames room ∷ no_frames room ∷ [];
   busy = 0;
   free = 0;
+  first = None;
 }
 
 -- what is seen of a class
@@ -91,13 +94,21 @@ abbrev pub in_class : ℕ → (ClassSeen → ClassSeen) → Observed → Observe
 in_class class change o =
     if nat_lt class 8 then record o { classes = slice_set o.classes class (change (class_at o.classes class)) } else o
 
+-- a frame is queued at a moment: it is the first, where none was queued before
+abbrev pub first_with : ℕ → Option ℕ → Option ℕ
+first_with now None = Some now
+first_with now (Some first) = Some first
+
+abbrev pub with_queued : ℕ → Observed → Observed
+with_queued now o = record o { first = first_with now o.first }
+
 -- a frame takes the wire: that part of its time counts that no frame before it has had
 abbrev pub on_wire : Start → Observed → Observed
 on_wire s o = record o { busy = o.busy + (s.«end» - max s.at o.free); free = max o.free s.«end» }
 
 -- one answer, given at a moment
 abbrev pub seen : ℕ → Answer → Observed → Observed
-seen now (Answered.Queued id class) o = in_class class (with_arrival now) o
+seen now (Answered.Queued id class) o = with_queued now (in_class class (with_arrival now) o)
 seen now (Answered.Start s) o = on_wire s (in_class s.class (with_start s.at) o)
 seen now (Answered.Dropped id why) o = o
 seen now (Answered.Installed change) o = o

@@ -4,7 +4,7 @@ ghost use Rattle.std.specs.Prelude.{◌≡◌, ◌≤◌, ◌&&◌, ◌==◌, []
 ghost use Rattle.octet_writer.specs.Writes.{Writes};
 ghost use Rattle.wire_time.specs.Moment.{greatest_moment};
 ghost use Rattle.answer_text.specs.Part.{text_of};
-ghost use Rattle.summary.specs.Lines.{class_line, dropped_of, share_of, wait_text, wire_line};
+ghost use Rattle.summary.specs.Lines.{class_line, dropped_of, first_text, share_of, time_since, wait_text, wire_line};
 
 use crate::waits::Waits;
 use abstract_port::Counters;
@@ -83,24 +83,48 @@ pub(crate) fn put_class_text<W: Write>(
     put_class_line(class, counters, waits, most, writer)
 }
 
-/// The share of a time in parts per million, rounded down.
-fn share_of(busy: u128, now: u128) -> u128
-    requires busy { busy ≤ now }
-    requires within { now ≤ greatest_moment }
-    ensures { result ≡ share_of busy now }
+/// The share of a time in parts per million, rounded down; 0 of no time.
+fn share_of(busy: u128, time: u128) -> u128
+    requires { busy ≤ greatest_moment }
+    ensures { result ≡ share_of busy time }
 {
-    if now == 0 { 0 } else { busy * 1_000_000 / now }
+    if time == 0 {
+        0
+    } else {
+        busy * 1_000_000 / time
+    }
 }
 
-/// Writes how long the wire was busy, in picoseconds, and the share of the time up to a moment.
+/// The time up to a moment since the first frame was queued; none where none was.
+fn time_since(first: Option<u128>, now: u128) -> u128
+    ensures { result ≡ time_since first now }
+{
+    match first {
+        Some(first) => now.saturating_sub(first),
+        None => 0,
+    }
+}
+
+/// The moment at which the first frame was queued, or - where none was.
+fn first_part<'a>(first: Option<u128>) -> Part<'a>
+    ensures { text_of result ≡ first_text first }
+{
+    match first {
+        Some(first) => Part::Number(first),
+        None => Part::Text(b"-"),
+    }
+}
+
+/// Writes how long the wire was busy, in picoseconds, and the share of the time up to a moment; and the moment at which the first frame was
+/// queued, with the share of the time since.
 pub(crate) fn put_wire_line<W: Write>(
     busy: u128,
     now: u128,
+    first: Option<u128>,
     writer: &mut W,
 ) -> Result<(), WriteFault>
-    requires busy { busy ≤ now }
-    requires within { now ≤ greatest_moment }
-    ensures { Writes result (W.contents writer.old) (W.contents writer.new) (wire_line busy now) }
+    requires { busy ≤ greatest_moment }
+    ensures { Writes result (W.contents writer.old) (W.contents writer.new) (wire_line busy now first) }
 {
     put_parts(
         writer,
@@ -109,6 +133,10 @@ pub(crate) fn put_wire_line<W: Write>(
             Part::Number(busy),
             Part::Text(b" ppm "),
             Part::Number(share_of(busy, now)),
+            Part::Text(b" from "),
+            first_part(first),
+            Part::Text(b" ppm "),
+            Part::Number(share_of(busy, time_since(first, now))),
             Part::Text(b"\n"),
         ],
     )

@@ -84,12 +84,21 @@ fn class_in<A: Allocator>(classes: &[ClassSummary<A>; 8], class: u8) -> &ClassSu
     &classes[class as usize]
 }
 
+/// What is seen of the wire, with moments and durations in picoseconds.
+#[derive(Clone, Copy, Debug, PartialEq, Eq)]
+struct WireSeen {
+    /// For how long some frame has had it, and from when on it is free.
+    busy: u128,
+    free: u128,
+    /// When the first frame was queued, if one was.
+    first: Option<u128>,
+}
+
 /// What is seen of a run, from the answers of a port: how long the frames of each class waited, and how long the wire was busy.
 #[derive(Drop)]
 pub struct Summary<A: Allocator = Global> {
     classes: [ClassSummary<A>; 8],
-    busy: u128,
-    free: u128,
+    wire: WireSeen,
 }
 
 /// A contract sees what is seen of each class, and of the wire.
@@ -100,13 +109,13 @@ impl<A: Allocator> Model for Summary<A> {
 
     ghost use Rattle.std.specs.Prelude.{◌≤◌};
 
-    ghost view = { λ s. record { classes = s.classes; busy = s.busy; free = s.free } };
+    ghost view = { λ s. record { classes = s.classes; busy = s.wire.busy; free = s.wire.free; first = s.wire.first } };
 
-    ghost invariant = { λ s. s.busy ≤ s.free };
+    ghost invariant = { λ s. s.wire.busy ≤ s.wire.free };
 }
 
 impl<A: Allocator> Summary<A> {
-    ghost use Rattle.summary.specs.Observed.{in_class, on_wire, seen};
+    ghost use Rattle.summary.specs.Observed.{first_with, in_class, on_wire, seen, with_queued};
 
     /// Nothing is seen yet. All memory that is ever wanted is taken here: the arrival moments of so many frames a class.
     pub fn new(alloc: &A, room: u32) -> Result<Summary<A>, AllocError>
@@ -117,8 +126,11 @@ impl<A: Allocator> Summary<A> {
         let classes = classes_of(alloc, room as usize)?;
         Ok(Summary {
             classes,
-            busy: 0,
-            free: 0,
+            wire: WireSeen {
+                busy: 0,
+                free: 0,
+                first: None,
+            },
         })
     }
 
@@ -129,6 +141,13 @@ impl<A: Allocator> Summary<A> {
         if class < 8 {
             arrives_in(&mut self.classes, class, now);
         }
+    }
+
+    /// A frame is queued at a moment, and may be the first.
+    fn see_first(&mut self, now: u128)
+        ensures { self.new ≡ with_queued now self.old }
+    {
+        self.wire.first = Some(self.wire.first.unwrap_or(now));
     }
 
     /// The first frame of a class, if it is one, starts at a moment.
@@ -144,9 +163,9 @@ impl<A: Allocator> Summary<A> {
     fn see_on_wire(&mut self, start: &Start)
         ensures { self.new ≡ on_wire start.now self.old }
     {
-        let from = start.at.max(self.free);
-        self.busy += start.end.saturating_sub(from);
-        self.free = self.free.max(start.end);
+        let from = start.at.max(self.wire.free);
+        self.wire.busy += start.end.saturating_sub(from);
+        self.wire.free = self.wire.free.max(start.end);
     }
 
     /// Takes note of an answer that a port gives at this moment, in picoseconds: a frame that is queued then, or one that starts.
@@ -154,7 +173,10 @@ impl<A: Allocator> Summary<A> {
         ensures { self.new ≡ seen now answer.now self.old }
     {
         match answer {
-            Answer::Queued { id: _, class } => self.see_queued(*class, now),
+            Answer::Queued { id: _, class } => {
+                self.see_queued(*class, now);
+                self.see_first(now);
+            }
             Answer::Start(start) => {
                 self.see_started(start.class, start.at);
                 self.see_on_wire(start);
@@ -168,7 +190,9 @@ impl<A: Allocator> Summary<A> {
         ensures busy { result ≡ busy_by now self.now }
         ensures within { result ≤ now }
     {
-        self.busy.saturating_sub(self.free.saturating_sub(now))
+        self.wire
+            .busy
+            .saturating_sub(self.wire.free.saturating_sub(now))
     }
 
     /// Writes the line of a class, 0 to 7, with what it has counted, where it had frames. At a fault a prefix of it is written.
@@ -190,6 +214,6 @@ impl<A: Allocator> Summary<A> {
         requires { now ≤ greatest_moment }
         ensures { Writes result (W.contents writer.old) (W.contents writer.new) (wire_text now self.now) }
     {
-        put_wire_line(self.busy_by(now), now, writer)
+        put_wire_line(self.busy_by(now), now, self.wire.first, writer)
     }
 }

@@ -49,32 +49,32 @@ fn waits_and_the_wire(rt: HostRuntime) -> Result<(), Fail> {
         (
             &[],
             0,
-            b"summary class 0 queued 3 sent 2 dropped 10 octets 120 least - mean - greatest - most 0\nsummary wire busy 0 ppm 0\n",
+            b"summary class 0 queued 3 sent 2 dropped 10 octets 120 least - mean - greatest - most 0\nsummary wire busy 0 ppm 0 from - ppm 0\n",
         ),
         (
             &[(7, 7, 679)],
             679,
-            b"summary class 0 queued 3 sent 2 dropped 10 octets 120 least 0 mean 0 greatest 0 most 1\nsummary wire busy 672 ppm 989690\n",
+            b"summary class 0 queued 3 sent 2 dropped 10 octets 120 least 0 mean 0 greatest 0 most 1\nsummary wire busy 672 ppm 989690 from 7 ppm 1000000\n",
         ),
         (
             &[(0, 1, 2), (0, 2, 3)],
             3,
-            b"summary class 0 queued 3 sent 2 dropped 10 octets 120 least 1 mean 1 greatest 2 most 1\nsummary wire busy 2 ppm 666666\n",
+            b"summary class 0 queued 3 sent 2 dropped 10 octets 120 least 1 mean 1 greatest 2 most 1\nsummary wire busy 2 ppm 666666 from 0 ppm 666666\n",
         ),
         (
             &[(0, 4, 5), (0, 6, 7), (5, 7, 9)],
             8,
-            b"summary class 0 queued 3 sent 2 dropped 10 octets 120 least 2 mean 4 greatest 6 most 1\nsummary wire busy 3 ppm 375000\n",
+            b"summary class 0 queued 3 sent 2 dropped 10 octets 120 least 2 mean 4 greatest 6 most 1\nsummary wire busy 3 ppm 375000 from 0 ppm 375000\n",
         ),
         (
             &[(10, 20, 1020)],
             520,
-            b"summary class 0 queued 3 sent 2 dropped 10 octets 120 least 10 mean 10 greatest 10 most 1\nsummary wire busy 500 ppm 961538\n",
+            b"summary class 0 queued 3 sent 2 dropped 10 octets 120 least 10 mean 10 greatest 10 most 1\nsummary wire busy 500 ppm 961538 from 10 ppm 980392\n",
         ),
         (
             &[(0, 0, 9223372036854775807000)],
             9223372036854775807000,
-            b"summary class 0 queued 3 sent 2 dropped 10 octets 120 least 0 mean 0 greatest 0 most 1\nsummary wire busy 9223372036854775807000 ppm 1000000\n",
+            b"summary class 0 queued 3 sent 2 dropped 10 octets 120 least 0 mean 0 greatest 0 most 1\nsummary wire busy 9223372036854775807000 ppm 1000000 from 0 ppm 1000000\n",
         ),
     ];
     for (frames, now, lines) in rows {
