@@ -13,7 +13,7 @@ _taprio_port() {
         streams) words='--with --from --strict --explain --help' values='--with --from' ;;
         bounds) words='--rate --mtu --room --frames --strict --explain --help' values='--rate --mtu --room --frames' ;;
         draw) words='--rate --mtu --room --until --from --to --width --strict --explain --help' values='--rate --mtu --room --until --from --to --width' ;;
-        frames) words='--rate --mtu --room --until --by-stream --explain --help' values='--rate --mtu --room --until --by-stream' ;;
+        frames) words='--rate --mtu --room --until --capture --by-stream --strict --explain --help' values='--rate --mtu --room --until --capture --by-stream' ;;
         *) return ;;
     esac
     case " $values " in

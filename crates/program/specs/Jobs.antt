@@ -89,7 +89,7 @@ IsJobEnding Names.Bounds found input ended old new errors_old errors_new =
 IsJobEnding Names.Draw found input ended old new errors_old errors_new =
     IsDrawEnding (settings_in greatest_moment found) (draws_in found) input ended old new errors_old errors_new
 IsJobEnding Names.Frames found input ended old new errors_old errors_new =
-    IsGivenFrames (settings_in greatest_moment found) (first_value found (codes "by-stream")) input ended old new errors_old errors_new
+    IsGivenFrames found (first_value found (codes "capture")) (first_value found (codes "by-stream")) input ended old new errors_old errors_new
 
 -- an end, and the same of a strict run, which has status 1 where something was found and all else is done
 abbrev pub IsJudged : Bool → Ended → Ended → Type 0

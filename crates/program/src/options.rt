@@ -240,6 +240,7 @@ const FROM: Word = Word {
     name: "from",
     value: "MOMENT",
     help: "The moment that the picture begins at: picoseconds, or a number with its unit [default: with --to 0, else the first frame]",
+    without: None,
 };
 
 const OFFSETS_FROM: Word = Word {
