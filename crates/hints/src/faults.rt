@@ -14,7 +14,7 @@ const TEXTS: [(&[u8], &[u8]); 21] = [
     ),
     (
         b"TooManyLines",
-        b"an input has at most 4000000 lines, comments and empty lines among them",
+        b"an input has at most 4000000 lines; where streams writes one, each frame takes a line, and each moment another",
     ),
     (
         b"ShortHeader",
