@@ -4,6 +4,8 @@ use Rattle.wire_time.specs.Moment.{greatest_moment}
 use Rattle.wire_time.specs.Wire.{rate_of}
 use Rattle.wire_time.specs.declared.RateFault.{RateFault}
 use Rattle.job.specs.Outcome.{Outcome}
+use Rattle.replay.specs.Texts.{replay_telling}
+use Rattle.replay.specs.declared.faults.ReplayInput.{ReplayInput}
 use Rattle.script.specs.Setup.{Setup}
 use Rattle.script.specs.Settings.{settings_with, summarized}
 use Rattle.script.specs.declared.settings.BadValue.{BadValue}
@@ -39,3 +41,8 @@ from_at from = if nat_le from greatest_moment then Ok from else Err From
 abbrev pub streams_told_by : {S : Type 0} → (S → Outcome StreamsInput) → Result S BadValue → Told
 streams_told_by whole (Ok given) = told_of streams_telling (whole given)
 streams_told_by whole (Err value) = refused value
+
+-- the same of a script and a capture
+abbrev pub capture_told_by : {S : Type 0} → (S → Outcome ReplayInput) → Result S BadValue → Told
+capture_told_by whole (Ok settings) = told_of replay_telling (whole settings)
+capture_told_by whole (Err value) = refused value

@@ -2,10 +2,16 @@
 
 ghost use Rattle.std.specs.Prelude.{List, ℕ, Result};
 ghost use Rattle.abstract_port.specs.declared.Command.{Command};
+ghost use Rattle.capture.specs.Records.{Entry};
+ghost use Rattle.capture.specs.declared.fault.CapFault.{CapFault};
+ghost use Rattle.capture.specs.declared.reader.End.{End};
 ghost use Rattle.frame_table.specs.ByStream.{frames_by_stream};
+ghost use Rattle.frame_table.specs.OfCapture.{frames_of_capture};
 ghost use Rattle.frame_table.specs.Outcome.{frames_of};
 ghost use Rattle.in_memory.specs.Slices.{Answers, slices, told_by, told_of};
-ghost use Rattle.in_memory.specs.Values.{settings_at, streams_told_by};
+ghost use Rattle.in_memory.specs.Values.{capture_told_by, settings_at, streams_told_by};
+ghost use Rattle.replay.specs.Outcome.{ReadsAs};
+ghost use Rattle.replay.specs.Texts.{replay_telling};
 ghost use Rattle.script.specs.Texts.{script_telling};
 ghost use Rattle.tc_reader.specs.Reader.{IsReader};
 ghost use Rattle.tc_reader.specs.declared.fault.TcFault.{TcFault};
@@ -13,7 +19,7 @@ ghost use Rattle.traffic.specs.Faults.{streams_telling};
 
 use crate::jobs::{Ran, end_in_memory, refuse_value};
 use crate::values::{PortValues, settings_at};
-use frame_table::{run_frames, run_frames_by_stream};
+use frame_table::{run_frames, run_frames_by_stream, run_frames_of_capture};
 use script::{Settings, Unwatched};
 use std::alloc::Allocator;
 
@@ -86,6 +92,54 @@ pub fn frames_by_stream_octets<A: Allocator>(
 {
     match settings_at(values) {
         Ok(settings) => frames_by_stream_with(alloc, settings, table, script, output, fault),
+        Err(value) => refuse_value(alloc, value, output, fault),
+    }
+}
+
+/// Writes the table of a script and a capture with settings.
+fn frames_of_capture_with<A: Allocator>(
+    alloc: &A,
+    settings: Settings,
+    script: &[u8],
+    capture: &[u8],
+    output: &mut [u8],
+    fault: &mut [u8],
+) -> Ran
+    ensures { (read : List (List ℕ) → Result Command TcFault) → IsReader read → (records : Result (List Entry × End) CapFault) → ReadsAs capture.now records →
+        Answers (told_of replay_telling (frames_of_capture read settings script.now records)) result (slices output.old fault.old) (slices output.new fault.new) }
+{
+    let mut written = Vec::new(alloc);
+    let run = run_frames_of_capture(
+        alloc,
+        script,
+        capture,
+        &mut written,
+        settings,
+        &mut Unwatched,
+    );
+    end_in_memory(alloc, run, written.as_slice(), output, fault)
+}
+
+/// Runs a script and a capture with these values: the table of the frames of their replay, as `frame_table::run_frames_of_capture` writes it, comes
+/// into `output`, and the text of a fault into `fault`, as the program writes it on its standard error.
+///
+/// Without a moment to run to the port runs on until no frame can start any more.
+///
+/// Status 2 where a value is out of its limits, which for `until` is the last moment that a capture can say; 3 where the script or the capture has a fault.
+/// Nothing is written at a fault of the script or of the capture's header; at one of a record the table of the records before it, and of the whole script.
+pub fn frames_of_capture_octets<A: Allocator>(
+    alloc: &A,
+    values: PortValues,
+    script: &[u8],
+    capture: &[u8],
+    output: &mut [u8],
+    fault: &mut [u8],
+) -> Ran
+    ensures { (read : List (List ℕ) → Result Command TcFault) → IsReader read → (records : Result (List Entry × End) CapFault) → ReadsAs capture.now records →
+        Answers (capture_told_by (λ settings. frames_of_capture read settings script.now records) (settings_at values)) result (slices output.old fault.old) (slices output.new fault.new) }
+{
+    match settings_at(values) {
+        Ok(settings) => frames_of_capture_with(alloc, settings, script, capture, output, fault),
         Err(value) => refuse_value(alloc, value, output, fault),
     }
 }

@@ -21,7 +21,7 @@ mod values;
 pub use bounds::bounds_octets;
 pub use captures::{ReplayRan, replay_octets};
 pub use checks::check_octets;
-pub use frames::{frames_by_stream_octets, frames_octets};
+pub use frames::{frames_by_stream_octets, frames_octets, frames_of_capture_octets};
 pub use jobs::Ran;
 pub use pictures::{PictureValues, draw_octets};
 pub use scripts::run_octets;
