@@ -88,7 +88,7 @@ static int begins(struct octets slice, struct octets with) {
     return slice.length >= with.length && memcmp(slice.at, with.at, with.length) == 0 && is_untouched(slice, with.length);
 }
 
-enum job { RUN, FRAMES, FRAMES_BY_STREAM, CHECK, STREAMS, STREAMS_FROM, BOUNDS, DRAW };
+enum job { RUN, FRAMES, FRAMES_BY_STREAM, FRAMES_OF_CAPTURE, CHECK, STREAMS, STREAMS_FROM, BOUNDS, DRAW };
 
 struct call {
     enum job job;
@@ -111,6 +111,10 @@ static struct taprio_ran call(const struct call *c, struct octets output, struct
     case FRAMES_BY_STREAM:
         taprio_frames_by_stream(&c->values, c->second.at, c->second.length, c->input.at, c->input.length, output.at, output.length,
                                 fault.at, fault.length, &ran);
+        break;
+    case FRAMES_OF_CAPTURE:
+        taprio_frames_of_capture(&c->values, c->input.at, c->input.length, c->second.at, c->second.length, output.at, output.length,
+                                 fault.at, fault.length, &ran);
         break;
     case CHECK:
         taprio_check(c->values.rate, c->windows, c->input.at, c->input.length, output.at, output.length, fault.at, fault.length,
@@ -341,6 +345,44 @@ static void frames_by_stream(void) {
     free(good.at);
 }
 
+/* The octets of a capture of two frames of 60 octets at moments 0 and 1 us, in host order; only `captured` of each stand there. */
+static struct octets two_frames(void) {
+    const uint32_t header[] = {0xa1b23c4d, 0x00040002, 0, 0, 262144, 1}, captured = 14;
+    struct octets got = lent(sizeof header + 2 * (16 + captured));
+    memcpy(got.at, header, sizeof header);
+    for (uint32_t at = 0; at < 2; at++) {
+        const uint32_t record[] = {0, 1000 * at, captured, 60};
+        uint8_t *place = got.at + sizeof header + at * (16 + captured);
+        memcpy(place, record, sizeof record);
+        memset(place + sizeof record, 0, captured);
+    }
+    return got;
+}
+
+static void frames_of_capture(void) {
+    struct octets both = two_frames(), cut = {both.at, both.length - 1}, none = {both.at, 23};
+    struct call c = {FRAMES_OF_CAPTURE, usual, whole, 0, 0, {0}, both};
+    small("frames of a capture", c, "", TAPRIO_DONE, HEAD "0,0,60,0,0,672000,0,sent\n1,0,60,1000000,1000000,1672000,0,sent\n", "");
+    struct call to = c;
+    to.values.has_until = 1;
+    to.values.until_low = 1000000;
+    small("frames of a capture to a moment", to, "clock 5\n", TAPRIO_DONE,
+          HEAD "0,0,60,0,0,672000,0,sent\n1,0,60,1000000,,,,left\n", "");
+    small("frames of a capture, a frame in the script", c, "frame 1 0 60\n", TAPRIO_BAD_INPUT, "",
+          "taprio_port: script line 1: FrameInReplay\n");
+    c.second = cut;
+    small("frames of a cut capture", c, "", TAPRIO_BAD_INPUT, HEAD "0,0,60,0,0,672000,0,sent\n",
+          "taprio_port: capture record 1: ShortRecord\n");
+    c.second = none;
+    small("frames of a cut header", c, "", TAPRIO_BAD_INPUT, "", "taprio_port: capture header: ShortHeader\n");
+    to.values.until_low = (uint64_t)0 - 1;
+    to.values.until_high = 300; /* over 4294967296000000000000, and below the greatest moment of a script */
+    small("frames of a capture to a late moment", to, "", TAPRIO_BAD_VALUE, "", "taprio_port: bad value of --until\n");
+    to.values.mtu = 67;
+    small("frames of a capture at a bad mtu", to, "", TAPRIO_BAD_VALUE, "", "taprio_port: bad value of --mtu\n");
+    free(both.at);
+}
+
 /* a word, and the moment that it says, if it says one */
 static void is_said(const char *word, int is_moment, uint64_t low, uint64_t high) {
     struct octets given = text(word);
@@ -459,6 +501,8 @@ static void nulls(void) {
     expect(ran.status == TAPRIO_NO_ROOM && ran.output == strlen(HEAD), "null pointers", "taprio_frames");
     taprio_frames_by_stream(&usual, NULL, 0, NULL, 0, NULL, 0, NULL, 0, &ran);
     expect(ran.status == TAPRIO_NO_ROOM && ran.output == strlen(HEAD) + strlen(",stream"), "null pointers", "taprio_frames_by_stream");
+    taprio_frames_of_capture(&usual, NULL, 0, NULL, 0, NULL, 0, NULL, 0, &ran);
+    expect(ran.status == TAPRIO_NO_ROOM && ran.output == 0 && ran.fault == 41, "null pointers", "taprio_frames_of_capture");
     struct taprio_moment_value moment;
     taprio_moment(NULL, 0, &moment);
     expect(moment.is_moment == 0 && moment.low == 0 && moment.high == 0, "null pointers", "taprio_moment");
@@ -708,6 +752,7 @@ int main(int count, char **words) {
     bounds();
     frames();
     frames_by_stream();
+    frames_of_capture();
     moments();
     struct call draw = {DRAW, usual, whole, 0, 0, {0}, {0}};
     of_files(draw, "first.script", NULL, "first.svg");

@@ -64,9 +64,9 @@ struct taprio_port_values {
     uint32_t mtu;        /* octets, 68 to 9216 */
     uint32_t room;       /* frames a class, 1 to 4096 */
     uint32_t summary;    /* 0: none; else a summary is written at the end */
-    uint64_t has_until;  /* 0: no moment to run to after the input, a replay until no frame can start; else there is one */
+    uint64_t has_until;  /* 0: no moment to run to after the input, with a capture until no frame can start; else there is one */
     uint64_t until_low;  /* that moment, in picoseconds: until_high * 2^64 + until_low, */
-    uint64_t until_high; /* at most 9223372036854775807000; in a replay 4294967296000000000000 */
+    uint64_t until_high; /* at most 9223372036854775807000; with a capture 4294967296000000000000 */
 };
 
 #define TAPRIO_PORT_VALUES {1000, 1500, 128, 0, 0, 0, 0}
@@ -117,6 +117,13 @@ void taprio_frames(const struct taprio_port_values *values, const uint8_t *scrip
 void taprio_frames_by_stream(const struct taprio_port_values *values, const uint8_t *table, size_t table_length,
                              const uint8_t *script, size_t script_length, uint8_t *output, size_t output_length, uint8_t *fault,
                              size_t fault_length, struct taprio_ran *ran);
+
+/* Writes such a table of the frames of a capture (classic pcap), with the lines of a script among them, as `--capture` does: those of
+ * taprio_replay, and `until` of the values is as there. At TAPRIO_BAD_INPUT there is no output where the script or the header of the
+ * capture has the fault; where a record has it, the table is that of the records before it and of the whole script. */
+void taprio_frames_of_capture(const struct taprio_port_values *values, const uint8_t *script, size_t script_length,
+                              const uint8_t *capture, size_t capture_length, uint8_t *output, size_t output_length, uint8_t *fault,
+                              size_t fault_length, struct taprio_ran *ran);
 
 /* What a word says as a moment; 24 octets. */
 struct taprio_moment_value {
@@ -213,6 +220,14 @@ static inline void taprio_frames_by_stream_or_null(const struct taprio_port_valu
                             taprio_lent(output), output_length, taprio_lent(fault), fault_length, ran);
 }
 
+static inline void taprio_frames_of_capture_or_null(const struct taprio_port_values *values, const uint8_t *script,
+                                                    size_t script_length, const uint8_t *capture, size_t capture_length,
+                                                    uint8_t *output, size_t output_length, uint8_t *fault, size_t fault_length,
+                                                    struct taprio_ran *ran) {
+    taprio_frames_of_capture(values, taprio_octets(script), script_length, taprio_octets(capture), capture_length,
+                             taprio_lent(output), output_length, taprio_lent(fault), fault_length, ran);
+}
+
 static inline void taprio_moment_or_null(const uint8_t *word, size_t word_length, struct taprio_moment_value *moment) {
     taprio_moment(taprio_octets(word), word_length, moment);
 }
@@ -273,6 +288,7 @@ static inline void taprio_replay_stamped_or_null(const struct taprio_port_values
 #define taprio_run taprio_run_or_null
 #define taprio_frames taprio_frames_or_null
 #define taprio_frames_by_stream taprio_frames_by_stream_or_null
+#define taprio_frames_of_capture taprio_frames_of_capture_or_null
 #define taprio_moment taprio_moment_or_null
 #define taprio_check taprio_check_or_null
 #define taprio_streams taprio_streams_or_null

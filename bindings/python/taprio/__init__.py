@@ -13,7 +13,7 @@ They stand on the shared object that `bindings/c/build` makes, which is loaded a
 calls over the program. `Port` is a port that is driven call by call, over the shared object. Calls may be made from several threads: they share nothing, and the interpreter goes on meanwhile.
 
 Nothing else here needs the shared object: `taprio.schedules` reads and writes schedules (times in nanoseconds), `Stream` is a stream of
-frames (times in nanoseconds), `run_streams` runs both, `frames` gives the frames of a script, `bounds` tells how long the frames of streams
+frames (times in nanoseconds), `run_streams` runs both, `frames` gives those of a script or a capture, `bounds` tells how long the frames of streams
 wait for ever, `read_run`, `read_frames`, `read_check` and `read_bounds` give what the jobs answer as objects, and `read_capture` reads a capture.
 `moment` reads a moment such as `12.303us`, over the shared object.
 """

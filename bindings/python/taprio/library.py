@@ -95,7 +95,7 @@ _OF_PORT: dict[str, list[Any]] = {
 }
 
 # What a shared object lacks that was built before there were bounds, tables of frames, or ports that are driven.
-_LATER = ("taprio_streams_from", "taprio_bounds", "taprio_frames", "taprio_replay_stamped", "taprio_frames_by_stream", "taprio_moment", *_OF_PORT)
+_LATER = ("taprio_streams_from", "taprio_bounds", "taprio_frames", "taprio_replay_stamped", "taprio_frames_by_stream", "taprio_frames_of_capture", "taprio_moment", *_OF_PORT)
 
 
 def _path() -> str:
@@ -126,6 +126,7 @@ def _typed(library: ctypes.CDLL) -> ctypes.CDLL:
         "taprio_run": [port, *_OCTETS, *_LENT, *_LENT, ran],
         "taprio_frames": [port, *_OCTETS, *_LENT, *_LENT, ran],
         "taprio_frames_by_stream": [port, *_OCTETS, *_OCTETS, *_LENT, *_LENT, ran],
+        "taprio_frames_of_capture": [port, *_OCTETS, *_OCTETS, *_LENT, *_LENT, ran],
         "taprio_moment": [*_OCTETS, ctypes.POINTER(_MomentValue)],
         "taprio_check": [ctypes.c_uint32, ctypes.c_uint32, *_OCTETS, *_LENT, *_LENT, ran],
         "taprio_streams": [*_OCTETS, *_OCTETS, *_LENT, *_LENT, ran],
@@ -198,6 +199,12 @@ def stamp_is_end(stamp: str) -> bool:
     return stamp == "end"
 
 
+def streams_or_capture(streams: Octets | None, capture: Octets | None) -> None:
+    """Refuses a table of streams with a capture: a record has no id of a stream."""
+    if streams is not None and capture is not None:
+        raise BadValue("a table of streams does not go with a capture", "--capture")
+
+
 def _port(rate: int, mtu: int, room: int, until: int | None, summary: bool) -> _PortValues:
     numbers = number(rate, 32, "rate"), number(mtu, 32, "mtu"), number(room, 32, "room")
     return _PortValues(*numbers, bool(summary), *_halves(until, "until"))
@@ -249,14 +256,21 @@ def frames(
     room: int = 128,
     until: int | None = None,
     streams: Octets | None = None,
+    capture: Octets | None = None,
 ) -> bytes:
     """Runs a script, and gives a table of its frames: comma-separated values with a head, a row a frame.
 
-    The values are those of `run`. With `streams`, a table of streams, a last column has the stream of each frame, by its first id.
-    `taprio.read_frames` reads the table, and `taprio.frames` does both.
+    The values are those of `run`. With `streams`, a table of streams, a last column has the stream of each frame, by its first id. With
+    `capture` (classic pcap) the frames are its records, run with the lines of the script as `replay` runs them, and `until` is as there;
+    both do not go together. `taprio.read_frames` reads the table, and `taprio.frames` does both.
     """
+    streams_or_capture(streams, capture)
     script = octets(script)
     port = ctypes.byref(_port(rate, mtu, room, until, False))
+    if capture is not None:
+        capture = octets(capture)
+        given = [port, script, len(script), capture, len(capture)]
+        return _one("taprio_frames_of_capture", given, 4 * len(capture) + 4096)
     if streams is None:
         return _one("taprio_frames", [port, script, len(script)], 6 * len(script) + 4096)
     table = octets(streams)

@@ -11,7 +11,7 @@ from typing import Protocol, Union
 
 from . import library
 from .faults import BAD_INPUT, BAD_VALUE, LibraryMissing, Replay, TaprioError, of_text
-from .library import Library, Octets, number, octets, stamp_is_end
+from .library import Library, Octets, number, octets, stamp_is_end, streams_or_capture
 
 __all__ = ["Backend", "Chosen", "Program", "backend"]
 
@@ -32,8 +32,9 @@ class Backend(Protocol):
         room: int = 128,
         until: int | None = None,
         streams: Octets | None = None,
+        capture: Octets | None = None,
     ) -> bytes:
-        """The table of the frames of a script, as comma-separated values; with `streams` also the stream of each."""
+        """The table of the frames of a script, or of a capture, as comma-separated values; with `streams` also the stream of each."""
 
     def check(self, schedules: Octets, rate: int = 1000, windows: bool = False) -> bytes:
         """What schedules keep apart, and their windows."""
@@ -129,10 +130,14 @@ class Program:
         room: int = 128,
         until: int | None = None,
         streams: Octets | None = None,
+        capture: Octets | None = None,
     ) -> bytes:
         """Runs a script, and gives a table of its frames, as `taprio.library.frames` does."""
+        streams_or_capture(streams, capture)
         script = octets(script)
         words = ["frames", *self._port(rate, mtu, room, until, False)]
+        if capture is not None:
+            return self._with_file([*words, "--capture", "capture"], "capture", octets(capture), script)
         if streams is None:
             return self._one(words, script)
         return self._with_file([*words, "--by-stream", "table"], "table", octets(streams), script)

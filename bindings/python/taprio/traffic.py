@@ -122,6 +122,7 @@ def frames(
     room: int = 128,
     until: int | None = None,
     streams: Union[Iterable[Stream], Octets, None] = None,
+    capture: Octets | None = None,
     port: Chosen = None,
 ) -> tuple[Frame, ...]:
     """The frames of a script, each with its class, its length, when it came, started and ended, and how long it waited; or why it was
@@ -129,8 +130,13 @@ def frames(
 
     They stand in the order of their fate: a dropped frame where it came, one that was sent where it started, and those that are left at the
     end. The values are those of `run`, and moments are picoseconds. With `streams`, which may also be a table, each frame has the first id of
-    the stream that it is of. What runs the script is `port`, as `taprio.backend` says."""
+    the stream that it is of.
+
+    With `capture`, a classic pcap, the frames are its records, run with the lines of the script as `replay` runs them, and `until` is as
+    there: the id of a frame is the number of its record, from 0. `streams` does not go with it. What runs the script is `port`, as
+    `taprio.backend` says."""
     of = {} if streams is None else {"streams": _table(streams)}
+    of |= {} if capture is None else {"capture": octets(capture)}
     return read_frames(backend(port).frames(script, rate=rate, mtu=mtu, room=room, until=until, **of))
 
 

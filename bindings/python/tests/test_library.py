@@ -69,6 +69,52 @@ class FramesByStream:
         self.assertEqual((str(caught.exception), caught.exception.output), ("table line 1: WordCount", b""))
 
 
+class FramesOfCapture:
+    """What is asked of the library where it has the call, and of the program."""
+
+    HEAD = Frames.HEAD
+
+    def test_frames_of_a_capture(self):
+        """Each record has the row that the report of the replay tells."""
+        script, capture = octets("machine.script"), octets("machine.pcap")
+        told = self.port.frames(script, capture=capture)
+        rows = told.splitlines()[1:]
+        self.assertEqual([row.split(b",")[0] for row in rows], [b"%d" % number for number in range(12)])
+        self.assertEqual(rows[6], b"6,0,1500,270000000,312192000,324384000,42192000,sent")
+        report = self.port.replay(script, capture).report
+        starts = [row.split(b",") for row in rows]
+        self.assertEqual(
+            [b"start %b class %b at %b end %b" % (row[0], row[1], row[4], row[5]) for row in starts],
+            [line for line in report.splitlines() if line.startswith(b"start ")],
+        )
+        self.assertEqual(self.port.frames(script, 1000, 1500, 128, None, None, bytearray(capture)), told)
+        self.assertIn(b"\n6,0,1500,270000000,,,,Full\n", self.port.frames(script, room=1, capture=capture))
+        stopped = self.port.frames("", until=750_000_000, capture=capture)
+        self.assertTrue(stopped.endswith(b"\n11,6,64,750000000,,,,left\n"))
+        self.assertEqual(self.port.frames("", capture=capture[:24]), self.HEAD)
+
+    def test_faults_of_frames_of_a_capture(self):
+        script, capture = octets("machine.script"), octets("machine.pcap")
+        with self.assertRaises(taprio.BadInput) as caught:
+            self.port.frames(script, capture=capture[:150])
+        fault = caught.exception
+        self.assertEqual((fault.input, fault.record, fault.name), ("capture", 1, "ShortRecord"))
+        self.assertEqual(fault.output, self.HEAD + b"0,1,64,0,0,704000,0,sent\n")
+        for given, line, name in ((("frame 1 0 60", capture), 1, "FrameInReplay"), (("", b""), None, "ShortHeader")):
+            with self.subTest(name), self.assertRaises(taprio.BadInput) as caught:
+                self.port.frames(given[0], capture=given[1])
+            fault = caught.exception
+            self.assertEqual((fault.line, fault.record, fault.name, fault.output), (line, None, name, b""))
+        for option, values in (
+            ("--mtu", {"mtu": 67}),
+            ("--until", {"until": 4_294_967_296_000_000_000_001}),
+            ("--capture", {"streams": "stream 1 0 60 1us 0us 2\n"}),
+        ):
+            with self.subTest(option), self.assertRaises(taprio.BadValue) as caught:
+                self.port.frames(script, capture=capture, **values)
+            self.assertEqual(caught.exception.option, option)
+
+
 class Bounds:
     """What is asked of the library where it has the call, and of the program."""
 
@@ -320,6 +366,12 @@ class FramesByStreamOverTheLibrary(FramesByStream, unittest.TestCase):
     port = taprio.Library()
 
 
+@support.wants_library
+@unittest.skipUnless(support.HAS_FRAMES_OF_CAPTURE, "this library has no taprio_frames_of_capture: build it again with bindings/c/build")
+class FramesOfCaptureOverTheLibrary(FramesOfCapture, unittest.TestCase):
+    port = taprio.Library()
+
+
 @support.wants_moment
 class Moments(unittest.TestCase):
     def test_moments(self):
@@ -334,7 +386,7 @@ class Moments(unittest.TestCase):
 
 
 @support.wants_program
-class OverTheProgram(Examples, Faults, Room, Bounds, Frames, FramesByStream, unittest.TestCase):
+class OverTheProgram(Examples, Faults, Room, Bounds, Frames, FramesByStream, FramesOfCapture, unittest.TestCase):
     port = taprio.Program(support.PROGRAM or "taprio_port")
 
     def test_no_program(self):

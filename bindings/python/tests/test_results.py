@@ -250,6 +250,17 @@ class Frames(unittest.TestCase):
         with self.assertRaisesRegex(taprio.BadInput, "table line 1"):
             taprio.frames(script, streams="strem 1\n", port=support.FRAMES_BY_STREAM)
 
+    @support.wants_frames_of_capture
+    def test_a_capture(self):
+        script, capture = (support.EXAMPLES / "machine.script").read_text(), taprio.read_capture(support.EXAMPLES / "machine.pcap")
+        found = taprio.frames(script, capture=capture, port=support.FRAMES_OF_CAPTURE)
+        self.assertEqual(len(found), 12)
+        self.assertEqual(found[5], results.Frame(5, 0, 250_000_000, 300_000_000, 312_192_000, 50_000_000, None, None, 1500))
+        with self.assertRaisesRegex(taprio.BadInput, "capture header: BadMagic"):
+            taprio.frames(script, capture=bytes(24), port=support.FRAMES_OF_CAPTURE)
+        with self.assertRaisesRegex(taprio.BadValue, "does not go with a capture"):
+            taprio.frames(script, streams=[], capture=capture, port=support.FRAMES_OF_CAPTURE)
+
     @support.wants_frames
     def test_examples(self):
         """In each example the frames of the table are those of the answers, in the order of their fate."""

@@ -12,12 +12,13 @@ ghost use Rattle.capture.specs.Records.{Entry};
 ghost use Rattle.capture.specs.declared.fault.CapFault.{CapFault};
 ghost use Rattle.capture.specs.declared.reader.End.{End};
 ghost use Rattle.frame_table.specs.ByStream.{frames_by_stream};
+ghost use Rattle.frame_table.specs.OfCapture.{frames_of_capture};
 ghost use Rattle.frame_table.specs.Outcome.{frames_of};
 ghost use Rattle.in_memory.specs.Bounds.{bounds_settings_at, bounds_told_by};
 ghost use Rattle.in_memory.specs.Captures.{Replays, outputs, told_by_replay};
 ghost use Rattle.in_memory.specs.Pictures.{DrawsWith, options_at};
 ghost use Rattle.in_memory.specs.Slices.{Answers, slices, told_by, told_of};
-ghost use Rattle.in_memory.specs.Values.{from_at, rate_at, settings_at, streams_told_by};
+ghost use Rattle.in_memory.specs.Values.{capture_told_by, from_at, rate_at, settings_at, streams_told_by};
 ghost use Rattle.replay.specs.Outcome.{ReadsAs, outcome_of as replay_outcome_of};
 ghost use Rattle.replay.specs.declared.stamps.Stamp.TheVariants as Stamps;
 ghost use Rattle.schedule_check.specs.Checked.{whole_check};
@@ -33,7 +34,7 @@ ghost use Rattle.traffic.specs.Outcome.{outcome_of as streams_outcome_of};
 use crate::values::{is_wanted, moment_of, moment_said, picture_values, port_values, stamp_of};
 use in_memory::{
     Ran, ReplayRan, bounds_octets, check_octets, draw_octets, frames_by_stream_octets,
-    frames_octets, replay_octets, run_octets, streams_octets,
+    frames_octets, frames_of_capture_octets, replay_octets, run_octets, streams_octets,
 };
 use replay::Stamp;
 use std::alloc::Global;
@@ -86,6 +87,23 @@ pub extern "C" fn taprio_frames_by_stream(
         Answers (streams_told_by (λ settings. frames_by_stream read settings table.now script.now) (settings_at (port_values values.now))) ran.new (slices output.old fault.old) (slices output.new fault.new) }
 {
     *ran = frames_by_stream_octets(&alloc, port_values(values), table, script, output, fault);
+}
+
+/// Writes the same table for the frames of a capture, with the lines of a script among them: those of their replay.
+#[unsafe(no_mangle)]
+pub extern "C" fn taprio_frames_of_capture(
+    alloc: Global,
+    values: &CPortValues,
+    script: &[u8],
+    capture: &[u8],
+    output: &mut [u8],
+    fault: &mut [u8],
+    ran: &mut Ran,
+)
+    ensures { (read : List (List ℕ) → Result Command TcFault) → IsReader read → (records : Result (List Entry × End) CapFault) → ReadsAs capture.now records →
+        Answers (capture_told_by (λ settings. frames_of_capture read settings script.now records) (settings_at (port_values values.now))) ran.new (slices output.old fault.old) (slices output.new fault.new) }
+{
+    *ran = frames_of_capture_octets(&alloc, port_values(values), script, capture, output, fault);
 }
 
 /// Reads a word as a moment, as the options do: whole picoseconds, or a decimal number with its unit.
