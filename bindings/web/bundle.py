@@ -14,7 +14,7 @@ IMPORT = re.compile(r'^import \{[^}]*\} from "\./([a-z]+\.js)";\n', re.M)
 KINDS = {".script": "script", ".schedules": "check", ".streams": "streams"}
 # How the repository's program of examples lists them: with answers and a flag, and with a picture and the time that it shows.
 LISTED = re.compile(r'\("(\w+\.\w+)",\s*"\w+\.answers",\s*true,?\s*\)')
-DRAWN = re.compile(r'\(\s*"(\w+\.\w+)",\s*"\w+\.svg",\s*([\d_]+),\s*(?:None|Some\(([\d_]+)\)),?\s*\)')
+DRAWN = re.compile(r'\(\s*"(\w+\.\w+)",\s*"\w+\.svg",\s*(?:None|Some\(([\d_]+)\)),\s*(?:None|Some\(([\d_]+)\)),?\s*\)')
 FLAGS = {"script": "summary", "check": "windows", "streams": ""}
 
 

@@ -127,7 +127,9 @@ class Page:
         self.same(f"{what}, shown", shown, wanted.decode()[: len(shown) if len(wanted) > 200_000 else None])
 
     def picture(self, what, text, *words):
-        status, drawn, _ = program("draw", *words, "--width", self.do("return at('frame').dataset.width"), text=text)
+        # (where no moment is given the page shows a run from moment 0 on)
+        begin = () if "--from" in words else ("--from", "0")
+        status, drawn, _ = program("draw", *begin, *words, "--width", self.do("return at('frame').dataset.width"), text=text)
         self.same(f"{what}, status", str(status), "0")
         self.same(f"picture of {what}", self.saved("save-picture"), drawn)
         self.same(f"bars of {what}", self.do("return document.querySelectorAll('#canvas rect.f').length"), len(re.findall(rb'<rect class="f[ "]', drawn)))
