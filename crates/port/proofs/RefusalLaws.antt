@@ -16,11 +16,11 @@ use Rattle.abstract_port.specs.declared.Command.TheVariants.{Replace, Delete}
 use Rattle.abstract_port.specs.AbstractPort.{first_of, map_refusal, limit_refusal, own_refusal, busy_by, busy_refusal, new_command, after_command, installs, classes_after}
 use Rattle.abstract_port.proofs.RunLaws.{refused_for}
 
-pub made : {T E : Type 0} (o : Option E) (wanted x : T) → Ok x ≡ ok_unless o wanted → (x ≡ wanted) × (o ≡ None)
+made : {T E : Type 0} (o : Option E) (wanted x : T) → Ok x ≡ ok_unless o wanted → (x ≡ wanted) × (o ≡ None)
 made None wanted x e = ((cc), refl)
 made (Some f) wanted x e = absurd (cc)
 
-pub refused : {T E : Type 0} (o : Option E) (wanted : T) (f : E) → Err f ≡ ok_unless o wanted → o ≡ Some f
+refused : {T E : Type 0} (o : Option E) (wanted : T) (f : E) → Err f ≡ ok_unless o wanted → o ≡ Some f
 refused None wanted f e = absurd (cc)
 refused (Some g) wanted f e = (cc)
 
@@ -37,11 +37,16 @@ early_first (Some x) b last r e = e
 pub own_early : (p : AbstractPort) (c : Change) (r : Refused) → first_of (map_refusal p c) (limit_refusal p c) ≡ Some r → own_refusal p c ≡ Some r
 own_early p c r early = early_first (map_refusal p c) (limit_refusal p c) _ r early
 
-pub own_none : (p : AbstractPort) (c : Change) → first_of (map_refusal p c) (limit_refusal p c) ≡ None → plan_fault p.ps (plan_asked c) ≡ None → own_refusal p c ≡ None
-own_none p c early is = first_last (map_refusal p c) (limit_refusal p c) _ None early (ap refused_for is)
+-- what a port with these fields refuses of a change, by what a schedule at its rate answers
+module _ (q p : AbstractPort) (same : q ≡ p) (c : Change) (early : first_of (map_refusal p c) (limit_refusal p c) ≡ None) where
+  own_is : (o : Option PlanFault) → plan_fault q.ps (plan_asked c) ≡ o → own_refusal p c ≡ refused_for o
+  own_is o is = first_last (map_refusal p c) (limit_refusal p c) _ (refused_for o) early (ap refused_for (ap (λ x. plan_fault x.ps (plan_asked c)) (sym same) ∙ is))
 
-pub own_some : (p : AbstractPort) (c : Change) (f : PlanFault) → first_of (map_refusal p c) (limit_refusal p c) ≡ None → plan_fault p.ps (plan_asked c) ≡ Some f → own_refusal p c ≡ Some (Schedule f)
-own_some p c f early is = first_last (map_refusal p c) (limit_refusal p c) _ (Some (Schedule f)) early (ap refused_for is)
+  pub own_none : {T : Type 0} (wanted x : T) → Ok x ≡ ok_unless (plan_fault q.ps (plan_asked c)) wanted → own_refusal p c ≡ None
+  own_none wanted x answer = own_is None (made _ _ _ answer).1
+
+  pub own_some : {T : Type 0} (wanted : T) (f : PlanFault) → Err f ≡ ok_unless (plan_fault q.ps (plan_asked c)) wanted → own_refusal p c ≡ Some (Schedule f)
+  own_some wanted f answer = own_is (Some f) (refused _ _ _ answer)
 
 -- a command that only the gates may refuse, as they answer it
 module _ (p : AbstractPort) (command : Command) (k : List Accepted) (only_busy : refusal p command ≡ busy_refusal p) (is : k ≡ with_command p.history p.now (new_command p command)) where

@@ -219,15 +219,17 @@ impl<G: Gates> Lookout<G> {
         self.find_from(from, until, visits)
     }
 
-    /// What the gates show now.
-    pub fn shown(&mut self) -> Shown
+    /// What the gates show now. Counts the entries that they look at on the way there.
+    pub fn shown(&mut self, visits: &mut Visits) -> Shown
         ensures same { self.new ≡ self.old }
         ensures mask { result.mask ≡ gates self.old.history self.old.moment }
         ensures in_force { result.in_force ≡ option_map installed_of (in_force self.old.history self.old.moment) }
         ensures pending { result.pending ≡ option_map installed_of (pending self.old.history self.old.moment) }
         ensures announced { result.announced ≡ option_map installed_of (announced self.old.history self.old.moment) }
+        ensures counted { visits.old ≤ visits.new }
+        ensures visits { IsTrue G.JUMPS → visits.new ≤ visits.old + 2 * (longest self.old.history + 1) }
     {
-        self.gates.move_to(self.moment, &mut Visits::zero());
+        self.gates.move_to(self.moment, visits);
         Shown {
             mask: self.gates.mask(),
             in_force: self.gates.in_force(),
@@ -237,7 +239,12 @@ impl<G: Gates> Lookout<G> {
     }
 
     /// A command with the lead moment `lead`, in picoseconds; its change moment, or why it is not accepted.
-    pub fn install(&mut self, schedule: &Schedule, lead: u128) -> Result<u128, NotNow>
+    pub fn install(
+        &mut self,
+        schedule: &Schedule,
+        lead: u128,
+        visits: &mut Visits,
+    ) -> Result<u128, NotNow>
         requires ahead { self.old.moment < lead }
         requires within { lead ≤ greatest_moment + greatest_lead }
         ensures current { IsCurrent self.new.history self.new.moment }
@@ -246,8 +253,10 @@ impl<G: Gates> Lookout<G> {
         ensures answer { result ≡ answer_to self.old.history self.old.moment (accepted_at lead schedule.now) }
         ensures history { self.new.history ≡ with_command self.old.history self.old.moment (accepted_at lead schedule.now) }
         ensures hindsight { (n : ℕ) → n < lead → gates self.new.history n ≡ gates self.old.history n }
+        ensures counted { visits.old ≤ visits.new }
+        ensures visits { IsTrue G.JUMPS → visits.new ≤ visits.old + 2 * (longest self.old.history + 1) }
     {
-        self.gates.move_to(self.moment, &mut Visits::zero());
+        self.gates.move_to(self.moment, visits);
         self.idle = 0;
         self.still = false;
         self.gates.install(schedule, lead)
@@ -255,7 +264,7 @@ impl<G: Gates> Lookout<G> {
 
     /// A command after which all classes are open, with the lead moment `lead`, in picoseconds; that moment, or why it is not
     /// accepted.
-    pub fn delete(&mut self, lead: u128) -> Result<u128, NotNow>
+    pub fn delete(&mut self, lead: u128, visits: &mut Visits) -> Result<u128, NotNow>
         requires ahead { self.old.moment < lead }
         requires within { lead ≤ greatest_moment + greatest_lead }
         ensures current { IsCurrent self.new.history self.new.moment }
@@ -264,8 +273,10 @@ impl<G: Gates> Lookout<G> {
         ensures answer { result ≡ answer_to self.old.history self.old.moment (deletion_at lead) }
         ensures history { self.new.history ≡ with_command self.old.history self.old.moment (deletion_at lead) }
         ensures hindsight { (n : ℕ) → n < lead → gates self.new.history n ≡ gates self.old.history n }
+        ensures counted { visits.old ≤ visits.new }
+        ensures visits { IsTrue G.JUMPS → visits.new ≤ visits.old + 2 * (longest self.old.history + 1) }
     {
-        self.gates.move_to(self.moment, &mut Visits::zero());
+        self.gates.move_to(self.moment, visits);
         self.idle = 0;
         self.still = false;
         self.gates.delete(lead)
