@@ -7,3 +7,4 @@ pub mod LongestLaws
 pub mod JoinLaws
 pub mod MixLaws
 pub mod PieceLaws
+pub mod LookLaws

@@ -8,7 +8,7 @@ use Rattle.gate_list.proofs.OpenLaws.{open_from}
 use Rattle.picture.specs.Words.{Accepted, ArePieces, ClassLane, IsCurrent, IsDrawnInPieces, IsPiece, class_at, drawn_mixed, drawn_whole, gates, is_mixed, kept, mixed_pieces, open_while, opens, opens_within, piece_of, pixel_of, stepped, up_to, whole_pieces}
 use Rattle.picture.specs.Pane.{Pane, IsPane}
 use Rattle.picture.specs.declared.TheConstants.{MAX_WIDTH}
-use Rattle.picture.proofs.DrawLaws.{gates_on}
+use Rattle.picture.proofs.DrawLaws.{gates_on, up_to_within}
 use Rattle.picture.proofs.MixLaws.{mixed_same, mixed_some, opens_nowhere, whole_same, whole_some}
 
 -- one piece, and then the others
@@ -154,6 +154,14 @@ shown_by from to upto = by (unwrap_or to upto - from)
 up_to_shown : (to : Option ℕ) (m : ℕ) → up_to to m ≤ unwrap_or to (up_to to m)
 up_to_shown None m = le_refl m
 up_to_shown (Some to) m = omega arith
+
+-- so many pieces reach to the end
+pub covered : (from : ℕ) (to : Option ℕ) (m seen upto piece : ℕ) → upto ≡ up_to to m → piece ≡ piece_of from to upto → min from m ≤ seen → upto ≤ seen + piece * (MAX_WIDTH + 1)
+covered from to m seen upto piece is is_piece near =
+    let shown = shown_by from to upto in
+    let within : upto ≤ unwrap_or to upto = subst (λ u. u ≤ unwrap_or to u) (sym is) (up_to_shown to m) in
+    let past = up_to_within to m in
+    subst (λ p. upto ≤ seen + p * (MAX_WIDTH + 1)) (sym is_piece) (omega (arith, is, shown, within, past, near))
 
 pub few_pieces : (masks : ℕ → ℕ) (from : ℕ) (to : Option ℕ) (m last : ℕ) (ends : List ℕ) → (up_to to last - m ≤ up_to to last - from) → ArePieces masks (piece_of from to (up_to to last)) m (up_to to last) ends → length ends ≤ MAX_WIDTH + 1
 few_pieces masks from to m last ends l are =

@@ -1,11 +1,11 @@
 -- The bands of eight classes, in lanes.
-use Rattle.std.specs.Prelude.{ℕ, ◌≡◌, ◌<◌, ◌≤◌, zero, suc, ◌+◌, ◌-◌, ◌/◌, ◌%◌, ◌⊎◌, min, max, Bool, false, ◌&&◌, ◌||◌, not, List, [], ◌∷◌, length, Option, Some, None, unwrap_or, slice_index_or}
+use Rattle.std.specs.Prelude.{ℕ, ◌≡◌, ◌<◌, ◌≤◌, zero, suc, ◌+◌, ◌-◌, ◌*◌, ◌/◌, ◌%◌, ◌⊎◌, min, max, Bool, false, ◌&&◌, ◌||◌, not, List, [], ◌∷◌, length, Option, Some, None, unwrap_or, slice_index_or}
 use Rattle.wire_time.specs.declared.TheConstants.{CLASSES}
 use Rattle.gate_list.specs.Gate.{opens, plan_fault}
 use Rattle.gate_list.specs.Open.{open_while}
 use Rattle.picture.specs.declared.TheConstants.{MAX_WIDTH, MOST_BOUNDARIES}
 use Rattle.list_config.specs.History.{Accepted, gates}
-use Rattle.list_config.specs.Current.{accepted_at, deletion_at, with_command}
+use Rattle.list_config.specs.Current.{accepted_at, deletion_at, longest, with_command}
 use Rattle.abstract_port.specs.AbstractPort.{plan_asked}
 use Rattle.abstract_port.specs.declared.Command.{Command}
 use Rattle.abstract_port.specs.declared.Command.TheVariants.{Replace, Delete}
@@ -149,6 +149,17 @@ pub record IsGoneOn (d new : Drawing) (m : ℕ) : Type 0 where
   pub bands : (class : ℕ) → class < CLASSES → class_at each class ≡ drawn (gates d.history) class (first_drawn d m) (seen - first_drawn d m) (class_at d.classes class)
   pub pieces : IsDrawnInPieces (gates d.history) (piece_of d.from d.to (up_to d.to m)) seen (up_to d.to m) each d.mixed new.classes new.mixed
   pub few : length pieces.ends ≤ MAX_WIDTH + 1
+
+-- How many entries of a history the gates look at, at most, when they go on, when they are asked whether a class opens, and in a piece: there each
+-- of the eight classes is asked, and the gates go on.
+abbrev pub most_moved : List Accepted → ℕ
+most_moved history = 2 * (longest history + 1)
+
+abbrev pub most_asked : List Accepted → ℕ
+most_asked history = 12 * (longest history + 1)
+
+abbrev pub most_mixed : List Accepted → ℕ
+most_mixed history = most_asked history * CLASSES + most_moved history
 
 -- 3. Commands
 

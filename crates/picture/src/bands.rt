@@ -1,7 +1,7 @@
 //! The bands of eight classes: when each is open, by gates of their own.
 
-ghost use Rattle.std.specs.Prelude.{◌≡◌, ◌≤◌, ◌<◌, ◌+◌, ◌-◌, ℕ, IfOk, Ok, Some, false, if◌then◌else◌, is_some, length, max, min, slice_set};
-ghost use Rattle.picture.specs.Words.{greatest_lead, greatest_moment, lead_of, opens, plan_fault, gates, kept, IsCurrent, accepted_at, deletion_at, with_command, AbstractPort, installs, plan_asked, MOST_BOUNDARIES, MOST_SHAPES, bands_joined, class_at, drawn, IsDrawnInPieces, IsGoneOn, IsPiece, is_mixed, no_needs, open_while, opens_within, history_with, new_drawing, no_bands, no_classes, piece_of, stepped, up_to, with_plan};
+ghost use Rattle.std.specs.Prelude.{◌≡◌, ◌≤◌, ◌<◌, ◌+◌, ◌-◌, ◌*◌, ℕ, IfOk, Ok, Some, false, if◌then◌else◌, is_some, length, max, min, slice_set};
+ghost use Rattle.picture.specs.Words.{greatest_lead, greatest_moment, lead_of, opens, plan_fault, gates, kept, IsCurrent, accepted_at, deletion_at, with_command, AbstractPort, installs, plan_asked, MAX_WIDTH, MOST_BOUNDARIES, MOST_SHAPES, bands_joined, class_at, drawn, IsDrawnInPieces, IsGoneOn, IsPiece, is_mixed, most_asked, most_mixed, most_moved, no_needs, open_while, opens_within, history_with, new_drawing, no_bands, no_classes, piece_of, stepped, up_to, with_plan};
 
 use crate::class_bands::ClassBands;
 use crate::span::Shape;
@@ -132,9 +132,11 @@ fn draw_to<A: Allocator>(
     classes: &mut [ClassBands<A>; CLASSES],
     left: &mut u32,
     upto: u128,
+    visits: &mut Visits,
 )
     requires sound { IsCurrent own.old.history own.old.moment }
     requires within { upto ≤ greatest_moment }
+    ensures few { visits.new + most_moved own.old.history * left.new ≤ visits.old + most_moved own.old.history * (left.old + 1) }
     ensures sound { IsCurrent own.new.history own.new.moment }
     ensures onward { own.old.moment ≤ own.new.moment }
     ensures within { own.new.moment ≤ max own.old.moment upto }
@@ -148,7 +150,7 @@ fn draw_to<A: Allocator>(
         let boundary = own.next_boundary(upto);
         let next = boundary.unwrap_or(upto);
         step_all(classes, own.mask(), now);
-        own.move_to(next, &mut Visits::zero());
+        own.move_to(next, visits);
         now = next;
         *left = left_after(*left, boundary);
     }
@@ -165,14 +167,15 @@ fn need_of(class: u8) -> [Option<u128>; CLASSES]
 }
 
 /// Whether a class is open at some moment from now on and before another, in picoseconds.
-fn opens_before(own: &Jumping, class: u8, upto: u128) -> bool
+fn opens_before(own: &Jumping, class: u8, upto: u128, visits: &mut Visits) -> bool
     requires sound { IsCurrent own.now.history own.now.moment }
     requires class { class < CLASSES }
     requires later { own.now.moment ≤ upto }
     requires within { upto ≤ greatest_moment }
-    ensures { result ≡ opens_within (gates own.now.history) class own.now.moment (upto - own.now.moment) }
+    ensures value { result ≡ opens_within (gates own.now.history) class own.now.moment (upto - own.now.moment) }
+    ensures few { visits.new ≤ visits.old + most_asked own.now.history }
 {
-    let first = own.quiet(&need_of(class), upto, &mut Visits::zero());
+    let first = own.quiet(&need_of(class), upto, visits);
     if first < upto {
         return true;
     }
@@ -215,28 +218,36 @@ fn mixed_in<A: Allocator>(
     mixed: &mut [ClassBands<A>; CLASSES],
     class: u8,
     upto: u128,
+    visits: &mut Visits,
 )
     requires sound { IsCurrent own.now.history own.now.moment }
     requires class { class < CLASSES }
     requires later { own.now.moment < upto }
     requires within { upto ≤ greatest_moment }
-    ensures { mixed.new ≡ slice_set mixed.old class (stepped (is_mixed (gates own.now.history) class own.now.moment (upto - own.now.moment)) own.now.moment (class_at mixed.old class)) }
+    ensures few { visits.new ≤ visits.old + most_asked own.now.history }
+    ensures mixed { mixed.new ≡ slice_set mixed.old class (stepped (is_mixed (gates own.now.history) class own.now.moment (upto - own.now.moment)) own.now.moment (class_at mixed.old class)) }
 {
     let now = own.now();
-    let is_some = opens_before(own, class, upto);
-    let is_whole = own.stays_open(class, upto - now, &mut Visits::zero());
+    let is_some = opens_before(own, class, upto, visits);
+    let is_whole = own.stays_open(class, upto - now, visits);
     step_in(mixed, class, is_some && !is_whole, now);
 }
 
 /// From now on and before a moment, in picoseconds, each class is open at some moments alone, or not.
-fn mixed_all<A: Allocator>(own: &Jumping, mixed: &mut [ClassBands<A>; CLASSES], upto: u128)
+fn mixed_all<A: Allocator>(
+    own: &Jumping,
+    mixed: &mut [ClassBands<A>; CLASSES],
+    upto: u128,
+    visits: &mut Visits,
+)
     requires sound { IsCurrent own.now.history own.now.moment }
     requires later { own.now.moment < upto }
     requires within { upto ≤ greatest_moment }
-    ensures { (class : ℕ) → class < CLASSES → class_at mixed.new class ≡ stepped (is_mixed (gates own.now.history) class own.now.moment (upto - own.now.moment)) own.now.moment (class_at mixed.old class) }
+    ensures few { visits.new ≤ visits.old + most_asked own.now.history * CLASSES }
+    ensures mixed { (class : ℕ) → class < CLASSES → class_at mixed.new class ≡ stepped (is_mixed (gates own.now.history) class own.now.moment (upto - own.now.moment)) own.now.moment (class_at mixed.old class) }
 {
     for class in 0..CLASSES as u8 {
-        mixed_in(own, mixed, class, upto);
+        mixed_in(own, mixed, class, upto, visits);
     }
 }
 
@@ -270,6 +281,7 @@ fn mix_to<A: Allocator>(
     mixed: &mut [ClassBands<A>; CLASSES],
     piece: u128,
     upto: u128,
+    visits: &mut Visits,
 )
     requires sound { IsCurrent own.old.history own.old.moment }
     requires some { 0 < piece }
@@ -277,14 +289,15 @@ fn mix_to<A: Allocator>(
     ensures sound { IsCurrent own.new.history own.new.moment }
     ensures moment { own.new.moment ≡ max own.old.moment upto }
     ensures history { own.new.history ≡ kept own.old.history own.new.moment }
+    ensures few { (n : ℕ) → upto ≤ own.old.moment + piece * n → visits.new ≤ visits.old + most_mixed own.old.history * n }
     ensures drawn { IsDrawnInPieces (gates own.old.history) piece own.old.moment upto classes.old mixed.old classes.new mixed.new }
 {
     let mut now = own.now();
     while now < upto {
         let next = piece_end(own, piece, upto);
         whole_all(own, classes, next);
-        mixed_all(own, mixed, next);
-        own.move_to(next, &mut Visits::zero());
+        mixed_all(own, mixed, next, visits);
+        own.move_to(next, visits);
         now = next;
     }
 }
@@ -396,19 +409,27 @@ impl<A: Allocator> Bands<A> {
     }
 
     /// The gates go on to a moment, in picoseconds. Each band that ends on the way is put into its lane. Where no boundary is left to be looked at, what is
-    /// left of the way is drawn in pieces.
-    pub fn go_to(&mut self, moment: u128)
+    /// left of the way is drawn in pieces. Answers how many entries the gates looked at.
+    pub fn go_to(&mut self, moment: u128) -> u64
         requires later { self.old.moment ≤ moment }
         requires within { moment ≤ greatest_moment }
         ensures moment { self.new.moment ≡ moment }
         ensures history { self.new.history ≡ kept self.old.history moment }
         ensures viewport { (self.new.from ≡ self.old.from) × (self.new.to ≡ self.old.to) }
         ensures drawn { IsGoneOn self.old self.new moment }
+        ensures few { result + most_moved self.old.history * self.new.left ≤ most_moved self.old.history * (self.old.left + 3) + most_mixed self.old.history * (MAX_WIDTH + 1) }
     {
+        let mut visits = Visits::zero();
         let first = self.from.max(self.gates.now()).min(moment);
-        self.gates.move_to(first, &mut Visits::zero());
+        self.gates.move_to(first, &mut visits);
         let upto = up_to(self.to, moment);
-        draw_to(&mut self.gates, &mut self.classes, &mut self.left, upto);
+        draw_to(
+            &mut self.gates,
+            &mut self.classes,
+            &mut self.left,
+            upto,
+            &mut visits,
+        );
         let piece = piece_of(self.from, self.to, upto);
         mix_to(
             &mut self.gates,
@@ -416,8 +437,10 @@ impl<A: Allocator> Bands<A> {
             &mut self.mixed,
             piece,
             upto,
+            &mut visits,
         );
-        self.gates.move_to(moment, &mut Visits::zero());
+        self.gates.move_to(moment, &mut visits);
+        visits.count()
     }
 
     /// The bands of the classes that are open end now, or where the drawing ends if that is earlier.

@@ -1,7 +1,9 @@
-use Rattle.std.proofs.Common.{◌≡◌, ◌<◌, ◌≤◌, ◌-◌, ap, sym, ◌∙◌, subst, rules, arith, le_refl}
-use Rattle.picture.specs.Words.{gates, kept, IsSteady, class_at, drawn}
+use Rattle.std.proofs.Common.{◌≡◌, ◌<◌, ◌≤◌, ◌+◌, ◌-◌, ◌*◌, ap, sym, ◌∙◌, subst, rules, arith, le_refl}
+use Rattle.std.proofs.Math.Nat.{mul-suc}
+use Rattle.picture.specs.Words.{gates, kept, IsSteady, class_at, drawn, most_moved}
 use Rattle.picture.proofs.BandLaws.{drawn_none}
 use Rattle.picture.proofs.DrawLaws.{drawn_to, kept_on, later_to, steady_to, within_to}
+use Rattle.picture.proofs.LookLaws.{at_end, kept_longest, next_moved}
 use Rattle.picture.proofs.bands.draw_to.Goals as goal
 
 pub loop-now-init : goal.loop-now-init
@@ -13,6 +15,8 @@ loop-now-init g c =
       onward = omega (arith, c.now-now.ensures);
       within = omega (arith, c.now-now.ensures);
       fewer = le_refl _;
+      moved = λ some. le_refl _;
+      few = let one = mul-suc (most_moved c.args.own.now.history) c.args.left.now in omega (arith, one);
       history = sym (ap (kept c.args.own.now.history) c.now-now.ensures ∙ c.requires.sound.kept_whole);
       classes = λ class below. sym (ap (λ n. drawn (gates c.args.own.now.history) class c.args.own.now.moment n (class_at c.args.classes.now class)) none ∙ drawn_none (gates c.args.own.now.history) class c.args.own.now.moment (class_at c.args.classes.now class));
     }
@@ -28,12 +32,18 @@ loop-now-preserved g c =
     (later_to c.loop-now.now c.args.upto c.next_boundary-boundary.result c.loop-now-test.true (rw i.here at c.next_boundary-boundary.ensures.between)) in
     let within : c.unwrap_or-next.result ≤ c.args.upto =
     subst (λ n. n ≤ c.args.upto) (sym c.unwrap_or-next.ensures) (within_to c.loop-now.now c.args.upto c.next_boundary-boundary.result (rw i.here at c.next_boundary-boundary.ensures.between)) in
+    let moved = next_moved (most_moved c.loop-now.own.history) (most_moved c.args.own.now.history) c.args.upto c.next_boundary-boundary.result c.loop-now.left c.left_after.result c.unwrap_or-next.result c.loop-now.visits c.move_to.new.visits
+        (c.args.visits.now + most_moved c.args.own.now.history * c.args.left.now)
+        (let less = kept_longest c.args.own.now.history c.loop-now.own.history c.loop-now.now i.history in omega (arith, less))
+        (omega (arith, c.if-left-gt0.true)) (omega (arith, c.move_to.ensures.visits)) (λ none. at_end c.args.upto c.next_boundary-boundary.result c.unwrap_or-next.result c.unwrap_or-next.ensures none) (i.moved c.loop-now-test.true) c.left_after.ensures in
     record {
       sound = c.move_to.ensures.sound;
       here = c.move_to.ensures.moment;
       onward = omega (arith, i.onward, later);
       within = omega (arith, within);
       fewer = omega (arith, i.fewer, c.left_after.ensures);
+      moved = moved.0;
+      few = let one = mul-suc (most_moved c.args.own.now.history) c.args.left.now in omega (arith, one, moved.1);
       history = c.move_to.ensures.history ∙ kept_on c.args.own.now.history c.args.own.now.moment c.requires.sound c.loop-now.now c.unwrap_or-next.result c.loop-now.own.history i.onward (omega (arith, later)) i.history;
       classes = λ class below.
           c.step_all.ensures class below
@@ -48,6 +58,7 @@ returns-else-left-gt0 g c =
       sound = i.sound;
       onward = omega (arith, i.onward, i.here);
       within = omega (arith, i.within, i.here);
+      few = i.few;
       whole = λ some. absurd (omega (arith, some, c.if-left-gt0.false));
       fewer = i.fewer;
       history = i.history ∙ ap (kept c.args.own.now.history) (sym i.here);
@@ -61,6 +72,7 @@ returns-after-loop-now g c =
       sound = i.sound;
       onward = omega (arith, i.onward, i.here);
       within = omega (arith, i.within, i.here);
+      few = i.few;
       whole = λ some. omega (arith, i.here, c.loop-now-test.false);
       fewer = i.fewer;
       history = i.history ∙ ap (kept c.args.own.now.history) (sym i.here);

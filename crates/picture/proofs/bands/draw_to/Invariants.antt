@@ -1,6 +1,6 @@
-use Rattle.std.proofs.Common.{◌≡◌, ◌<◌, ◌≤◌, ◌-◌, max, ℕ}
+use Rattle.std.proofs.Common.{◌≡◌, ◌<◌, ◌≤◌, ◌+◌, ◌-◌, ◌*◌, max, ℕ}
 use Rattle.wire_time.specs.declared.TheConstants.{CLASSES}
-use Rattle.picture.specs.Words.{gates, kept, IsCurrent, class_at, drawn}
+use Rattle.picture.specs.Words.{gates, kept, IsCurrent, class_at, drawn, most_moved}
 use Rattle.picture.proofs.bands.draw_to.Given as goal
 
 abbrev pub invariant-loop-now : goal.invariant-loop-now
@@ -9,6 +9,8 @@ invariant-loop-now g l = record {
   here : l.own.moment ≡ l.now;
   onward : l.initial.own.moment ≤ l.now;
   fewer : l.left ≤ l.initial.left;
+  moved : l.now < l.upto → l.visits + most_moved l.initial.own.history * l.left ≤ l.initial.visits + most_moved l.initial.own.history * l.initial.left;
+  few : l.visits + most_moved l.initial.own.history * l.left ≤ l.initial.visits + most_moved l.initial.own.history * (l.initial.left + 1);
   within : l.now ≤ max l.initial.own.moment l.upto;
   history : l.own.history ≡ kept l.initial.own.history l.now;
   classes : (class : ℕ) → class < CLASSES → class_at l.classes class ≡ drawn (gates l.initial.own.history) class l.initial.own.moment (l.now - l.initial.own.moment) (class_at l.initial.classes class);

@@ -1,5 +1,6 @@
 use Rattle.std.proofs.Common.{◌≡◌, ◌≤◌, ◌-◌, max}
 use Rattle.picture.specs.Words.{gates, kept, IsCurrent}
+use Rattle.picture.proofs.LookLaws.{HasMixed}
 use Rattle.picture.proofs.PieceLaws.{GoesInPieces}
 use Rattle.picture.proofs.bands.mix_to.Given as goal
 
@@ -10,6 +11,7 @@ invariant-loop-now g l = record {
   onward : l.initial.own.moment ≤ l.now;
   within : l.now ≤ max l.initial.own.moment l.upto;
   history : l.own.history ≡ kept l.initial.own.history l.now;
+  looked : HasMixed l.initial.own.history l.piece l.initial.own.moment l.upto l.now l.initial.visits l.visits;
   goes : GoesInPieces (gates l.initial.own.history) l.piece l.initial.own.moment l.upto l.now l.initial.classes l.initial.mixed l.classes l.mixed;
 }
 

@@ -1,7 +1,8 @@
-use Rattle.std.proofs.Common.{◌≡◌, ◌≤◌, max, min, ap, refl, sym, ◌∙◌, rules, arith, subst}
-use Rattle.picture.specs.Words.{gates, kept, Drawing, IsDrawnInPieces, piece_of, up_to}
+use Rattle.std.proofs.Common.{◌≡◌, ◌≤◌, ◌+◌, max, min, ap, refl, sym, ◌∙◌, rules, arith, subst}
+use Rattle.picture.specs.Words.{MAX_WIDTH, gates, kept, Drawing, IsDrawnInPieces, most_moved, piece_of, up_to}
 use Rattle.picture.proofs.DrawLaws.{drawn_gone, kept_on, up_to_within}
-use Rattle.picture.proofs.PieceLaws.{few_pieces, pieces_same}
+use Rattle.picture.proofs.PieceLaws.{covered, few_pieces, pieces_same}
+use Rattle.picture.proofs.LookLaws.{kept_longest, spent_more}
 use Rattle.picture.proofs.bands.Bands.go_to.Goals as goal
 
 pub move_to-requires-2-clause-later : goal.move_to-requires-2-clause-later
@@ -75,3 +76,15 @@ returns-clause-moment g c = c.move_to-2.ensures.moment
 
 pub returns-clause-viewport : goal.returns-clause-viewport
 returns-clause-viewport g c = rw (← c.self.view_is) (refl, refl)
+
+pub returns-clause-few : goal.returns-clause-few
+returns-clause-few g c =
+    let h = c.self.inside.gates.history in
+    let began : c.self.inside.gates.moment ≡ c.args.self.now.moment = ap (λ (d : Drawing). d.moment) c.self.view_is in
+    let first : c.move_to.new.self.moment ≡ min (max c.self.inside.from c.self.inside.gates.moment) c.args.moment = omega (arith, c.move_to.ensures.moment, c.min-first.ensures, c.max.ensures, c.now.ensures) in
+    let less_1 = kept_longest h c.move_to.new.self.history c.min-first.result c.move_to.ensures.history in
+    let less_2 = kept_longest c.move_to.new.self.history c.draw_to.new.own.history c.draw_to.new.own.moment c.draw_to.ensures.history in
+    let less_3 = kept_longest c.draw_to.new.own.history c.mix_to.new.own.history c.mix_to.new.own.moment c.mix_to.ensures.history in
+    let drawn = spent_more (most_moved c.move_to.new.self.history) (most_moved h) c.self.inside.left c.draw_to.new.left c.move_to.new.visits c.draw_to.new.visits (omega (arith, less_1)) c.draw_to.ensures.fewer c.draw_to.ensures.few in
+    let mixed = c.mix_to.ensures.few (MAX_WIDTH + 1) (covered c.self.inside.from c.self.inside.to c.args.moment c.draw_to.new.own.moment c.up_to-upto.result c.piece_of-piece.result c.up_to-upto.ensures c.piece_of-piece.ensures.value (omega (arith, first, c.draw_to.ensures.onward))) in
+    rw (← c.self.view_is) (omega (arith, drawn, mixed, c.zero-visits.ensures, c.move_to.ensures.visits, c.move_to-2.ensures.visits, less_1, less_2, less_3, c.count.ensures))
