@@ -1,3 +1,4 @@
+pub mod Digits
 pub mod Part
 pub mod Names
 pub mod Reports

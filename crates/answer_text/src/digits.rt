@@ -1,6 +1,7 @@
 //! Numbers in decimal, at the front of what ends a line.
 
-ghost use Rattle.std.specs.Prelude.{◌≡◌, ◌<◌, ◌≤◌, ◌+◌, ◌*◌, ◌^◌, ◌++◌, ℕ, drop, decimal};
+ghost use Rattle.std.specs.Prelude.{◌≡◌, ◌<◌, ◌≤◌, ◌+◌, ◌*◌, ◌/◌, ◌%◌, ◌^◌, ◌++◌, ℕ, drop, decimal};
+ghost use Rattle.answer_text.specs.Digits.{eight_octets, four_lanes};
 ghost use Rattle.answer_text.specs.declared.digits.TheConstants.{EIGHT_DIGITS, OCTET_CAPACITY, SHORT_CAPACITY, NUMBER_CAPACITY};
 ghost use Rattle.answer_text.specs.declared.line_buffer.TheConstants.{LINE_CAPACITY};
 
@@ -19,39 +20,37 @@ pub(crate) const NUMBER_CAPACITY: usize = 40;
 /// The first number of nine digits.
 pub(crate) const EIGHT_DIGITS: u64 = 100_000_000;
 
-/// The two digits of each number below 100, one after another.
-static PAIRS: [u8; 200] =
-    *b"00010203040506070809101112131415161718192021222324252627282930313233343536373839404142434445464748495051525354555657585960616263646566676869707172737475767778798081828384858687888990919293949596979899";
-
-/// Puts the last two digits of a number before what ends a line from `end` on, and answers where they begin.
+/// Two numbers of four digits as four of two, each in 16 bits of one word of the machine, the first in the lowest. Of n below 10,000,
+/// n * 10,486 / 2^20 is n / 100: both are divided at once.
 #[inline(always)]
-fn pair_before(pair: u64, line: &mut Line, end: usize) -> usize
-    requires pair { pair < 100 }
-    requires room { 2 ≤ end }
-    requires within { end ≤ LINE_CAPACITY }
-    ensures start { result + 2 ≡ end }
-    ensures line { (front : ℕ) → 0 < front → front * 100 + pair < 2 ^ 128 →
-        decimal front ++ drop result line.new ≡ decimal (front * 100 + pair) ++ drop end line.old }
+fn four_pairs(front: u64, back: u64) -> u64
+    requires front { front < 10000 }
+    requires back { back < 10000 }
+    ensures { result ≡ four_lanes (front / 100) (front % 100) (back / 100) (back % 100) }
 {
-    let from = pair as usize * 2;
-    let (tens, ones) = (PAIRS[from], PAIRS[from + 1]);
-    line[end - 2] = tens;
-    line[end - 1] = ones;
-    end - 2
+    let fours = front + back * 4_294_967_296;
+    let parts = fours * 10_486 / 1_048_576;
+    let hundreds = parts % 128 + parts / 4_294_967_296 % 128 * 4_294_967_296;
+    // hundreds + (fours - hundreds * 100) * 65,536, with a product less.
+    fours * 65_536 - hundreds * 6_553_599
 }
 
-/// Puts the last four digits of a number before what ends a line from `end` on, and answers where they begin.
+/// The last eight decimal digits of a number, the first of them counting most. Of n below 100, n * 103 / 2^10 is n / 10: four pairs are
+/// divided at once, in one word of the machine.
 #[inline(always)]
-fn four_before(four: u64, line: &mut Line, end: usize) -> usize
-    requires four { four < 10000 }
-    requires room { 4 ≤ end }
-    requires within { end ≤ LINE_CAPACITY }
-    ensures start { result + 4 ≡ end }
-    ensures line { (front : ℕ) → 0 < front → front * 10000 + four < 2 ^ 128 →
-        decimal front ++ drop result line.new ≡ decimal (front * 10000 + four) ++ drop end line.old }
+fn eight_digits(number: u64) -> [u8; 8]
+    requires { number < EIGHT_DIGITS }
+    ensures { result ≡ eight_octets number }
 {
-    let middle = pair_before(four % 100, line, end);
-    pair_before(four / 100, line, middle)
+    let pairs = four_pairs(number / 10_000, number % 10_000);
+    let parts = pairs * 103 / 1_024;
+    let tens = parts % 16
+        + parts / 65_536 % 16 * 65_536
+        + parts / 4_294_967_296 % 16 * 4_294_967_296
+        + parts / 281_474_976_710_656 % 16 * 281_474_976_710_656;
+    // tens + (pairs - tens * 10) * 256, with a product less.
+    let digits = pairs * 256 - tens * 2_559;
+    (digits + 0x3030_3030_3030_3030).to_le_bytes()
 }
 
 /// Puts the last eight digits of a number before what ends a line from `end` on, and answers where they begin.
@@ -64,8 +63,7 @@ pub(crate) fn eight_before(eight: u64, line: &mut Line, end: usize) -> usize
     ensures line { (front : ℕ) → 0 < front → front * EIGHT_DIGITS + eight < 2 ^ 128 →
         decimal front ++ drop result line.new ≡ decimal (front * EIGHT_DIGITS + eight) ++ drop end line.old }
 {
-    let middle = four_before(eight % 10_000, line, end);
-    four_before(eight / 10_000, line, middle)
+    text_before(&eight_digits(eight), line, end)
 }
 
 /// Puts a number of 64 bits in decimal before what ends a line from `end` on, and answers where the line begins then.

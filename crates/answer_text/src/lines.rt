@@ -106,6 +106,7 @@ pub fn put_installation<W: Write>(
 }
 
 /// Writes the line of a frame that starts. At a fault a prefix of it is written.
+#[inline(always)]
 pub fn put_start<W: Write>(writer: &mut W, start: &Start) -> Result<(), WriteFault>
     ensures { Writes result (W.contents writer.old) (W.contents writer.new) (start_line start.now) }
 {

@@ -11,9 +11,9 @@ use std::io::Write;
 #[derive(Clone, Copy, Debug, PartialEq, Eq)]
 pub struct WriteFault;
 
-/// Writes all of the octets. At a fault a prefix of them is written, and not all.
-#[inline]
-pub fn put<W: Write>(writer: &mut W, octets: &[u8]) -> Result<(), WriteFault>
+/// Writes octets of which one call did not take all.
+#[inline(never)]
+fn put_rest<W: Write>(writer: &mut W, octets: &[u8]) -> Result<(), WriteFault>
     ensures { Writes result (W.contents writer.old) (W.contents writer.new) octets.now }
 {
     let mut rest = octets;
@@ -24,4 +24,20 @@ pub fn put<W: Write>(writer: &mut W, octets: &[u8]) -> Result<(), WriteFault>
         }
     }
     Ok(())
+}
+
+/// Writes all of the octets. At a fault a prefix of them is written, and not all.
+#[inline(always)]
+pub fn put<W: Write>(writer: &mut W, octets: &[u8]) -> Result<(), WriteFault>
+    ensures { Writes result (W.contents writer.old) (W.contents writer.new) octets.now }
+{
+    if octets.is_empty() {
+        return Ok(());
+    }
+    // One call mostly takes them whole. It stands in the caller's place, where a buffer has room for a line without a call; the loop is apart.
+    match writer.write(octets) {
+        Ok(0) | Err(_) => Err(WriteFault),
+        Ok(taken) if taken == octets.len() => Ok(()),
+        Ok(taken) => put_rest(writer, &octets[taken..]),
+    }
 }

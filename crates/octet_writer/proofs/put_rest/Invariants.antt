@@ -1,7 +1,7 @@
 -- What is written and what is left are the text.
 use Rattle.std.proofs.Common.{length}
 use Rattle.octet_writer.specs.Writes.{Sent}
-use Rattle.octet_writer.proofs.put.Given as goal
+use Rattle.octet_writer.proofs.put_rest.Given as goal
 
 abbrev pub invariant-loop-rest : goal.invariant-loop-rest
 invariant-loop-rest g l = Sent (g.W.Write.contents l.fn.writer) (g.W.Write.contents l.writer) l.octets l.rest
