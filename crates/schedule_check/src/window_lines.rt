@@ -82,9 +82,10 @@ fn put_windows<W: Write>(
 {
     let open = windows.open_times();
     let closed = windows.closed_times();
+    let shares = windows.shares();
     for class in 0..count {
         let place = usize::from(class);
-        let window = windows.window_of(rate, class, open[place], closed[place]);
+        let window = windows.window_of(rate, class, open[place], closed[place], shares[place]);
         put_if_open(writer, class, &window)?;
     }
     Ok(())
