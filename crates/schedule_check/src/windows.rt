@@ -1,7 +1,7 @@
 //! What a schedule gives each class: how long it stays open and closed, its share of a cycle, and the longest frame that can start.
 
-ghost use Rattle.std.specs.Prelude.{◌≡◌, ◌<◌, ◌≤◌, ◌^◌, ◌+◌, ◌&&◌, ℕ, if◌then◌else◌, length, map, min, not, slice_index_or};
-ghost use Rattle.schedule_check.specs.Words.{in_ps, ok_unless, opens, plan_fault, plan_with, Lasts, IsLengthened, IsLonger, IsLongestFrame, IsOpenStay, IsWindow, alone, open_total, turned, turned_entry, CLASSES};
+ghost use Rattle.std.specs.Prelude.{◌≡◌, ◌<◌, ◌≤◌, ◌^◌, ◌+◌, ◌&&◌, ℕ, if◌then◌else◌, length, map, min, not, None, slice_index_or};
+ghost use Rattle.schedule_check.specs.Words.{in_ps, ok_unless, opens, plan_fault, plan_with, Lasts, IsLengthened, IsLonger, IsLongestFrame, IsOpenStay, IsWindow, Plan, alone, open_total, turned, turned_entry, turned_plan, CLASSES};
 
 use arrayvec::ArrayVec;
 use gate_list::{Entry, GateList, MAX_ENTRIES, PlanFault, Schedule, Stay, Visits, is_open};
@@ -95,7 +95,7 @@ fn lengthen(schedule: &Schedule, i: usize, mask: u8, longest: &mut [Stay; CLASSE
 
 /// The longest time that each class stays open. A stay is looked at only where it begins: where an entry opens a class that the entry
 /// before it closes.
-fn longest_open(schedule: &Schedule) -> [Stay; CLASSES]
+pub(crate) fn longest_open(schedule: &Schedule) -> [Stay; CLASSES]
     ensures longest { (class : ℕ) → class < CLASSES → IsOpenStay (alone schedule.now) class (slice_index_or result class (Lasts 0)) }
     ensures some { 0 < length schedule.now.entries }
 {
@@ -141,7 +141,7 @@ fn add_parts(mask: u8, span: u64, shares: &mut [u64; CLASSES])
 }
 
 /// For how many picoseconds of a cycle each class is open.
-fn shares_of(schedule: &Schedule) -> [u64; CLASSES]
+pub(crate) fn shares_of(schedule: &Schedule) -> [u64; CLASSES]
     ensures { (class : ℕ) → class < CLASSES → slice_index_or result class 0 ≡ open_total (alone schedule.now) class (in_ps schedule.now.cycle) }
 {
     let count = schedule.len();
@@ -199,6 +199,55 @@ fn turned_list(list: &GateList) -> GateList
     }
 }
 
+/// The schedule whose entries open what those of another, which is accepted at the rate, close.
+pub(crate) fn turned_schedule(
+    list: &GateList,
+    base_ns: u64,
+    cycle_ns: u64,
+    extension_ns: u64,
+    rate: Rate,
+) -> Schedule
+    requires { plan_fault rate (plan_with list.now base_ns cycle_ns extension_ns) ≡ None }
+    ensures { result ≡ turned_plan (plan_with list.now base_ns cycle_ns extension_ns) }
+{
+    match Schedule::new(&turned_list(list), base_ns, cycle_ns, extension_ns, rate) {
+        Ok(turned) => turned,
+        Err(_) => unreachable!(),
+    }
+}
+
+/// The longest time that each class stays closed, by the schedule whose entries open what those of the plan close.
+pub(crate) fn longest_closed(other: &Schedule) -> [Stay; CLASSES]
+    ensures { (plan : Plan) → other.now ≡ turned_plan plan → (class : ℕ) → class < CLASSES → IsOpenStay (turned (alone plan)) class (slice_index_or result class (Lasts 0)) }
+{
+    longest_open(other)
+}
+
+/// What a schedule gives a class at a rate that stays open for so long at the longest, and closed, and has this share of a cycle.
+pub(crate) fn window_of(
+    schedule: &Schedule,
+    rate: Rate,
+    class: u8,
+    open_time: Stay,
+    closed_time: Stay,
+    share: u64,
+) -> Window
+    requires class { class < CLASSES }
+    requires open { IsOpenStay (alone schedule.now) class open_time }
+    requires closed { IsOpenStay (turned (alone schedule.now)) class closed_time }
+    requires share { share ≡ open_total (alone schedule.now) class (in_ps schedule.now.cycle) }
+    ensures window { IsWindow rate schedule.now class result }
+    ensures cycle { 0 < schedule.now.cycle }
+{
+    Window {
+        open_time,
+        closed_time,
+        share: u128::from(share),
+        cycle: 1000 * u128::from(schedule.cycle_ns()),
+        longest_frame: longest_within(rate, open_time),
+    }
+}
+
 impl Windows {
     /// A schedule of a list with these times, in nanoseconds, refused as `Schedule::new` refuses it at the rate.
     pub fn new(
@@ -216,58 +265,12 @@ impl Windows {
         Ok(Windows { schedule, turned })
     }
 
-    /// The longest time that each class stays open, in picoseconds.
-    pub(crate) fn open_times(&self) -> [Stay; CLASSES]
-        ensures { (class : ℕ) → class < CLASSES → IsOpenStay (alone self.now) class (slice_index_or result class (Lasts 0)) }
-    {
-        longest_open(&self.schedule)
-    }
-
-    /// The longest time that each class stays closed, in picoseconds; 0 where it never closes.
-    pub(crate) fn closed_times(&self) -> [Stay; CLASSES]
-        ensures { (class : ℕ) → class < CLASSES → IsOpenStay (turned (alone self.now)) class (slice_index_or result class (Lasts 0)) }
-    {
-        longest_open(&self.turned)
-    }
-
     /// For how many picoseconds of a cycle a class is open.
     pub fn share(&self, class: u8) -> u128
         requires { class < CLASSES }
         ensures { result ≡ open_total (alone self.now) class (in_ps self.now.cycle) }
     {
-        u128::from(self.shares()[usize::from(class)])
-    }
-
-    /// For how many picoseconds of a cycle each class is open.
-    pub(crate) fn shares(&self) -> [u64; CLASSES]
-        ensures { (class : ℕ) → class < CLASSES → slice_index_or result class 0 ≡ open_total (alone self.now) class (in_ps self.now.cycle) }
-    {
-        shares_of(&self.schedule)
-    }
-
-    /// What the schedule gives a class at a rate that stays open for so long at the longest, and closed, and has this share of a cycle.
-    pub(crate) fn window_of(
-        &self,
-        rate: Rate,
-        class: u8,
-        open_time: Stay,
-        closed_time: Stay,
-        share: u64,
-    ) -> Window
-        requires class { class < CLASSES }
-        requires open { IsOpenStay (alone self.now) class open_time }
-        requires closed { IsOpenStay (turned (alone self.now)) class closed_time }
-        requires share { share ≡ open_total (alone self.now) class (in_ps self.now.cycle) }
-        ensures window { IsWindow rate self.now class result }
-        ensures cycle { 0 < self.now.cycle }
-    {
-        Window {
-            open_time,
-            closed_time,
-            share: u128::from(share),
-            cycle: 1000 * u128::from(self.schedule.cycle_ns()),
-            longest_frame: longest_within(rate, open_time),
-        }
+        u128::from(shares_of(&self.schedule)[usize::from(class)])
     }
 
     /// What the schedule gives a class at a rate.
@@ -276,10 +279,17 @@ impl Windows {
         ensures window { IsWindow rate self.now class result }
         ensures cycle { 0 < self.now.cycle }
     {
-        let open_times = self.open_times();
-        let closed_times = self.closed_times();
-        let shares = self.shares();
+        let open = longest_open(&self.schedule);
+        let closed = longest_closed(&self.turned);
+        let shares = shares_of(&self.schedule);
         let place = usize::from(class);
-        self.window_of(rate, class, open_times[place], closed_times[place], shares[place])
+        window_of(
+            &self.schedule,
+            rate,
+            class,
+            open[place],
+            closed[place],
+            shares[place],
+        )
     }
 }

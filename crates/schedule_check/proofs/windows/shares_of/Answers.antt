@@ -1,4 +1,4 @@
-use Rattle.std.proofs.Common.{◌≡◌, List, ℕ, zero, suc, ap, ◌∙◌, arith, refl, sym}
+use Rattle.std.proofs.Common.{◌≡◌, List, ℕ, zero, suc, ◌∙◌, arith, refl}
 use Rattle.std.specs.Prelude.{replicate, slice_index_or}
 use Rattle.schedule_check.specs.Words.{alone}
 use Rattle.schedule_check.proofs.ShareLaws.{total_none, total_le, share_more, next_begins}
