@@ -215,6 +215,49 @@ def case_a_replay_that_says_how_far_it_has_come(program):
         assert records * 1000 // longest <= int(told[number]) <= records * 1000 // passed, (longest, errors)
 
 
+def replayed_with_pauses(program, words, errors, before_second):
+    """The exit status of a replay of four records, two by two, 0.7 seconds apart; `before_second` is called before the second two come."""
+    record = TWO_RECORDS[24:58]
+    with tempfile.TemporaryDirectory(prefix="taprio-case-") as folder:
+        open(os.path.join(folder, "script"), "wb").close()
+        began = time.monotonic()
+        words = [program, "replay", *words, "--until", "1", "script", "-", "out"]
+        with subprocess.Popen(words, cwd=folder, bufsize=0, stdin=subprocess.PIPE, stdout=subprocess.DEVNULL, stderr=errors) as ran:
+            while not os.path.exists(os.path.join(folder, "out")):
+                assert ran.poll() is None and time.monotonic() < began + 60
+                time.sleep(0.01)
+            ran.stdin.write(TWO_RECORDS[:24])
+            time.sleep(0.7)
+            ran.stdin.write(2 * record)
+            time.sleep(0.7)
+            before_second()
+            ran.stdin.write(2 * record)
+            ran.communicate(timeout=60)
+    return ran.returncode
+
+
+def case_a_replay_that_is_not_asked_how_far_it_has_come(program):
+    """It doesn't say so, where standard error is no terminal."""
+    with tempfile.TemporaryFile() as errors:
+        status = replayed_with_pauses(program, [], errors, lambda: None)
+        errors.seek(0)
+        assert (status, errors.read()) == (0, b"")
+
+
+def case_how_far_a_replay_has_come_is_not_said_again_where_that_failed(program):
+    """The first line meets a full pipe, and is lost. The pipe has room again when the second would come, and gets nothing."""
+    reader, writer = os.pipe()
+    with open(reader, "rb", buffering=0) as reading, open(writer, "wb", buffering=0) as writing:
+        os.set_blocking(writer, False)
+        os.set_blocking(reader, False)
+        filled = 0
+        while (count := writing.write(bytes(4096))) is not None:
+            filled += count
+        drained = []
+        status = replayed_with_pauses(program, ["--progress"], writing, lambda: drained.append(reading.read(filled + 1)))
+        assert (status, drained, reading.read(1)) == (0, [bytes(filled)], None)
+
+
 def case_a_terminal_as_the_standard_input(program):
     """That it is waited for is told on standard error, once; not where the words ask for help."""
     prompt = b"reading from the terminal; Ctrl-D ends the input\n"

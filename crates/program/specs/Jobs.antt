@@ -1,10 +1,11 @@
 -- What the program answers to its words: a job, help, or why they are refused.
-use Rattle.std.specs.Prelude.{◌≡◌, ◌⊎◌, List, ℕ, [], Bool, true, false, Option, Some, None, Result, Ok, Err, codes, option_map, unwrap_or}
+use Rattle.std.specs.Prelude.{◌≡◌, ◌⊎◌, List, ℕ, [], Bool, true, false, Option, Some, None, Result, Ok, Err, codes, unwrap_or}
 use Rattle.std.specs.Io.KnownBytes.{Appends, append_known}
 use Rattle.octet_writer.specs.Writes.{AppendsFront}
-use Rattle.clap.specs.Matches.{first_value, found_of, subcommand_name_of}
-use Rattle.clap.specs.Simple.{subcommand_rows_of}
-use Rattle.clap.specs.Walk.{rows_of}
+use Rattle.clap.specs.Matches.{first_value, found_of}
+use Rattle.clap.specs.Simple.{subcommand_of, subcommand_rows_of}
+use Rattle.clap.specs.Takes.{takes}
+use Rattle.clap.specs.Walk.{Text, rows_of}
 use Rattle.clap.specs.declared.error.kind.ErrorKind.{ErrorKind}
 use Rattle.clap.specs.declared.error.kind.ErrorKind.TheVariants as Kinds
 use Rattle.clap.specs.declared.parser.matches.ArgMatches.{ArgMatches}
@@ -24,18 +25,9 @@ use Rattle.replay.specs.Texts.{open_text}
 use Rattle.replay.specs.Words.{IsReplayEnding, got}
 use Rattle.replay.specs.declared.stamps.Stamp.{Stamp}
 use Rattle.program.specs.Given.{IsGivenBounds, IsGivenFrames, IsGivenStreams, bounds_in, draws_in, flag_in, from_in, over_input_text, rate_in, settings_in, stamp_in}
+use Rattle.program.specs.Table.{name_of, program_app}
 use Rattle.program.specs.declared.job_name.JobName.{JobName}
 use Rattle.program.specs.declared.job_name.JobName.TheVariants as Names
-
--- the word that names a job
-abbrev pub name_of : JobName → List ℕ
-name_of Names.Script = codes "script"
-name_of Names.Replay = codes "replay"
-name_of Names.Check = codes "check"
-name_of Names.Streams = codes "streams"
-name_of Names.Bounds = codes "bounds"
-name_of Names.Draw = codes "draw"
-name_of Names.Frames = codes "frames"
 
 -- the text where memory is out
 abbrev pub memory_text : List ℕ
@@ -123,28 +115,45 @@ IsUsage text ended old new errors_old errors_new = IsUnanswered 2 text ended old
 abbrev pub IsAsked : ErrorKind → Type 0
 IsAsked kind = (kind ≡ Kinds.DisplayHelp) ⊎ (kind ≡ Kinds.DisplayVersion)
 
+-- the words are refused
+abbrev pub IsFault : ErrorKind → Type 0
+IsFault kind = (IsAsked kind → ⊥) × (kind ≡ Kinds.OutOfMemory → ⊥)
+
 -- The end where no job is answered, by the kind of why: memory is out; or some text is answered where the words ask for help or for the version, and nothing
 -- is reported; or some text is reported.
 abbrev pub IsRefusedBy : ErrorKind → Ended → (old new errors_old errors_new : Option (List ℕ)) → Type 0
 IsRefusedBy kind ended old new errors_old errors_new =
     IsUnanswered 4 memory_text ended old new errors_old errors_new
     ⊎ ((text : List ℕ) × ((IsAsked kind × IsHelp text ended old new × (errors_new ≡ errors_old))
-    ⊎ ((IsAsked kind → ⊥) × IsUsage text ended old new errors_old errors_new)))
+    ⊎ (IsFault kind × IsUsage text ended old new errors_old errors_new)))
+
+-- The end where the parser refuses the words, by a kind of why: of words that the program takes, that memory is out.
+pub record IsRefused (words : List Text) (ended : Ended) (old new errors_old errors_new : Option (List ℕ)) : Type 0 where
+  pub kind : ErrorKind
+  pub taken : takes program_app words ≡ true → kind ≡ Kinds.OutOfMemory
+  pub ending : IsRefusedBy kind ended old new errors_old errors_new
 
 -- the job of this name is the one that was found among the words, with what they give it
-pub record IsNamed (matches : ArgMatches) (job : JobName) (given : ArgMatches) : Type 0 where
-  pub name : subcommand_name_of matches ≡ Some (name_of job)
-  pub rows : option_map (λ sub. sub.1) (subcommand_rows_of matches) ≡ Some (rows_of (found_of given))
+abbrev pub IsFound : ArgMatches → JobName → ArgMatches → Type 0
+IsFound matches job given = subcommand_rows_of matches ≡ Some (name_of job, rows_of (found_of given))
 
--- The end of a job that the words name, with what they give it.
-pub record IsNamedEnding (input : Option (List ℕ)) (ended : Ended) (old new : Option (List ℕ)) : Type 0 where
-  pub matches : ArgMatches
-  pub given : ArgMatches
+-- the words name this job, and give it this
+abbrev pub IsNamed : List Text → JobName → Found → Type 0
+IsNamed words job found = subcommand_of program_app words ≡ Some (name_of job, rows_of found)
+
+-- The end of the job that the words name, with what they give it.
+pub record IsNamedEnding (words : List Text) (input : Option (List ℕ)) (ended : Ended) (old new : Option (List ℕ)) : Type 0 where
   pub job : JobName
-  pub named : IsNamed matches job given
-  pub ending : IsWatchedEnding job (found_of given) input ended old new
+  pub found : Found
+  pub named : IsNamed words job found
+  pub ending : IsWatchedEnding job found input ended old new
 
--- The end of the program: of a job, or of help, or of words that are refused.
-abbrev pub IsProgramEnding : Option (List ℕ) → Ended → (old new errors_old errors_new : Option (List ℕ)) → Type 0
-IsProgramEnding input ended old new errors_old errors_new =
-    IsNamedEnding input ended old new ⊎ (((kind : ErrorKind) × IsRefusedBy kind ended old new errors_old errors_new) ⊎ IsUsage [] ended old new errors_old errors_new)
+-- The end where the words name no job.
+pub record IsJobless (words : List Text) (ended : Ended) (old new errors_old errors_new : Option (List ℕ)) : Type 0 where
+  pub none : (job : JobName) (found : Found) → IsNamed words job found → ⊥
+  pub ending : IsUsage [] ended old new errors_old errors_new
+
+-- The end of the program on its words, the first of which is its own name: of the job that they name, with what they give it; or of help, or of words that are refused.
+abbrev pub IsProgramEnding : List Text → Option (List ℕ) → Ended → (old new errors_old errors_new : Option (List ℕ)) → Type 0
+IsProgramEnding words input ended old new errors_old errors_new =
+    IsNamedEnding words input ended old new ⊎ (IsRefused words ended old new errors_old errors_new ⊎ IsJobless words ended old new errors_old errors_new)

@@ -1,2 +1,4 @@
 pub mod Given
 pub mod Jobs
+pub mod Progress
+pub mod Table

@@ -1,14 +1,15 @@
 //! What is answered to the words of the program.
 
-ghost use Rattle.std.specs.Prelude.{◌≡◌, [], IfErr, IfSome, true};
+ghost use Rattle.std.specs.Prelude.{◌≡◌, [], IfErr, IfSome, map, string_bytes, true};
 ghost use Rattle.std.specs.Io.Buffered.{writer_buffer, writer_contents};
 ghost use Rattle.clap.specs.Values.{kind_of};
-ghost use Rattle.clap.specs.Matches.{found_of};
-ghost use Rattle.program.specs.Jobs.{IsJobEnding, IsProgramEnding, IsHelp, IsNamed, IsRefusedBy, IsUsage, IsWatchedEnding, Tells};
+ghost use Rattle.clap.specs.Matches.{found_of, subcommand_name_of};
+ghost use Rattle.program.specs.Jobs.{IsFound, IsJobEnding, IsProgramEnding, IsHelp, IsRefusedBy, IsUsage, IsWatchedEnding, Tells};
 ghost use Rattle.schedule_check.specs.Checked.{whole_check};
 ghost use Rattle.schedule_check.specs.Windows.{IsTeller, Teller};
 ghost use Rattle.drawing.specs.PictureEnd.{IsDrawEnding};
 ghost use Rattle.std.specs.Prelude.{codes};
+ghost use Rattle.program.specs.Table.{name_of};
 ghost use Rattle.program.specs.Given.{draws_in, flag_in, rate_in, settings_in};
 ghost use Rattle.script.specs.ScriptEnd.{IsEnding, whole_script};
 ghost use Rattle.wire_time.specs.Moment.{greatest_moment};
@@ -221,7 +222,8 @@ fn answer_watched<
 
 /// The job that the words name, and what they give it.
 fn job_of<'m, 'a>(matches: &'m ArgMatches<'a>) -> Option<(JobName, &'m ArgMatches<'a>)>
-    ensures { IfSome result (λ found. IsNamed matches.now found.0 found.1.now) }
+    ensures some { IfSome result (λ found. IsFound matches.now found.0 found.1.now) }
+    ensures none { result ≡ None → (job : JobName) → subcommand_name_of matches.now ≡ Some (name_of job) → ⊥ }
 {
     for job in &JOBS {
         if let Some(given) = matches.subcommand_matches(job.name.text()) {
@@ -252,7 +254,7 @@ pub(crate) fn answer_words<
     progress: &mut Progress<'_, C, P>,
     terminal: bool,
 ) -> (Ended, Piped<W>)
-    ensures { IsProgramEnding (R.remaining reader.old) result.0 (writer_contents (⟦<Piped<W> as Write>⟧.contents) answers) ((⟦<Piped<W> as Write>⟧.contents) result.1) (E.contents errors.old) (E.contents errors.new) }
+    ensures { IsProgramEnding (map string_bytes words.now) (R.remaining reader.old) result.0 (writer_contents (⟦<Piped<W> as Write>⟧.contents) answers) ((⟦<Piped<W> as Write>⟧.contents) result.1) (E.contents errors.old) (E.contents errors.new) }
 {
     let Ok(command) = command(alloc) else {
         return end_forgotten(answers, errors);

@@ -1,7 +1,7 @@
 //! The names of the jobs.
 
 ghost use Rattle.std.specs.Prelude.{◌≡◌};
-ghost use Rattle.program.specs.Jobs.{name_of};
+ghost use Rattle.program.specs.Table.{name_of};
 
 /// A job of the program.
 #[derive(Clone, Copy, Debug, PartialEq, Eq)]

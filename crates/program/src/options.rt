@@ -1,10 +1,12 @@
 //! The words of the program.
 
-ghost use Rattle.std.specs.Prelude.{◌≡◌, codes};
-ghost use Rattle.clap.specs.Matches.{first_value, found_of};
+ghost use Rattle.std.specs.Prelude.{◌≡◌, [], IfOk, codes, false};
+ghost use Rattle.clap.specs.Words.{IsPlainArg, app_of, first_value, found_of, rule_of};
+ghost use Rattle.clap.specs.declared.builder.command.Command.TheViews.{out-Command as fields_of};
 ghost use Rattle.drawing.specs.Given.{words_of_draws};
 ghost use Rattle.script.specs.Given.{octets_of, words_of_values};
 ghost use Rattle.program.specs.Given.{draw_words_in, flag_in, words_in};
+ghost use Rattle.program.specs.Table.{free_rule, program_app, rule_of_word, shape_of_job};
 
 use crate::job_name::JobName;
 use crate::onlooker::Looks;
@@ -403,14 +405,26 @@ pub(crate) const JOBS: [Job; 7] = [
     },
 ];
 
-/// A word as `clap` has it.
-fn arg_of<'a>(alloc: Global, word: &Word) -> Result<Arg<'a>, AllocError> {
+/// A word as `clap` has it, which may stand beside each other.
+fn free_arg_of<'a>(alloc: Global, word: &Word) -> Arg<'a>
+    ensures rule { rule_of result ≡ free_rule word.now.given word.now.name.now }
+    ensures plain { IsPlainArg result }
+    ensures local { result.global ≡ false }
+{
     let arg = Arg::new(alloc, word.name).help(word.help);
-    let arg = match word.given {
+    match word.given {
         Given::Value => arg.long(word.name).value_name(word.value),
         Given::Flag => arg.long(word.name).action(ArgAction::SetTrue),
         Given::File => arg.value_name(word.value).required(true),
-    };
+    }
+}
+
+/// A word as `clap` has it.
+fn arg_of<'a>(alloc: Global, word: &Word) -> Result<Arg<'a>, AllocError>
+    ensures rule { IfOk result (λ arg. rule_of arg ≡ rule_of_word word.now) }
+    ensures local { IfOk result (λ arg. arg.global ≡ false) }
+{
+    let arg = free_arg_of(alloc, word);
     match word.without {
         None => Ok(arg),
         Some(other) => arg.conflicts_with(other),
@@ -423,7 +437,10 @@ const STATUSES: &str =
 3 an input is malformed, 4 a file can't be opened, a read or a write failed, or out of memory";
 
 /// A job with its words as `clap` has it.
-fn command_of<'a>(alloc: Global, job: &Job) -> Result<Command<'a>, AllocError> {
+fn command_of<'a>(alloc: Global, job: &Job) -> Result<Command<'a>, AllocError>
+    ensures app { IfOk result (λ command. app_of command ≡ record { top = shape_of_job job.now; subs = [] }) }
+    ensures local { IfOk result (λ command. (fields_of command).has_globals ≡ false) }
+{
     let mut command = Command::new(alloc, job.name.text())
         .about(job.about)
         .after_help(STATUSES);
@@ -434,7 +451,9 @@ fn command_of<'a>(alloc: Global, job: &Job) -> Result<Command<'a>, AllocError> {
 }
 
 /// What the program understands.
-pub(crate) fn command<'a>(alloc: Global) -> Result<Command<'a>, AllocError> {
+pub(crate) fn command<'a>(alloc: Global) -> Result<Command<'a>, AllocError>
+    ensures { IfOk result (λ command. app_of command ≡ program_app) }
+{
     let mut program = Command::new(alloc, "taprio_port")
         .version("0.1.0")
         .about("An IEEE 802.1Qbv time-aware transmit port")

@@ -1,10 +1,10 @@
 -- What a schedule gives a class: how long its gate stays open and closed, by the gates of its plan alone, which go on for ever
 -- (IEEE Std 802.1Q-2018, 8.6.8.4, 8.6.9.2).
-use Rattle.std.specs.Prelude.{◌≡◌, ◌<◌, ◌≤◌, ◌⊎◌, ℕ, zero, suc, ◌+◌, ◌-◌, true, map, Some, None, if◌then◌else◌}
+use Rattle.std.specs.Prelude.{◌≡◌, ◌<◌, ◌≤◌, ◌⊎◌, ℕ, zero, suc, ◌+◌, ◌-◌, Bool, true, false, map, Some, None, if◌then◌else◌}
 use Rattle.wire_time.specs.Wire.{occupancy_of}
-use Rattle.gate_list.specs.Gate.{Plan, in_ps, mask_since, opens}
+use Rattle.gate_list.specs.Gate.{Plan, in_ps, mask_since, opens, prefix}
 use Rattle.gate_list.specs.Open.{open_while}
-use Rattle.gate_list.specs.Stay.{stay_lasts}
+use Rattle.gate_list.specs.Stay.{TellsOpenTime, stay_lasts}
 use Rattle.gate_list.specs.declared.Entry.{Entry}
 use Rattle.gate_list.specs.declared.Stay.{Stay}
 use Rattle.gate_list.specs.declared.Stay.TheVariants.{Lasts, Always}
@@ -47,6 +47,12 @@ pub record IsLonger (one other longer : Stay) : Type 0 where
   pub either : (longer ≡ one) ⊎ (longer ≡ other)
   pub first : (d : ℕ) → stay_lasts one d ≡ true → stay_lasts longer d ≡ true
   pub second : (d : ℕ) → stay_lasts other d ≡ true → stay_lasts longer d ≡ true
+
+-- Where it is looked at, the stay of a class from the start of entry i on takes the place of a shorter one: 0 where the entry is never shown. Else nothing does.
+abbrev pub IsLengthened : Plan → ℕ → Bool → ℕ → (old new : Stay) → Type 0
+IsLengthened plan i true class old new =
+    (told : Stay) × TellsOpenTime plan i class told × (in_ps plan.cycle ≤ prefix plan.entries i → told ≡ Lasts 0) × IsLonger old told new
+IsLengthened plan i false class old new = new ≡ old
 
 -- at how many of the first picoseconds the class is open
 unfoldable pub open_total : (ℕ → ℕ) → ℕ → ℕ → ℕ

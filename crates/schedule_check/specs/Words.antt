@@ -25,7 +25,7 @@ unfoldable pub use Rattle.schedule_check.specs.Apart.{classes_apart}
 pub use Rattle.schedule_check.specs.Checked.{checked_in, checked_of, is_command, whole_check}
 pub use Rattle.schedule_check.specs.WindowLines.{asked_lines, frame_text, open_line, time_text, window_line}
 unfoldable pub use Rattle.schedule_check.specs.WindowLines.{open_lines}
-pub use Rattle.schedule_check.specs.Windows.{IsLongestFrame, IsLonger, IsLongestOpen, IsOpenStay, IsTeller, IsWindow, Teller, alone, turned, turned_entry, turned_mask, turned_plan}
+pub use Rattle.schedule_check.specs.Windows.{IsLengthened, IsLongestFrame, IsLonger, IsLongestOpen, IsOpenStay, IsTeller, IsWindow, Teller, alone, turned, turned_entry, turned_mask, turned_plan}
 unfoldable pub use Rattle.schedule_check.specs.Windows.{open_total}
 pub use Rattle.schedule_check.specs.declared.windows.Window.{Window}
 pub use Rattle.arrayvec.specs.ArrayVec.{array_vec_len}

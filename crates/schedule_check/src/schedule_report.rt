@@ -101,7 +101,7 @@ fn put_schedule<W: Write>(
 {
     let count = class_count(change.map);
     put_apart(writer, &classes_apart(schedule, count))?;
-    put_asked(writer, settings, change, count)
+    put_asked(writer, settings, change, schedule, count)
 }
 
 /// Reports on the change that the line of this number asks: the refusal of its schedule, or what the schedule promises.

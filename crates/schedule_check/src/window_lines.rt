@@ -1,13 +1,15 @@
 //! The lines of what a schedule gives each class.
 
 ghost use Rattle.std.specs.Prelude.{◌≡◌, ◌≤◌, None};
-ghost use Rattle.schedule_check.specs.Words.{plan_asked, text_of, plan_fault, Writes, IsTeller, Teller, asked_lines, frame_text, open_line, open_lines, time_text, window_line, CLASSES};
+ghost use Rattle.schedule_check.specs.Words.{plan_asked, text_of, plan_fault, Writes, IsTeller, Teller, asked_lines, frame_text, open_line, open_lines, time_text, turned_plan, window_line, CLASSES};
 
 use crate::settings::CheckSettings;
-use crate::windows::{Longest, Window, Windows};
+use crate::windows::{
+    Longest, Window, longest_closed, longest_open, shares_of, turned_schedule, window_of,
+};
 use abstract_port::Change;
 use answer_text::{Part, WriteFault, put_parts};
-use gate_list::Stay;
+use gate_list::{Schedule, Stay};
 use std::io::Write;
 use wire_time::Rate;
 
@@ -69,22 +71,32 @@ fn put_if_open<W: Write>(writer: &mut W, class: u8, window: &Window) -> Result<(
     put_window(writer, class, window)
 }
 
-/// Writes the lines of the classes below a number that are ever open.
+/// Writes the lines of the classes below a number that a schedule ever opens, by it and the schedule that opens what it closes.
 fn put_windows<W: Write>(
     writer: &mut W,
     rate: Rate,
-    windows: &Windows,
+    schedule: &Schedule,
+    turned: &Schedule,
     count: u8,
 ) -> Result<(), WriteFault>
-    requires { count ≤ CLASSES }
+    requires turned { turned.now ≡ turned_plan schedule.now }
+    requires few { count ≤ CLASSES }
     ensures { (tell : Teller) → IsTeller tell →
-        Writes result (W.contents writer.old) (W.contents writer.new) (open_lines (tell rate windows.now) count 0) }
+        Writes result (W.contents writer.old) (W.contents writer.new) (open_lines (tell rate schedule.now) count 0) }
 {
-    let open = windows.open_times();
-    let closed = windows.closed_times();
+    let open = longest_open(schedule);
+    let closed = longest_closed(turned);
+    let shares = shares_of(schedule);
     for class in 0..count {
         let place = usize::from(class);
-        let window = windows.window_of(rate, class, open[place], closed[place]);
+        let window = window_of(
+            schedule,
+            rate,
+            class,
+            open[place],
+            closed[place],
+            shares[place],
+        );
         put_if_open(writer, class, &window)?;
     }
     Ok(())
@@ -96,8 +108,10 @@ pub(crate) fn put_asked<W: Write>(
     writer: &mut W,
     settings: CheckSettings,
     change: &Change,
+    schedule: &Schedule,
     count: u8,
 ) -> Result<(), WriteFault>
+    requires plan { schedule.now ≡ plan_asked change.now }
     requires accepted { plan_fault settings.rate (plan_asked change.now) ≡ None }
     requires few { count ≤ CLASSES }
     ensures { (tell : Teller) → IsTeller tell →
@@ -106,15 +120,12 @@ pub(crate) fn put_asked<W: Write>(
     if !settings.windows {
         return Ok(());
     }
-    let windows = Windows::new(
+    let turned = turned_schedule(
         &change.list,
         change.base_ns,
         change.cycle_ns,
         change.extension_ns,
         settings.rate,
     );
-    match windows {
-        Ok(windows) => put_windows(writer, settings.rate, &windows, count),
-        Err(_) => unreachable!(),
-    }
+    put_windows(writer, settings.rate, schedule, &turned, count)
 }

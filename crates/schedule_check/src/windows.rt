@@ -1,7 +1,7 @@
 //! What a schedule gives each class: how long it stays open and closed, its share of a cycle, and the longest frame that can start.
 
-ghost use Rattle.std.specs.Prelude.{◌≡◌, ◌<◌, ◌≤◌, ◌*◌, ◌^◌, ◌+◌, ℕ, if◌then◌else◌, length, map, min, slice_index_or};
-ghost use Rattle.schedule_check.specs.Words.{in_ps, ok_unless, opens, plan_fault, plan_with, Lasts, IsLonger, IsLongestFrame, IsOpenStay, IsWindow, alone, open_total, turned, turned_entry, CLASSES};
+ghost use Rattle.std.specs.Prelude.{◌≡◌, ◌<◌, ◌≤◌, ◌^◌, ◌+◌, ◌&&◌, ℕ, if◌then◌else◌, length, map, min, not, None, slice_index_or};
+ghost use Rattle.schedule_check.specs.Words.{in_ps, ok_unless, opens, plan_fault, plan_with, Lasts, IsLengthened, IsLonger, IsLongestFrame, IsOpenStay, IsWindow, Plan, alone, open_total, turned, turned_entry, turned_plan, CLASSES};
 
 use arrayvec::ArrayVec;
 use gate_list::{Entry, GateList, MAX_ENTRIES, PlanFault, Schedule, Stay, Visits, is_open};
@@ -65,66 +65,97 @@ fn longer(one: Stay, other: Stay) -> Stay
     }
 }
 
-/// To each class the longer of its two stays.
-fn lengthen(longest: &mut [Stay; CLASSES], stays: &[Stay; CLASSES])
-    ensures { (class : ℕ) → class < CLASSES → IsLonger (slice_index_or longest.old class (Lasts 0)) (slice_index_or stays.now class (Lasts 0)) (slice_index_or longest.new class (Lasts 0)) }
+/// The classes that a mask opens and the mask before it closes.
+fn newly_open(mask: u8, before: u8) -> u8
+    ensures { (class : ℕ) → class < CLASSES → opens result class ≡ (opens mask class && not (opens before class)) }
 {
-    for class in 0..CLASSES {
-        longest[class] = longer(longest[class], stays[class]);
+    mask & !before
+}
+
+/// Where a mask opens a class, the stay of the class from the start of an entry on takes the place of one that is shorter.
+fn lengthen_stay(schedule: &Schedule, i: usize, mask: u8, class: u8, longest: &mut Stay)
+    requires listed { i < length schedule.now.entries }
+    requires class { class < CLASSES }
+    ensures { IsLengthened schedule.now i (opens mask class) class longest.old longest.new }
+{
+    if is_open(mask, class) {
+        *longest = longer(*longest, schedule.stay(i, class));
     }
 }
 
-/// The longest time that each class stays open.
-fn longest_open(schedule: &Schedule) -> [Stay; CLASSES]
+/// Of each class that a mask opens, the stay from the start of an entry on takes the place of one that is shorter.
+fn lengthen(schedule: &Schedule, i: usize, mask: u8, longest: &mut [Stay; CLASSES])
+    requires { i < length schedule.now.entries }
+    ensures { (class : ℕ) → class < CLASSES → IsLengthened schedule.now i (opens mask class) class (slice_index_or longest.old class (Lasts 0)) (slice_index_or longest.new class (Lasts 0)) }
+{
+    for class in 0..CLASSES {
+        lengthen_stay(schedule, i, mask, class as u8, &mut longest[class]);
+    }
+}
+
+/// The longest time that each class stays open. A stay is looked at only where it begins: where an entry opens a class that the entry
+/// before it closes.
+pub(crate) fn longest_open(schedule: &Schedule) -> [Stay; CLASSES]
     ensures longest { (class : ℕ) → class < CLASSES → IsOpenStay (alone schedule.now) class (slice_index_or result class (Lasts 0)) }
     ensures some { 0 < length schedule.now.entries }
 {
     let mut visits = Visits::zero();
     let mut longest = [Stay::Lasts(0); CLASSES];
+    let mut before = 0;
     for i in 0..schedule.len() {
-        let row = schedule.row(i, &mut visits);
-        lengthen(&mut longest, &row.stay);
+        let mask = schedule.entry(i, &mut visits).mask;
+        lengthen(schedule, i, newly_open(mask, before), &mut longest);
+        before = mask;
     }
     longest
 }
 
 /// The moment in a cycle at which an entry that begins at `from` ends: the last ends with the cycle, which cuts each other.
-fn end_in_cycle(entry: Entry, is_last: bool, from: u128, cycle: u128) -> u128
-    requires { from ≤ 2 ^ 64 * 1000 }
+fn end_in_cycle(entry: Entry, is_last: bool, from: u64, cycle: u64) -> u64
+    requires { from ≤ 2 ^ 50 }
     ensures { result ≡ (if is_last then cycle else min cycle (from + in_ps entry.interval)) }
 {
     if is_last {
         cycle
     } else {
-        cycle.min(from + 1000 * u128::from(entry.interval))
+        cycle.min(from + 1000 * u64::from(entry.interval))
     }
 }
 
 /// For how much of a span of time with this mask a class is open.
-fn open_part(mask: u8, class: u8, span: u128) -> u128
+fn open_part(mask: u8, class: u8, span: u64) -> u64
     requires { class < CLASSES }
     ensures { result ≡ (if opens mask class then span else 0) }
 {
     if is_open(mask, class) { span } else { 0 }
 }
 
-/// For how many picoseconds of a cycle a class is open.
-fn share_of(schedule: &Schedule, class: u8) -> u128
-    requires { class < CLASSES }
-    ensures { result ≡ open_total (alone schedule.now) class (in_ps schedule.now.cycle) }
+/// To the share of each class its part of a span of time with this mask is added.
+fn add_parts(mask: u8, span: u64, shares: &mut [u64; CLASSES])
+    requires { (class : ℕ) → class < CLASSES → slice_index_or shares.old class 0 + span < 2 ^ 64 }
+    ensures { (class : ℕ) → class < CLASSES → slice_index_or shares.new class 0 ≡ slice_index_or shares.old class 0 + (if opens mask class then span else 0) }
 {
-    let cycle = 1000 * u128::from(schedule.cycle_ns());
+    for class in 0..CLASSES {
+        shares[class] += open_part(mask, class as u8, span);
+    }
+}
+
+/// For how many picoseconds of a cycle each class is open.
+pub(crate) fn shares_of(schedule: &Schedule) -> [u64; CLASSES]
+    ensures { (class : ℕ) → class < CLASSES → slice_index_or result class 0 ≡ open_total (alone schedule.now) class (in_ps schedule.now.cycle) }
+{
     let count = schedule.len();
+    let cycle = 1000 * schedule.cycle_ns();
     let mut visits = Visits::zero();
     let mut from = 0;
-    let mut share = 0;
+    let mut shares = [0; CLASSES];
     for i in 0..count {
         let entry = schedule.entry(i, &mut visits);
         let until = end_in_cycle(entry, i + 1 == count, from, cycle);
-        share += open_part(entry.mask, class, until - from);
+        add_parts(entry.mask, until - from, &mut shares);
         from = until;
     }
-    share
+    shares
 }
 
 /// The longest frame that fits into the longest open time of a class.
@@ -168,6 +199,55 @@ fn turned_list(list: &GateList) -> GateList
     }
 }
 
+/// The schedule whose entries open what those of another, which is accepted at the rate, close.
+pub(crate) fn turned_schedule(
+    list: &GateList,
+    base_ns: u64,
+    cycle_ns: u64,
+    extension_ns: u64,
+    rate: Rate,
+) -> Schedule
+    requires { plan_fault rate (plan_with list.now base_ns cycle_ns extension_ns) ≡ None }
+    ensures { result ≡ turned_plan (plan_with list.now base_ns cycle_ns extension_ns) }
+{
+    match Schedule::new(&turned_list(list), base_ns, cycle_ns, extension_ns, rate) {
+        Ok(turned) => turned,
+        Err(_) => unreachable!(),
+    }
+}
+
+/// The longest time that each class stays closed, by the schedule whose entries open what those of the plan close.
+pub(crate) fn longest_closed(other: &Schedule) -> [Stay; CLASSES]
+    ensures { (plan : Plan) → other.now ≡ turned_plan plan → (class : ℕ) → class < CLASSES → IsOpenStay (turned (alone plan)) class (slice_index_or result class (Lasts 0)) }
+{
+    longest_open(other)
+}
+
+/// What a schedule gives a class at a rate that stays open for so long at the longest, and closed, and has this share of a cycle.
+pub(crate) fn window_of(
+    schedule: &Schedule,
+    rate: Rate,
+    class: u8,
+    open_time: Stay,
+    closed_time: Stay,
+    share: u64,
+) -> Window
+    requires class { class < CLASSES }
+    requires open { IsOpenStay (alone schedule.now) class open_time }
+    requires closed { IsOpenStay (turned (alone schedule.now)) class closed_time }
+    requires share { share ≡ open_total (alone schedule.now) class (in_ps schedule.now.cycle) }
+    ensures window { IsWindow rate schedule.now class result }
+    ensures cycle { 0 < schedule.now.cycle }
+{
+    Window {
+        open_time,
+        closed_time,
+        share: u128::from(share),
+        cycle: 1000 * u128::from(schedule.cycle_ns()),
+        longest_frame: longest_within(rate, open_time),
+    }
+}
+
 impl Windows {
     /// A schedule of a list with these times, in nanoseconds, refused as `Schedule::new` refuses it at the rate.
     pub fn new(
@@ -185,49 +265,12 @@ impl Windows {
         Ok(Windows { schedule, turned })
     }
 
-    /// The longest time that each class stays open, in picoseconds.
-    pub(crate) fn open_times(&self) -> [Stay; CLASSES]
-        ensures { (class : ℕ) → class < CLASSES → IsOpenStay (alone self.now) class (slice_index_or result class (Lasts 0)) }
-    {
-        longest_open(&self.schedule)
-    }
-
-    /// The longest time that each class stays closed, in picoseconds; 0 where it never closes.
-    pub(crate) fn closed_times(&self) -> [Stay; CLASSES]
-        ensures { (class : ℕ) → class < CLASSES → IsOpenStay (turned (alone self.now)) class (slice_index_or result class (Lasts 0)) }
-    {
-        longest_open(&self.turned)
-    }
-
     /// For how many picoseconds of a cycle a class is open.
     pub fn share(&self, class: u8) -> u128
         requires { class < CLASSES }
         ensures { result ≡ open_total (alone self.now) class (in_ps self.now.cycle) }
     {
-        share_of(&self.schedule, class)
-    }
-
-    /// What the schedule gives a class at a rate that stays open for so long at the longest, and closed.
-    pub(crate) fn window_of(
-        &self,
-        rate: Rate,
-        class: u8,
-        open_time: Stay,
-        closed_time: Stay,
-    ) -> Window
-        requires class { class < CLASSES }
-        requires open { IsOpenStay (alone self.now) class open_time }
-        requires closed { IsOpenStay (turned (alone self.now)) class closed_time }
-        ensures window { IsWindow rate self.now class result }
-        ensures cycle { 0 < self.now.cycle }
-    {
-        Window {
-            open_time,
-            closed_time,
-            share: self.share(class),
-            cycle: 1000 * u128::from(self.schedule.cycle_ns()),
-            longest_frame: longest_within(rate, open_time),
-        }
+        u128::from(shares_of(&self.schedule)[usize::from(class)])
     }
 
     /// What the schedule gives a class at a rate.
@@ -236,9 +279,17 @@ impl Windows {
         ensures window { IsWindow rate self.now class result }
         ensures cycle { 0 < self.now.cycle }
     {
-        let open_times = self.open_times();
-        let closed_times = self.closed_times();
+        let open = longest_open(&self.schedule);
+        let closed = longest_closed(&self.turned);
+        let shares = shares_of(&self.schedule);
         let place = usize::from(class);
-        self.window_of(rate, class, open_times[place], closed_times[place])
+        window_of(
+            &self.schedule,
+            rate,
+            class,
+            open[place],
+            closed[place],
+            shares[place],
+        )
     }
 }

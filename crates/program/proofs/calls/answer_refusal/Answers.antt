@@ -17,4 +17,4 @@ returns g c =
       | inl help ↦ c.in_default-kind.not-DisplayHelp (c.kind.ensures ∙ help)
       | inr version ↦ c.in_default-kind.not-DisplayVersion (c.kind.ensures ∙ version)
     ] in
-    inr (_, inr (other, c.end_usage.ensures))
+    inr (_, inr ((other, λ memory. c.in_default-kind.not-OutOfMemory (c.kind.ensures ∙ memory)), c.end_usage.ensures))

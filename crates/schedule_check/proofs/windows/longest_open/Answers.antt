@@ -1,8 +1,7 @@
-use Rattle.std.proofs.Common.{rules, ◌≡◌, ◌<◌, ℕ, Some, zero, suc, arith, refl, subst, sym}
-use Rattle.std.specs.Prelude.{length, replicate, slice_get, slice_index_or}
-use Rattle.std.proofs.lemmas.Option.{slice_get-get_or}
-use Rattle.schedule_check.specs.Words.{CLASSES, Lasts, alone}
-use Rattle.schedule_check.proofs.WindowLaws.{Reaches, reaches_none, bounds_none, reaches_either, bounds_more, row_reaches, open_stay}
+use Rattle.std.proofs.Common.{◌≡◌, ◌<◌, ◌&&◌, ℕ, not, zero, suc, arith, refl, subst, sym}
+use Rattle.std.specs.Prelude.{replicate, slice_index_or}
+use Rattle.schedule_check.specs.Words.{CLASSES, IsLengthened, Lasts, alone, opens}
+use Rattle.schedule_check.proofs.WindowLaws.{Reaches, reaches_none, bounds_none, bounds_next, mask_before, open_stay, reaches_next}
 use Rattle.schedule_check.proofs.windows.longest_open.Goals as goal
 
 -- eight stays of no time
@@ -21,21 +20,22 @@ pub loop-i-init : goal.loop-i-init
 loop-i-init c = record {
   reaches = λ class low. subst (Reaches (alone c.args.schedule.now) class) (sym (no_time class)) (reaches_none (alone c.args.schedule.now) class);
   bounds = λ class low. bounds_none c.args.schedule.now class _;
+  before = refl;
 }
 
 pub loop-i-preserved : goal.loop-i-preserved
 loop-i-preserved c =
     let plan = c.args.schedule.now in
     let plan_is = c.len-i-end.ensures.sound.plan_is in
-    let row = c.row-row.ensures in
-    let stays = c.row-row.result.stay in
-    let long : length stays ≡ 8 = search rules in
-    let there : (class : ℕ) → class < CLASSES → slice_get stays class ≡ Some (slice_index_or stays class (Lasts 0)) = λ class low. slice_get-get_or stays class (Lasts 0) (omega (arith, low, long)) in
+    let entry = c.entry-mask.result in
+    let there = c.entry-mask.ensures.entry in
+    let asked : (class : ℕ) → class < CLASSES → opens c.newly_open.result class ≡ (opens entry.mask class && not (opens c.loop-i.before class)) = λ class low. c.newly_open.ensures class low in
     record {
-      reaches = λ class low. reaches_either (alone plan) class _ _ _ (c.lengthen.ensures class low).either (c.loop-i.invariant.reaches class low)
-          (row_reaches plan class c.loop-i.i stays low plan_is.cycle row.open c.row-row.result.entry row.entry plan_is.intervals _ (there class low) row.unseen);
-      bounds = λ class low. bounds_more plan class c.loop-i.i stays _ low plan_is.cycle row.open (there class low)
-          _ _ (c.loop-i.invariant.bounds class low) (c.lengthen.ensures class low).first (c.lengthen.ensures class low).second;
+      reaches = λ class low. reaches_next plan class c.loop-i.before entry plan_is.cycle plan_is.intervals c.loop-i.i (opens c.newly_open.result class) _ _ there (c.lengthen.ensures class low) (c.loop-i.invariant.reaches class low);
+      bounds = λ class low. bounds_next plan class c.loop-i.before entry plan_is.cycle plan_is.intervals c.loop-i.i _ _ there c.loop-i.invariant.before
+          (subst (λ b. IsLengthened plan c.loop-i.i b class (slice_index_or c.loop-i.longest class (Lasts 0)) (slice_index_or c.lengthen.new.longest class (Lasts 0))) (asked class low) (c.lengthen.ensures class low))
+          (c.loop-i.invariant.bounds class low);
+      before = mask_before plan c.loop-i.i entry there;
     }
 
 pub returns-clause-longest : goal.returns-clause-longest

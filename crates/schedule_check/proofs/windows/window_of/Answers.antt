@@ -1,6 +1,6 @@
 use Rattle.std.proofs.Common.{rules}
 use Rattle.schedule_check.specs.Words.{alone}
-use Rattle.schedule_check.proofs.windows.Windows.window_of.Goals as goal
+use Rattle.schedule_check.proofs.windows.window_of.Goals as goal
 
 pub returns-clause-window : goal.returns-clause-window
 returns-clause-window c = record {
@@ -8,5 +8,5 @@ returns-clause-window c = record {
   closed_time = c.requires.closed;
   share = search rules;
   cycle = search rules;
-  longest_frame = c.longest_within.ensures (alone c.args.self.now) c.args.class c.requires.open;
+  longest_frame = c.longest_within.ensures (alone c.args.schedule.now) c.args.class c.requires.open;
 }

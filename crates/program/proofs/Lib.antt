@@ -1,0 +1,2 @@
+mod NameLaws
+mod ToldLaws
