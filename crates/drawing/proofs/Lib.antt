@@ -4,3 +4,4 @@ pub mod EndLaws
 pub mod DigitLaws
 pub mod ShownLaws
 pub mod WaitLaws
+pub mod TextLaws
