@@ -5,3 +5,4 @@ pub mod DigitLaws
 pub mod ShownLaws
 pub mod WaitLaws
 pub mod TextLaws
+pub mod FitLaws

@@ -13,11 +13,11 @@ use Rattle.drawing.specs.declared.page.Page.{Page}
 
 -- 1. One number more, and none
 
-each_next : (text : ℕ → List ℕ) (at n : ℕ) → each text at (suc n) ≡ text at ++ each text (at + 1) n
+pub each_next : (text : ℕ → List ℕ) (at n : ℕ) → each text at (suc n) ≡ text at ++ each text (at + 1) n
 unfolding each
 each_next text at n = refl
 
-each_last : (text : ℕ → List ℕ) (at : ℕ) → each text at zero ≡ []
+pub each_last : (text : ℕ → List ℕ) (at : ℕ) → each text at zero ≡ []
 unfolding each
 each_last text at = refl
 
@@ -27,11 +27,11 @@ each_more text at upto before = let e : upto - at ≡ suc (upto - (at + 1)) = om
 pub each_none : (text : ℕ → List ℕ) (at upto : ℕ) → upto ≤ at → each text at (upto - at) ≡ []
 each_none text at upto past = let e : upto - at ≡ 0 = omega (arith, past) in ap (each text at) e ∙ each_last text at
 
-mixed_next : (page : Page) (bands : Drawing) (at n : ℕ) → some_mixed page bands at (suc n) ≡ (is_mixed page bands at || some_mixed page bands (at + 1) n)
+pub mixed_next : (page : Page) (bands : Drawing) (at n : ℕ) → some_mixed page bands at (suc n) ≡ (is_mixed page bands at || some_mixed page bands (at + 1) n)
 unfolding some_mixed
 mixed_next page bands at n = refl
 
-mixed_last : (page : Page) (bands : Drawing) (at : ℕ) → some_mixed page bands at zero ≡ false
+pub mixed_last : (page : Page) (bands : Drawing) (at : ℕ) → some_mixed page bands at zero ≡ false
 unfolding some_mixed
 mixed_last page bands at = refl
 

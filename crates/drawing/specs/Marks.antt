@@ -158,8 +158,8 @@ abbrev pub last_change : (left right : ℕ) → List ℕ
 last_change left right =
     if nat_lt (left / 100) (right / 100)
     then concat (
-        codes "<path class=\"c\" d=\"M" ∷ decimal (left / 100) ∷ codes " " ∷ decimal (CLASS_TOP - 10)
-        ∷ codes "H" ∷ decimal (right / 100) ∷ codes "V" ∷ decimal BOTTOM ∷ codes "\"/>\n" ∷ [])
+    codes "<path class=\"c\" d=\"M" ∷ decimal (left / 100) ∷ codes " " ∷ decimal (CLASS_TOP - 10)
+    ∷ codes "H" ∷ decimal (right / 100) ∷ codes "V" ∷ decimal BOTTOM ∷ codes "\"/>\n" ∷ [])
     else []
 
 abbrev pub change_lines : (left right : ℕ) → List ℕ

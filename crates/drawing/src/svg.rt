@@ -12,8 +12,8 @@ use crate::marks::{
     put_waits,
 };
 use crate::page::{
-    AXIS, BOTTOM, CLASS_TOP, HALF_CHARACTER, HEIGHT, LANES, LEFT, LEGEND, MAX_WIDTH,
-    ORIGIN, Page, WIRE, lane_top,
+    AXIS, BOTTOM, CLASS_TOP, HALF_CHARACTER, HEIGHT, LANES, LEFT, LEGEND, MAX_WIDTH, ORIGIN, Page,
+    WIRE, lane_top,
 };
 use crate::shapes::Shapes;
 use answer_text::{Part, WriteFault, put, put_parts};
@@ -80,12 +80,7 @@ fn put_speed<W: Write>(
 fn put_name<W: Write>(writer: &mut W, page: &Page, end: &[u8]) -> Result<(), WriteFault>
     ensures { Writes result (W.contents writer.old) (W.contents writer.new) (name_text page.now end.now) }
 {
-    put_speed(
-        writer,
-        8_000_000 / page.rate.ps_per_octet(),
-        page.mtu,
-        end,
-    )
+    put_speed(writer, 8_000_000 / page.rate.ps_per_octet(), page.mtu, end)
 }
 
 /// Writes the beginning of a picture of this size, in pixels.
@@ -253,11 +248,7 @@ fn put_axis<W: Write>(writer: &mut W, page: &Page) -> Result<(), WriteFault>
 }
 
 /// Writes that the axis counts from so many of a unit.
-fn put_origin_name<W: Write>(
-    writer: &mut W,
-    number: u128,
-    unit: &[u8],
-) -> Result<(), WriteFault>
+fn put_origin_name<W: Write>(writer: &mut W, number: u128, unit: &[u8]) -> Result<(), WriteFault>
     ensures { Writes result (W.contents writer.old) (W.contents writer.new) (origin_name number unit.now) }
 {
     put_parts(
@@ -422,14 +413,7 @@ fn put_legend<W: Write>(writer: &mut W) -> Result<(), WriteFault>
     put_legend_rect(writer, b"o", LEFT, LEGEND, b"open")?;
     put_legend_rect(writer, b"f", LEFT + 70, LEGEND, b"frame")?;
     put_legend_mark(writer, b"w", LEFT + 142, b"v-9m0 5h22", 28, b"waits")?;
-    put_legend_mark(
-        writer,
-        b"d",
-        LEFT + 216,
-        b"l8 -8m0 8l-8 -8",
-        14,
-        b"dropped",
-    )?;
+    put_legend_mark(writer, b"d", LEFT + 216, b"l8 -8m0 8l-8 -8", 14, b"dropped")?;
     put_legend_mark(writer, b"c", LEFT + 290, b"v-12", 8, b"change")
 }
 

@@ -7,8 +7,8 @@ pub returns-then-is_mixed : goal.returns-then-is_mixed
 returns-then-is_mixed g c =
     let at = c.loop-class.class in
     sym (
-      c.loop-class.invariant ∙ mixed_more c.args.page.now c.args.bands.now at 8 c.loop-class-test.true
-      ∙ ap (λ b. b || some_mixed c.args.page.now c.args.bands.now (at + 1) (8 - (at + 1))) (sym c.is_mixed.ensures ∙ c.if-is_mixed.true)
+    c.loop-class.invariant ∙ mixed_more c.args.page.now c.args.bands.now at 8 c.loop-class-test.true
+    ∙ ap (λ b. b || some_mixed c.args.page.now c.args.bands.now (at + 1) (8 - (at + 1))) (sym c.is_mixed.ensures ∙ c.if-is_mixed.true)
     )
 
 pub loop-class-preserved : goal.loop-class-preserved
