@@ -1,5 +1,5 @@
 -- The picture of bands and shapes where there are too many of them.
-use Rattle.std.proofs.Common.{◌≡◌, ◌<◌, ◌≤◌, ◌+◌, ◌++◌, ◌||◌, ℕ, zero, suc, Bool, true, false, List, [], ◌∷◌, map, if◌then◌else◌, inl, inr, refl, sym, ap, ap₂, ◌∙◌, arith, codes}
+use Rattle.std.proofs.Common.{◌≡◌, ◌<◌, ◌≤◌, ◌+◌, ◌++◌, ◌||◌, ℕ, zero, suc, Bool, List, [], ◌∷◌, map, if◌then◌else◌, inl, inr, refl, sym, ap, ap₂, ◌∙◌, arith, codes}
 use Rattle.std.specs.List.{list_any}
 use Rattle.std.proofs.lemmas.Bool.{cases_lt, le-ltb, lt-ltb}
 use Rattle.picture.specs.Drawn.{ClassLane, Drawing, bands_joined, class_at}
@@ -9,7 +9,7 @@ use Rattle.picture.specs.declared.span.Shape.{Shape}
 unfoldable use Rattle.drawing.specs.Axis.{each}
 use Rattle.drawing.specs.Layout.{top_of}
 use Rattle.drawing.specs.Marks.{bands_text, bars_text, changes_text, drops_text, waits_text}
-use Rattle.drawing.specs.Picture.{all_bands, class_bands, coarse_bands, coarse_shown, fitted_text, foot_text, ground_text, has_mixed, height_of, is_crowded, is_mixed, is_seen, is_seen_joined, lane_text, lanes_text, marks_text, picture_text}
+use Rattle.drawing.specs.Picture.{class_bands, coarse_bands, coarse_shown, fitted_text, foot_text, ground_text, height_of, is_mixed, is_seen, is_seen_joined, lane_text, marks_text, picture_text}
 unfoldable use Rattle.drawing.specs.Picture.{some_mixed}
 use Rattle.drawing.specs.Shapes.{IsJoined, Shown, lane_at, shape_count}
 unfoldable use Rattle.drawing.specs.Shapes.{bands_to}

@@ -1,4 +1,4 @@
-use Rattle.std.proofs.Common.{Err, List, ℕ, Option, ap, ◌∙◌}
+use Rattle.std.proofs.Common.{Err, ap, ◌∙◌}
 use Rattle.std.proofs.lemmas.Result.{err_from_is_err_and}
 use Rattle.drawing.specs.Words.{ForSomeBands, IsDrawn, outcome_drawn, picture_of, reading_of}
 use Rattle.abstract_port.specs.AbstractPort.{new_port}

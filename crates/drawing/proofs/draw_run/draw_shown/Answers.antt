@@ -1,4 +1,4 @@
-use Rattle.std.proofs.Common.{List, ℕ, Some, ap, ap₂, ◌∙◌, subst}
+use Rattle.std.proofs.Common.{List, ℕ, ap, ap₂, ◌∙◌, subst}
 use Rattle.abstract_port.specs.declared.Event.TheVariants.{Clock}
 use Rattle.octet_writer.specs.Writes.{Writes}
 use Rattle.drawing.specs.Course.{Course, ended_at, seen_at}

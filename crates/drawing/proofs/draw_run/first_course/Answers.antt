@@ -1,6 +1,5 @@
 use Rattle.std.proofs.Common.{◌≡◌, ℕ, ap, ◌∙◌, subst}
 use Rattle.std.specs.Prelude.{IfOk}
-use Rattle.wire_time.specs.Wire.{lead_of}
 use Rattle.drawing.specs.Course.{Course, nothing_seen}
 use Rattle.drawing.specs.Options.{view_of}
 use Rattle.drawing.specs.declared.scope.Scope.TheVariants.{Nothing}

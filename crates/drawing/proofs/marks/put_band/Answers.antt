@@ -1,4 +1,4 @@
-use Rattle.std.proofs.Common.{◌≡◌, ◌++◌, List, ℕ, [], nat_lt, append-nil, sym, refl, ap, ◌∙◌, if◌then◌else◌}
+use Rattle.std.proofs.Common.{◌≡◌, List, ℕ, [], nat_lt, append-nil, sym, refl, ap, ◌∙◌, if◌then◌else◌}
 use Rattle.std.proofs.lemmas.Bool.{lt-ltb}
 use Rattle.octet_writer.proofs.Fronts.{sent_all, sent_more, sent_none}
 use Rattle.drawing.specs.Marks.{band_look, band_of, band_text, rect_text, right_of}

@@ -1,8 +1,7 @@
-use Rattle.std.proofs.Common.{◌-◌, ◌++◌, codes, refl}
+use Rattle.std.proofs.Common.{refl}
 use Rattle.std.proofs.lemmas.Result.{err_from_is_err_and}
 use Rattle.octet_writer.proofs.Fronts.{sent_exit, sent_last, sent_more, sent_none}
-use Rattle.drawing.specs.Marks.{change_lines, last_change, line_text}
-use Rattle.drawing.specs.declared.page.TheConstants.{BOTTOM, CLASS_TOP}
+use Rattle.drawing.specs.Marks.{change_lines, last_change}
 use Rattle.drawing.proofs.marks.put_change_lines.Goals as goal
 
 pub returns-in_err-put_line : goal.returns-in_err-put_line

@@ -1,4 +1,4 @@
-use Rattle.std.proofs.Common.{◌+◌, ◌-◌, ◌*◌, ◌++◌, ℕ, sym, refl, ap}
+use Rattle.std.proofs.Common.{◌+◌, ◌-◌, ◌*◌, ◌++◌, ℕ, sym, ap}
 use Rattle.std.proofs.lemmas.Result.{err_from_is_err_and}
 use Rattle.octet_writer.proofs.Fronts.{sent_exit, sent_last, sent_more, sent_none}
 use Rattle.drawing.specs.Marks.{rect_text}

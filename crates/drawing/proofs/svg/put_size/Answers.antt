@@ -1,5 +1,4 @@
 use Rattle.std.proofs.Common.{ℕ, subst}
-use Rattle.answer_text.specs.Part.{text_of}
 use Rattle.octet_writer.specs.Writes.{Writes}
 use Rattle.drawing.specs.Picture.{size_text}
 use Rattle.drawing.proofs.svg.put_size.Goals as goal

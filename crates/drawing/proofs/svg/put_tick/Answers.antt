@@ -1,9 +1,9 @@
-use Rattle.std.proofs.Common.{◌+◌, ◌-◌, ◌++◌, ℕ, length, codes, decimal, sym, refl, ap, ◌∙◌}
+use Rattle.std.proofs.Common.{◌+◌, ◌++◌, ℕ, length, decimal, sym, refl, ap, ◌∙◌}
 use Rattle.std.proofs.lemmas.Result.{err_from_is_err_and}
 use Rattle.octet_writer.proofs.Fronts.{sent_exit, sent_last, sent_more, sent_none}
-use Rattle.drawing.specs.Marks.{label_in, label_text, line_text}
+use Rattle.drawing.specs.Marks.{label_in, label_text}
 use Rattle.drawing.specs.Axis.{tick_name, tick_text}
-use Rattle.drawing.specs.declared.page.TheConstants.{AXIS, BOTTOM, CLASS_TOP}
+use Rattle.drawing.specs.declared.page.TheConstants.{AXIS}
 use Rattle.drawing.proofs.svg.put_tick.Goals as goal
 
 pub returns-in_err-put_line : goal.returns-in_err-put_line
