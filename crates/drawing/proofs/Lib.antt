@@ -4,3 +4,5 @@ pub mod EndLaws
 pub mod DigitLaws
 pub mod ShownLaws
 pub mod WaitLaws
+pub mod TextLaws
+pub mod FitLaws

@@ -10,3 +10,5 @@ pub mod Given
 pub mod Options
 pub mod PictureEnd
 pub mod Words
+pub mod Axis
+pub mod Picture

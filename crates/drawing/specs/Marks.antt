@@ -1,14 +1,14 @@
 -- The marks of a picture, as text. Places are in hundredths of a pixel, heights in pixels.
-use Rattle.std.specs.Prelude.{ℕ, ◌+◌, ◌-◌, ◌*◌, ◌/◌, ◌%◌, nat_lt, nat_le, ◌==◌, Bool, Option, Some, None, List, [], ◌∷◌, ◌++◌, length, codes, decimal, if◌then◌else◌}
+use Rattle.std.specs.Prelude.{ℕ, ◌+◌, ◌-◌, ◌*◌, ◌/◌, ◌%◌, max, nat_lt, nat_le, ◌==◌, Bool, Option, Some, None, List, [], ◌∷◌, ◌++◌, length, codes, decimal, if◌then◌else◌}
 use Rattle.std.specs.List.{concat, flat_map}
 use Rattle.picture.specs.Viewports.{cut_to, x_in}
 use Rattle.picture.specs.declared.span.Shape.{Shape}
 use Rattle.picture.specs.declared.span.Span.{Span}
-use Rattle.drawing.specs.Layout.{place_of}
+use Rattle.drawing.specs.Layout.{label_at, place_of}
 use Rattle.drawing.specs.declared.page.Page.{Page}
 use Rattle.drawing.specs.declared.page.Place.{Place}
-use Rattle.drawing.specs.declared.page.TheConstants.{LANE_HEIGHT, LEFT}
-use Rattle.drawing.specs.declared.marks.TheConstants.{LEAST_BAR, LEAST_EDGED}
+use Rattle.drawing.specs.declared.page.TheConstants.{BOTTOM, CLASS_TOP, LANE_HEIGHT, LEFT, RIGHT}
+use Rattle.drawing.specs.declared.marks.TheConstants.{LABEL_WIDTH, LEAST_BAND, LEAST_BAR, LEAST_EDGED}
 
 -- a place in pixels, with two digits behind the point, before what follows it
 abbrev pub at_place : ℕ → List (List ℕ) → List (List ℕ)
@@ -99,3 +99,92 @@ drop_text page top shape = drop_of page top (cut_to page.viewport shape.span)
 
 abbrev pub drops_text : Page → ℕ → List Shape → List ℕ
 drops_text page top shapes = flat_map (drop_text page top) shapes
+
+-- how a band looks, which is of one time, or, where it has no identifier, of times at which a class is open and closed
+abbrev pub band_look : List ℕ → Option ℕ → List ℕ
+band_look look None = codes "p"
+band_look look (Some id) = look
+
+-- where it ends
+abbrev pub right_of : Place → ℕ
+right_of p = p.left + p.width
+
+-- a band, in a row that begins at this height and is covered up to a place: what of it is shown, unless that is covered
+abbrev pub band_of : Page → ℕ → List ℕ → ℕ → Option ℕ → Option Span → List ℕ
+band_of page top look covered id None = []
+band_of page top look covered id (Some s) =
+    if nat_lt covered (right_of (place_in page LEAST_BAND s))
+    then rect_text (band_look look id) (place_in page LEAST_BAND s).left (place_in page LEAST_BAND s).width top LANE_HEIGHT
+    else []
+
+abbrev pub band_text : Page → ℕ → List ℕ → ℕ → Shape → List ℕ
+band_text page top look covered shape = band_of page top look covered shape.id (cut_to page.viewport shape.span)
+
+-- up to where the row is covered then
+abbrev pub covered_by : Page → ℕ → Option Span → ℕ
+covered_by page covered None = covered
+covered_by page covered (Some s) = max covered (right_of (place_in page LEAST_BAND s))
+
+abbrev pub covered_after : Page → ℕ → Shape → ℕ
+covered_after page covered shape = covered_by page covered (cut_to page.viewport shape.span)
+
+-- the bands of a row, one after another
+abbrev pub bands_text : Page → ℕ → List ℕ → ℕ → List Shape → List ℕ
+bands_text page top look covered [] = []
+bands_text page top look covered (shape ∷ rest) = band_text page top look covered shape ++ bands_text page top look (covered_after page covered shape) rest
+
+-- the beginning of a label whose middle lies at this place, on this line
+abbrev pub label_text : (middle line : ℕ) → List ℕ
+label_text middle line = concat (codes "<text class=\"m\" x=\"" ∷ decimal (middle / 100) ∷ codes "\" y=\"" ∷ decimal line ∷ codes "\">" ∷ [])
+
+-- where it is that of so many characters that belongs to a place
+abbrev pub label_in : Page → (place characters : ℕ) → ℕ
+label_in page place characters = label_at (LEFT + page.viewport.width + RIGHT) place characters
+
+-- the name of a change: the number of its command, or that changes are joined
+abbrev pub number_length : Option ℕ → ℕ
+number_length None = 0
+number_length (Some number) = length (decimal number)
+
+abbrev pub change_number : Option ℕ → List ℕ
+change_number None = codes "changes</text>\n"
+change_number (Some number) = concat (codes "change " ∷ decimal number ∷ codes "</text>\n" ∷ [])
+
+abbrev pub change_name : Page → ℕ → Option ℕ → List ℕ
+change_name page x number = label_text (label_in page x (7 + number_length number)) (CLASS_TOP - 14) ++ change_number number
+
+-- changes of the schedule, from the first to the last of them: a line, or two that are joined above
+abbrev pub last_change : (left right : ℕ) → List ℕ
+last_change left right =
+    if nat_lt (left / 100) (right / 100)
+    then concat (
+    codes "<path class=\"c\" d=\"M" ∷ decimal (left / 100) ∷ codes " " ∷ decimal (CLASS_TOP - 10)
+    ∷ codes "H" ∷ decimal (right / 100) ∷ codes "V" ∷ decimal BOTTOM ∷ codes "\"/>\n" ∷ [])
+    else []
+
+abbrev pub change_lines : (left right : ℕ) → List ℕ
+change_lines left right = line_text (codes "c") left (CLASS_TOP - 10) BOTTOM ++ last_change left right
+
+-- a change that is shown, with its name where there is room: from a place on
+abbrev pub name_of_change : Page → (free x : ℕ) → Option ℕ → List ℕ
+name_of_change page free x number = if nat_le free x then change_name page x number else []
+
+abbrev pub change_of : Page → ℕ → Option ℕ → Option Span → List ℕ
+change_of page free id None = []
+change_of page free id (Some s) = change_lines (at_x page s.from) (at_x page s.to) ++ name_of_change page free (at_x page s.from) id
+
+abbrev pub change_text : Page → ℕ → Shape → List ℕ
+change_text page free shape = change_of page free shape.id (cut_to page.viewport shape.span)
+
+-- from where on there is room for the next name
+abbrev pub free_by : Page → ℕ → Option Span → ℕ
+free_by page free None = free
+free_by page free (Some s) = if nat_le free (at_x page s.from) then at_x page s.from + LABEL_WIDTH else free
+
+abbrev pub free_after : Page → ℕ → Shape → ℕ
+free_after page free shape = free_by page free (cut_to page.viewport shape.span)
+
+-- all changes, one after another
+abbrev pub changes_text : Page → ℕ → List Shape → List ℕ
+changes_text page free [] = []
+changes_text page free (shape ∷ rest) = change_text page free shape ++ changes_text page (free_after page free shape) rest

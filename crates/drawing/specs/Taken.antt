@@ -35,10 +35,14 @@ Takes (Err Faults.Read) reading p x q y = ⊤
 Takes (Err Faults.Write) reading p x q y = ⊥
 Takes (Err Faults.Memory) reading p x q y = ⊥
 
--- The run has gone on to a moment, where one is given.
-abbrev pub IsRunOn : Option ℕ → AbstractPort → Course → AbstractPort → Course → Type 0
-IsRunOn None p x q y = (q ≡ p) × (y ≡ x)
-IsRunOn (Some until) p x q y = (q ≡ settled (answers_to (Clock until) p).1) × (y ≡ seen_at (Clock until) p x)
+-- the run goes on to a moment, where one is given: the port then, and what is drawn
+abbrev pub port_on : Option ℕ → AbstractPort → AbstractPort
+port_on None p = p
+port_on (Some until) p = settled (answers_to (Clock until) p).1
+
+abbrev pub course_on : Option ℕ → AbstractPort → Course → Course
+course_on None p x = x
+course_on (Some until) p x = seen_at (Clock until) p x
 
 -- the last moment of a run: that of the port, or the end of the last frame
 abbrev pub last_moment : AbstractPort → Course → ℕ

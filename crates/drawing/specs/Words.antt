@@ -22,13 +22,13 @@ pub use Rattle.script.specs.declared.faults.BadLine.{BadLine}
 pub use Rattle.script.specs.declared.faults.ScriptFault.{ScriptFault}
 pub use Rattle.drawing.specs.Course.{Course, nothing_seen, seen_all, seen_at}
 unfoldable pub use Rattle.drawing.specs.Course.{all_wait_on}
-pub use Rattle.drawing.specs.PictureEnd.{IsDrawEnding, IsDrawn, fault_in}
+pub use Rattle.drawing.specs.PictureEnd.{ForSomeBands, IsDrawEnding, IsDrawn, outcome_drawn, picture_after, picture_of}
 pub use Rattle.drawing.specs.Given.{words_of_draws}
 pub use Rattle.drawing.specs.Layout.{label_at, place_of, top_of}
 pub use Rattle.drawing.specs.Options.{beginning_in, end_in, is_open, options_of, origin_of, view_of, viewport_shown, width_in, width_where}
 pub use Rattle.drawing.specs.Scope.{frame_came, schedule_given, view_in}
 pub use Rattle.drawing.specs.Shapes.{IsJoined, change_drawn, in_time, drawn_in, empty_lanes, frame_drawn, is_drawn, lane_at, lane_of, nothing_shown, shape_count, shape_of, wait_drawn}
 unfoldable pub use Rattle.drawing.specs.Shapes.{bands_to, shapes_to, waits_on}
-pub use Rattle.drawing.specs.Taken.{IsRunOn, Takes, TakesLine, last_moment, seen_by}
+pub use Rattle.drawing.specs.Taken.{Takes, TakesLine, course_on, last_moment, port_on, seen_by}
 pub use Rattle.drawing.specs.View.{shows}
 pub use Rattle.drawing.specs.Arrivals.{none_wait, none_waits, waiting_in, with_arrival, without_first}

@@ -1,10 +1,16 @@
 //! Runs a script, and draws what happens.
 
-ghost use Rattle.std.specs.Prelude.{◌≡◌, ◌≤◌, ℕ, IfSome, List, Ok, Result};
+ghost use Rattle.std.specs.Prelude.{◌≡◌, ◌≤◌, ◌*◌, ℕ, IfOk, IfSome, List, Ok, Result, Some};
 ghost use Rattle.words.specs.Words.{words_of};
 ghost use Rattle.script.specs.Responses.{responses_to};
 ghost use Rattle.wire_time.specs.Moment.{greatest_lead};
-ghost use Rattle.drawing.specs.Words.{installs, settled, answers_to, IsSoundPort, greatest_moment, Command, script_left, IsReader, TcFault, reading_of, request_of, tc_request, seen_at, IsDrawn, IsRunOn, fault_in, last_moment, Takes, TakesLine, seen_by};
+ghost use Rattle.drawing.specs.Words.{installs, settled, answers_to, IsSoundPort, greatest_moment, Command, script_left, IsReader, TcFault, reading_of, request_of, tc_request, seen_at, ForSomeBands, IsDrawn, MOST_SHAPES, bands_to, course_on, last_moment, outcome_drawn, picture_after, picture_of, port_on, Takes, TakesLine, seen_by};
+ghost use Rattle.abstract_port.specs.AbstractPort.{new_port};
+ghost use Rattle.octet_writer.specs.Writes.{Writes};
+ghost use Rattle.wire_time.specs.Wire.{lead_of};
+ghost use Rattle.drawing.specs.Picture.{fitted_text};
+ghost use Rattle.drawing.specs.PictureEnd.{end_text, first_course, page_of, shown_text};
+ghost use Rattle.drawing.specs.declared.page.TheConstants.{WIRE};
 ghost use Rattle.abstract_port.specs.declared.Event.TheVariants.{Clock};
 ghost use Rattle.drawing.specs.Course.{asked_at, class_at, cycle_at, cycle_in, ended_at};
 
@@ -18,12 +24,12 @@ use crate::view_fit::fit;
 use abstract_port::{Answer, Command, Event, Refused};
 use answer_text::WriteFault;
 use line_reader::LineReader;
-use picture::{Bands, cycle_of};
+use picture::{Bands, Viewport, cycle_of};
 use script::{
     BadLine, Failure, RunFault, RunningPort, Said, ScriptFault, Settings, Watch, read_line, read_tc,
 };
 use separation::settling;
-use std::alloc::{Allocator, Global};
+use std::alloc::{AllocError, Allocator, Global};
 use std::io::{Read, Write};
 use wire_time::{MAX_MOMENT, lead};
 
@@ -95,7 +101,8 @@ fn follow<A: Allocator>(port: &RunningPort<A>, bands: &mut Bands<A>, view: View)
 
 /// How long after it is given a command has its lead moment, in picoseconds.
 fn lead_of(settings: Settings) -> u128
-    ensures { result ≤ greatest_lead }
+    ensures value { result ≡ lead_of settings.rate settings.mtu }
+    ensures within { result ≤ greatest_lead }
 {
     let rate = settings.rate();
     // For the prover: the getter says within which limits a rate lies.
@@ -221,7 +228,8 @@ fn take_lines<A: Allocator, B: Allocator, R: Read + Drop, H: Watch>(
 
 /// The run goes on to a moment, in picoseconds, where one is given that isn't past.
 fn run_on<A: Allocator>(port: &mut RunningPort<A>, course: &mut Course<A>, until: Option<u128>)
-    ensures on { IsRunOn until port.old.port course.old port.new.port course.new }
+    ensures port { port.new.port ≡ port_on until port.old.port }
+    ensures course { course.new ≡ course_on until port.old.port course.old }
     ensures sound { IsSoundPort port.new.port }
 {
     // For the prover: a call on a port says what holds of every port.
@@ -261,12 +269,63 @@ fn put_course<A: Allocator, W: Write>(
     course: &mut Course<A>,
     writer: &mut W,
     page: &Page,
-) -> Result<(), WriteFault> {
+) -> Result<(), WriteFault>
+    ensures text { Writes result (W.contents writer.old) (W.contents writer.new) (fitted_text page.now bands.old course.old.shown) }
+    ensures few { bands_to WIRE bands.old.classes bands.old.mixed ≤ 2 * WIRE * MOST_SHAPES }
+{
     fit(bands, course, &page.viewport);
     put_picture(writer, page, bands, course.shapes())
 }
 
-/// Runs to the end of the picture, and writes it.
+/// The page of a picture of a run that has had so much.
+fn page_of(settings: Settings, options: DrawOptions, scope: Scope, viewport: Viewport) -> Page
+    ensures { result ≡ page_of settings options scope viewport }
+{
+    Page {
+        viewport,
+        origin: options.origin(scope),
+        rate: settings.rate(),
+        mtu: settings.mtu(),
+    }
+}
+
+/// Runs to the end of what a picture shows, and writes it.
+fn draw_shown<A: Allocator, W: Write>(
+    port: &mut RunningPort<A>,
+    bands: &mut Bands<A>,
+    course: &mut Course<A>,
+    writer: &mut W,
+    settings: Settings,
+    options: DrawOptions,
+    viewport: Viewport,
+) -> Result<(), WriteFault>
+    ensures { ForSomeBands (λ bands. Writes result (W.contents writer.old) (W.contents writer.new) (shown_text settings options port.old.port course.old bands (Some viewport))) }
+{
+    let scope = course.scope();
+    end_course(port, course, viewport.to());
+    end_bands(port, bands, options.view(scope));
+    let page = page_of(settings, options, scope, viewport);
+    put_course(bands, course, writer, &page)
+}
+
+/// Writes the picture of a run that has ended.
+fn draw_ended<A: Allocator, W: Write>(
+    port: &mut RunningPort<A>,
+    bands: &mut Bands<A>,
+    course: &mut Course<A>,
+    writer: &mut W,
+    settings: Settings,
+    options: DrawOptions,
+) -> Result<(), WriteFault>
+    ensures { ForSomeBands (λ bands. Writes result (W.contents writer.old) (W.contents writer.new) (end_text settings options port.old.port course.old bands)) }
+{
+    match options.viewport(course.scope(), last_moment(port, course)) {
+        Some(viewport) => draw_shown(port, bands, course, writer, settings, options, viewport),
+        None => Ok(()),
+    }
+}
+
+/// Runs on to the moment that the settings give, if they give one, and then to the end of the picture, and writes it.
 fn draw_end<A: Allocator, W: Write>(
     port: &mut RunningPort<A>,
     bands: &mut Bands<A>,
@@ -274,21 +333,11 @@ fn draw_end<A: Allocator, W: Write>(
     writer: &mut W,
     settings: Settings,
     options: DrawOptions,
-) -> Result<(), WriteFault> {
+) -> Result<(), WriteFault>
+    ensures { ForSomeBands (λ bands. Writes result (W.contents writer.old) (W.contents writer.new) (picture_after settings options port.old.port course.old bands)) }
+{
     run_on(port, course, settings.until());
-    let scope = course.scope();
-    let Some(viewport) = options.viewport(scope, last_moment(port, course)) else {
-        return Ok(());
-    };
-    end_course(port, course, viewport.to());
-    end_bands(port, bands, options.view(scope));
-    let page = Page {
-        viewport,
-        origin: options.origin(scope),
-        rate: settings.rate(),
-        mtu: settings.mtu(),
-    };
-    put_course(bands, course, writer, &page)
+    draw_ended(port, bands, course, writer, settings, options)
 }
 
 /// Runs the lines of a script, and writes the picture of what happens.
@@ -303,11 +352,23 @@ fn draw_lines<A: Allocator, B: Allocator, R: Read + Drop, W: Write, H: Watch>(
     watch: &mut H,
 ) -> Result<(), RunFault>
     ensures { (read : List (List ℕ) → Result Command TcFault) → IsReader read → IfSome (script_left R.remaining lines.old) (λ script.
-        IsDrawn result (W.contents writer.old) (W.contents writer.new) (reading_of read script).fault) }
+        ForSomeBands (λ bands. IsDrawn result (W.contents writer.old) (W.contents writer.new) (outcome_drawn settings options (reading_of read script) port.old.port course.old bands))) }
 {
     take_lines(port, bands, course, lines, settings, options, watch)?;
     draw_end(port, bands, course, writer, settings, options)?;
     Ok(())
+}
+
+/// Nothing is drawn yet.
+fn first_course<A: Allocator + Clone>(
+    alloc: &A,
+    settings: Settings,
+    options: DrawOptions,
+) -> Result<Course<A>, AllocError>
+    ensures { IfOk result (λ course. course ≡ first_course settings options) }
+{
+    let view = options.view(Scope::Nothing);
+    Course::new(alloc, settings.room(), view, lead_of(settings))
 }
 
 /// Runs the input and writes its picture, with nothing drawn yet.
@@ -322,10 +383,9 @@ fn draw_course<B: Allocator, R: Read + Drop, W: Write, H: Watch>(
     watch: &mut H,
 ) -> Result<(), RunFault>
     ensures { (read : List (List ℕ) → Result Command TcFault) → IsReader read → IfSome (script_left R.remaining lines.old) (λ script.
-        IsDrawn result (W.contents writer.old) (W.contents writer.new) (reading_of read script).fault) }
+        ForSomeBands (λ bands. IsDrawn result (W.contents writer.old) (W.contents writer.new) (outcome_drawn settings options (reading_of read script) port.old.port (first_course settings options) bands))) }
 {
-    let view = options.view(Scope::Nothing);
-    let mut course = Course::new(alloc, settings.room(), view, lead_of(settings))?;
+    let mut course = first_course(alloc, settings, options)?;
     draw_lines(
         port,
         bands,
@@ -349,7 +409,7 @@ fn draw_bands<B: Allocator, R: Read + Drop, W: Write, H: Watch>(
     watch: &mut H,
 ) -> Result<(), RunFault>
     ensures { (read : List (List ℕ) → Result Command TcFault) → IsReader read → IfSome (script_left R.remaining lines.old) (λ script.
-        IsDrawn result (W.contents writer.old) (W.contents writer.new) (reading_of read script).fault) }
+        ForSomeBands (λ bands. IsDrawn result (W.contents writer.old) (W.contents writer.new) (outcome_drawn settings options (reading_of read script) port.old.port (first_course settings options) bands))) }
 {
     let view = options.view(Scope::Nothing);
     let mut bands = Bands::new(alloc, view.from, view.to)?;
@@ -368,7 +428,7 @@ fn draw_port<B: Allocator, R: Read + Drop, W: Write, H: Watch>(
     watch: &mut H,
 ) -> Result<(), RunFault>
     ensures { (read : List (List ℕ) → Result Command TcFault) → IsReader read → IfSome (script_left R.remaining lines.old) (λ script.
-        IsDrawn result (W.contents writer.old) (W.contents writer.new) (reading_of read script).fault) }
+        ForSomeBands (λ bands. IsDrawn result (W.contents writer.old) (W.contents writer.new) (outcome_drawn settings options (reading_of read script) (new_port settings.rate settings.mtu settings.room) (first_course settings options) bands))) }
 {
     let rate = settings.rate();
     // For the prover: the getter says within which limits a rate lies.
@@ -381,7 +441,7 @@ fn draw_port<B: Allocator, R: Read + Drop, W: Write, H: Watch>(
     draw_bands(alloc, &mut port, lines, writer, settings, options, watch)
 }
 
-/// Runs a script to its end, and writes the picture of its run. At the first fault of the script, at a failed read, and when out of memory,
+/// Runs a script to its end, and writes the picture of its run: the text that specs/Picture.antt says, of what the port answers. At the first fault of the script, at a failed read, and when out of memory,
 /// nothing is written. After a failed write the script has no fault, and what was written is part of no promise. Who watches is called for a
 /// malformed line, and for each line that begins with `tc` and changes nothing.
 pub fn draw<R: Read + Drop, W: Write, H: Watch>(
@@ -393,7 +453,7 @@ pub fn draw<R: Read + Drop, W: Write, H: Watch>(
     watch: &mut H,
 ) -> Result<(), RunFault>
     ensures { (read : List (List ℕ) → Result Command TcFault) → IsReader read → IfSome (R.remaining reader) (λ input.
-        IsDrawn result (W.contents writer.old) (W.contents writer.new) (fault_in read input)) }
+        ForSomeBands (λ bands. IsDrawn result (W.contents writer.old) (W.contents writer.new) (picture_of read settings options input bands))) }
 {
     let mut lines = LineReader::new(&alloc, reader)?;
     draw_port(&alloc, &mut lines, writer, settings, options, watch)

@@ -1,8 +1,8 @@
 //! The marks of a picture: bands, frames, waits, drops and changes.
 
-ghost use Rattle.std.specs.Prelude.{◌≡◌, ◌≤◌, ◌+◌, ◌*◌, decimal, length, nat_le};
+ghost use Rattle.std.specs.Prelude.{◌≡◌, ◌≤◌, ◌+◌, ◌*◌, IfOk, decimal, length, nat_le};
 ghost use Rattle.octet_writer.specs.Writes.{Writes};
-ghost use Rattle.drawing.specs.Marks.{arrival_text, bar_text, bars_text, cross_text, drop_text, drops_text, id_text, line_text, number_text, point_text, rect_text, second_cross, wait_line, wait_text, waits_text};
+ghost use Rattle.drawing.specs.Marks.{arrival_text, band_look, band_text, bands_text, bar_text, bars_text, change_lines, change_name, change_number, change_text, changes_text, covered_after, cross_text, drop_text, drops_text, free_after, id_text, label_text, last_change, line_text, number_length, number_text, point_text, rect_text, second_cross, wait_line, wait_text, waits_text};
 
 use crate::page::{BOTTOM, CLASS_TOP, LANE_HEIGHT, LEFT, MAX_WIDTH, Page, Place};
 use answer_text::{Part, WriteFault, put, put_parts};
@@ -90,8 +90,44 @@ pub(crate) fn put_line<W: Write>(
     )
 }
 
-/// Writes the bands of a class, whose lane begins at this height. A band of several has the look of times at which a class is open and closed. What a
-/// band before it covers isn't written.
+/// How a band looks: one of several as times at which a class is open and closed.
+fn band_look(look: &[u8], id: Option<u64>) -> &[u8]
+    ensures { result.now ≡ band_look look.now id }
+{
+    match id {
+        Some(_) => look,
+        None => MIXED,
+    }
+}
+
+/// Writes a band in a row that begins at this height, and answers up to where the row is covered then; both ends are in hundredths of a pixel. What
+/// a band before it covers isn't written.
+fn put_band<W: Write>(
+    writer: &mut W,
+    page: &Page,
+    top: u32,
+    shape: &Shape,
+    look: &[u8],
+    covered: u64,
+) -> Result<u64, WriteFault>
+    requires { top ≤ BOTTOM }
+    ensures text { Writes result (W.contents writer.old) (W.contents writer.new) (band_text page.now top look.now covered shape.now) }
+    ensures covered { IfOk result (λ right. right ≡ covered_after page.now covered shape.now) }
+{
+    let Some(span) = page.viewport.cut(shape.span) else {
+        return Ok(covered);
+    };
+    let place = page.place(span, LEAST_BAND);
+    let right = place.left + place.width;
+    if covered < right {
+        let look = band_look(look, shape.id);
+        put_rect(writer, look, place.left, place.width, top, LANE_HEIGHT)?;
+        return Ok(right);
+    }
+    Ok(covered)
+}
+
+/// Writes the bands of a class, whose lane begins at this height.
 pub(crate) fn put_bands<W: Write>(
     writer: &mut W,
     page: &Page,
@@ -100,18 +136,11 @@ pub(crate) fn put_bands<W: Write>(
     look: &[u8],
 ) -> Result<(), WriteFault>
     requires { top ≤ BOTTOM }
+    ensures { Writes result (W.contents writer.old) (W.contents writer.new) (bands_text page.now top look.now 0 shapes.now) }
 {
     let mut covered = 0;
     for shape in shapes {
-        if let Some(span) = page.viewport.cut(shape.span) {
-            let place = page.place(span, LEAST_BAND);
-            let right = place.left + place.width;
-            if covered < right {
-                let look = if shape.id.is_some() { look } else { MIXED };
-                put_rect(writer, look, place.left, place.width, top, LANE_HEIGHT)?;
-                covered = right;
-            }
-        }
+        covered = put_band(writer, page, top, shape, look, covered)?;
     }
     Ok(())
 }
@@ -369,28 +398,21 @@ pub(crate) fn put_drops<W: Write>(
     Ok(())
 }
 
-/// Writes the name of a change above its line: the number of its command, or that changes are joined.
-fn put_change_name<W: Write>(
-    writer: &mut W,
-    page: &Page,
-    x: u64,
-    number: Option<u64>,
-) -> Result<(), WriteFault> {
-    let count = match number {
+/// How many characters the number of a change takes, where it has one.
+fn number_length(number: Option<u64>) -> u32
+    ensures value { result ≡ number_length number }
+    ensures within { result ≤ 40 }
+{
+    match number {
         Some(number) => digits(u128::from(number)),
         None => 0,
-    };
-    let label = page.label(x, 7 + count);
-    put_parts(
-        writer,
-        &[
-            Part::Text(b"<text class=\"m\" x=\""),
-            Part::Number(u128::from(label / 100)),
-            Part::Text(b"\" y=\""),
-            Part::Number(u128::from(CLASS_TOP - 14)),
-            Part::Text(b"\">"),
-        ],
-    )?;
+    }
+}
+
+/// Writes the number of a command, or that changes are joined, and the end of the name.
+fn put_change_number<W: Write>(writer: &mut W, number: Option<u64>) -> Result<(), WriteFault>
+    ensures { Writes result (W.contents writer.old) (W.contents writer.new) (change_number number) }
+{
     match number {
         Some(number) => put_parts(
             writer,
@@ -404,11 +426,42 @@ fn put_change_name<W: Write>(
     }
 }
 
-/// Writes the line of changes of the schedule, from the first to the last of them: one, or two that are joined above.
-fn put_change<W: Write>(writer: &mut W, left: u64, right: u64) -> Result<(), WriteFault> {
-    put_line(writer, b"c", left, CLASS_TOP - 10, BOTTOM)?;
+/// Writes the beginning of a label whose middle lies at this place, in hundredths of a pixel, and which stands on this line, in pixels from above.
+pub(crate) fn put_label<W: Write>(writer: &mut W, middle: u64, line: u32) -> Result<(), WriteFault>
+    ensures { Writes result (W.contents writer.old) (W.contents writer.new) (label_text middle line) }
+{
+    put_parts(
+        writer,
+        &[
+            Part::Text(b"<text class=\"m\" x=\""),
+            Part::Number(u128::from(middle / 100)),
+            Part::Text(b"\" y=\""),
+            Part::Number(u128::from(line)),
+            Part::Text(b"\">"),
+        ],
+    )
+}
+
+/// Writes the name of a change above its line: the number of its command, or that changes are joined.
+fn put_change_name<W: Write>(
+    writer: &mut W,
+    page: &Page,
+    x: u64,
+    number: Option<u64>,
+) -> Result<(), WriteFault>
+    ensures { Writes result (W.contents writer.old) (W.contents writer.new) (change_name page.now x number) }
+{
+    let label = page.label(x, 7 + number_length(number));
+    put_label(writer, label, CLASS_TOP - 14)?;
+    put_change_number(writer, number)
+}
+
+/// Writes the line of the last of changes that are joined, where it lies elsewhere than the first, and the line that joins both above.
+fn put_last_change<W: Write>(writer: &mut W, left: u64, right: u64) -> Result<(), WriteFault>
+    ensures { Writes result (W.contents writer.old) (W.contents writer.new) (last_change left right) }
+{
     if left / 100 < right / 100 {
-        put_parts(
+        return put_parts(
             writer,
             &[
                 Part::Text(b"<path class=\"c\" d=\"M"),
@@ -421,9 +474,40 @@ fn put_change<W: Write>(writer: &mut W, left: u64, right: u64) -> Result<(), Wri
                 Part::Number(u128::from(BOTTOM)),
                 Part::Text(b"\"/>\n"),
             ],
-        )?;
+        );
     }
     Ok(())
+}
+
+/// Writes the line of changes of the schedule, from the first to the last of them: one, or two that are joined above.
+fn put_change_lines<W: Write>(writer: &mut W, left: u64, right: u64) -> Result<(), WriteFault>
+    ensures { Writes result (W.contents writer.old) (W.contents writer.new) (change_lines left right) }
+{
+    put_line(writer, b"c", left, CLASS_TOP - 10, BOTTOM)?;
+    put_last_change(writer, left, right)
+}
+
+/// Writes a change of the schedule, with its name where there is room, and answers from where on there is room for the next name. The places are in
+/// hundredths of a pixel.
+fn put_change<W: Write>(
+    writer: &mut W,
+    page: &Page,
+    shape: &Shape,
+    free: u64,
+) -> Result<u64, WriteFault>
+    ensures text { Writes result (W.contents writer.old) (W.contents writer.new) (change_text page.now free shape.now) }
+    ensures free { IfOk result (λ next. next ≡ free_after page.now free shape.now) }
+{
+    let Some(span) = page.viewport.cut(shape.span) else {
+        return Ok(free);
+    };
+    let x = page.x(span.from);
+    put_change_lines(writer, x, page.x(span.to))?;
+    if free <= x {
+        put_change_name(writer, page, x, shape.id)?;
+        return Ok(x + LABEL_WIDTH);
+    }
+    Ok(free)
 }
 
 /// Writes a line for each change of the schedule, with its name where there is room.
@@ -431,17 +515,12 @@ pub(crate) fn put_changes<W: Write>(
     writer: &mut W,
     page: &Page,
     shapes: &[Shape],
-) -> Result<(), WriteFault> {
+) -> Result<(), WriteFault>
+    ensures { Writes result (W.contents writer.old) (W.contents writer.new) (changes_text page.now 0 shapes.now) }
+{
     let mut free = 0;
     for shape in shapes {
-        if let Some(span) = page.viewport.cut(shape.span) {
-            let x = page.x(span.from);
-            put_change(writer, x, page.x(span.to))?;
-            if free <= x {
-                put_change_name(writer, page, x, shape.id)?;
-                free = x + LABEL_WIDTH;
-            }
-        }
+        free = put_change(writer, page, shape, free)?;
     }
     Ok(())
 }

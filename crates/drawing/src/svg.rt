@@ -1,17 +1,23 @@
 //! The picture as SVG: its head, its axis, its lanes and its legend.
 
-ghost use Rattle.std.specs.Prelude.{◌<◌};
+ghost use Rattle.std.specs.Prelude.{◌≡◌, ◌<◌, ◌≤◌, ◌+◌, ◌*◌};
+ghost use Rattle.std.specs.List.{list_any};
+ghost use Rattle.octet_writer.specs.Writes.{Writes};
+ghost use Rattle.drawing.specs.Words.{greatest_moment};
+ghost use Rattle.drawing.specs.Axis.{axis_step, axis_text, counted, origin_name, origin_text, step_of, tick_at, tick_name, tick_text, ticks_text};
+ghost use Rattle.drawing.specs.Picture.{all_bands, class_bands, class_name, class_names, foot_text, ground_text, has_mixed, head_text, height_of, is_mixed, is_seen, is_seen_joined, lane_text, lanes_text, legend, legend_mark, legend_path, legend_rect, legend_text, marks_text, mixed_legend, name_text, names_text, picture_text, size_text, speed_text, style_text, title_text, wire_name};
 
 use crate::marks::{
-    MIXED, digits, put_bands, put_bars, put_changes, put_drops, put_line, put_rect, put_waits,
+    MIXED, digits, put_bands, put_bars, put_changes, put_drops, put_label, put_line, put_rect,
+    put_waits,
 };
 use crate::page::{
-    AXIS, BOTTOM, CLASS_TOP, HALF_CHARACTER, HEIGHT, LANES, LEFT, LEGEND, ORIGIN, Page, WIRE,
-    lane_top,
+    AXIS, BOTTOM, CLASS_TOP, HALF_CHARACTER, HEIGHT, LANES, LEFT, LEGEND, MAX_WIDTH, ORIGIN, Page,
+    WIRE, lane_top,
 };
 use crate::shapes::Shapes;
 use answer_text::{Part, WriteFault, put, put_parts};
-use picture::{Bands, Shape, tick_step, unit_of};
+use picture::{Bands, Shape, Unit, tick_step, unit_of};
 use std::alloc::Allocator;
 use std::io::Write;
 
@@ -48,23 +54,40 @@ text{fill:#e6e6e6}
 </style>
 ";
 
-/// Writes what the picture is called: its rate and its mtu.
-fn put_name<W: Write>(writer: &mut W, page: &Page) -> Result<(), WriteFault> {
+/// Writes what the picture is called, by its rate, in Mb/s, and its mtu, and what follows.
+fn put_speed<W: Write>(
+    writer: &mut W,
+    megabits: u128,
+    mtu: u32,
+    end: &[u8],
+) -> Result<(), WriteFault>
+    ensures { Writes result (W.contents writer.old) (W.contents writer.new) (speed_text megabits mtu end.now) }
+{
     put_parts(
         writer,
         &[
             Part::Text(b"Transmit port at "),
-            Part::Number(8_000_000 / page.rate.ps_per_octet()),
+            Part::Number(megabits),
             Part::Text(b" Mb/s, mtu "),
-            Part::Number(u128::from(page.mtu)),
+            Part::Number(u128::from(mtu)),
             Part::Text(b" octets"),
+            Part::Text(end),
         ],
     )
 }
 
-/// Writes the head of the picture: its size, its name and how its parts look.
-fn put_head<W: Write>(writer: &mut W, page: &Page, height: u32) -> Result<(), WriteFault> {
-    let width = Part::Number(u128::from(page.width()));
+/// Writes what the picture is called, and what follows.
+fn put_name<W: Write>(writer: &mut W, page: &Page, end: &[u8]) -> Result<(), WriteFault>
+    ensures { Writes result (W.contents writer.old) (W.contents writer.new) (name_text page.now end.now) }
+{
+    put_speed(writer, 8_000_000 / page.rate.ps_per_octet(), page.mtu, end)
+}
+
+/// Writes the beginning of a picture of this size, in pixels.
+fn put_size<W: Write>(writer: &mut W, width: u32, height: u32) -> Result<(), WriteFault>
+    ensures { Writes result (W.contents writer.old) (W.contents writer.new) (size_text width height) }
+{
+    let width = Part::Number(u128::from(width));
     let height = Part::Number(u128::from(height));
     put_parts(
         writer,
@@ -79,10 +102,20 @@ fn put_head<W: Write>(writer: &mut W, page: &Page, height: u32) -> Result<(), Wr
             height,
             Part::Text(b"\" role=\"img\">\n<title>"),
         ],
-    )?;
-    put_name(writer, page)?;
-    put(writer, b"</title>\n")?;
-    put(writer, STYLE)?;
+    )
+}
+
+/// Writes how the parts of the picture look.
+fn put_style<W: Write>(writer: &mut W) -> Result<(), WriteFault>
+    ensures { Writes result (W.contents writer.old) (W.contents writer.new) style_text }
+{
+    put(writer, STYLE)
+}
+
+/// Writes the beginning of the name of the picture above its lanes.
+fn put_title<W: Write>(writer: &mut W) -> Result<(), WriteFault>
+    ensures { Writes result (W.contents writer.old) (W.contents writer.new) title_text }
+{
     put_parts(
         writer,
         &[
@@ -90,28 +123,65 @@ fn put_head<W: Write>(writer: &mut W, page: &Page, height: u32) -> Result<(), Wr
             Part::Number(u128::from(LEFT)),
             Part::Text(b"\" y=\"20\">"),
         ],
-    )?;
-    put_name(writer, page)?;
-    put(writer, b"</text>\n")
+    )
+}
+
+/// Writes the head of the picture: its size, its name and how its parts look.
+fn put_head<W: Write>(writer: &mut W, page: &Page, height: u32) -> Result<(), WriteFault>
+    ensures { Writes result (W.contents writer.old) (W.contents writer.new) (head_text page.now height) }
+{
+    put_size(writer, page.width(), height)?;
+    put_name(writer, page, b"</title>\n")?;
+    put_style(writer)?;
+    put_title(writer)?;
+    put_name(writer, page, b"</text>\n")
 }
 
 /// How long after the moment that the axis counts from another is, both in picoseconds.
-fn counted(page: &Page, moment: u128) -> u128 {
+fn counted(page: &Page, moment: u128) -> u128
+    ensures value { result ≡ counted page.now moment }
+    ensures within { result ≤ moment }
+{
     moment.saturating_sub(page.origin)
+}
+
+/// The step of an axis over a time of this length of which at most so many are as long, both in picoseconds.
+fn step_of(length: u128, most: u32) -> u128
+    requires some { 0 < most }
+    requires within { length ≤ greatest_moment }
+    ensures { result ≡ step_of length most }
+{
+    tick_step(length, most)
 }
 
 /// The step of the axis, in picoseconds, such that the labels of its ticks stand apart.
 fn axis_step(page: &Page) -> u128
-    ensures { 0 < result }
+    ensures value { result ≡ axis_step page.now }
+    ensures some { 0 < result }
 {
     let length = page.viewport.to() - page.viewport.from();
     let plot = u128::from(page.viewport.width()) * 100;
-    let step = tick_step(length, (plot / 8_000) as u32);
-    let unit = unit_of(step);
+    let coarse = step_of(length, (plot / 8_000) as u32);
+    let unit = unit_of(coarse);
     let last = counted(page, page.viewport.to());
     let label = u128::from(digits(last / unit.ps())) + 3;
     let most = (plot / (label * u128::from(2 * HALF_CHARACTER) + 1_200)).max(2);
-    tick_step(length, most as u32).max(step).max(1)
+    step_of(length, most as u32).max(coarse).max(1)
+}
+
+/// Writes what a tick of the axis says.
+fn put_tick_name<W: Write>(writer: &mut W, number: u128, unit: &[u8]) -> Result<(), WriteFault>
+    ensures { Writes result (W.contents writer.old) (W.contents writer.new) (tick_name number unit.now) }
+{
+    put_parts(
+        writer,
+        &[
+            Part::Number(number),
+            Part::Text(b" "),
+            Part::Text(unit),
+            Part::Text(b"</text>\n"),
+        ],
+    )
 }
 
 /// Writes a tick of the axis at this place, with its line through the lanes.
@@ -121,50 +191,66 @@ fn put_tick<W: Write>(
     x: u64,
     number: u128,
     unit: &[u8],
-) -> Result<(), WriteFault> {
+) -> Result<(), WriteFault>
+    ensures { Writes result (W.contents writer.old) (W.contents writer.new) (tick_text page.now x number unit.now) }
+{
     put_line(writer, b"g", x, CLASS_TOP - 6, BOTTOM)?;
     let label = page.label(x, digits(number) + 3);
-    put_parts(
+    put_label(writer, label, AXIS)?;
+    put_tick_name(writer, number, unit)
+}
+
+/// Writes the tick of a time after the moment that the axis counts from, in picoseconds.
+fn put_tick_at<W: Write>(
+    writer: &mut W,
+    page: &Page,
+    unit: Unit,
+    time: u128,
+) -> Result<(), WriteFault>
+    ensures { Writes result (W.contents writer.old) (W.contents writer.new) (tick_at page.now unit time) }
+{
+    put_tick(
         writer,
-        &[
-            Part::Text(b"<text class=\"m\" x=\""),
-            Part::Number(u128::from(label / 100)),
-            Part::Text(b"\" y=\""),
-            Part::Number(u128::from(AXIS)),
-            Part::Text(b"\">"),
-            Part::Number(number),
-            Part::Text(b" "),
-            Part::Text(unit),
-            Part::Text(b"</text>\n"),
-        ],
+        page,
+        page.x(page.origin.saturating_add(time)),
+        time / unit.ps(),
+        unit.name().as_bytes(),
     )
 }
 
-/// Writes the axis of time: a tick at each multiple of a round number of a unit, counted from the origin.
-fn put_axis<W: Write>(writer: &mut W, page: &Page) -> Result<(), WriteFault> {
-    let step = axis_step(page);
+/// Writes a tick at each multiple of a step, in picoseconds, from one on and up to another.
+fn put_ticks<W: Write>(
+    writer: &mut W,
+    page: &Page,
+    step: u128,
+    first: u128,
+    last: u128,
+) -> Result<(), WriteFault>
+    requires few { last ≤ greatest_moment }
+    requires within { last * step ≤ greatest_moment }
+    ensures { Writes result (W.contents writer.old) (W.contents writer.new) (ticks_text page.now step first last) }
+{
     let unit = unit_of(step);
-    let first = counted(page, page.viewport.from()).div_ceil(step);
-    let last = counted(page, page.viewport.to()) / step;
-    for tick in first..=last {
-        let time = tick * step;
-        put_tick(
-            writer,
-            page,
-            page.x(page.origin.saturating_add(time)),
-            time / unit.ps(),
-            unit.name().as_bytes(),
-        )?;
+    for tick in first..last + 1 {
+        put_tick_at(writer, page, unit, tick * step)?;
     }
     Ok(())
 }
 
-/// Writes what the axis counts from, where that isn't moment 0.
-fn put_origin<W: Write>(writer: &mut W, page: &Page) -> Result<(), WriteFault> {
-    if page.origin == 0 {
-        return Ok(());
-    }
-    let unit = unit_of(page.origin);
+/// Writes the axis of time: a tick at each multiple of a round number of a unit, counted from the origin.
+fn put_axis<W: Write>(writer: &mut W, page: &Page) -> Result<(), WriteFault>
+    ensures { Writes result (W.contents writer.old) (W.contents writer.new) (axis_text page.now) }
+{
+    let step = axis_step(page);
+    let first = counted(page, page.viewport.from()).div_ceil(step);
+    let last = counted(page, page.viewport.to()) / step;
+    put_ticks(writer, page, step, first, last)
+}
+
+/// Writes that the axis counts from so many of a unit.
+fn put_origin_name<W: Write>(writer: &mut W, number: u128, unit: &[u8]) -> Result<(), WriteFault>
+    ensures { Writes result (W.contents writer.old) (W.contents writer.new) (origin_name number unit.now) }
+{
     put_parts(
         writer,
         &[
@@ -173,45 +259,83 @@ fn put_origin<W: Write>(writer: &mut W, page: &Page) -> Result<(), WriteFault> {
             Part::Text(b"\" y=\""),
             Part::Number(u128::from(ORIGIN)),
             Part::Text(b"\">counted from "),
-            Part::Number(page.origin / unit.ps()),
+            Part::Number(number),
             Part::Text(b" "),
-            Part::Text(unit.name().as_bytes()),
+            Part::Text(unit),
             Part::Text(b"</text>\n"),
         ],
     )
 }
 
-/// Writes the names of the lanes.
-fn put_names<W: Write>(writer: &mut W) -> Result<(), WriteFault> {
-    for class in 0..8u8 {
-        put_parts(
-            writer,
-            &[
-                Part::Text(b"<text x=\"8\" y=\""),
-                Part::Number(u128::from(lane_top(class) + 18)),
-                Part::Text(b"\">class "),
-                Part::Number(u128::from(class)),
-                Part::Text(b"</text>\n"),
-            ],
-        )?;
+/// Writes what the axis counts from, where that isn't moment 0.
+fn put_origin<W: Write>(writer: &mut W, page: &Page) -> Result<(), WriteFault>
+    ensures { Writes result (W.contents writer.old) (W.contents writer.new) (origin_text page.now) }
+{
+    if page.origin == 0 {
+        return Ok(());
     }
+    let unit = unit_of(page.origin);
+    put_origin_name(writer, page.origin / unit.ps(), unit.name().as_bytes())
+}
+
+/// Writes the name of a class beside its lane.
+fn put_class_name<W: Write>(writer: &mut W, class: u8) -> Result<(), WriteFault>
+    requires { class < WIRE }
+    ensures { Writes result (W.contents writer.old) (W.contents writer.new) (class_name class) }
+{
     put_parts(
         writer,
         &[
             Part::Text(b"<text x=\"8\" y=\""),
-            Part::Number(u128::from(lane_top(8) + 18)),
+            Part::Number(u128::from(lane_top(class) + 18)),
+            Part::Text(b"\">class "),
+            Part::Number(u128::from(class)),
+            Part::Text(b"</text>\n"),
+        ],
+    )
+}
+
+/// Writes the names of the classes.
+fn put_class_names<W: Write>(writer: &mut W) -> Result<(), WriteFault>
+    ensures { Writes result (W.contents writer.old) (W.contents writer.new) class_names }
+{
+    for class in 0..WIRE {
+        put_class_name(writer, class)?;
+    }
+    Ok(())
+}
+
+/// Writes the name of the wire's lane.
+fn put_wire_name<W: Write>(writer: &mut W) -> Result<(), WriteFault>
+    ensures { Writes result (W.contents writer.old) (W.contents writer.new) wire_name }
+{
+    put_parts(
+        writer,
+        &[
+            Part::Text(b"<text x=\"8\" y=\""),
+            Part::Number(u128::from(lane_top(WIRE) + 18)),
             Part::Text(b"\">wire</text>\n"),
         ],
     )
 }
 
+/// Writes the names of the lanes.
+fn put_names<W: Write>(writer: &mut W) -> Result<(), WriteFault>
+    ensures { Writes result (W.contents writer.old) (W.contents writer.new) names_text }
+{
+    put_class_names(writer)?;
+    put_wire_name(writer)
+}
+
 /// Writes the text of a part of the legend, at this pixel from the left and on this line.
 fn put_legend_text<W: Write>(
     writer: &mut W,
-    x: u64,
+    x: u32,
     line: u32,
     text: &[u8],
-) -> Result<(), WriteFault> {
+) -> Result<(), WriteFault>
+    ensures { Writes result (W.contents writer.old) (W.contents writer.new) (legend_text x line text.now) }
+{
     put_parts(
         writer,
         &[
@@ -230,9 +354,11 @@ fn put_legend_text<W: Write>(
 fn put_legend_path<'a, W: Write>(
     writer: &mut W,
     look: &'a [u8],
-    x: u64,
+    x: u32,
     path: &'a [u8],
-) -> Result<(), WriteFault> {
+) -> Result<(), WriteFault>
+    ensures { Writes result (W.contents writer.old) (W.contents writer.new) (legend_path look.now x path.now) }
+{
     put_parts(
         writer,
         &[
@@ -248,47 +374,81 @@ fn put_legend_path<'a, W: Write>(
     )
 }
 
-/// Writes what the parts of the picture mean.
-fn put_legend<W: Write>(writer: &mut W) -> Result<(), WriteFault> {
-    let left = u64::from(LEFT);
-    put_rect(writer, b"o", left * 100, 2_200, LEGEND - 10, 12)?;
-    put_legend_text(writer, left + 28, LEGEND, b"open")?;
-    put_rect(writer, b"f", left * 100 + 7_000, 2_200, LEGEND - 10, 12)?;
-    put_legend_text(writer, left + 98, LEGEND, b"frame")?;
-    put_legend_path(writer, b"w", left + 142, b"v-9m0 5h22")?;
-    put_legend_text(writer, left + 170, LEGEND, b"waits")?;
-    put_legend_path(writer, b"d", left + 216, b"l8 -8m0 8l-8 -8")?;
-    put_legend_text(writer, left + 230, LEGEND, b"dropped")?;
-    put_legend_path(writer, b"c", left + 290, b"v-12")?;
-    put_legend_text(writer, left + 298, LEGEND, b"change")
+/// Writes what a rectangle means that looks so, at this pixel from the left and on this line.
+fn put_legend_rect<'a, W: Write>(
+    writer: &mut W,
+    look: &'a [u8],
+    x: u32,
+    line: u32,
+    text: &'a [u8],
+) -> Result<(), WriteFault>
+    requires x { x ≤ MAX_WIDTH }
+    requires line { 10 ≤ line }
+    ensures { Writes result (W.contents writer.old) (W.contents writer.new) (legend_rect look.now x line text.now) }
+{
+    put_rect(writer, look, u64::from(x) * 100, 2_200, line - 10, 12)?;
+    put_legend_text(writer, x + 28, line, text)
 }
 
-/// Writes what the look of times means at which a class is open and closed, below the legend.
-fn put_mixed_legend<W: Write>(writer: &mut W) -> Result<(), WriteFault> {
-    let left = u64::from(LEFT);
-    put_rect(writer, MIXED, left * 100, 2_200, LEGEND + 8, 12)?;
-    put_legend_text(
+/// Writes what a path means that looks so, at this pixel from the left, with the text so far behind it.
+fn put_legend_mark<'a, W: Write>(
+    writer: &mut W,
+    look: &'a [u8],
+    x: u32,
+    path: &'a [u8],
+    gap: u32,
+    text: &'a [u8],
+) -> Result<(), WriteFault>
+    requires { x + gap ≤ MAX_WIDTH }
+    ensures { Writes result (W.contents writer.old) (W.contents writer.new) (legend_mark look.now x path.now gap text.now) }
+{
+    put_legend_path(writer, look, x, path)?;
+    put_legend_text(writer, x + gap, LEGEND, text)
+}
+
+/// Writes what the parts of the picture mean.
+fn put_legend<W: Write>(writer: &mut W) -> Result<(), WriteFault>
+    ensures { Writes result (W.contents writer.old) (W.contents writer.new) legend }
+{
+    put_legend_rect(writer, b"o", LEFT, LEGEND, b"open")?;
+    put_legend_rect(writer, b"f", LEFT + 70, LEGEND, b"frame")?;
+    put_legend_mark(writer, b"w", LEFT + 142, b"v-9m0 5h22", 28, b"waits")?;
+    put_legend_mark(writer, b"d", LEFT + 216, b"l8 -8m0 8l-8 -8", 14, b"dropped")?;
+    put_legend_mark(writer, b"c", LEFT + 290, b"v-12", 8, b"change")
+}
+
+/// Writes what the look of times means at which a class is open and closed, below the legend, where there are any.
+fn put_mixed_legend<W: Write>(writer: &mut W, mixed: bool) -> Result<(), WriteFault>
+    ensures { Writes result (W.contents writer.old) (W.contents writer.new) (mixed_legend mixed) }
+{
+    if !mixed {
+        return Ok(());
+    }
+    put_legend_rect(
         writer,
-        left + 28,
+        MIXED,
+        LEFT,
         LEGEND + MIXED_LINE,
         b"open and closed, too close to show each",
     )
 }
 
-/// Whether a class is open and closed at some of its times, as the picture shows it.
-fn is_mixed<A: Allocator>(page: &Page, bands: &Bands<A>, class: u8) -> bool
-    requires { class < WIRE }
+/// Whether some of these shapes are shown.
+fn is_some_seen(page: &Page, shapes: &[Shape]) -> bool
+    ensures { result ≡ list_any (is_seen page.now) shapes.now }
 {
-    for shape in bands.mixed(class) {
+    for shape in shapes {
         if page.viewport.cut(shape.span).is_some() {
             return true;
         }
     }
-    is_joined(page, bands.lane(class))
+    false
 }
 
 /// Whether some of the bands that are shown are joined.
-fn is_joined(page: &Page, shapes: &[Shape]) -> bool {
+fn is_joined(page: &Page, shapes: &[Shape]) -> bool
+    ensures { result ≡ list_any (is_seen_joined page.now) shapes.now }
+{
     for shape in shapes {
         if shape.id.is_none() && page.viewport.cut(shape.span).is_some() {
             return true;
@@ -297,8 +457,18 @@ fn is_joined(page: &Page, shapes: &[Shape]) -> bool {
     false
 }
 
+/// Whether a class is open and closed at some of its times, as the picture shows it.
+fn is_mixed<A: Allocator>(page: &Page, bands: &Bands<A>, class: u8) -> bool
+    requires { class < WIRE }
+    ensures { result ≡ is_mixed page.now bands.now class }
+{
+    is_some_seen(page, bands.mixed(class)) || is_joined(page, bands.lane(class))
+}
+
 /// Whether some class is.
-fn has_mixed<A: Allocator>(page: &Page, bands: &Bands<A>) -> bool {
+fn has_mixed<A: Allocator>(page: &Page, bands: &Bands<A>) -> bool
+    ensures { result ≡ has_mixed page.now bands.now }
+{
     for class in 0..WIRE {
         if is_mixed(page, bands, class) {
             return true;
@@ -307,15 +477,31 @@ fn has_mixed<A: Allocator>(page: &Page, bands: &Bands<A>) -> bool {
     false
 }
 
+/// Writes the bands of a class.
+fn put_class_bands<A: Allocator, W: Write>(
+    writer: &mut W,
+    page: &Page,
+    bands: &Bands<A>,
+    class: u8,
+) -> Result<(), WriteFault>
+    requires { class < WIRE }
+    ensures { Writes result (W.contents writer.old) (W.contents writer.new) (class_bands page.now bands.now class) }
+{
+    let top = lane_top(class);
+    put_bands(writer, page, top, bands.lane(class), b"o")?;
+    put_bands(writer, page, top, bands.mixed(class), MIXED)
+}
+
 /// Writes the bands of the classes.
 fn put_all_bands<A: Allocator, W: Write>(
     writer: &mut W,
     page: &Page,
     bands: &Bands<A>,
-) -> Result<(), WriteFault> {
+) -> Result<(), WriteFault>
+    ensures { Writes result (W.contents writer.old) (W.contents writer.new) (all_bands page.now bands.now) }
+{
     for class in 0..WIRE {
-        put_bands(writer, page, lane_top(class), bands.lane(class), b"o")?;
-        put_bands(writer, page, lane_top(class), bands.mixed(class), MIXED)?;
+        put_class_bands(writer, page, bands, class)?;
     }
     Ok(())
 }
@@ -328,11 +514,66 @@ fn put_lane<A: Allocator, W: Write>(
     shapes: &Shapes<A>,
 ) -> Result<(), WriteFault>
     requires { lane < LANES }
+    ensures { Writes result (W.contents writer.old) (W.contents writer.new) (lane_text page.now shapes.now lane) }
 {
     let top = lane_top(lane);
     put_waits(writer, page, top, shapes.waits(lane))?;
     put_bars(writer, page, top, shapes.frames(lane))?;
     put_drops(writer, page, top, shapes.drops(lane))
+}
+
+/// Writes what is drawn in the lanes.
+fn put_lanes<A: Allocator, W: Write>(
+    writer: &mut W,
+    page: &Page,
+    shapes: &Shapes<A>,
+) -> Result<(), WriteFault>
+    ensures { Writes result (W.contents writer.old) (W.contents writer.new) (lanes_text page.now shapes.now) }
+{
+    for lane in 0..LANES {
+        put_lane(writer, page, lane, shapes)?;
+    }
+    Ok(())
+}
+
+/// Writes what lies behind the marks: the head, the axis and the names of the lanes.
+fn put_ground<W: Write>(writer: &mut W, page: &Page, height: u32) -> Result<(), WriteFault>
+    ensures { Writes result (W.contents writer.old) (W.contents writer.new) (ground_text page.now height) }
+{
+    put_head(writer, page, height)?;
+    put_axis(writer, page)?;
+    put_origin(writer, page)?;
+    put_names(writer)
+}
+
+/// Writes the marks: the bands, what is drawn in the lanes, and the changes.
+fn put_marks<A: Allocator, W: Write>(
+    writer: &mut W,
+    page: &Page,
+    bands: &Bands<A>,
+    shapes: &Shapes<A>,
+) -> Result<(), WriteFault>
+    ensures { Writes result (W.contents writer.old) (W.contents writer.new) (marks_text page.now bands.now shapes.now) }
+{
+    put_all_bands(writer, page, bands)?;
+    put_lanes(writer, page, shapes)?;
+    put_changes(writer, page, shapes.changes())
+}
+
+/// Writes the legend, and the end of the picture.
+fn put_foot<W: Write>(writer: &mut W, mixed: bool) -> Result<(), WriteFault>
+    ensures { Writes result (W.contents writer.old) (W.contents writer.new) (foot_text mixed) }
+{
+    put_legend(writer)?;
+    put_mixed_legend(writer, mixed)?;
+    put(writer, b"</svg>\n")
+}
+
+/// The height of a picture, in pixels: of one with times at which a class is open and closed, it has one line more.
+fn height_of(mixed: bool) -> u32
+    ensures { result ≡ height_of mixed }
+{
+    if mixed { HEIGHT + MIXED_LINE } else { HEIGHT }
 }
 
 /// Writes the picture of these bands and shapes. At a fault a prefix of it is written.
@@ -341,21 +582,11 @@ pub fn put_picture<A: Allocator, W: Write>(
     page: &Page,
     bands: &Bands<A>,
     shapes: &Shapes<A>,
-) -> Result<(), WriteFault> {
+) -> Result<(), WriteFault>
+    ensures { Writes result (W.contents writer.old) (W.contents writer.new) (picture_text page.now bands.now shapes.now) }
+{
     let mixed = has_mixed(page, bands);
-    let more = if mixed { MIXED_LINE } else { 0 };
-    put_head(writer, page, HEIGHT + more)?;
-    put_axis(writer, page)?;
-    put_origin(writer, page)?;
-    put_names(writer)?;
-    put_all_bands(writer, page, bands)?;
-    for lane in 0..LANES {
-        put_lane(writer, page, lane, shapes)?;
-    }
-    put_changes(writer, page, shapes.changes())?;
-    put_legend(writer)?;
-    if mixed {
-        put_mixed_legend(writer)?;
-    }
-    put(writer, b"</svg>\n")
+    put_ground(writer, page, height_of(mixed))?;
+    put_marks(writer, page, bands, shapes)?;
+    put_foot(writer, mixed)
 }

@@ -58,7 +58,7 @@ fn draw_with(
     output: &mut [u8],
     fault: &mut [u8],
 ) -> Ran
-    ensures { Draws script.now result (slices output.old fault.old) (slices output.new fault.new) }
+    ensures { Draws settings options script.now result (slices output.old fault.old) (slices output.new fault.new) }
 {
     let mut written = Vec::new(alloc);
     let run = draw(

@@ -6,7 +6,7 @@ use Rattle.drawing.proofs.draw_job.answer_draw.Goals as goal
 
 pub returns-in-Ok-options_given-clause-ending : goal.returns-in-Ok-options_given-clause-ending
 returns-in-Ok-options_given-clause-ending g c =
-    let ending = picture_ending c.draw-run.result (writer_contents g.W.Write.contents c.args.answers) (writer_contents g.W.Write.contents c.draw-run.new.writer) (g.R.Read.remaining c.args.reader.now) c.end_run.result.0 (g.W.Write.contents c.end_run.result.1) (g.E.Write.contents c.args.errors.now) (g.E.Write.contents c.end_run.new.errors) c.draw-run.ensures c.end_run.ensures in
+    let ending = picture_ending c.in-Ok.settings c.in-Ok-options_given.options c.draw-run.result (writer_contents g.W.Write.contents c.args.answers) (writer_contents g.W.Write.contents c.draw-run.new.writer) (g.R.Read.remaining c.args.reader.now) c.end_run.result.0 (g.W.Write.contents c.end_run.result.1) (g.E.Write.contents c.args.errors.now) (g.E.Write.contents c.end_run.new.errors) c.draw-run.ensures c.end_run.ensures in
     good_ending _ _ c.in-Ok.settings c.in-Ok-options_given.options _ _ _ _ _ _ (sym c.in-Ok.is ∙ c.settings_given.ensures) (sym c.in-Ok-options_given.is ∙ c.options_given.ensures) ending
 
 -- what holds anyway holds where there is a fault

@@ -1,0 +1,19 @@
+use Rattle.std.proofs.Common.{◌+◌, ℕ, drop, sym, subst}
+use Rattle.std.proofs.lemmas.List.{at_drop_more}
+use Rattle.std.proofs.lemmas.Result.{err_from_is_err_and}
+use Rattle.octet_writer.specs.Writes.{Sent}
+use Rattle.octet_writer.proofs.Fronts.{sent_exit, sent_more}
+use Rattle.drawing.specs.Marks.{bands_text}
+use Rattle.drawing.proofs.marks.put_bands.Goals as goal
+
+pub returns-in_err-covered : goal.returns-in_err-covered
+returns-in_err-covered g c =
+    let p = err_from_is_err_and c.from_residual.result c.from_residual.ensures.1 in
+    sent_exit _ _ _ p.1 c.loop-shape.invariant (at_drop_more (bands_text c.args.page.now c.args.top c.args.look.now c.loop-shape.covered) _ c.loop-shape.shape-index _ c.loop-shape-test.true) c.in_err-covered.ensures.text
+
+pub loop-shape-preserved : goal.loop-shape-preserved
+loop-shape-preserved g c =
+    let here = g.W.Write.contents c.args.writer.now in
+    let P : ℕ → Type 0 = λ n. Sent here (g.W.Write.contents c.put_band.new.writer) (bands_text c.args.page.now c.args.top c.args.look.now 0 c.args.shapes.now) (bands_text c.args.page.now c.args.top c.args.look.now n (drop (c.loop-shape.shape-index + 1) c.args.shapes.now)) in
+    subst P (sym c.in_ok-covered.ensures.covered)
+    (sent_more _ _ _ c.loop-shape.invariant (at_drop_more (bands_text c.args.page.now c.args.top c.args.look.now c.loop-shape.covered) _ c.loop-shape.shape-index _ c.loop-shape-test.true) c.in_ok-covered.ensures.text)
