@@ -20,8 +20,8 @@ pub(crate) const NUMBER_CAPACITY: usize = 40;
 /// The first number of nine digits.
 pub(crate) const EIGHT_DIGITS: u64 = 100_000_000;
 
-/// Two numbers of four digits as four of two, each in 16 bits of one word of the machine, the first in the lowest. Of n below 10,000,
-/// n * 10,486 / 2^20 is n / 100: both are divided at once.
+/// Two numbers of four digits as four of two, each in 16 bits of one word of the machine, the first in the lowest.
+/// Of n below 10,000, n * 10,486 / 2^20 is n / 100: both are divided at once.
 #[inline(always)]
 fn four_pairs(front: u64, back: u64) -> u64
     requires front { front < 10000 }
@@ -35,8 +35,8 @@ fn four_pairs(front: u64, back: u64) -> u64
     fours * 65_536 - hundreds * 6_553_599
 }
 
-/// The last eight decimal digits of a number, the first of them counting most. Of n below 100, n * 103 / 2^10 is n / 10: four pairs are
-/// divided at once, in one word of the machine.
+/// The eight decimal digits of a number, the first of them counting most. Of n below 100, n * 103 / 2^10 is n / 10:
+/// four pairs are divided at once, in one word of the machine.
 #[inline(always)]
 fn eight_digits(number: u64) -> [u8; 8]
     requires { number < EIGHT_DIGITS }

@@ -34,7 +34,8 @@ pub fn put<W: Write>(writer: &mut W, octets: &[u8]) -> Result<(), WriteFault>
     if octets.is_empty() {
         return Ok(());
     }
-    // One call mostly takes them whole. It stands in the caller's place, where a buffer has room for a line without a call; the loop is apart.
+    // One call mostly takes them whole. It stands in the caller's place, where a buffer has room for a line without
+    // a call; the loop is apart.
     match writer.write(octets) {
         Ok(0) | Err(_) => Err(WriteFault),
         Ok(taken) if taken == octets.len() => Ok(()),

@@ -59,7 +59,8 @@ fn put_noted<A: Allocator, V: Write>(
     put_answer(report, answer)
 }
 
-/// Writes the start of a frame, noted where a summary is wanted. At a fault a prefix of it is written. Apart, since its locals are large.
+/// Writes the start of a frame, noted where a summary is wanted. At a fault a prefix of it is written. Apart, since its
+/// locals are large.
 #[inline(never)]
 fn put_noted_start<A: Allocator, V: Write>(
     summary: &mut Option<Summary<A>>,
