@@ -9,7 +9,8 @@ use Rattle.program.specs.Jobs.{Tells}
 -- the line of so many records, the last of which came at this moment, in picoseconds, so many nanoseconds after the start
 abbrev pub progress_line : (records moment after : ℕ) → List ℕ
 progress_line records moment after =
-    concat (codes "taprio_port: " ∷ decimal records ∷ codes " records, at " ∷ decimal moment ∷ codes " ps, " ∷ decimal (records * 1000 / max (after / 1000000) 1) ∷ codes " records a second\n" ∷ [])
+    concat (codes "taprio_port: " ∷ decimal records ∷ codes " records, at " ∷ decimal moment ∷ codes " ps, "
+    ∷ decimal (records * 1000 / max (after / 1000000) 1) ∷ codes " records a second\n" ∷ [])
 
 -- A line is written, half a second after the one before at least. Where not all of it is written and let out, no other will be.
 pub record IsToldAfter (records moment : ℕ) (before after : Duration) (begun : Option Instant) (old new : Option (List ℕ)) : Type 0 where

@@ -1,8 +1,8 @@
--- The words that the program understands, as `clap` has them: its jobs, and the words of each. A job's word is written as `--NAME VALUE`, as `--NAME`, or as the
--- name of a file alone.
-use Rattle.std.specs.Prelude.{List, ℕ, [], ◌∷◌, true, false, Option, Some, None, codes, map}
+-- The words that the program understands, as `clap` has them: its jobs, and the words of each. A job's word is written as `--NAME VALUE`,
+-- as `--NAME`, or as the name of a file alone.
+use Rattle.std.specs.Prelude.{List, [], ◌∷◌, true, false, Option, Some, None, codes, map}
 use Rattle.clap.specs.Walk.{Rule, Text}
-use Rattle.clap.specs.Simple.{App, Shape, new_app, new_rule, new_shape, with_subcommand}
+use Rattle.clap.specs.Simple.{App, Shape, new_rule, new_shape, with_subcommand}
 use Rattle.clap.specs.declared.builder.action.ArgAction.TheVariants.{SetTrue}
 use Rattle.program.specs.declared.job_name.JobName.{JobName}
 use Rattle.program.specs.declared.job_name.JobName.TheVariants as Names
@@ -90,7 +90,10 @@ shape_of_job job = record (new_shape (name_of job.name)) { rules = map rule_of_w
 
 -- the program before its jobs are added
 abbrev pub bare_app : App
-bare_app = record (new_app (codes "taprio_port")) { top = record (new_shape (codes "taprio_port")) { has_version = true; subcommand_required = true } }
+bare_app = record {
+  top = record (new_shape (codes "taprio_port")) { has_version = true; subcommand_required = true };
+  subs = [];
+}
 
 -- one job more
 abbrev pub with_job : App → Job → App

@@ -1,4 +1,4 @@
-use Rattle.std.proofs.Common.{rules, ◌∙◌, ap, ap₂, sym, map, List, []}
+use Rattle.std.proofs.Common.{rules, ◌∙◌, ap, ap₂, sym, List, []}
 use Rattle.std.proofs.lemmas.List.{map_more}
 use Rattle.clap.specs.Simple.{App, new_shape}
 use Rattle.clap.specs.Words.{Rule, with_rule}
