@@ -33,9 +33,9 @@ loop-now-preserved g c =
     let within : c.unwrap_or-next.result ≤ c.args.upto =
     subst (λ n. n ≤ c.args.upto) (sym c.unwrap_or-next.ensures) (within_to c.loop-now.now c.args.upto c.next_boundary-boundary.result (rw i.here at c.next_boundary-boundary.ensures.between)) in
     let moved = next_moved (most_moved c.loop-now.own.history) (most_moved c.args.own.now.history) c.args.upto c.next_boundary-boundary.result c.loop-now.left c.left_after.result c.unwrap_or-next.result c.loop-now.visits c.move_to.new.visits
-        (c.args.visits.now + most_moved c.args.own.now.history * c.args.left.now)
-        (let less = kept_longest c.args.own.now.history c.loop-now.own.history c.loop-now.now i.history in omega (arith, less))
-        (omega (arith, c.if-left-gt0.true)) (omega (arith, c.move_to.ensures.visits)) (λ none. at_end c.args.upto c.next_boundary-boundary.result c.unwrap_or-next.result c.unwrap_or-next.ensures none) (i.moved c.loop-now-test.true) c.left_after.ensures in
+    (c.args.visits.now + most_moved c.args.own.now.history * c.args.left.now)
+    (let less = kept_longest c.args.own.now.history c.loop-now.own.history c.loop-now.now i.history in omega (arith, less))
+    (omega (arith, c.if-left-gt0.true)) (omega (arith, c.move_to.ensures.visits)) (λ none. at_end c.args.upto c.next_boundary-boundary.result c.unwrap_or-next.result c.unwrap_or-next.ensures none) (i.moved c.loop-now-test.true) c.left_after.ensures in
     record {
       sound = c.move_to.ensures.sound;
       here = c.move_to.ensures.moment;
