@@ -6,3 +6,4 @@ pub mod ShownLaws
 pub mod WaitLaws
 pub mod TextLaws
 pub mod FitLaws
+pub mod FollowLaws

@@ -1,5 +1,5 @@
 -- What is drawn of a run, event by event. Moments are in picoseconds.
-use Rattle.std.specs.Prelude.{ℕ, zero, suc, ◌*◌, List, [], ◌∷◌, Option, Some, None, unwrap_or}
+use Rattle.std.specs.Prelude.{ℕ, zero, suc, ◌*◌, List, [], ◌∷◌, Bool, true, false, Option, Some, None, unwrap_or}
 use Rattle.abstract_port.specs.AbstractPort.{AbstractPort, class_for, plan_asked}
 use Rattle.abstract_port.specs.Answers.{answers_to}
 use Rattle.abstract_port.specs.declared.Answer.{Answer}
@@ -97,6 +97,14 @@ cycle_at (Install c) = cycle_in c.now
 cycle_at (Clock m) = None
 cycle_at Query = None
 cycle_at (Count class) = None
+
+-- whether it gives none
+abbrev pub no_command : Event → Bool
+no_command (Arrive f) = true
+no_command (Install c) = false
+no_command (Clock m) = true
+no_command Query = true
+no_command (Count class) = true
 
 -- what an event says beside its answers
 abbrev pub asked_at : Event → AbstractPort → Asked

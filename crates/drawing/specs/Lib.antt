@@ -12,3 +12,4 @@ pub mod PictureEnd
 pub mod Words
 pub mod Axis
 pub mod Picture
+pub mod Followed

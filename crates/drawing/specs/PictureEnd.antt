@@ -1,5 +1,5 @@
 -- What a run that is drawn writes, and what it leaves: its exit status, and the text of a fault.
-use Rattle.std.specs.Prelude.{◌≡◌, ◌≤◌, ◌*◌, List, ℕ, [], Option, Some, None, Result, Ok, Err, IfSome}
+use Rattle.std.specs.Prelude.{◌≡◌, ◌≤◌, ◌*◌, ⊤, List, ℕ, [], Option, Some, None, Result, Ok, Err, IfSome}
 use Rattle.std.specs.Io.KnownBytes.{Appends, Keeps}
 use Rattle.abstract_port.specs.AbstractPort.{AbstractPort, new_port, settled}
 use Rattle.abstract_port.specs.Answers.{port_after}
@@ -27,6 +27,7 @@ use Rattle.script.specs.declared.faults.BadLine.{BadLine}
 use Rattle.script.specs.declared.settings.BadValue.{BadValue}
 use Rattle.drawing.specs.Course.{Course, ended_at, nothing_seen, seen_after, seen_at}
 use Rattle.drawing.specs.Options.{origin_of, view_of, viewport_shown}
+use Rattle.drawing.specs.Followed.{BandsOfReading, first_bands}
 use Rattle.drawing.specs.Picture.{fitted_text}
 unfoldable use Rattle.drawing.specs.Shapes.{bands_to}
 use Rattle.drawing.specs.Taken.{course_on, last_moment, port_on}
@@ -72,11 +73,23 @@ first_course s o = nothing_seen s.room (view_of o Nothing) (lead_of s.rate s.mtu
 abbrev pub picture_of : (List (List ℕ) → Result Command TcFault) → Setup → DrawOptions → List ℕ → Drawing → Outcome BadLine
 picture_of read s o input bands = outcome_drawn s o (reading_of read (script_of input)) (new_port s.rate s.mtu s.room) (first_course s o) bands
 
+-- the bands of a run of these lines, from a port, what is drawn of it so far, and its bands; and of the octets of an input, on a new port
+abbrev pub BandsOf : (List (List ℕ) → Result Command TcFault) → Setup → DrawOptions → List ℕ → Drawing → Type 0
+BandsOf read s o input bands = BandsOfReading s o (reading_of read (script_of input)) (new_port s.rate s.mtu s.room) (first_course s o) (first_bands o) bands
+
 -- There are bands, no more than the lanes have room for, with which this holds. Which bands they are is not said here.
 abbrev pub ForSomeBands : (Drawing → Type 0) → Type 0
 ForSomeBands P = (bands : Drawing) × ((bands_to WIRE bands.classes bands.mixed ≤ 2 * WIRE * MOST_SHAPES) × P bands)
 
 -- 2. What is left of it
+
+-- Where a picture was written, or a part of it, this holds.
+abbrev pub WhereDrawn : {T : Type 0} → Result T (Fault BadLine) → Type 0 → Type 0
+WhereDrawn (Ok x) B = B
+WhereDrawn (Err (Faults.Input bad)) B = ⊤
+WhereDrawn (Err Faults.Read) B = ⊤
+WhereDrawn (Err Faults.Write) B = B
+WhereDrawn (Err Faults.Memory) B = ⊤
 
 -- A script was drawn: at Ok and at the fault of the script all that is to be written was, and where a write failed a part of it; at a failed read, and
 -- when out of memory, nothing was.
@@ -87,11 +100,21 @@ IsDrawn (Err Faults.Read) old new whole = Keeps old new
 IsDrawn (Err Faults.Write) old new whole = (whole.fault ≡ None) × FallsShort old new whole.text
 IsDrawn (Err Faults.Memory) old new whole = Keeps old new
 
+-- A run of these lines was drawn, from a port, what is drawn of it so far, and its bands.
+abbrev pub IsDrawnFrom : {T : Type 0} → Setup → DrawOptions → Reading → AbstractPort → Course → Drawing → Result T (Fault BadLine) → Option (List ℕ) → Option (List ℕ) → Type 0
+IsDrawnFrom s o reading p x d run old new =
+    ForSomeBands (λ bands. WhereDrawn run (BandsOfReading s o reading p x d bands) × IsDrawn run old new (outcome_drawn s o reading p x bands))
+
+-- Where all of it went out, this holds.
+abbrev pub WhereOk : {T : Type 0} → Result T (Fault BadLine) → Type 0 → Type 0
+WhereOk (Ok x) B = B
+WhereOk (Err fault) B = ⊤
+
 -- The end of a run on good values: what the writer got, with what no write let out, is the picture, or after a fault of the call's a prefix of it.
 abbrev pub IsPictureEnding : Setup → DrawOptions → Option (List ℕ) → Ended → (old got errors_old errors_new : Option (List ℕ)) → Type 0
 IsPictureEnding s o input ended old got errors_old errors_new =
     IsRunEnding script_telling (λ run. IsLetOut run got (λ out. (read : List (List ℕ) → Result Command TcFault) → IsReader read
-    → IfSome input (λ octets. ForSomeBands (λ bands. RunsOut run old out (picture_of read s o octets bands))))) ended errors_old errors_new
+    → IfSome input (λ octets. ForSomeBands (λ bands. WhereOk run (BandsOf read s o octets bands) × RunsOut run old out (picture_of read s o octets bands))))) ended errors_old errors_new
 
 -- By the settings and the options: a bad value is reported, and nothing is drawn; else the run of the input ends.
 abbrev pub IsDrawEnding : Result Setup BadValue → Result DrawOptions BadValue → Option (List ℕ) → Ended → (old got errors_old errors_new : Option (List ℕ)) → Type 0

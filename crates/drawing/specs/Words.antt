@@ -22,7 +22,7 @@ pub use Rattle.script.specs.declared.faults.BadLine.{BadLine}
 pub use Rattle.script.specs.declared.faults.ScriptFault.{ScriptFault}
 pub use Rattle.drawing.specs.Course.{Course, nothing_seen, seen_all, seen_at}
 unfoldable pub use Rattle.drawing.specs.Course.{all_wait_on}
-pub use Rattle.drawing.specs.PictureEnd.{ForSomeBands, IsDrawEnding, IsDrawn, outcome_drawn, picture_after, picture_of}
+pub use Rattle.drawing.specs.PictureEnd.{BandsOf, ForSomeBands, IsDrawEnding, IsDrawn, IsDrawnFrom, WhereDrawn, WhereOk, outcome_drawn, picture_after, picture_of}
 pub use Rattle.drawing.specs.Given.{words_of_draws}
 pub use Rattle.drawing.specs.Layout.{label_at, place_of, top_of}
 pub use Rattle.drawing.specs.Options.{beginning_in, end_in, is_open, options_of, origin_of, view_of, viewport_shown, width_in, width_where}

@@ -1,18 +1,21 @@
 //! Runs a script, and draws what happens.
 
-ghost use Rattle.std.specs.Prelude.{◌≡◌, ◌≤◌, ◌*◌, ℕ, IfOk, IfSome, List, Ok, Result, Some};
+ghost use Rattle.std.specs.Prelude.{◌≡◌, ◌≤◌, ◌+◌, ◌*◌, ◌↔◌, ℕ, IfOk, IfSome, IsTrue, List, MatchOption, Ok, OnOk, Result, Some, true};
 ghost use Rattle.words.specs.Words.{words_of};
 ghost use Rattle.script.specs.Responses.{responses_to};
 ghost use Rattle.wire_time.specs.Moment.{greatest_lead};
-ghost use Rattle.drawing.specs.Words.{installs, settled, answers_to, IsSoundPort, greatest_moment, Command, script_left, IsReader, TcFault, reading_of, request_of, tc_request, seen_at, ForSomeBands, IsDrawn, MOST_SHAPES, bands_to, course_on, last_moment, outcome_drawn, picture_after, picture_of, port_on, Takes, TakesLine, seen_by};
+ghost use Rattle.drawing.specs.Words.{installs, settled, answers_to, IsSoundPort, greatest_moment, Command, script_left, IsReader, TcFault, reading_of, request_of, tc_request, seen_at, ForSomeBands, IsDrawnFrom, MOST_SHAPES, bands_to, course_on, last_moment, picture_after, port_on, Takes, TakesLine, seen_by};
+ghost use Rattle.line_reader.specs.Script.{script_of};
 ghost use Rattle.abstract_port.specs.AbstractPort.{new_port};
 ghost use Rattle.octet_writer.specs.Writes.{Writes};
 ghost use Rattle.wire_time.specs.Wire.{lead_of};
+ghost use Rattle.drawing.specs.Followed.{BandsAfter, BandsAtEnd, BandsBy, BandsOfLine, BandsOn, BandsShown, EndBands, FollowedAndEnded, IsFollowed, first_bands, MayBegin, MayGo, Shows, given, given_to};
+ghost use Rattle.drawing.specs.declared.options.DrawOptions.{DrawOptions};
 ghost use Rattle.drawing.specs.Picture.{fitted_text};
 ghost use Rattle.drawing.specs.PictureEnd.{end_text, first_course, page_of, shown_text};
 ghost use Rattle.drawing.specs.declared.page.TheConstants.{WIRE};
-ghost use Rattle.abstract_port.specs.declared.Event.TheVariants.{Clock};
-ghost use Rattle.drawing.specs.Course.{asked_at, class_at, cycle_at, cycle_in, ended_at};
+ghost use Rattle.abstract_port.specs.declared.Event.TheVariants.{Clock, Install};
+ghost use Rattle.drawing.specs.Course.{asked_at, class_at, cycle_at, cycle_in, ended_at, no_command};
 
 use crate::course::{Asked, Course};
 use crate::options::DrawOptions;
@@ -31,7 +34,7 @@ use script::{
 use separation::settling;
 use std::alloc::{AllocError, Allocator, Global};
 use std::io::{Read, Write};
-use wire_time::{MAX_MOMENT, lead};
+use wire_time::{MAX_MOMENT, Rate, lead};
 
 /// The class of a frame that comes.
 fn class_at<A: Allocator>(port: &RunningPort<A>, event: &Event<'_>) -> Option<u8>
@@ -87,16 +90,40 @@ pub fn take<A: Allocator>(port: &mut RunningPort<A>, course: &mut Course<A>, eve
     }
 }
 
-/// The bands go on to where the port is. Where another time is shown than so far, they begin anew once the port reaches it: until then a later command may
-/// change it.
-fn follow<A: Allocator>(port: &RunningPort<A>, bands: &mut Bands<A>, view: View) {
-    let now = port.now();
-    if view.from <= now && (bands.from() != view.from || bands.to() != view.to) {
-        bands.begin_at(view.from, view.to);
+/// Whether the bands are of the time that is to be shown.
+fn are_of<A: Allocator>(bands: &Bands<A>, view: View) -> bool
+    ensures { IsTrue result ↔ Shows bands.now view }
+{
+    bands.from() == view.from && bands.to() == view.to
+}
+
+/// Where another time is shown than so far, the bands begin anew once the port reaches it: until then a later command may change it.
+fn begin_shown<A: Allocator>(bands: &mut Bands<A>, view: View, now: u128)
+    ensures { MayBegin view now bands.old bands.new }
+{
+    if now < view.from || are_of(bands, view) {
+        return;
     }
+    bands.begin_at(view.from, view.to);
+}
+
+/// The bands go on to a moment, in picoseconds, unless it is past.
+fn go_on<A: Allocator>(bands: &mut Bands<A>, now: u128)
+    requires { now ≤ greatest_moment }
+    ensures { MayGo now bands.old bands.new }
+{
     if bands.now() <= now {
         bands.go_to(now);
     }
+}
+
+/// The bands go on to where the port is.
+fn follow<A: Allocator>(port: &RunningPort<A>, bands: &mut Bands<A>, view: View)
+    ensures { IsFollowed view port.now.port.now bands.old bands.new }
+{
+    let now = port.now();
+    begin_shown(bands, view, now);
+    go_on(bands, now);
 }
 
 /// How long after it is given a command has its lead moment, in picoseconds.
@@ -110,6 +137,16 @@ fn lead_of(settings: Settings) -> u128
     lead(rate, settings.mtu())
 }
 
+/// A command that the port accepts is given to the gates of the bands, with its lead moment, in picoseconds.
+fn give<A: Allocator>(bands: &mut Bands<A>, command: &Command, rate: Rate, lead: u128)
+    requires { lead ≤ greatest_moment + greatest_lead }
+    ensures { bands.new ≡ given_to rate lead command.now bands.old }
+{
+    if bands.now() < lead {
+        bands.install(command, rate, lead);
+    }
+}
+
 /// Gives the port a command, and draws when it comes into force.
 fn take_command<A: Allocator>(
     port: &mut RunningPort<A>,
@@ -119,6 +156,7 @@ fn take_command<A: Allocator>(
     settings: Settings,
 ) -> Result<(), Refused>
     ensures course { course.new ≡ seen_by (tc_request (Ok command.now)) port.old.port course.old }
+    ensures bands { bands.new ≡ given settings command.now port.old.port bands.old }
     ensures port { port.new.port ≡ (installs port.old.port command.now).1 }
     ensures sound { IsSoundPort port.new.port }
 {
@@ -127,9 +165,7 @@ fn take_command<A: Allocator>(
     match port.install(command) {
         Err(why) => Err(why),
         Ok(change) => {
-            if bands.now() < lead {
-                bands.install(command, settings.rate(), lead);
-            }
+            give(bands, command, settings.rate(), lead);
             let beside = Asked {
                 class: None,
                 cycle: cycle_in(command),
@@ -138,6 +174,40 @@ fn take_command<A: Allocator>(
             Ok(())
         }
     }
+}
+
+/// The command that an event gives.
+fn command_in<'a>(event: &Event<'a>) -> Option<&'a Command>
+    ensures { MatchOption result (no_command event.now ≡ true) (λ command. event.now ≡ Install command) }
+{
+    match event {
+        Event::Install(command) => Some(*command),
+        _ => None,
+    }
+}
+
+/// Takes an event that a line asks, and the bands follow.
+fn take_asked<A: Allocator>(
+    port: &mut RunningPort<A>,
+    bands: &mut Bands<A>,
+    course: &mut Course<A>,
+    event: &Event<'_>,
+    settings: Settings,
+    options: DrawOptions,
+)
+    ensures course { course.new ≡ seen_at event.now port.old.port course.old }
+    ensures port { port.new.port ≡ settled (answers_to event.now port.old.port).1 }
+    ensures bands { BandsOn settings options event.now port.old.port course.old bands.old bands.new }
+    ensures sound { IsSoundPort port.new.port }
+{
+    // For the prover: a call on a port says what holds of every port.
+    let _now = port.now();
+    if let Some(command) = command_in(event) {
+        let _ = take_command(port, bands, course, command, settings);
+        return;
+    }
+    take(port, course, event);
+    follow(port, bands, options.view(course.scope()));
 }
 
 /// Takes the line of this number, which begins with `tc`. One that changes nothing isn't drawn, and who watches is called for it.
@@ -151,6 +221,7 @@ fn take_tc<A: Allocator, H: Watch>(
     watch: &mut H,
 )
     ensures course { (read : List (List ℕ) → Result Command TcFault) → IsReader read → course.new ≡ seen_by (tc_request (read (words_of line.now))) port.old.port course.old }
+    ensures bands { (read : List (List ℕ) → Result Command TcFault) → IsReader read → (o : DrawOptions) → BandsBy settings o (tc_request (read (words_of line.now))) port.old.port course.old bands.old bands.new }
     ensures port { (read : List (List ℕ) → Result Command TcFault) → IsReader read → port.new.port ≡ settled (responses_to (tc_request (read (words_of line.now))) port.old.port).1 }
     ensures sound { IsSoundPort port.new.port }
 {
@@ -180,6 +251,8 @@ fn take_line<A: Allocator, H: Watch>(
 ) -> Result<(), ScriptFault>
     ensures taken { (read : List (List ℕ) → Result Command TcFault) → IsReader read →
         TakesLine result (request_of read line.now) port.old.port course.old port.new.port course.new }
+    ensures bands { (read : List (List ℕ) → Result Command TcFault) → IsReader read →
+        BandsOfLine settings options (request_of read line.now) port.old.port course.old bands.old bands.new }
     ensures sound { IsSoundPort port.new.port }
 {
     // For the prover: a call on a port says what holds of every port.
@@ -191,8 +264,7 @@ fn take_line<A: Allocator, H: Watch>(
         }
         Ok(None) => watch.line_passed(number, line),
         Ok(Some(Said::Asked(event))) => {
-            take(port, course, &event);
-            follow(port, bands, options.view(course.scope()));
+            take_asked(port, bands, course, &event, settings, options);
         }
         Ok(Some(Said::Tc)) => take_tc(port, bands, course, number, line, settings, watch),
     }
@@ -209,8 +281,10 @@ fn take_lines<A: Allocator, B: Allocator, R: Read + Drop, H: Watch>(
     options: DrawOptions,
     watch: &mut H,
 ) -> Result<(), RunFault>
-    ensures { (read : List (List ℕ) → Result Command TcFault) → IsReader read → IfSome (script_left R.remaining lines.old) (λ script.
+    ensures taken { (read : List (List ℕ) → Result Command TcFault) → IsReader read → IfSome (script_left R.remaining lines.old) (λ script.
         Takes result (reading_of read script) port.old.port course.old port.new.port course.new) }
+    ensures bands { (read : List (List ℕ) → Result Command TcFault) → IsReader read → IfSome (script_left R.remaining lines.old) (λ script.
+        OnOk result (BandsAfter settings options (reading_of read script).requests port.old.port course.old bands.old bands.new)) }
 {
     settling();
     // For the prover: a call on a port says what holds of every port.
@@ -252,13 +326,16 @@ fn last_moment<A: Allocator>(port: &RunningPort<A>, course: &Course<A>) -> u128
 fn end_course<A: Allocator>(port: &mut RunningPort<A>, course: &mut Course<A>, to: u128)
     requires { to ≤ greatest_moment }
     ensures course { course.new ≡ ended_at to (seen_at (Clock to) port.old.port course.old) }
+    ensures port { port.new.port ≡ settled (answers_to (Clock to) port.old.port).1 }
 {
     take(port, course, &Event::Clock(to));
     course.end_at(to);
 }
 
 /// The bands go on to where the port is, and end.
-fn end_bands<A: Allocator>(port: &RunningPort<A>, bands: &mut Bands<A>, view: View) {
+fn end_bands<A: Allocator>(port: &RunningPort<A>, bands: &mut Bands<A>, view: View)
+    ensures { FollowedAndEnded view port.now.port.now bands.old bands.new }
+{
     follow(port, bands, view);
     bands.end();
 }
@@ -299,7 +376,8 @@ fn draw_shown<A: Allocator, W: Write>(
     options: DrawOptions,
     viewport: Viewport,
 ) -> Result<(), WriteFault>
-    ensures { ForSomeBands (λ bands. Writes result (W.contents writer.old) (W.contents writer.new) (shown_text settings options port.old.port course.old bands (Some viewport))) }
+    ensures { ForSomeBands (λ b. EndBands options port.old.port course.old bands.old (Some viewport) b
+        × Writes result (W.contents writer.old) (W.contents writer.new) (shown_text settings options port.old.port course.old b (Some viewport))) }
 {
     let scope = course.scope();
     end_course(port, course, viewport.to());
@@ -317,7 +395,8 @@ fn draw_ended<A: Allocator, W: Write>(
     settings: Settings,
     options: DrawOptions,
 ) -> Result<(), WriteFault>
-    ensures { ForSomeBands (λ bands. Writes result (W.contents writer.old) (W.contents writer.new) (end_text settings options port.old.port course.old bands)) }
+    ensures { ForSomeBands (λ b. BandsShown options port.old.port course.old bands.old b
+        × Writes result (W.contents writer.old) (W.contents writer.new) (end_text settings options port.old.port course.old b)) }
 {
     match options.viewport(course.scope(), last_moment(port, course)) {
         Some(viewport) => draw_shown(port, bands, course, writer, settings, options, viewport),
@@ -334,7 +413,8 @@ fn draw_end<A: Allocator, W: Write>(
     settings: Settings,
     options: DrawOptions,
 ) -> Result<(), WriteFault>
-    ensures { ForSomeBands (λ bands. Writes result (W.contents writer.old) (W.contents writer.new) (picture_after settings options port.old.port course.old bands)) }
+    ensures { ForSomeBands (λ b. BandsAtEnd settings options port.old.port course.old bands.old b
+        × Writes result (W.contents writer.old) (W.contents writer.new) (picture_after settings options port.old.port course.old b)) }
 {
     run_on(port, course, settings.until());
     draw_ended(port, bands, course, writer, settings, options)
@@ -352,7 +432,7 @@ fn draw_lines<A: Allocator, B: Allocator, R: Read + Drop, W: Write, H: Watch>(
     watch: &mut H,
 ) -> Result<(), RunFault>
     ensures { (read : List (List ℕ) → Result Command TcFault) → IsReader read → IfSome (script_left R.remaining lines.old) (λ script.
-        ForSomeBands (λ bands. IsDrawn result (W.contents writer.old) (W.contents writer.new) (outcome_drawn settings options (reading_of read script) port.old.port course.old bands))) }
+        IsDrawnFrom settings options (reading_of read script) port.old.port course.old bands.old result (W.contents writer.old) (W.contents writer.new)) }
 {
     take_lines(port, bands, course, lines, settings, options, watch)?;
     draw_end(port, bands, course, writer, settings, options)?;
@@ -383,7 +463,7 @@ fn draw_course<B: Allocator, R: Read + Drop, W: Write, H: Watch>(
     watch: &mut H,
 ) -> Result<(), RunFault>
     ensures { (read : List (List ℕ) → Result Command TcFault) → IsReader read → IfSome (script_left R.remaining lines.old) (λ script.
-        ForSomeBands (λ bands. IsDrawn result (W.contents writer.old) (W.contents writer.new) (outcome_drawn settings options (reading_of read script) port.old.port (first_course settings options) bands))) }
+        IsDrawnFrom settings options (reading_of read script) port.old.port (first_course settings options) bands.old result (W.contents writer.old) (W.contents writer.new)) }
 {
     let mut course = first_course(alloc, settings, options)?;
     draw_lines(
@@ -409,7 +489,7 @@ fn draw_bands<B: Allocator, R: Read + Drop, W: Write, H: Watch>(
     watch: &mut H,
 ) -> Result<(), RunFault>
     ensures { (read : List (List ℕ) → Result Command TcFault) → IsReader read → IfSome (script_left R.remaining lines.old) (λ script.
-        ForSomeBands (λ bands. IsDrawn result (W.contents writer.old) (W.contents writer.new) (outcome_drawn settings options (reading_of read script) port.old.port (first_course settings options) bands))) }
+        IsDrawnFrom settings options (reading_of read script) port.old.port (first_course settings options) (first_bands options) result (W.contents writer.old) (W.contents writer.new)) }
 {
     let view = options.view(Scope::Nothing);
     let mut bands = Bands::new(alloc, view.from, view.to)?;
@@ -428,7 +508,7 @@ fn draw_port<B: Allocator, R: Read + Drop, W: Write, H: Watch>(
     watch: &mut H,
 ) -> Result<(), RunFault>
     ensures { (read : List (List ℕ) → Result Command TcFault) → IsReader read → IfSome (script_left R.remaining lines.old) (λ script.
-        ForSomeBands (λ bands. IsDrawn result (W.contents writer.old) (W.contents writer.new) (outcome_drawn settings options (reading_of read script) (new_port settings.rate settings.mtu settings.room) (first_course settings options) bands))) }
+        IsDrawnFrom settings options (reading_of read script) (new_port settings.rate settings.mtu settings.room) (first_course settings options) (first_bands options) result (W.contents writer.old) (W.contents writer.new)) }
 {
     let rate = settings.rate();
     // For the prover: the getter says within which limits a rate lies.
@@ -453,7 +533,7 @@ pub fn draw<R: Read + Drop, W: Write, H: Watch>(
     watch: &mut H,
 ) -> Result<(), RunFault>
     ensures { (read : List (List ℕ) → Result Command TcFault) → IsReader read → IfSome (R.remaining reader) (λ input.
-        ForSomeBands (λ bands. IsDrawn result (W.contents writer.old) (W.contents writer.new) (picture_of read settings options input bands))) }
+        IsDrawnFrom settings options (reading_of read (script_of input)) (new_port settings.rate settings.mtu settings.room) (first_course settings options) (first_bands options) result (W.contents writer.old) (W.contents writer.new)) }
 {
     let mut lines = LineReader::new(&alloc, reader)?;
     draw_port(&alloc, &mut lines, writer, settings, options, watch)

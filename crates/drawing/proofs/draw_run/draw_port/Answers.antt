@@ -3,7 +3,8 @@ use Rattle.std.specs.Prelude.{IfSome}
 use Rattle.std.proofs.lemmas.Result.{err_from_is_err_and}
 use Rattle.abstract_port.specs.AbstractPort.{AbstractPort, new_port}
 use Rattle.script.specs.Words.{PortState}
-use Rattle.drawing.specs.Words.{ForSomeBands, IsDrawn, outcome_drawn, reading_of, script_left}
+use Rattle.drawing.specs.Followed.{first_bands}
+use Rattle.drawing.specs.Words.{IsDrawnFrom, reading_of, script_left}
 use Rattle.drawing.specs.PictureEnd.{first_course}
 use Rattle.drawing.proofs.EndLaws.{without_memory}
 use Rattle.drawing.proofs.draw_run.draw_port.Goals as goal
@@ -12,18 +13,18 @@ pub returns-in_err-own : goal.returns-in_err-own
 returns-in_err-own g c = λ read is.
     let p = err_from_is_err_and c.from_residual.result c.from_residual.ensures.1 in
     let s = c.args.settings in
-    without_memory _ (λ script bands. outcome_drawn s c.args.options (reading_of read script) (new_port s.rate s.mtu s.room) (first_course s c.args.options) bands) (g.W.Write.contents c.args.writer.now) (p.1 ∙ ap Err p.2)
+    without_memory s c.args.options _ (reading_of read) (new_port s.rate s.mtu s.room) (first_course s c.args.options) (first_bands c.args.options) (g.W.Write.contents c.args.writer.now) (p.1 ∙ ap Err p.2)
 
 pub returns-in_default : goal.returns-in_default
 returns-in_default g c = λ read is.
     let s = c.args.settings in
-    without_memory {T = Unit {0}} _ (λ script bands. outcome_drawn s c.args.options (reading_of read script) (new_port s.rate s.mtu s.room) (first_course s c.args.options) bands) (g.W.Write.contents c.args.writer.now) refl
+    without_memory s c.args.options {T = Unit {0}} _ (reading_of read) (new_port s.rate s.mtu s.room) (first_course s c.args.options) (first_bands c.args.options) (g.W.Write.contents c.args.writer.now) refl
 
 pub returns : goal.returns
 returns g c = λ read is.
     let s = c.args.settings in
     let P : AbstractPort → Type 0 = λ p. IfSome (script_left g.R.Read.remaining c.args.lines.now) (λ script.
-    ForSomeBands (λ bands. IsDrawn c.draw_bands.result (g.W.Write.contents c.args.writer.now) (g.W.Write.contents c.draw_bands.new.writer) (outcome_drawn s c.args.options (reading_of read script) p (first_course s c.args.options) bands))) in
+    IsDrawnFrom s c.args.options (reading_of read script) p (first_course s c.args.options) (first_bands c.args.options) c.draw_bands.result (g.W.Write.contents c.args.writer.now) (g.W.Write.contents c.draw_bands.new.writer)) in
     let same = ap (λ (q : PortState). q.port) c.in-Ok.ensures.ok
     ∙ ap (λ (n : ℕ). new_port n c.mtu-mtu.result c.room.result) c.rate-rate.ensures
     ∙ ap (λ (n : ℕ). new_port s.rate n c.room.result) c.mtu-mtu.ensures.value

@@ -1,5 +1,6 @@
-use Rattle.std.proofs.Common.{◌≡◌, Option, Some, None, Result, Ok, refl, sym, ap, ◌∙◌, subst}
+use Rattle.std.proofs.Common.{◌≡◌, Option, Some, None, Result, Ok, Err, refl, sym, ap, ◌∙◌, subst}
 use Rattle.drawing.specs.Words.{Request, Asks, request_of, tc_request, ScriptFault, TakesLine}
+use Rattle.drawing.specs.Followed.{BandsOfLine}
 use Rattle.words.specs.Words.{words_of}
 use Rattle.script.specs.Requests.{request_said, said_in}
 use Rattle.script.specs.declared.script_line.Said.TheVariants as Says
@@ -26,5 +27,32 @@ pub returns-in-Ok-Some-Asked-clause-taken : goal.returns-in-Ok-Some-Asked-clause
 returns-in-Ok-Some-Asked-clause-taken g c = λ read is.
     let said : said_in c.args.line.now ≡ Ok (Some (Says.Asked c.in-Ok-Some-Asked.event)) = cc in
     let asked : request_of read c.args.line.now ≡ Ok (Some (Asks c.in-Ok-Some-Asked.event)) = ap (request_said (read (words_of c.args.line.now))) said in
-    let P : Result (Option Request) ScriptFault → Type 0 = λ a. TakesLine {T = Unit {0}} (Ok tt) a c.args.port.now.port c.args.course.now c.take.new.port.port c.take.new.course in
-    subst P (sym asked) (c.take.ensures.port, c.take.ensures.course)
+    let P : Result (Option Request) ScriptFault → Type 0 = λ a. TakesLine {T = Unit {0}} (Ok tt) a c.args.port.now.port c.args.course.now c.take_asked.new.port.port c.take_asked.new.course in
+    subst P (sym asked) (c.take_asked.ensures.port, c.take_asked.ensures.course)
+
+pub returns-in-Ok-Some-Tc-clause-bands : goal.returns-in-Ok-Some-Tc-clause-bands
+returns-in-Ok-Some-Tc-clause-bands g c = λ read is.
+    let said : said_in c.args.line.now ≡ Ok (Some Says.Tc) = cc in
+    let asked : request_of read c.args.line.now ≡ Ok (Some (tc_request (read (words_of c.args.line.now)))) = ap (request_said (read (words_of c.args.line.now))) said in
+    let P : Result (Option Request) ScriptFault → Type 0 = λ a. BandsOfLine c.args.settings c.args.options a c.args.port.now.port c.args.course.now c.args.bands.now c.take_tc.new.bands in
+    subst P (sym asked) (c.take_tc.ensures.bands read is c.args.options)
+
+pub returns-in-Err-clause-bands : goal.returns-in-Err-clause-bands
+returns-in-Err-clause-bands g c = λ read is.
+    let asked : request_of read c.args.line.now ≡ Err c.in-Err.fault = ap (request_said (read (words_of c.args.line.now))) (sym c.read_line.ensures ∙ c.in-Err.is) in
+    let P : Result (Option Request) ScriptFault → Type 0 = λ a. BandsOfLine c.args.settings c.args.options a c.args.port.now.port c.args.course.now c.args.bands.now c.args.bands.now in
+    subst P (sym asked) refl
+
+pub returns-in-Ok-None-clause-bands : goal.returns-in-Ok-None-clause-bands
+returns-in-Ok-None-clause-bands g c = λ read is.
+    let said : said_in c.args.line.now ≡ Ok None = cc in
+    let asked : request_of read c.args.line.now ≡ Ok None = ap (request_said (read (words_of c.args.line.now))) said in
+    let P : Result (Option Request) ScriptFault → Type 0 = λ a. BandsOfLine c.args.settings c.args.options a c.args.port.now.port c.args.course.now c.args.bands.now c.args.bands.now in
+    subst P (sym asked) refl
+
+pub returns-in-Ok-Some-Asked-clause-bands : goal.returns-in-Ok-Some-Asked-clause-bands
+returns-in-Ok-Some-Asked-clause-bands g c = λ read is.
+    let said : said_in c.args.line.now ≡ Ok (Some (Says.Asked c.in-Ok-Some-Asked.event)) = cc in
+    let asked : request_of read c.args.line.now ≡ Ok (Some (Asks c.in-Ok-Some-Asked.event)) = ap (request_said (read (words_of c.args.line.now))) said in
+    let P : Result (Option Request) ScriptFault → Type 0 = λ a. BandsOfLine c.args.settings c.args.options a c.args.port.now.port c.args.course.now c.args.bands.now c.take_asked.new.bands in
+    subst P (sym asked) c.take_asked.ensures.bands
