@@ -2,6 +2,7 @@
 
 mod bounds;
 mod checks;
+mod large;
 mod lent;
 mod pictures;
 mod replays;
