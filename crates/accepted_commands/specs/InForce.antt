@@ -75,6 +75,11 @@ abbrev pub position_lent : Option (Bor AcceptedCommand) → Option Position
 position_lent None = None
 position_lent (Some command) = position_in command.now
 
+-- where a list stands, as it is lent
+abbrev pub lent_position : Option (Bor Position) → Option Position
+lent_position None = None
+lent_position (Some position) = Some position.now
+
 -- what an accepted list is in a history
 abbrev pub accepted_list : AcceptedList → Accepted
 accepted_list list = accepted_in (Install list)

@@ -42,7 +42,7 @@ stretches_ahead leg rest = stretch_of leg ∷ stretches_in rest.next rest.last
 
 -- a list stands so at the leg's moment
 abbrev pub IsStanding : Leg → Type 0
-IsStanding (Listed leg) = IsSchedule leg.schedule.now × IsPlaced leg.schedule.now leg.start leg.held_from leg.from leg.position
+IsStanding (Listed leg) = IsSchedule leg.schedule.now × IsPlaced leg.schedule.now leg.start leg.held_from leg.from leg.position.now
 IsStanding (Open leg) = Unit {0}
 
 -- a leg stands so, at no moment that is too late

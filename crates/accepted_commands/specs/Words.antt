@@ -13,7 +13,7 @@ pub use Rattle.list_position.specs.declared.Position.{Position}
 pub use Rattle.accepted_commands.specs.Commands.{AreCommands, Commands, IsUsable, NoneBy, accepted_in, command_of, history_of, mask_ahead, no_commands, settled_at, stretches_of}
 pub use Rattle.accepted_commands.specs.Leg.{AreReady, DoFollow, IsReady, IsStanding, from_of, stretch_in, stretch_of, stretch_under, stretches_ahead, until_of}
 pub use Rattle.accepted_commands.specs.Resume.{Resumes}
-pub use Rattle.accepted_commands.specs.InForce.{EndsSo, IsFirst, IsListOf, Standing, Stands, StandsUnder, accepted_list, boundary_in_force, earlier, edge_at, hold_for, option_position, position_in, position_lent, shown_by, shows_under}
+pub use Rattle.accepted_commands.specs.InForce.{EndsSo, IsFirst, IsListOf, Standing, Stands, StandsUnder, accepted_list, boundary_in_force, earlier, edge_at, hold_for, lent_position, option_position, position_in, position_lent, shown_by, shows_under}
 pub use Rattle.accepted_commands.specs.declared.command.AcceptedCommand.{AcceptedCommand}
 pub use Rattle.accepted_commands.specs.declared.command.AcceptedCommand.TheVariants.{Install}
 pub use Rattle.accepted_commands.specs.declared.leg.Leg.TheVariants.{Listed}

@@ -1,7 +1,7 @@
 //! The legs of the commands that count.
 ghost use Rattle.std.specs.Prelude.{◌≡◌, ◌+◌, ◌*◌, ◌<◌, ◌≤◌, ◌∷◌, [], Some, None};
 ghost use Rattle.std.specs.Option.{ForSome};
-ghost use Rattle.accepted_commands.specs.Words.{greatest_moment, plan_of, stretches_from, entry_count, AreCommands, IsUsable, accepted_in, command_of, stretches_of, IsFirst, Stands, position_lent, AreReady, IsReady, from_of, until_of, stretch_of, stretch_under, stretches_ahead, Resumes};
+ghost use Rattle.accepted_commands.specs.Words.{greatest_moment, plan_of, stretches_from, entry_count, AreCommands, IsUsable, accepted_in, command_of, lent_position, stretches_of, IsFirst, Stands, position_lent, AreReady, IsReady, from_of, until_of, stretch_of, stretch_under, stretches_ahead, Resumes};
 
 use crate::command::AcceptedCommand;
 use crate::leg::{Leg, ListedLeg, OpenLeg, Rest};
@@ -20,26 +20,26 @@ pub struct Ahead<'a> {
 }
 
 /// Where the list of a command stands, if it has one.
-fn position_of(command: Option<&AcceptedCommand>) -> Option<Position>
-    ensures { result ≡ position_lent command.entry }
+fn position_of<'a>(command: Option<&'a AcceptedCommand>) -> Option<&'a Position>
+    ensures { lent_position result ≡ position_lent command.entry }
 {
     match list_in(command) {
         None => None,
-        Some(list) => Some(list.position),
+        Some(list) => Some(&list.position),
     }
 }
 
 /// The leg of a command from a moment on, at which its list stands there, up to another and with a change pending.
 fn leg_at<'a>(
     command: Option<&'a AcceptedCommand>,
-    position: Option<Position>,
+    position: Option<&'a Position>,
     from: u128,
     pending: Option<&AcceptedCommand>,
     until: Option<u128>,
 ) -> Leg<'a>
     requires usable { ForSome (command_of command) IsUsable }
     requires pending { ForSome (command_of pending) IsUsable }
-    requires stands { Stands (command_of command) (command_of pending) from position }
+    requires stands { Stands (command_of command) (command_of pending) from (lent_position position) }
     requires near { from ≤ 2 * greatest_moment }
     ensures shows { stretch_of result ≡ stretch_under (command_of command.entry) (command_of pending.entry) until }
     ensures from { from_of result ≡ from }
@@ -174,14 +174,14 @@ fn through_lead<'a>(
     moment: u128,
     pending: &AcceptedCommand,
     announced: &'a AcceptedCommand,
-    resumed: Option<Position>,
+    resumed: &'a Option<Position>,
 ) -> Ahead<'a>
     requires usable { ForSome (command_of in_force) IsUsable }
     requires pending { IsUsable (accepted_in pending.now) }
     requires announced { IsUsable (accepted_in announced.now) }
     requires last { IsFirst announced.now }
     requires stands { Stands (command_of in_force) (Some (accepted_in pending.now)) moment (position_lent in_force) }
-    requires resumes { Stands (command_of in_force) (Some (accepted_in announced.now)) (accepted_in announced.now).lead resumed }
+    requires resumes { Stands (command_of in_force) (Some (accepted_in announced.now)) (accepted_in announced.now).lead resumed.now }
     requires near { moment ≤ (accepted_in announced.now).lead }
     requires late { (accepted_in announced.now).lead < (accepted_in pending.now).change }
     ensures shows { stretches_ahead result.leg result.rest ≡ stretches_from (command_of in_force.entry) (accepted_in pending.now ∷ accepted_in announced.now ∷ []) }
@@ -200,7 +200,7 @@ fn through_lead<'a>(
         rest: Rest {
             next: Some(leg_at(
                 in_force,
-                resumed,
+                resumed.as_ref(),
                 lead,
                 Some(announced),
                 Some(announced.change()),
@@ -227,10 +227,10 @@ pub fn resumed(slots: &CommandSlots, visits: &mut Visits) -> Option<Position>
 }
 
 /// The legs of the commands that count.
-pub fn legs_ahead<'a>(slots: &'a CommandSlots, resumed: Option<Position>) -> Ahead<'a>
+pub fn legs_ahead<'a>(slots: &'a CommandSlots, resumed: &'a Option<Position>) -> Ahead<'a>
     requires sound { AreCommands slots.now.commands }
     requires stands { Stands slots.now.commands.in_force slots.now.commands.pending slots.now.commands.moment slots.now.position }
-    requires resumes { Resumes slots.now.commands resumed }
+    requires resumes { Resumes slots.now.commands resumed.now }
     ensures shows { stretches_ahead result.leg result.rest ≡ stretches_of slots.now.commands }
     ensures from { from_of result.leg ≡ slots.now.commands.moment }
     ensures ready { AreReady result.leg result.rest }

@@ -1,7 +1,8 @@
 //! What the gates show for a while: a list or none, and what comes after it.
-ghost use Rattle.std.specs.Prelude.{◌≡◌, ◌+◌, ◌-◌, ◌*◌, ◌<◌, ◌≤◌, ◌∷◌, Some, None, min};
+ghost use denote.Bor.{Bor};
+ghost use Rattle.std.specs.Prelude.{◌≡◌, ℕ, ◌+◌, ◌-◌, ◌*◌, ◌<◌, ◌≤◌, ◌∷◌, Some, None, min};
 ghost use Rattle.std.specs.Option.{ForSome};
-ghost use Rattle.accepted_commands.specs.Words.{greatest_moment, in_ps, one_more, open_while, mask_of, mask_in, Rest, Listed, IsStanding, IsReady, AreReady, DoFollow, from_of, until_of, stretch_of, stretch_in, stretches_ahead};
+ghost use Rattle.accepted_commands.specs.Words.{greatest_moment, in_ps, one_more, open_while, mask_of, mask_in, Position, Rest, Listed, IsStanding, IsReady, AreReady, DoFollow, from_of, until_of, stretch_of, stretch_in, stretches_ahead};
 
 use gate_list::{Schedule, Visits};
 use list_position::{Need, Position};
@@ -42,7 +43,7 @@ pub struct ListedLeg<'a> {
     /// The moment at which it stands so.
     pub from: u128,
     /// Where it stands then.
-    pub position: Position,
+    pub position: &'a Position,
     /// The moment at which another takes its place; none: it goes on for ever.
     pub until: Option<u128>,
 }
@@ -78,38 +79,39 @@ pub struct Rest<'a> {
 
 impl<'a> ListedLeg<'a> {
     /// This list where it stands at another moment, in picoseconds.
-    pub fn at(&self, from: u128, position: Position) -> ListedLeg<'a>
-        ensures { result ≡ record self.now { from = from; position = position } }
+    pub fn at<'b>(&self, from: u128, position: &'b Position) -> ListedLeg<'b>
+    where
+        'a: 'b,
+        ensures { result ≡ record self.now { from = from; position = position.entry } }
     {
         ListedLeg {
+            schedule: self.schedule,
+            start: self.start,
+            held_from: self.held_from,
             from,
             position,
-            ..*self
+            until: self.until,
         }
     }
 
-    /// This list at the start of the cycle that holds `t`, in picoseconds, where it is in force and in no hold.
-    pub fn cycle_at(&self, t: u128, visits: &mut Visits) -> ListedLeg<'a>
+    /// Where this list stands at the start of the cycle that holds `t`, in picoseconds, where it is in force and in no hold.
+    pub fn cycle_at(&self, t: u128, visits: &mut Visits) -> Position
         requires stands { IsStanding (Listed self.now) }
         requires later { self.now.from ≤ t }
         requires within { t ≤ 2 * greatest_moment }
         requires unheld { ForSome self.now.held_from (λ h. t < h) }
         requires unended { ForSome self.now.until (λ u. t < u) }
-        ensures ready { (rest : Rest) → AreReady (Listed self.now) rest → AreReady (Listed result) rest }
-        ensures same { result ≡ record self.now { from = result.from; position = result.position } }
-        ensures from { result.from ≡ result.position.timer.started }
-        ensures reached { result.from ≤ t }
-        ensures holds { t < result.position.timer.next_start }
-        ensures cycle { result.position.timer.next_start ≡ result.from + in_ps self.now.schedule.now.cycle }
-        ensures onto { self.now.position.timer.next_start ≤ t → self.now.position.timer.next_start ≤ result.from }
-        ensures index { result.position.walk.index ≡ 0 }
+        ensures ready { (from : ℕ) (position : Bor Position) (rest : Rest) → from ≡ result.timer.started → position.now ≡ result → AreReady (Listed self.now) rest → AreReady (Listed (record self.now { from = from; position = position })) rest }
+        ensures reached { result.timer.started ≤ t }
+        ensures holds { t < result.timer.next_start }
+        ensures cycle { result.timer.next_start ≡ result.timer.started + in_ps self.now.schedule.now.cycle }
+        ensures onto { self.now.position.now.timer.next_start ≤ t → self.now.position.now.timer.next_start ≤ result.timer.started }
+        ensures index { result.walk.index ≡ 0 }
         ensures visit { visits.new ≡ one_more visits.old }
         ensures counted { visits.old ≤ visits.new }
     {
-        let position = self
-            .position
-            .cycle_at(self.schedule, self.held_from, t, visits);
-        self.at(position.timer.started(), position)
+        self.position
+            .cycle_at(self.schedule, self.held_from, t, visits)
     }
 }
 

@@ -44,7 +44,7 @@ fn stays_open_through(slots: &CommandSlots, resumed: &Option<Position>, need: Ne
     requires within { need.length ≤ greatest_moment }
     ensures { result ≡ open_while (mask_ahead slots.now.commands) need.class need.from need.length }
 {
-    let ahead = legs_ahead(slots, *resumed);
+    let ahead = legs_ahead(slots, resumed);
     ahead.leg.stays_open_ahead(&ahead.rest, need)
 }
 

@@ -153,7 +153,7 @@ fn search_legs(
     ensures counted { visits.old ≤ visits.new }
     ensures visits { visits.new ≤ visits.old + most_in (stretches_of slots.now.commands) }
 {
-    let ahead = legs_ahead(slots, *resumed);
+    let ahead = legs_ahead(slots, resumed);
     search(&ahead.leg, &ahead.rest, needs, before, visits)
 }
 

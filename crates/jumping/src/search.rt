@@ -95,10 +95,10 @@ struct ListSearch<'a> {
 }
 
 impl ListSearch<'_> {
-    /// Whether some class fits where a list stands so at a moment. Where nothing follows it, its position decides, and no leg is made:
-    /// a leg is as large as all that is looked at. Else the mask shows first whether one is worth making.
+    /// Whether some class fits where a list stands so at a moment. Where nothing follows it, its position decides. Else the mask shows
+    /// first whether what follows is worth asking.
     fn fits_at(&self, leg: &ListedLeg<'_>, from: u128, position: &Position) -> bool
-        requires ready { AreReady (Listed (record leg.now { from = from; position = position.now })) self.now.rest.now }
+        requires ready { AreReady (Listed (record leg.now { from = from; position = position })) self.now.rest.now }
         requires unended { ForSome leg.now.until (λ u. from < u) }
         requires needs { All (λ need. ForSome need (λ d. d ≤ greatest_moment)) self.now.needs.now }
         ensures some { result ≡ true → Fits (mask_in (stretches_ahead (Listed leg.now) self.now.rest.now)) self.now.needs.now from }
@@ -108,7 +108,7 @@ impl ListSearch<'_> {
             None => fits_alone(leg, from, position, self.needs),
             Some(_) => {
                 opens_some(position.walk.mask(), self.needs)
-                    && fits(&Leg::Listed(leg.at(from, *position)), self.rest, self.needs)
+                    && fits(&Leg::Listed(leg.at(from, position)), self.rest, self.needs)
             }
         }
     }
@@ -118,13 +118,13 @@ impl ListSearch<'_> {
     fn in_cycle(&self, leg: &ListedLeg<'_>, visits: &mut Visits) -> Option<u128>
         requires search { IsSearch self.now leg.now }
         requires unheld { ForSome leg.now.held_from (λ h. self.now.stop ≤ h) }
-        ensures searched { Searched (mask_in (stretches_ahead (Listed leg.now) self.now.rest.now)) self.now.needs.now leg.now.from (min self.now.stop leg.now.position.timer.next_start) result }
+        ensures searched { Searched (mask_in (stretches_ahead (Listed leg.now) self.now.rest.now)) self.now.needs.now leg.now.from (min self.now.stop leg.now.position.now.timer.next_start) result }
         ensures counted { visits.old ≤ visits.new }
-        ensures visits { visits.new + leg.now.position.walk.index + 1 ≤ visits.old + length leg.now.schedule.now.entries }
+        ensures visits { visits.new + leg.now.position.now.walk.index + 1 ≤ visits.old + length leg.now.schedule.now.entries }
     {
         let limit = self.stop.min(leg.position.timer.next_start());
         let mut from = leg.from;
-        let mut position = leg.position;
+        let mut position = *leg.position;
         while !self.fits_at(leg, from, &position) {
             let end = boundary(&position);
             if limit <= end {
@@ -140,10 +140,10 @@ impl ListSearch<'_> {
     fn in_two(&self, leg: &ListedLeg<'_>, visits: &mut Visits) -> Option<u128>
         requires search { IsSearch self.now leg.now }
         requires unheld { ForSome leg.now.held_from (λ h. self.now.stop ≤ h) }
-        requires near { self.now.stop ≤ leg.now.position.timer.next_start + in_ps leg.now.schedule.now.cycle }
+        requires near { self.now.stop ≤ leg.now.position.now.timer.next_start + in_ps leg.now.schedule.now.cycle }
         ensures searched { Searched (mask_in (stretches_ahead (Listed leg.now) self.now.rest.now)) self.now.needs.now leg.now.from self.now.stop result }
         ensures counted { visits.old ≤ visits.new }
-        ensures visits { visits.new + leg.now.position.walk.index + 1 ≤ visits.old + 2 * length leg.now.schedule.now.entries }
+        ensures visits { visits.new + leg.now.position.now.walk.index + 1 ≤ visits.old + 2 * length leg.now.schedule.now.entries }
     {
         if let Some(found) = self.in_cycle(leg, visits) {
             return Some(found);
@@ -152,7 +152,8 @@ impl ListSearch<'_> {
         if self.stop <= cycle_end {
             return None;
         }
-        let next = leg.cycle_at(cycle_end, visits);
+        let position = leg.cycle_at(cycle_end, visits);
+        let next = leg.at(position.timer.started(), &position);
         self.in_cycle(&next, visits)
     }
 
@@ -161,10 +162,10 @@ impl ListSearch<'_> {
     fn in_cycles(&self, leg: &ListedLeg<'_>, visits: &mut Visits) -> Option<u128>
         requires search { IsSearch self.now leg.now }
         requires unheld { ForSome leg.now.held_from (λ h. self.now.stop ≤ h) }
-        requires begins { leg.now.from ≡ leg.now.position.timer.started }
+        requires begins { leg.now.from ≡ leg.now.position.now.timer.started }
         ensures searched { Searched (mask_in (stretches_ahead (Listed leg.now) self.now.rest.now)) self.now.needs.now leg.now.from self.now.stop result }
         ensures counted { visits.old ≤ visits.new }
-        ensures visits { visits.new + leg.now.position.walk.index + 1 ≤ visits.old + 3 * length leg.now.schedule.now.entries }
+        ensures visits { visits.new + leg.now.position.now.walk.index + 1 ≤ visits.old + 3 * length leg.now.schedule.now.entries }
     {
         if let Some(found) = self.in_cycle(leg, visits) {
             return Some(found);
@@ -174,7 +175,8 @@ impl ListSearch<'_> {
             return None;
         }
         let cycle = cycle_end - leg.position.timer.started();
-        let near = leg.cycle_at(cycle_end.max(self.stop - cycle), visits);
+        let position = leg.cycle_at(cycle_end.max(self.stop - cycle), visits);
+        let near = leg.at(position.timer.started(), &position);
         self.in_two(&near, visits)
     }
 
@@ -184,7 +186,7 @@ impl ListSearch<'_> {
         requires unheld { ForSome leg.now.held_from (λ h. self.now.stop ≤ h) }
         ensures searched { Searched (mask_in (stretches_ahead (Listed leg.now) self.now.rest.now)) self.now.needs.now leg.now.from self.now.stop result }
         ensures counted { visits.old ≤ visits.new }
-        ensures visits { visits.new + leg.now.position.walk.index + 1 ≤ visits.old + 4 * length leg.now.schedule.now.entries }
+        ensures visits { visits.new + leg.now.position.now.walk.index + 1 ≤ visits.old + 4 * length leg.now.schedule.now.entries }
     {
         if let Some(found) = self.in_cycle(leg, visits) {
             return Some(found);
@@ -193,7 +195,8 @@ impl ListSearch<'_> {
         if self.stop <= cycle_end {
             return None;
         }
-        let next = leg.cycle_at(cycle_end, visits);
+        let position = leg.cycle_at(cycle_end, visits);
+        let next = leg.at(position.timer.started(), &position);
         self.in_cycles(&next, visits)
     }
 
@@ -237,7 +240,7 @@ impl ListSearch<'_> {
         let held = leg
             .position
             .at(leg.schedule, leg.start, leg.held_from, held_from, visits);
-        self.in_hold(&leg.at(held_from, held))
+        self.in_hold(&leg.at(held_from, &held))
     }
 }
 

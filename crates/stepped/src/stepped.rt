@@ -84,7 +84,8 @@ impl Gates for Stepped {
     }
 
     fn stays_open(&self, class: u8, for_ps: u128, visits: &mut Visits) -> bool {
-        let ahead = legs_ahead(&self.slots, resumed(&self.slots, visits));
+        let resumed = resumed(&self.slots, visits);
+        let ahead = legs_ahead(&self.slots, &resumed);
         let need = Need {
             class,
             from: self.slots.moment(),

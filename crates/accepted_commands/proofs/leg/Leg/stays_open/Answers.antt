@@ -10,7 +10,7 @@ returns-in-Listed c =
     let need = c.args.need in
     let stands = subst IsStanding is c.requires.ready.stands in
     let at = c.requires.at ∙ ap from_of is in
-    c.stays_open.ensures leg.start (subst (λ m. IsPlaced leg.schedule.now leg.start leg.held_from m leg.position) (sym at) stands.1)
+    c.stays_open.ensures leg.start (subst (λ m. IsPlaced leg.schedule.now leg.start leg.held_from m leg.position.now) (sym at) stands.1)
     ∙ ap (λ g. open_while (mask_of (stretch_of g)) need.class need.from need.length) (sym is)
 
 pub returns-in-Open : goal.returns-in-Open
