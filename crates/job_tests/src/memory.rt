@@ -2,6 +2,8 @@
 
 mod bounds;
 mod checks;
+mod faults;
+mod jobs;
 mod large;
 mod lent;
 mod pictures;

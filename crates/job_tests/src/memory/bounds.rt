@@ -1,50 +1,12 @@
 //! The delays of streams, from memory.
 
-use crate::memory::lent::{DOTS, USUAL, done, has, has_told, room_for};
+use crate::memory::lent::{DOTS, USUAL, done, has};
 use in_memory::{PortValues, Ran, bounds_octets};
 use std::alloc::Global;
-
-/// A stream that just misses its window, and meets its deadline.
-const TABLE: &[u8] = b"stream 1 1 60 250us 60us 1 deadline 200us\n";
 
 /// A window for each of two classes.
 const SCHEDULE: &[u8] = b"tc qdisc replace dev eth0 root taprio num_tc 2 map 0 1 base-time 0 \
 sched-entry S 2 50000 sched-entry S 1 200000\n";
-
-/// The same, and then a line that is no command.
-const BROKEN: &[u8] = b"tc qdisc replace dev eth0 root taprio num_tc 2 map 0 1 base-time 0 \
-sched-entry S 2 50000 sched-entry S 1 200000\nclock 5\n";
-
-/// What is answered about the schedule.
-const ANSWERS: &[u8] = b"apart 0 1\n\
-class 1 most 1 of 128 frames 1 every 250000000\n\
-bound 1 class 1 wait 190000000 to 190000000 end 190672000 to 190672000 deadline 200000000 met\n";
-
-/// What is said of that line.
-const UNKNOWN: &[u8] = b"taprio_port: script line 2: UnknownLine\n";
-
-/// Whether the schedule is answered and the fault told; or, where the slice of this number lacks an octet, nothing is written.
-fn is_told(alloc: Global, lacking: u8) -> bool {
-    let (mut output, mut fault) = (DOTS, DOTS);
-    let ran = bounds_octets(
-        alloc,
-        USUAL,
-        9,
-        TABLE,
-        BROKEN,
-        &mut output[..room_for(ANSWERS, lacking == 0)],
-        &mut fault[..room_for(UNKNOWN, lacking == 1)],
-    );
-    has_told(ran, lacking < 2, [ANSWERS, UNKNOWN], &output, &fault)
-}
-
-/// With too little room for the answers by one octet, and for the text of the fault, and then with just enough.
-#[test]
-fn the_room_that_is_told_is_enough(rt: HostRuntime) {
-    for lacking in 0..3u8 {
-        assert!(rt; is_told(rt.alloc(), lacking), "slice {lacking}");
-    }
-}
 
 /// A stream whose frames are dropped when they come.
 const LOST: &[u8] = b"stream 7 0 9 1ms 0ns 1 deadline 1ps\n";

@@ -1,15 +1,9 @@
 //! Pictures in memory.
 
+use crate::memory::jobs::SHOWN;
 use crate::memory::lent::{DOTS, USUAL, done, has};
-use in_memory::{PictureValues, Ran, draw_octets};
+use in_memory::draw_octets;
 use std::alloc::Global;
-
-/// The whole run, as wide as a picture is where no width is given.
-const SHOWN: PictureValues = PictureValues {
-    from: None,
-    to: None,
-    width: 1200,
-};
 
 /// A frame, and a microsecond.
 const SCRIPT: &[u8] = b"frame 1 0 60\nclock 1000000\n";
@@ -32,24 +26,6 @@ fn is_drawn(alloc: Global, room: usize) -> bool {
     let is_whole = picture.as_slice().starts_with(b"<svg xmlns=")
         && picture.as_slice().ends_with(b"</svg>\n");
     ran == done(room) && is_whole && has(&fault, b"")
-}
-
-/// Whether a script with a fault isn't drawn, and the fault is told.
-fn is_refused(alloc: Global) -> bool {
-    let (mut output, mut fault) = (DOTS, DOTS);
-    let ran = draw_octets(alloc, USUAL, SHOWN, b"clok 5\n", &mut output, &mut fault);
-    let text = b"taprio_port: script line 1: UnknownLine\n";
-    let wanted = Ran {
-        output: 0,
-        fault: text.len(),
-        status: 3,
-    };
-    ran == wanted && has(&output, b"") && has(&fault, text)
-}
-
-#[test]
-fn a_bad_script_is_not_drawn(rt: HostRuntime) {
-    assert!(rt; is_refused(rt.alloc()));
 }
 
 /// With too little room first, and then with the room that was reported.

@@ -1,6 +1,6 @@
 //! Scripts in memory.
 
-use crate::memory::lent::{DOTS, USUAL, done, has, has_told, room_for};
+use crate::memory::lent::{DOTS, USUAL, done, has};
 use in_memory::{Ran, run_octets};
 use refusing_heap::RefusingHeap;
 use std::alloc::Global;
@@ -34,27 +34,6 @@ const BROKEN: &[u8] = b"frame 1 0 60\nclock 1000000\nclok 5\n";
 
 /// The text of that fault.
 const UNKNOWN: &[u8] = b"taprio_port: script line 3: UnknownLine\n";
-
-/// Whether the script is answered and the fault told; or, where the slice of this number lacks an octet, nothing is written.
-fn is_told(alloc: Global, lacking: u8) -> bool {
-    let (mut output, mut fault) = (DOTS, DOTS);
-    let ran = run_octets(
-        &alloc,
-        USUAL,
-        BROKEN,
-        &mut output[..room_for(ANSWERS, lacking == 0)],
-        &mut fault[..room_for(UNKNOWN, lacking == 1)],
-    );
-    has_told(ran, lacking < 2, [ANSWERS, UNKNOWN], &output, &fault)
-}
-
-/// With too little room for the answers by one octet, and for the text of the fault, and then with just enough.
-#[test]
-fn the_room_that_is_told_is_enough(rt: HostRuntime) {
-    for lacking in 0..3u8 {
-        assert!(rt; is_told(rt.alloc(), lacking), "slice {lacking}");
-    }
-}
 
 /// Whether a growth of this number is refused, which is told by the status alone, and nothing is written; or it isn't asked for. None where it
 /// comes out otherwise.
