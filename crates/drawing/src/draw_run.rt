@@ -2,6 +2,7 @@
 
 ghost use Rattle.std.specs.Prelude.{◌≡◌, ◌≤◌, ◌+◌, ◌*◌, ◌↔◌, ℕ, IfOk, IfSome, IsTrue, List, MatchOption, Ok, OnOk, Result, Some, true};
 ghost use Rattle.words.specs.Words.{words_of};
+ghost use Rattle.script.specs.Answered.{HasFewVisits};
 ghost use Rattle.script.specs.Responses.{responses_to};
 ghost use Rattle.wire_time.specs.Moment.{greatest_lead};
 ghost use Rattle.drawing.specs.Words.{installs, settled, answers_to, IsSoundPort, greatest_moment, Command, script_left, IsReader, TcFault, reading_of, request_of, tc_request, seen_at, ForSomeBands, IsDrawnFrom, MOST_SHAPES, bands_to, course_on, last_moment, picture_after, port_on, Takes, TakesLine, seen_by};
@@ -81,6 +82,7 @@ pub fn take<A: Allocator>(port: &mut RunningPort<A>, course: &mut Course<A>, eve
     ensures course { course.new ≡ seen_at event.now port.old.port course.old }
     ensures port { port.new.port ≡ settled (answers_to event.now port.old.port).1 }
     ensures sound { IsSoundPort port.new.port }
+    ensures few { HasFewVisits port.old.port port.old port.new }
 {
     let now = port.now();
     let beside = asked_at(port, event);
@@ -159,6 +161,7 @@ fn take_command<A: Allocator>(
     ensures bands { bands.new ≡ given settings command.now port.old.port bands.old }
     ensures port { port.new.port ≡ (installs port.old.port command.now).1 }
     ensures sound { IsSoundPort port.new.port }
+    ensures few { HasFewVisits port.old.port port.old port.new }
 {
     let now = port.now();
     let lead = now + lead_of(settings);
@@ -199,6 +202,7 @@ fn take_asked<A: Allocator>(
     ensures port { port.new.port ≡ settled (answers_to event.now port.old.port).1 }
     ensures bands { BandsOn settings options event.now port.old.port course.old bands.old bands.new }
     ensures sound { IsSoundPort port.new.port }
+    ensures few { HasFewVisits port.old.port port.old port.new }
 {
     // For the prover: a call on a port says what holds of every port.
     let _now = port.now();
@@ -224,6 +228,7 @@ fn take_tc<A: Allocator, H: Watch>(
     ensures bands { (read : List (List ℕ) → Result Command TcFault) → IsReader read → (o : DrawOptions) → BandsBy settings o (tc_request (read (words_of line.now))) port.old.port course.old bands.old bands.new }
     ensures port { (read : List (List ℕ) → Result Command TcFault) → IsReader read → port.new.port ≡ settled (responses_to (tc_request (read (words_of line.now))) port.old.port).1 }
     ensures sound { IsSoundPort port.new.port }
+    ensures few { HasFewVisits port.old.port port.old port.new }
 {
     // For the prover: a call on a port says what holds of every port.
     let _now = port.now();
@@ -254,6 +259,7 @@ fn take_line<A: Allocator, H: Watch>(
     ensures bands { (read : List (List ℕ) → Result Command TcFault) → IsReader read →
         BandsOfLine settings options (request_of read line.now) port.old.port course.old bands.old bands.new }
     ensures sound { IsSoundPort port.new.port }
+    ensures few { HasFewVisits port.old.port port.old port.new }
 {
     // For the prover: a call on a port says what holds of every port.
     let _now = port.now();

@@ -2,6 +2,7 @@ pub mod TickLaws
 pub mod LaneLaws
 pub mod BandLaws
 pub mod DrawLaws
+pub mod BoundaryLaws
 pub mod CommandLaws
 pub mod LongestLaws
 pub mod JoinLaws

@@ -5,7 +5,8 @@ use Rattle.gate_list.specs.Gate.{opens, plan_fault}
 use Rattle.gate_list.specs.Open.{open_while}
 use Rattle.picture.specs.declared.TheConstants.{MAX_WIDTH, MOST_BOUNDARIES}
 use Rattle.list_config.specs.History.{Accepted, gates}
-use Rattle.list_config.specs.Current.{accepted_at, deletion_at, longest, with_command}
+use Rattle.list_config.specs.Current.{IsSteady, accepted_at, deletion_at, longest, with_command}
+use Rattle.list_config.specs.Event.{IsGateEvent}
 use Rattle.abstract_port.specs.AbstractPort.{plan_asked}
 use Rattle.abstract_port.specs.declared.Command.{Command}
 use Rattle.abstract_port.specs.declared.Command.TheVariants.{Replace, Delete}
@@ -81,6 +82,24 @@ abbrev pub ArePieces : (ℕ → ℕ) → ℕ → ℕ → ℕ → List ℕ → Ty
 ArePieces masks piece m upto [] = upto ≤ m
 ArePieces masks piece m upto (next ∷ rest) = IsPiece masks piece m upto next × ArePieces masks piece next upto rest
 
+-- The next boundary of the gates after m and before another moment: a gate event up to which they show one mask.
+pub record IsBoundary (history : List Accepted) (m upto next : ℕ) : Type 0 where
+  pub onward : m < next
+  pub before : next < upto
+  pub steady : IsSteady history m next
+  pub event : IsGateEvent history next
+
+-- From m on and before `upto` the gates go on to a moment by these boundaries, one after another, and change no more until then.
+abbrev pub AreBoundaries : List Accepted → ℕ → ℕ → ℕ → List ℕ → Type 0
+AreBoundaries history m upto seen [] = (m ≤ seen) × IsSteady history m seen
+AreBoundaries history m upto seen (next ∷ rest) = IsBoundary history m upto next × AreBoundaries history next upto seen rest
+
+-- Each boundary on that way uses up one of those that are left, and nothing else does.
+pub record AreUsedUp (history : List Accepted) (m upto seen left new_left : ℕ) : Type 0 where
+  pub passed : List ℕ
+  pub boundaries : AreBoundaries history m upto seen passed
+  pub counted : new_left + length passed ≡ left
+
 -- piece by piece
 unfoldable pub whole_pieces : (ℕ → ℕ) → ℕ → ℕ → List ℕ → ClassLane → ClassLane
 whole_pieces masks class m [] c = c
@@ -143,8 +162,9 @@ first_drawn d m = min (max d.from d.moment) m
 -- looked at. From there on the time is drawn in pieces.
 pub record IsGoneOn (d new : Drawing) (m : ℕ) : Type 0 where
   pub seen : ℕ
+  pub within : seen ≤ max (first_drawn d m) (up_to d.to m)
   pub whole : 0 < new.left → up_to d.to m ≤ seen
-  pub fewer : new.left ≤ d.left
+  pub used : AreUsedUp d.history (first_drawn d m) (up_to d.to m) seen d.left new.left
   pub each : List ClassLane
   pub bands : (class : ℕ) → class < CLASSES → class_at each class ≡ drawn (gates d.history) class (first_drawn d m) (seen - first_drawn d m) (class_at d.classes class)
   pub pieces : IsDrawnInPieces (gates d.history) (piece_of d.from d.to (up_to d.to m)) seen (up_to d.to m) each d.mixed new.classes new.mixed

@@ -3,6 +3,7 @@ pub use Rattle.wire_time.specs.Moment.{greatest_lead, greatest_moment}
 pub use Rattle.wire_time.specs.Wire.{lead_of}
 pub use Rattle.gate_list.specs.Gate.{opens, plan_fault}
 pub use Rattle.list_config.specs.Current.{IsCurrent, IsSteady, accepted_at, deletion_at, longest, with_command}
+pub use Rattle.list_config.specs.Event.{IsGateEvent}
 pub use Rattle.list_config.specs.History.{Accepted, gates, kept}
 pub use Rattle.abstract_port.specs.AbstractPort.{AbstractPort, installs, plan_asked}
 pub use Rattle.abstract_port.specs.declared.Command.{Command}
@@ -10,7 +11,7 @@ pub use Rattle.picture.specs.Bands.{Going, after}
 unfoldable pub use Rattle.picture.specs.Bands.{bands_from}
 unfoldable pub use Rattle.gate_list.specs.Open.{open_while}
 unfoldable pub use Rattle.picture.specs.Drawn.{mixed_pieces, opens_within, whole_pieces}
-pub use Rattle.picture.specs.Drawn.{ArePieces, ClassLane, Drawing, IsDrawnInPieces, IsGoneOn, IsPiece, bands_joined, begun, class_at, drawn, drawn_mixed, drawn_whole, first_drawn, history_with, is_mixed, most_asked, most_mixed, most_moved, new_drawing, no_bands, no_needs, no_classes, piece_of, stepped, up_to, with_bands, with_plan}
+pub use Rattle.picture.specs.Drawn.{AreBoundaries, ArePieces, AreUsedUp, ClassLane, Drawing, IsBoundary, IsDrawnInPieces, IsGoneOn, IsPiece, bands_joined, begun, class_at, drawn, drawn_mixed, drawn_whole, first_drawn, history_with, is_mixed, most_asked, most_mixed, most_moved, new_drawing, no_bands, no_needs, no_classes, piece_of, stepped, up_to, with_bands, with_plan}
 pub use Rattle.picture.specs.Lanes.{AreEarly, Filled, distance, is_near, join, joined, joined_at, no_shapes, pushed, wider}
 unfoldable pub use Rattle.picture.specs.Lanes.{join_from, least_distance, put}
 pub use Rattle.picture.specs.Laws.{AreBands, IsLaneOf, Joins}

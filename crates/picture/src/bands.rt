@@ -1,7 +1,7 @@
 //! The bands of eight classes: when each is open, by gates of their own.
 
 ghost use Rattle.std.specs.Prelude.{◌≡◌, ◌≤◌, ◌<◌, ◌+◌, ◌-◌, ◌*◌, ℕ, IfOk, Ok, Some, false, if◌then◌else◌, is_some, length, max, min, slice_set};
-ghost use Rattle.picture.specs.Words.{greatest_lead, greatest_moment, lead_of, opens, plan_fault, gates, kept, IsCurrent, accepted_at, deletion_at, with_command, AbstractPort, installs, plan_asked, MAX_WIDTH, MOST_BOUNDARIES, MOST_SHAPES, bands_joined, class_at, drawn, IsDrawnInPieces, IsGoneOn, IsPiece, is_mixed, most_asked, most_mixed, most_moved, no_needs, open_while, opens_within, history_with, new_drawing, no_bands, no_classes, piece_of, stepped, up_to, with_plan};
+ghost use Rattle.picture.specs.Words.{greatest_lead, greatest_moment, lead_of, opens, plan_fault, gates, kept, IsCurrent, accepted_at, deletion_at, with_command, AbstractPort, installs, plan_asked, MAX_WIDTH, MOST_BOUNDARIES, MOST_SHAPES, AreUsedUp, bands_joined, class_at, drawn, IsDrawnInPieces, IsGoneOn, IsPiece, is_mixed, most_asked, most_mixed, most_moved, no_needs, open_while, opens_within, history_with, new_drawing, no_bands, no_classes, piece_of, stepped, up_to, with_plan};
 
 use crate::class_bands::ClassBands;
 use crate::span::Shape;
@@ -141,7 +141,7 @@ fn draw_to<A: Allocator>(
     ensures onward { own.old.moment ≤ own.new.moment }
     ensures within { own.new.moment ≤ max own.old.moment upto }
     ensures whole { 0 < left.new → upto ≤ own.new.moment }
-    ensures fewer { left.new ≤ left.old }
+    ensures used { AreUsedUp own.old.history own.old.moment upto own.new.moment left.old left.new }
     ensures history { own.new.history ≡ kept own.old.history own.new.moment }
     ensures classes { (class : ℕ) → class < CLASSES → class_at classes.new class ≡ drawn (gates own.old.history) class own.old.moment (own.new.moment - own.old.moment) (class_at classes.old class) }
 {
@@ -445,7 +445,7 @@ impl<A: Allocator> Bands<A> {
 
     /// The bands of the classes that are open end now, or where the drawing ends if that is earlier.
     pub fn end(&mut self)
-        ensures same { (self.new.history ≡ self.old.history) × (self.new.moment ≡ self.old.moment) × (self.new.from ≡ self.old.from) × (self.new.to ≡ self.old.to) }
+        ensures same { (self.new.history ≡ self.old.history) × (self.new.moment ≡ self.old.moment) × (self.new.from ≡ self.old.from) × (self.new.to ≡ self.old.to) × (self.new.left ≡ self.old.left) }
         ensures classes { (class : ℕ) → class < CLASSES → class_at self.new.classes class ≡ stepped false (up_to self.old.to self.old.moment) (class_at self.old.classes class) }
         ensures mixed { (class : ℕ) → class < CLASSES → class_at self.new.mixed class ≡ stepped false (up_to self.old.to self.old.moment) (class_at self.old.mixed class) }
     {
@@ -456,7 +456,7 @@ impl<A: Allocator> Bands<A> {
 
     /// Bands of a class that are closer to one another than a gap, in picoseconds, are joined.
     pub fn join(&mut self, gap: u128)
-        ensures same { (self.new.history ≡ self.old.history) × (self.new.moment ≡ self.old.moment) × (self.new.from ≡ self.old.from) × (self.new.to ≡ self.old.to) }
+        ensures same { (self.new.history ≡ self.old.history) × (self.new.moment ≡ self.old.moment) × (self.new.from ≡ self.old.from) × (self.new.to ≡ self.old.to) × (self.new.left ≡ self.old.left) }
         ensures classes { (class : ℕ) → class < CLASSES → class_at self.new.classes class ≡ bands_joined gap (class_at self.old.classes class) }
         ensures mixed { (class : ℕ) → class < CLASSES → class_at self.new.mixed class ≡ bands_joined gap (class_at self.old.mixed class) }
     {

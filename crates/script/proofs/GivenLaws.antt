@@ -1,7 +1,7 @@
 -- What is written and seen of one answer.
 use Rattle.std.proofs.Common.{◌≡◌, ℕ, List, [], ◌∷◌, Option, Some, None, Result, Ok, Err, OnOk, refl, sym, ap, ◌∙◌, subst, append-nil}
 use denote.Bor.{Bor}
-use Rattle.script.specs.Words.{AbstractPort, answers_to, command_answer, Answer, Command, Event, answer_lines, Writes, IsAnswered, Request, NoCommand, lines_of, responses_to, TcFault, Observed, seen_all, noted_at}
+use Rattle.script.specs.Words.{AbstractPort, answers_to, command_answer, Answer, Command, Event, answer_lines, Writes, HasFewVisits, IsAnswered, PortState, Request, NoCommand, lines_of, responses_to, TcFault, Observed, seen_all, noted_at}
 use Rattle.abstract_port.specs.AbstractPort.{installs}
 use Rattle.abstract_port.specs.declared.Event.TheVariants.{Install}
 use Rattle.abstract_port.specs.declared.Refused.{Refused}
@@ -14,12 +14,12 @@ pub always : {T E P : Type 0} (r : Result T E) → P → OnOk r P
 always (Ok x) p = p
 always (Err e) p = tt
 
--- a call that failed has written a prefix, and says nothing else
-pub fails : {T E : Type 0} {r : Result T E} {y : E} (request : Request) (old new : Option (List ℕ)) (p q : AbstractPort) (a b : Option Observed) → r ≡ Err y → Writes r old new (lines_of (responses_to request p).0)
-    → IsAnswered request r old new p q a b
-fails {T} {E} {r} {y} request old new p q a b e w =
+-- a call that failed has written a prefix, and says nothing else but what the port looked at
+pub fails : {T E : Type 0} {r : Result T E} {y : E} (request : Request) (old new : Option (List ℕ)) (p q : PortState) (a b : Option Observed) → r ≡ Err y → Writes r old new (lines_of (responses_to request p.port).0)
+    → HasFewVisits p.port p q → IsAnswered request r old new p q a b
+fails {T} {E} {r} {y} request old new p q a b e w few =
     let never : (P : Type 0) → OnOk r P = λ P. (let Q : Result T E → Type 0 = λ x. OnOk x P in subst Q (sym e) tt) in
-    record { text = w; port = never _; seen = never _; sound = never _ }
+    record { text = w; port = never _; seen = never _; sound = never _; few = few }
 
 -- its lines are all that is written
 pub one_written : {T E : Type 0} (r : Result T E) (old new : Option (List ℕ)) (answer told : Answer) → answer ≡ told → Writes r old new (answer_lines answer) → Writes r old new (lines_of_answers (told ∷ []))

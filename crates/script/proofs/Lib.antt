@@ -9,3 +9,4 @@ pub mod SeparatedLaws
 pub mod ClockLaws
 pub mod PlainLaws
 pub mod GivenLaws
+pub mod FewLaws

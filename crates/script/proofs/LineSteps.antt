@@ -1,9 +1,9 @@
 -- One line more of a script, and the ends.
-use Rattle.std.proofs.Common.{◌≡◌, ◌≤◌, ℕ, List, [], ◌∷◌, ◌++◌, map, Option, Some, None, Result, Ok, Err, true, false, refl, sym, ap, ◌∙◌, subst}
-use Rattle.std.specs.Prelude.{IfSome}
+use Rattle.std.proofs.Common.{◌≡◌, ◌≤◌, ℕ, List, [], ◌∷◌, ◌++◌, map, Option, Some, None, Result, Ok, Err, true, false, refl, sym, ap, ◌∙◌, subst, arith}
+use Rattle.std.specs.Prelude.{IfSome, ⊤}
 use Rattle.std.proofs.lemmas.List.{append-nil}
 use Rattle.std.specs.Io.KnownBytes.{Appends, Keeps}
-use Rattle.script.specs.Words.{AbstractPort, settled, answers_to, IsSoundPort, Event, Clock, Command, TcFault, Script, Advances, Fault, IsAnswered, Request, Asks, NoCommand, request_of, Gave, end_lines, lines_of, noted_by, responses_to, bad_line, ending_text, long_line, outcome_after, outcome_from, reading_of, ScriptFault, BadLine, Observed, seen_all, noted_after, noted_at}
+use Rattle.script.specs.Words.{AbstractPort, settled, answers_to, IsSoundPort, Event, Clock, Command, TcFault, Script, Advances, Fault, HasFewVisits, IsAnswered, PortState, Request, Asks, NoCommand, request_of, Gave, end_lines, lines_of, noted_by, responses_to, bad_line, ending_text, long_line, outcome_after, outcome_from, reading_of, ScriptFault, BadLine, Observed, seen_all, noted_after, noted_at}
 use Rattle.separation.specs.Settled.{IsPossible, IsSettling}
 use Rattle.octet_writer.specs.Writes.{FallsShort}
 use Rattle.line_reader.specs.Script.{Line}
@@ -13,7 +13,10 @@ use Rattle.job.specs.declared.fault.Fault.TheVariants as Faults
 use Rattle.job.proofs.LineLaws as Lines
 use Rattle.job.proofs.LineLaws.{behind}
 use Rattle.job.proofs.RunEndLaws.{input_out}
-use Rattle.script.specs.Outcome.{with_line}
+use Rattle.abstract_port.specs.Answers.{port_after}
+use Rattle.port.proofs.FewLaws.{few_run}
+use Rattle.script.specs.Responses.{events_of}
+use Rattle.script.specs.Outcome.{Reading, with_line}
 use Rattle.script.proofs.OutputLaws.{outcome-more}
 use Rattle.script.proofs.StartsLaws.{settled-sound}
 use Rattle.script.proofs.LeftLaws.{end-settled}
@@ -101,20 +104,73 @@ module _ (read : List (List ℕ) → Result Command TcFault) (until : Option ℕ
   abbrev pub told : Place → Script → Outcome BadLine
   told x script = outcome_from read until script x.port x.seen
 
-  -- the state of a run: the port that runs stands for some abstract port
-  pub record IsRunning (first : Place) (all : Option Script) (old new : Option (List ℕ)) (left : Option Script) (q : AbstractPort) (o : Option Observed) : Type 0 where
-    pub ideal : AbstractPort
-    pub stands : StandsFor q ideal
-    pub goes : Lines.Goes long_line told first all old new (record { port = ideal; seen = o }) left
+  -- a port after what the lines to come ask
+  abbrev pub after_all : Script → AbstractPort → AbstractPort
+  after_all script p = port_after (events_of (reading_of read script).requests) p
 
-  pub is_begun : (q : AbstractPort) (o : Option Observed) (all : Option Script) (old : Option (List ℕ)) → IsSoundPort q → IsRunning (record { port = q; seen = o }) all old old all q o
-  is_begun q o all old sound = record { ideal = q; stands = stands_for_itself q sound; goes = Lines.begun long_line told (record { port = q; seen = o }) all old }
+  -- the lines to come bring a port to where all bring the first one
+  abbrev pub ComesTo : Option Script → AbstractPort → Option Script → AbstractPort → Type 0
+  ComesTo None p left q = ⊤
+  ComesTo (Some all) p None q = ⊥
+  ComesTo (Some all) p (Some script) q = after_all script q ≡ after_all all p
+
+  -- no step has looked at more than the commands of all lines let it
+  abbrev pub HasFewInAll : Option Script → PortState → PortState → Type 0
+  HasFewInAll all p q = IfSome all (λ script. HasFewVisits (after_all script p.port) p q)
+
+  -- the state of a run: the port that runs stands for some abstract port
+  pub record IsRunning (first : PortState) (seen : Option Observed) (all : Option Script) (old new : Option (List ℕ)) (left : Option Script) (q : PortState) (o : Option Observed) : Type 0 where
+    pub ideal : AbstractPort
+    pub stands : StandsFor q.port ideal
+    pub goes : Lines.Goes long_line told (record { port = first.port; seen = seen }) all old new (record { port = ideal; seen = o }) left
+    pub comes : ComesTo all first.port left ideal
+    pub few : HasFewInAll all first q
+
+  pub is_begun : (q : PortState) (o : Option Observed) (all : Option Script) (old : Option (List ℕ)) → IsSoundPort q.port → IsRunning q o all old old all q o
+  is_begun q o all old sound = record { ideal = q.port; stands = stands_for_itself q.port sound; goes = Lines.begun long_line told (record { port = q.port; seen = o }) all old; comes = here all; few = none all }
+    where
+      here : (all : Option Script) → ComesTo all q.port all q.port
+      here None = tt
+      here (Some script) = refl
+
+      none : (all : Option Script) → HasFewInAll all q q
+      none None = tt
+      none (Some script) = omega arith
 
   -- what was written is let out
-  pub kept : (first : Place) (all : Option Script) (old now new : Option (List ℕ)) (s : Option Script) (q : AbstractPort) (o : Option Observed) → IsRunning first all old now s q o → Keeps now new → IsRunning first all old new s q o
-  kept first all old now new s q o i k = record { ideal = i.ideal; stands = i.stands; goes = Lines.goes_kept long_line told first (record { port = i.ideal; seen = o }) old now new all s i.goes k }
+  pub kept : (first : PortState) (seen : Option Observed) (all : Option Script) (old now new : Option (List ℕ)) (s : Option Script) (q : PortState) (o : Option Observed) → IsRunning first seen all old now s q o → Keeps now new → IsRunning first seen all old new s q o
+  kept first seen all old now new s q o i k =
+      record { ideal = i.ideal; stands = i.stands; goes = Lines.goes_kept long_line told (record { port = first.port; seen = seen }) (record { port = i.ideal; seen = o }) old now new all s i.goes k; comes = i.comes; few = i.few }
 
-  module _ (first : Place) (number : ℕ) (line : List ℕ) (q : AbstractPort) (o : Option Observed) (all : Option Script) (old now : Option (List ℕ)) (s t : Option Script) (i : IsRunning first all old now s q o) where
+  -- a line before the rest, and what it asks
+  after_line : (number : ℕ) (is : Result (Option Request) ScriptFault) (q r : AbstractPort) → ((rest : Reading) → port_after (events_of (with_line number is rest).requests) q ≡ port_after (events_of rest.requests) r)
+      → (line : List ℕ) (all s t : Option Script) (p : AbstractPort) → Advances s (Ok true) number line t → request_of read line ≡ is → ComesTo all p s q → ComesTo all p t r
+  after_line number is q r one line None s t p a e comes = tt
+  after_line number is q r one line (Some all) None t p a e comes = absurd comes
+  after_line number is q r one line (Some all) (Some script) t p (rest, left, same) e comes =
+      subst (λ u. ComesTo (Some all) p u r) (sym left)
+      (sym (one (reading_of read rest)) ∙ sym (ap (λ x. port_after (events_of (with_line number x (reading_of read rest)).requests) q) e) ∙ sym (ap (λ x. after_all x q) same) ∙ comes)
+
+  after_request : (r : Request) (q : AbstractPort) (rest : Reading) → port_after (events_of (r ∷ rest.requests)) q ≡ port_after (events_of rest.requests) (responses_to r q).1
+  after_request (Asks event) q rest = refl
+  after_request (NoCommand fault) q rest = refl
+
+  -- what a call looks at that answers a line
+  pub few_further : (first : PortState) (seen : Option Observed) (all : Option Script) (old now : Option (List ℕ)) (s : Option Script) (q : PortState) (o : Option Observed) → IsRunning first seen all old now s q o → (r : PortState) → HasFewVisits q.port q r
+      → HasFewInAll all first r
+  few_further first seen all old now s q o i r step = by all s i.comes i.few
+    where
+      by : (all s : Option Script) → ComesTo all first.port s i.ideal → HasFewInAll all first q → HasFewInAll all first r
+      by None s comes so_far = tt
+      by (Some all) None comes so_far = absurd comes
+      by (Some all) (Some script) comes so_far =
+          subst (λ x. HasFewVisits x first r) comes
+          (few_run ⊤ (events_of (reading_of read script).requests) (record { port = i.ideal; visits = first.visits }) q r 0 i.stands.same (λ any. subst (λ x. HasFewVisits x first q) (sym comes) so_far) (λ any. step) tt)
+
+  module _ (p0 : PortState) (o0 : Option Observed) (number : ℕ) (line : List ℕ) (q : PortState) (o : Option Observed) (all : Option Script) (old now : Option (List ℕ)) (s t : Option Script) (i : IsRunning p0 o0 all old now s q o) where
+    abbrev first : Place
+    first = record { port = p0.port; seen = o0 }
+
     abbrev here : Place
     here = record { port = i.ideal; seen = o }
 
@@ -126,44 +182,52 @@ module _ (read : List (List ℕ) → Result Command TcFault) (until : Option ℕ
     by_one r e rest = by_request (Ok (Some r)) e rest ∙ outcome-more until r (reading_of read rest) i.ideal o
 
     -- the answers to a line are written
-    pub goes_on : {T E : Type 0} {x : T} → IsSettling → (q' : AbstractPort) (o' : Option Observed) (new : Option (List ℕ)) (r : Request) → Advances s (Ok true) number line t → request_of read line ≡ Ok (Some r)
-        → IsAnswered {T = T} {E = E} r (Ok x) now new q q' o o' → IsRunning first all old new t q' o'
+    pub goes_on : {T E : Type 0} {x : T} → IsSettling → (q' : PortState) (o' : Option Observed) (new : Option (List ℕ)) (r : Request) → Advances s (Ok true) number line t → request_of read line ≡ Ok (Some r)
+        → IsAnswered {T = T} {E = E} r (Ok x) now new q q' o o' → IsRunning p0 o0 all old new t q' o'
     goes_on law q' o' new r a e d =
         let P : List ℕ → Type 0 = λ text. Appends now new text in
         let Q : Option Observed → Type 0 = λ n. Lines.Goes long_line told first all old new (record { port = (responses_to r i.ideal).1; seen = n }) t in
         record {
           ideal = (responses_to r i.ideal).1;
-          stands = stands-after law q i.ideal i.stands r q' d.port d.sound;
-          goes = subst Q (sym (d.seen ∙ same-seen law q i.ideal i.stands r o))
-              (Lines.goes_on long_line told number line first here old now (after r here) new (lines_of (responses_to r i.ideal).0) all s t i.goes a (by_one r e) (subst P (same-text law q i.ideal i.stands r) d.text));
+          stands = stands-after law q.port i.ideal i.stands r q'.port d.port d.sound;
+          goes = subst Q (sym (d.seen ∙ same-seen law q.port i.ideal i.stands r o))
+              (Lines.goes_on long_line told number line first here old now (after r here) new (lines_of (responses_to r i.ideal).0) all s t i.goes a (by_one r e) (subst P (same-text law q.port i.ideal i.stands r) d.text));
+          comes = after_line number (Ok (Some r)) i.ideal (responses_to r i.ideal).1 (after_request r i.ideal) line all s t p0.port a e i.comes;
+          few = few_further p0 o0 all old now s q o i q' d.few;
         }
 
     -- a line that is skipped
-    pub goes_past : Advances s (Ok true) number line t → request_of read line ≡ Ok None → IsRunning first all old now t q o
-    goes_past a e = record { ideal = i.ideal; stands = i.stands; goes = Lines.goes_past long_line told number line first here old now here all s t i.goes a (by_request (Ok None) e) }
+    pub goes_past : Advances s (Ok true) number line t → request_of read line ≡ Ok None → IsRunning p0 o0 all old now t q o
+    goes_past a e = record {
+      ideal = i.ideal;
+      stands = i.stands;
+      goes = Lines.goes_past long_line told number line first here old now here all s t i.goes a (by_request (Ok None) e);
+      comes = after_line number (Ok None) i.ideal i.ideal (λ rest. refl) line all s t p0.port a e i.comes;
+      few = i.few;
+    }
 
     module _ {T : Type 0} {f : Result T (Fault BadLine)} where
       -- a prefix of the answers to a line is written
       pub goes_no_further : IsSettling → (new : Option (List ℕ)) (r : Request) → Advances s (Ok true) number line t → request_of read line ≡ Ok (Some r)
-          → FallsShort now new (lines_of (responses_to r q).0) → f ≡ Err Faults.Write → IfSome all (λ script. RunsOut f old new (told first script))
+          → FallsShort now new (lines_of (responses_to r q.port).0) → f ≡ Err Faults.Write → IfSome all (λ script. RunsOut f old new (told first script))
       goes_no_further law new r a e w h =
           let P : List ℕ → Type 0 = λ text. FallsShort now new text in
-          input_out all (told first) f old new (Lines.goes_no_further long_line told number line first here old now (after r here) new (lines_of (responses_to r i.ideal).0) all s t i.goes a (by_one r e) (subst P (same-text law q i.ideal i.stands r) w) h)
+          input_out all (told first) f old new (Lines.goes_no_further long_line told number line first here old now (after r here) new (lines_of (responses_to r i.ideal).0) all s t i.goes a (by_one r e) (subst P (same-text law q.port i.ideal i.stands r) w) h)
 
       -- a line with a fault
       pub goes_wrong : (fault : ScriptFault) → Advances s (Ok true) number line t → request_of read line ≡ Err fault → f ≡ Err (Faults.Input (bad_line number fault)) → IfSome all (λ script. RunsOut f old now (told first script))
       goes_wrong fault a e h = input_out all (told first) f old now (Lines.goes_wrong long_line told number line first here old now (bad_line number fault) all s t i.goes a (by_request (Err fault) e) h)
 
       -- the ending
-      pub ends_early : IsSettling → (new : Option (List ℕ)) → Advances s (Ok false) number line t → FallsShort now new (ending_text until q o) → f ≡ Err Faults.Write → IfSome all (λ script. RunsOut f old new (told first script))
+      pub ends_early : IsSettling → (new : Option (List ℕ)) → Advances s (Ok false) number line t → FallsShort now new (ending_text until q.port o) → f ≡ Err Faults.Write → IfSome all (λ script. RunsOut f old new (told first script))
       ends_early law new a w h =
           let P : List ℕ → Type 0 = λ text. FallsShort now new text in
-          input_out all (told first) f old new (Lines.ends_short long_line told number line first here old now new (ending_text until i.ideal o) all s t i.goes a refl (subst P (same-ending law q i.ideal i.stands until o) w) h)
+          input_out all (told first) f old new (Lines.ends_short long_line told number line first here old now new (ending_text until i.ideal o) all s t i.goes a refl (subst P (same-ending law q.port i.ideal i.stands until o) w) h)
 
-      pub ends_well : IsSettling → (x : T) (new : Option (List ℕ)) → Advances s (Ok false) number line t → Appends now new (ending_text until q o) → f ≡ Ok x → IfSome all (λ script. RunsOut f old new (told first script))
+      pub ends_well : IsSettling → (x : T) (new : Option (List ℕ)) → Advances s (Ok false) number line t → Appends now new (ending_text until q.port o) → f ≡ Ok x → IfSome all (λ script. RunsOut f old new (told first script))
       ends_well law x new a w h =
           let P : List ℕ → Type 0 = λ text. Appends now new text in
-          input_out all (told first) f old new (Lines.ends long_line told number line first here old now x new (ending_text until i.ideal o) all s t i.goes a refl (subst P (same-ending law q i.ideal i.stands until o) w) h)
+          input_out all (told first) f old new (Lines.ends long_line told number line first here old now x new (ending_text until i.ideal o) all s t i.goes a refl (subst P (same-ending law q.port i.ideal i.stands until o) w) h)
 
       -- there is no next line, or what was written can't be let out before more is read
       pub stops : (fault : Fault BadLine) → Steps long_line s (Err fault) number line t → f ≡ Err fault → IfSome all (λ script. RunsOut f old now (told first script))

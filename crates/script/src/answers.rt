@@ -1,7 +1,7 @@
 //! What a port answers to the lines of a script, written as it comes.
 
 ghost use Rattle.std.specs.Prelude.{ℕ, List, Result, ◌<◌, ◌≤◌, length, OnOk};
-ghost use Rattle.script.specs.Words.{queue_of, IsSoundPort, Command, Writes, IsAnswered, Asks, tc_request, left_lines, left_text, IsReader, TcFault, greatest_moment, words_of};
+ghost use Rattle.script.specs.Words.{queue_of, IsSoundPort, Command, Writes, HasFewVisits, IsAnswered, Asks, tc_request, left_lines, left_text, IsReader, TcFault, greatest_moment, words_of};
 ghost use Rattle.abstract_port.specs.declared.Event.TheVariants as Events;
 
 use crate::script_line::read_tc_into;
@@ -29,7 +29,7 @@ fn put_frame<A: Allocator, W: Write>(
     frame: &Frame,
     writer: &mut W,
 ) -> Result<(), WriteFault>
-    ensures { IsAnswered (Asks (Events.Arrive frame.now)) result (W.contents writer.old) (W.contents writer.new) port.old.port port.new.port summary.old summary.new }
+    ensures { IsAnswered (Asks (Events.Arrive frame.now)) result (W.contents writer.old) (W.contents writer.new) port.old port.new summary.old summary.new }
 {
     let now = port.now();
     let verdict = port.arrive(*frame);
@@ -46,7 +46,7 @@ fn put_each_start<A: Allocator, W: Write>(
 ) -> Result<(), WriteFault>
     requires later { port.old.port.now ≤ until }
     requires within { until ≤ greatest_moment }
-    ensures { IsAnswered (Asks (Events.Clock until)) result (W.contents writer.old) (W.contents writer.new) port.old.port port.new.port summary.old summary.new }
+    ensures { IsAnswered (Asks (Events.Clock until)) result (W.contents writer.old) (W.contents writer.new) port.old port.new summary.old summary.new }
 {
     let now = port.now();
     while let Some(start) = port.step(until) {
@@ -66,7 +66,7 @@ fn put_starts<A: Allocator, W: Write>(
 ) -> Result<(), WriteFault>
     requires later { port.old.port.now ≤ until }
     requires within { until ≤ greatest_moment }
-    ensures { IsAnswered (Asks (Events.Clock until)) result (W.contents writer.old) (W.contents writer.new) port.old.port port.new.port summary.old summary.new }
+    ensures { IsAnswered (Asks (Events.Clock until)) result (W.contents writer.old) (W.contents writer.new) port.old port.new summary.old summary.new }
 {
     // For the prover: a call on a port says what holds of every port.
     let _now = port.now();
@@ -84,7 +84,7 @@ fn put_each<A: Allocator, W: Write>(
     event: &Event<'_>,
     writer: &mut W,
 ) -> Result<(), WriteFault>
-    ensures { IsAnswered (Asks event.now) result (W.contents writer.old) (W.contents writer.new) port.old.port port.new.port summary.old summary.new }
+    ensures { IsAnswered (Asks event.now) result (W.contents writer.old) (W.contents writer.new) port.old port.new summary.old summary.new }
 {
     let now = port.now();
     let mut asked = Some(*event);
@@ -112,7 +112,7 @@ fn put_install<A: Allocator, W: Write, H: Watch>(
     writer: &mut W,
     watch: &mut H,
 ) -> Result<(), WriteFault>
-    ensures { IsAnswered (Asks (Events.Install command.entry)) result (W.contents writer.old) (W.contents writer.new) port.old.port port.new.port summary.old summary.new }
+    ensures { IsAnswered (Asks (Events.Install command.entry)) result (W.contents writer.old) (W.contents writer.new) port.old port.new summary.old summary.new }
 {
     // For the prover: a call on a port says what holds of every port.
     let _now = port.now();
@@ -129,7 +129,7 @@ fn put_clock<A: Allocator, W: Write>(
     until: u128,
     writer: &mut W,
 ) -> Result<(), WriteFault>
-    ensures { IsAnswered (Asks (Events.Clock until)) result (W.contents writer.old) (W.contents writer.new) port.old.port port.new.port summary.old summary.new }
+    ensures { IsAnswered (Asks (Events.Clock until)) result (W.contents writer.old) (W.contents writer.new) port.old port.new summary.old summary.new }
 {
     if port.now() <= until && until <= MAX_MOMENT {
         put_starts(port, summary, until, writer)
@@ -147,7 +147,7 @@ pub fn put_answers<A: Allocator, W: Write>(
     event: &Event<'_>,
     writer: &mut W,
 ) -> Result<(), WriteFault>
-    ensures { IsAnswered (Asks event.now) result (W.contents writer.old) (W.contents writer.new) port.old.port port.new.port summary.old summary.new }
+    ensures { IsAnswered (Asks event.now) result (W.contents writer.old) (W.contents writer.new) port.old port.new summary.old summary.new }
 {
     match event {
         Event::Arrive(frame) => put_frame(port, summary, frame, writer),
@@ -166,7 +166,7 @@ fn put_command<A: Allocator, W: Write, H: Watch>(
     writer: &mut W,
     watch: &mut H,
 ) -> Result<(), WriteFault>
-    ensures { IsAnswered (tc_request read.now) result (W.contents writer.old) (W.contents writer.new) port.old.port port.new.port summary.old summary.new }
+    ensures { IsAnswered (tc_request read.now) result (W.contents writer.old) (W.contents writer.new) port.old port.new summary.old summary.new }
 {
     // For the prover: a call on a port says what holds of every port.
     let _now = port.now();
@@ -191,8 +191,9 @@ pub fn put_tc<A: Allocator, W: Write, H: Watch>(
     watch: &mut H,
 ) -> Result<(), WriteFault>
     ensures answered { (read : List (List ℕ) → Result Command TcFault) → IsReader read →
-        IsAnswered (tc_request (read (words_of line.now))) result (W.contents writer.old) (W.contents writer.new) port.old.port port.new.port summary.old summary.new }
+        IsAnswered (tc_request (read (words_of line.now))) result (W.contents writer.old) (W.contents writer.new) port.old port.new summary.old summary.new }
     ensures sound { OnOk result (IsSoundPort port.new.port) }
+    ensures few { HasFewVisits port.old.port port.old port.new }
 {
     let mut answer = Ok(closed_command());
     read_tc_into(line, &mut answer);

@@ -1,7 +1,8 @@
 //! Runs a script.
 
 ghost use Rattle.std.specs.Prelude.{ℕ, List, Result, IfSome};
-ghost use Rattle.script.specs.Words.{Command, Writes, script_left, TcFault, RunsOut, IsFaithfulTo, ending_text, outcome_from, outcome_of, IsReader};
+ghost use Rattle.script.specs.Words.{Command, Writes, script_left, TcFault, RunsOut, HasFewVisits, IsFaithfulTo, events_of, reading_of, ending_text, outcome_from, outcome_of, IsReader};
+ghost use Rattle.abstract_port.specs.Answers.{port_after};
 
 use crate::answers::{RunningPort, put_answers, put_tc};
 use crate::faults::{BadLine, RunFault};
@@ -28,7 +29,8 @@ fn end<A: Allocator, W: Write>(
     until: Option<u128>,
     writer: &mut W,
 ) -> Result<(), WriteFault>
-    ensures { Writes result (W.contents writer.old) (W.contents writer.new) (ending_text until port.old.port summary.old) }
+    ensures text { Writes result (W.contents writer.old) (W.contents writer.new) (ending_text until port.old.port summary.old) }
+    ensures few { HasFewVisits port.old.port port.old port.new }
 {
     match until {
         None => put_end(port, summary, writer),
@@ -48,8 +50,10 @@ fn run_lines<A: Allocator, B: Allocator, R: Read + Drop, W: Write, H: Watch>(
     writer: &mut W,
     watch: &mut H,
 ) -> Result<(), RunFault>
-    ensures { (read : List (List ℕ) → Result Command TcFault) → IsReader read → IfSome (script_left R.remaining lines.old) (λ script.
+    ensures script { (read : List (List ℕ) → Result Command TcFault) → IsReader read → IfSome (script_left R.remaining lines.old) (λ script.
         RunsOut result (W.contents writer.old) (W.contents writer.new) (outcome_from read until script port.old.port summary.old)) }
+    ensures few { (read : List (List ℕ) → Result Command TcFault) → IsReader read → IfSome (script_left R.remaining lines.old) (λ script.
+        HasFewVisits (port_after (events_of (reading_of read script).requests) port.old.port) port.old port.new) }
 {
     settling();
     // For the prover: a call on a port says what holds of every port.

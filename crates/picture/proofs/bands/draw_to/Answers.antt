@@ -1,7 +1,8 @@
 use Rattle.std.proofs.Common.{◌≡◌, ◌<◌, ◌≤◌, ◌+◌, ◌-◌, ◌*◌, ap, sym, ◌∙◌, subst, rules, arith, le_refl}
 use Rattle.std.proofs.Math.Nat.{mul-suc}
-use Rattle.picture.specs.Words.{gates, kept, IsSteady, class_at, drawn, most_moved}
+use Rattle.picture.specs.Words.{gates, kept, AreUsedUp, IsSteady, class_at, drawn, most_moved}
 use Rattle.picture.proofs.BandLaws.{drawn_none}
+use Rattle.picture.proofs.BoundaryLaws.{next_used, none_used}
 use Rattle.picture.proofs.DrawLaws.{drawn_to, kept_on, later_to, steady_to, within_to}
 use Rattle.picture.proofs.LookLaws.{at_end, kept_longest, next_moved}
 use Rattle.picture.proofs.bands.draw_to.Goals as goal
@@ -14,7 +15,8 @@ loop-now-init g c =
       here = sym c.now-now.ensures;
       onward = omega (arith, c.now-now.ensures);
       within = omega (arith, c.now-now.ensures);
-      fewer = le_refl _;
+      goes = λ more seen new used. subst (λ m. AreUsedUp c.args.own.now.history m c.args.upto seen c.args.left.now new) c.now-now.ensures used;
+      used = subst (λ m. AreUsedUp c.args.own.now.history c.args.own.now.moment c.args.upto m c.args.left.now c.args.left.now) (sym c.now-now.ensures) (none_used c.args.own.now.history c.args.own.now.moment c.args.upto c.args.left.now);
       moved = λ some. le_refl _;
       few = let one = mul-suc (most_moved c.args.own.now.history) c.args.left.now in omega (arith, one);
       history = sym (ap (kept c.args.own.now.history) c.now-now.ensures ∙ c.requires.sound.kept_whole);
@@ -36,12 +38,15 @@ loop-now-preserved g c =
     (c.args.visits.now + most_moved c.args.own.now.history * c.args.left.now)
     (let less = kept_longest c.args.own.now.history c.loop-now.own.history c.loop-now.now i.history in omega (arith, less))
     (omega (arith, c.if-left-gt0.true)) (omega (arith, c.move_to.ensures.visits)) (λ none. at_end c.args.upto c.next_boundary-boundary.result c.unwrap_or-next.result c.unwrap_or-next.ensures none) (i.moved c.loop-now-test.true) c.left_after.ensures in
+    let used = next_used c.args.own.now.history c.args.own.now.moment c.requires.sound c.loop-now.now c.loop-now.own.history i.onward i.history c.args.upto c.args.left.now c.loop-now.left c.left_after.result c.unwrap_or-next.result c.next_boundary-boundary.result
+    c.loop-now-test.true (rw i.here at c.next_boundary-boundary.ensures.none) (rw i.here at c.next_boundary-boundary.ensures.between) c.next_boundary-boundary.ensures.event (omega (arith, c.if-left-gt0.true)) c.unwrap_or-next.ensures c.left_after.ensures (i.goes c.loop-now-test.true) in
     record {
       sound = c.move_to.ensures.sound;
       here = c.move_to.ensures.moment;
       onward = omega (arith, i.onward, later);
       within = omega (arith, within);
-      fewer = omega (arith, i.fewer, c.left_after.ensures);
+      goes = used.0;
+      used = used.1;
       moved = moved.0;
       few = let one = mul-suc (most_moved c.args.own.now.history) c.args.left.now in omega (arith, one, moved.1);
       history = c.move_to.ensures.history ∙ kept_on c.args.own.now.history c.args.own.now.moment c.requires.sound c.loop-now.now c.unwrap_or-next.result c.loop-now.own.history i.onward (omega (arith, later)) i.history;
@@ -60,7 +65,7 @@ returns-else-left-gt0 g c =
       within = omega (arith, i.within, i.here);
       few = i.few;
       whole = λ some. absurd (omega (arith, some, c.if-left-gt0.false));
-      fewer = i.fewer;
+      used = subst (λ m. AreUsedUp c.args.own.now.history c.args.own.now.moment c.args.upto m c.args.left.now c.loop-now.left) (sym i.here) i.used;
       history = i.history ∙ ap (kept c.args.own.now.history) (sym i.here);
       classes = λ class below. i.classes class below ∙ ap (λ n. drawn (gates c.args.own.now.history) class c.args.own.now.moment (n - c.args.own.now.moment) (class_at c.args.classes.now class)) (sym i.here);
     }
@@ -74,7 +79,7 @@ returns-after-loop-now g c =
       within = omega (arith, i.within, i.here);
       few = i.few;
       whole = λ some. omega (arith, i.here, c.loop-now-test.false);
-      fewer = i.fewer;
+      used = subst (λ m. AreUsedUp c.args.own.now.history c.args.own.now.moment c.args.upto m c.args.left.now c.loop-now.left) (sym i.here) i.used;
       history = i.history ∙ ap (kept c.args.own.now.history) (sym i.here);
       classes = λ class below. i.classes class below ∙ ap (λ n. drawn (gates c.args.own.now.history) class c.args.own.now.moment (n - c.args.own.now.moment) (class_at c.args.classes.now class)) (sym i.here);
     }

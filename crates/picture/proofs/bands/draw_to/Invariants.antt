@@ -1,6 +1,7 @@
 use Rattle.std.proofs.Common.{◌≡◌, ◌<◌, ◌≤◌, ◌+◌, ◌-◌, ◌*◌, max, ℕ}
 use Rattle.wire_time.specs.declared.TheConstants.{CLASSES}
-use Rattle.picture.specs.Words.{gates, kept, IsCurrent, class_at, drawn, most_moved}
+use Rattle.picture.specs.Words.{gates, kept, AreUsedUp, IsCurrent, class_at, drawn, most_moved}
+use Rattle.picture.proofs.BoundaryLaws.{GoesByBoundaries}
 use Rattle.picture.proofs.bands.draw_to.Given as goal
 
 abbrev pub invariant-loop-now : goal.invariant-loop-now
@@ -8,7 +9,8 @@ invariant-loop-now g l = record {
   sound : IsCurrent l.own.history l.own.moment;
   here : l.own.moment ≡ l.now;
   onward : l.initial.own.moment ≤ l.now;
-  fewer : l.left ≤ l.initial.left;
+  goes : l.now < l.upto → GoesByBoundaries l.initial.own.history l.initial.own.moment l.upto l.now l.initial.left l.left;
+  used : AreUsedUp l.initial.own.history l.initial.own.moment l.upto l.now l.initial.left l.left;
   moved : l.now < l.upto → l.visits + most_moved l.initial.own.history * l.left ≤ l.initial.visits + most_moved l.initial.own.history * l.initial.left;
   few : l.visits + most_moved l.initial.own.history * l.left ≤ l.initial.visits + most_moved l.initial.own.history * (l.initial.left + 1);
   within : l.now ≤ max l.initial.own.moment l.upto;

@@ -1,4 +1,6 @@
 use Rattle.std.proofs.Common.{◌≡◌}
+use Rattle.std.specs.Prelude.{⊤}
+use Rattle.script.proofs.FewLaws.{HasFew}
 use Rattle.script.specs.Words.{settled, answers_to, answers_left, Sent, noted_all, noted_at}
 use Rattle.abstract_port.proofs.AskedLaws.{left_count}
 use Rattle.script.proofs.OutputLaws.{lines_of_answers}
@@ -9,6 +11,7 @@ abbrev pub invariant-loop-answer : goal.invariant-loop-answer
 invariant-loop-answer g l = record {
   sent : Sent (g.W.Write.contents l.fn.writer) (g.W.Write.contents l.writer) (lines_of_answers (answers_to l.event l.fn.port.port).0) (lines_of_answers (answers_left l.asked l.port.port).0);
   same_seen : noted_all l.now (answers_left l.asked l.port.port).0 l.summary ≡ noted_at l.event l.fn.port.port l.fn.summary;
+  few : HasFew ⊤ l.fn.port l.asked l.port;
   same_end : settled (answers_left l.asked l.port.port).1 ≡ settled (answers_to l.event l.fn.port.port).1;
 }
 

@@ -1,4 +1,4 @@
-use Rattle.std.proofs.Common.{[], ◌∷◌, sym, ap, ◌∙◌}
+use Rattle.std.proofs.Common.{arith, [], ◌∷◌, sym, ap, ◌∙◌}
 use Rattle.script.specs.Words.{settled, Arrive}
 use Rattle.abstract_port.specs.AbstractPort.{after_arrival}
 use Rattle.abstract_port.specs.Answers.{arrival_answer}
@@ -17,4 +17,5 @@ returns g c =
       port = always c.put_arrival.result (sym (settled-sound c.arrive-verdict.new.self.port e.sound) ∙ ap settled same);
       seen = always c.put_arrival.result (c.note_verdict.ensures ∙ noted);
       sound = always c.put_arrival.result e.sound;
+      few = omega (arith, e.visits);
     }

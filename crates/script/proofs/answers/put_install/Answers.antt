@@ -1,4 +1,4 @@
-use Rattle.std.proofs.Common.{sym, ap, ◌∙◌}
+use Rattle.std.proofs.Common.{arith, sym, ap, ◌∙◌}
 use Rattle.script.specs.Words.{settled, command_answer}
 use Rattle.script.proofs.GivenLaws.{always, command_unseen, one_written}
 use Rattle.script.proofs.StartsLaws.{settled-sound}
@@ -13,4 +13,5 @@ returns g c =
       port = always r (sym (settled-sound c.install-answer.new.self.port e.sound) ∙ ap settled e.port);
       seen = always r (command_unseen c.args.command c.args.port.now.port c.args.summary.now);
       sound = always r e.sound;
+      few = omega (arith, e.visits);
     }

@@ -1,4 +1,4 @@
-use Rattle.std.proofs.Common.{◌≤◌, None, refl, sym, ap, subst, rules, ◌∙◌}
+use Rattle.std.proofs.Common.{arith, ◌≤◌, None, refl, sym, ap, subst, rules, ◌∙◌}
 use Rattle.script.specs.Words.{PortState, Clock, IsAnswered, Asks, noted_all}
 use Rattle.octet_writer.proofs.Fronts.{sent_none, sent_all}
 use Rattle.script.proofs.OutputLaws.{lines_of_answers}
@@ -17,6 +17,7 @@ returns-then-rest_until g c =
       port = none.1;
       seen = sym (noted_all-nil now summary) ∙ (ap (λ x. noted_all now x summary) (sym none.0) ∙ noted_all-event _ (Clock c.args.until) _ _ c.now-now.ensures.now);
       sound = e.sound;
+      few = (let none_seen = e.visits refl in omega (arith, none_seen));
     }
 
 pub put_each_start-requires : goal.put_each_start-requires
@@ -26,5 +27,5 @@ put_each_start-requires g c =
 
 pub returns : goal.returns
 returns g c =
-    subst (λ (q : PortState). IsAnswered (Asks (Clock c.args.until)) c.put_each_start.result (g.W.Write.contents c.args.writer.now) (g.W.Write.contents c.put_each_start.new.writer) q.port c.put_each_start.new.port.port c.args.summary.now c.put_each_start.new.summary)
+    subst (λ (q : PortState). IsAnswered (Asks (Clock c.args.until)) c.put_each_start.result (g.W.Write.contents c.args.writer.now) (g.W.Write.contents c.put_each_start.new.writer) q c.put_each_start.new.port c.args.summary.now c.put_each_start.new.summary)
     (c.if-rest_until.ensures.kept refl) c.put_each_start.ensures

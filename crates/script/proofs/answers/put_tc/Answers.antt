@@ -5,3 +5,6 @@ returns-clause-answered g c = λ read is. rw (c.read_tc_into.ensures read is) at
 
 pub returns-clause-sound : goal.returns-clause-sound
 returns-clause-sound g c = c.put_command.ensures.sound
+
+pub returns-clause-few : goal.returns-clause-few
+returns-clause-few g c = c.put_command.ensures.few

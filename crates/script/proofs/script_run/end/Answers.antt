@@ -15,13 +15,13 @@ ending until m p o is =
     ∙ (ap (λ told. lines_of told ++ end_lines answers.1 (noted_after (Clock m ∷ []) p o)) (append-nil (map Gave answers.0))
     ∙ ap (λ n. lines_of (map Gave answers.0) ++ end_lines answers.1 n) (noted_after-one (Clock m) p o))
 
-pub returns-in_err-put_answers-in-Some : goal.returns-in_err-put_answers-in-Some
-returns-in_err-put_answers-in-Some g c =
+pub returns-in_err-put_answers-in-Some-clause-text : goal.returns-in_err-put_answers-in-Some-clause-text
+returns-in_err-put_answers-in-Some-clause-text g c =
     let p = err_from_is_err_and c.from_residual.result c.from_residual.ensures.1 in
     sent_exit _ _ _ p.1 (sent_none _ _) (ending _ _ _ _ c.in-Some.is) c.in_err-put_answers-in-Some.ensures.text
 
-pub returns-in_ok-put_answers-in-Some : goal.returns-in_ok-put_answers-in-Some
-returns-in_ok-put_answers-in-Some g c =
+pub returns-in_ok-put_answers-in-Some-clause-text : goal.returns-in_ok-put_answers-in-Some-clause-text
+returns-in_ok-put_answers-in-Some-clause-text g c =
     let answers = answers_to (Clock c.in-Some.moment) c.args.port.now.port in
     let seen = noted_at (Clock c.in-Some.moment) c.args.port.now.port c.args.summary.now in
     let done = c.in_ok-put_answers-in-Some.ensures in

@@ -4,7 +4,7 @@ use Rattle.script.proofs.LineSteps.{IsRunning}
 use Rattle.script.proofs.script_run.run_lines.Given as goal
 
 abbrev pub invariant-lines : goal.invariant-lines
-invariant-lines g l = (read : List (List ℕ) → Result Command TcFault) → IsReader read → IsRunning read l.until (record { port = l.fn.port.port; seen = l.fn.summary }) (script_left g.R.Read.remaining l.fn.lines) (g.W.Write.contents l.fn.writer) (g.W.Write.contents l.writer) (script_left g.R.Read.remaining l.lines) l.port.port l.summary
+invariant-lines g l = (read : List (List ℕ) → Result Command TcFault) → IsReader read → IsRunning read l.until l.fn.port l.fn.summary (script_left g.R.Read.remaining l.fn.lines) (g.W.Write.contents l.fn.writer) (g.W.Write.contents l.writer) (script_left g.R.Read.remaining l.lines) l.port l.summary
 
 abbrev pub decreases-lines : goal.decreases-lines
 decreases-lines g l = most_lines l.lines

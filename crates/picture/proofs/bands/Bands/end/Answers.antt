@@ -9,7 +9,7 @@ step_all-requires g c =
     (search rules, omega (arith, c.up_to-upto.ensures, c.now.ensures, within, c.self.invariant.within))
 
 pub returns-clause-same : goal.returns-clause-same
-returns-clause-same g c = rw (← c.self.view_is) (refl, refl, refl, refl)
+returns-clause-same g c = rw (← c.self.view_is) (refl, refl, refl, refl, refl)
 
 pub returns-clause-classes : goal.returns-clause-classes
 returns-clause-classes g c =

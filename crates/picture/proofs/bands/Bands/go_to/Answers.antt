@@ -1,5 +1,6 @@
 use Rattle.std.proofs.Common.{◌≡◌, ◌≤◌, ◌+◌, max, min, ap, refl, sym, ◌∙◌, rules, arith, subst}
-use Rattle.picture.specs.Words.{MAX_WIDTH, gates, kept, Drawing, IsDrawnInPieces, most_moved, piece_of, up_to}
+use Rattle.picture.specs.Words.{MAX_WIDTH, gates, kept, AreUsedUp, Drawing, IsDrawnInPieces, most_moved, piece_of, up_to}
+use Rattle.picture.proofs.BoundaryLaws.{used_fewer, used_same}
 use Rattle.picture.proofs.DrawLaws.{drawn_gone, kept_on, up_to_within}
 use Rattle.picture.proofs.PieceLaws.{covered, few_pieces, pieces_same}
 use Rattle.picture.proofs.LookLaws.{kept_longest, spent_more}
@@ -44,12 +45,17 @@ returns-clause-drawn g c =
     subst (λ p. IsDrawnInPieces (gates h) p seen (up_to c.self.inside.to c.args.moment) c.draw_to.new.classes c.self.inside.mixed c.mix_to.new.classes c.mix_to.new.mixed) piece
     (subst (λ u. IsDrawnInPieces (gates h) c.piece_of-piece.result seen u c.draw_to.new.classes c.self.inside.mixed c.mix_to.new.classes c.mix_to.new.mixed) c.up_to-upto.ensures
     (pieces_same h c.self.inside.gates.moment c.self.invariant seen c.draw_to.new.own.history (omega (arith, some, onward)) on _ _ _ _ _ _ c.mix_to.ensures.drawn)) in
+    let used : AreUsedUp h (min (max c.self.inside.from c.self.inside.gates.moment) c.args.moment) (up_to c.self.inside.to c.args.moment) seen c.self.inside.left c.draw_to.new.left =
+    subst (λ f. AreUsedUp h f (up_to c.self.inside.to c.args.moment) seen c.self.inside.left c.draw_to.new.left) first
+    (subst (λ u. AreUsedUp h c.move_to.new.self.moment u seen c.self.inside.left c.draw_to.new.left) c.up_to-upto.ensures
+    (used_same h c.self.inside.gates.moment c.self.invariant c.move_to.new.self.moment c.move_to.new.self.history some moved _ _ _ _ c.draw_to.ensures.used)) in
     let within = up_to_within c.self.inside.to c.args.moment in
     rw (← c.self.view_is)
     (record {
       seen = c.draw_to.new.own.moment;
+      within = omega (arith, c.draw_to.ensures.within, first, c.up_to-upto.ensures);
       whole = λ left. let all = c.draw_to.ensures.whole left in omega (arith, all, c.up_to-upto.ensures);
-      fewer = c.draw_to.ensures.fewer;
+      used = used;
       each = c.draw_to.new.classes;
       bands = λ class below. c.draw_to.ensures.classes class below ∙ drawn_gone old c.args.moment c.move_to.new.self.moment seen class c.move_to.new.self.history c.self.invariant first (omega (arith, began, c.requires.later)) moved;
       pieces = pieces;
@@ -85,6 +91,6 @@ returns-clause-few g c =
     let less_1 = kept_longest h c.move_to.new.self.history c.min-first.result c.move_to.ensures.history in
     let less_2 = kept_longest c.move_to.new.self.history c.draw_to.new.own.history c.draw_to.new.own.moment c.draw_to.ensures.history in
     let less_3 = kept_longest c.draw_to.new.own.history c.mix_to.new.own.history c.mix_to.new.own.moment c.mix_to.ensures.history in
-    let drawn = spent_more (most_moved c.move_to.new.self.history) (most_moved h) c.self.inside.left c.draw_to.new.left c.move_to.new.visits c.draw_to.new.visits (omega (arith, less_1)) c.draw_to.ensures.fewer c.draw_to.ensures.few in
+    let drawn = spent_more (most_moved c.move_to.new.self.history) (most_moved h) c.self.inside.left c.draw_to.new.left c.move_to.new.visits c.draw_to.new.visits (omega (arith, less_1)) (used_fewer _ _ _ _ _ _ c.draw_to.ensures.used) c.draw_to.ensures.few in
     let mixed = c.mix_to.ensures.few (MAX_WIDTH + 1) (covered c.self.inside.from c.self.inside.to c.args.moment c.draw_to.new.own.moment c.up_to-upto.result c.piece_of-piece.result c.up_to-upto.ensures c.piece_of-piece.ensures.value (omega (arith, first, c.draw_to.ensures.onward))) in
     rw (← c.self.view_is) (omega (arith, drawn, mixed, c.zero-visits.ensures, c.move_to.ensures.visits, c.move_to-2.ensures.visits, less_1, less_2, less_3, c.count.ensures))
