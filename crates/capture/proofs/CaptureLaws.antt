@@ -104,11 +104,11 @@ at_record : {R : Type 0} (remaining : R → Option (List ℕ)) (l after : Left R
     → (AreRecords after.format after.number (rest_after l.format octets) (drop 1 es) end → octets_left remaining after ≡ Some (rest_after l.format octets) → AreAnswers (drop 1 es) end later)
     → AreAnswers es end (Ok (Some e) ∷ later)
 at_record remaining l after e octets [] Whole later known p r same more =
-    absurd (let now = known_at _ (octets_left remaining l) octets known r.4 in fault_of_none l.format l.number octets p now.0)
+    absurd (let now = known_at _ (octets_left remaining l) octets known r.3 in fault_of_none l.format l.number octets p now.0)
 at_record remaining l after e octets [] (Broken f) later known p r same more =
-    absurd (let now = known_at _ (octets_left remaining l) octets known r.4 in let both = sym p.1 ∙ now.0 in cc)
+    absurd (let now = known_at _ (octets_left remaining l) octets known r.3 in let both = sym p.1 ∙ now.0 in cc)
 at_record remaining l after e octets (x ∷ es) end later known p r same more =
-    let now = known_at _ (octets_left remaining l) octets known r.4 in
+    let now = known_at _ (octets_left remaining l) octets known r.3 in
     let is : x ≡ e = p.1 ∙ sym now.1 in
     let next : AreRecords after.format after.number (rest_after l.format octets) es end =
     subst (λ (f : Format). AreRecords f after.number (rest_after l.format octets) es end) (sym same)

@@ -1,5 +1,5 @@
 -- What a reader of a capture has left, and what its next answer is.
-use Rattle.std.specs.Prelude.{◌≡◌, ◌≢◌, ◌<◌, ℕ, ◌+◌, List, [], drop, Option, Some, None, IsTrue, Result, Ok, Err, IfSome, MatchOption, option_map}
+use Rattle.std.specs.Prelude.{◌≡◌, ◌≢◌, ℕ, ◌+◌, List, [], drop, Option, Some, None, IsTrue, Result, Ok, Err, IfSome, MatchOption, option_map}
 use Rattle.std.specs.Io.KnownBytes.{prepend_known}
 use Rattle.capture.specs.declared.fault.CapFault.{CapFault}
 use Rattle.capture.specs.declared.fault.CapFault.TheVariants.{ShortRecord, Read}
@@ -14,7 +14,6 @@ use Rattle.capture.specs.ReadAhead.{held, last_given}
 use Rattle.capture.specs.Step.{is_record_fault}
 use Rattle.capture.specs.Record.{entry}
 use Rattle.capture.specs.Records.{Entry, IsWithin, moment_of, entry_at, rest_after, fault_at}
-use Rattle.capture.specs.declared.format.TheConstants.{MAX_RECORDS}
 
 -- a reader as its user sees it: how many records it gave, the octets that it read and hasn't given, and how it ended
 pub record Left (R : Type 0) : Type 0 where
@@ -63,7 +62,7 @@ again (Broken f) = Err f
 
 -- the answer of a reader that has not met its end, and what it leaves
 abbrev pub ReadsNext : {R : Type 0} → (R → Option (List ℕ)) → Left R → Result (Option Entry) CapFault → Left R → Type 0
-ReadsNext remaining old (Ok (Some e)) new = (new.ended ≡ None) × (new.number ≡ old.number + 1) × (old.number < MAX_RECORDS) × IsWithin e
+ReadsNext remaining old (Ok (Some e)) new = (new.ended ≡ None) × (new.number ≡ old.number + 1) × IsWithin e
     × IfSome (octets_left remaining old) (λ octets.
     (fault_at old.format old.number octets ≡ None) × (e ≡ entry_at old.format octets)
     × (octets_left remaining new ≡ Some (rest_after old.format octets)))

@@ -138,6 +138,7 @@ impl<R: Read, A: Allocator> CaptureReader<R, A> {
 
     /// The next record, or None at the end. After None it answers None, after a fault that fault.
     pub fn next(&mut self) -> Result<Option<Record<'_>>, CapFault>
+        ensures few { IfOk result (λ o. IsSome o → (left self.old).number < MAX_RECORDS) }
         ensures* next { sem 𝓛 (Rests (the_row R.row A.row A.Allocator) self.entry (λ new. Next R.remaining (left self.old) (answer result) (left new))) }
     {
         match self.advance() {
@@ -154,6 +155,7 @@ impl<R: Read, A: Allocator> CaptureReader<R, A> {
 
     fn advance(&mut self) -> Result<Option<RecordHeader>, CapFault>
         ensures next { Next R.remaining (left self.old) (shown self.new result) (left self.new) }
+        ensures few { IfOk result (λ o. IsSome o → self.old.number < MAX_RECORDS) }
         ensures start { IfOk result (λ o. IfSome o (λ header. header.captured ≤ self.new.ahead.start)) }
     {
         match self.ended {

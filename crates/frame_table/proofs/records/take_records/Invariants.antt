@@ -2,7 +2,8 @@
 use Rattle.std.proofs.Common.{◌≡◌, ◌-◌, ℕ, List, None, Result}
 use Rattle.capture.specs.declared.format.TheConstants.{MAX_RECORDS}
 use Rattle.frame_table.specs.Words.{Command, Comes, End, Entry, IsReader, TcFault, left, lines_left, place}
-use Rattle.frame_table.proofs.RecordWalk.{IsAt}
+use Rattle.replay.proofs.RecordLaws.{Taken}
+use Rattle.frame_table.proofs.RecordWalk.{GoesTo}
 use Rattle.frame_table.proofs.records.take_records.Given as goal
 
 abbrev pub invariant-records : goal.invariant-records
@@ -10,8 +11,8 @@ invariant-records g l = record {
   going : (left l.records).ended ≡ None;
   numbered : (left l.records).number ≡ l.number;
   at : (read : List (List ℕ) → Result Command TcFault) → IsReader read → (entries : List Entry) (last : End) → Comes g.R.Read.remaining (left l.fn.records) entries last →
-      IsAt l.streams g.R.Read.remaining entries last (left l.records) l.latest l.number (lines_left read l.script l.fn.cursor) (lines_left read l.script l.cursor)
-      (place l.fn.port.port l.fn.arrivals (g.W.Write.contents l.fn.writer)) (place l.port.port l.arrivals (g.W.Write.contents l.writer));
+      Taken (GoesTo l.streams entries (lines_left read l.script l.fn.cursor) (place l.fn.port.port l.fn.arrivals (g.W.Write.contents l.fn.writer)) (place l.port.port l.arrivals (g.W.Write.contents l.writer)))
+      g.R.Read.remaining entries last (left l.records) l.latest l.number (lines_left read l.script l.fn.cursor) (lines_left read l.script l.cursor);
 }
 
 abbrev pub decreases-records : goal.decreases-records

@@ -22,4 +22,4 @@ returns-in-Ok-Some-clause-next g c =
     let r = c.args.self.now in
     let early : header.seconds < 2 ^ 32 = search rules in
     let shown = entry_shown r.format r.number (prepend_known (held r.ahead) (g.R.Read.remaining r.source)) (prepend_known (held w) (g.R.Read.remaining c.read_record.new.source)) header w e.step in
-    rw c.in-None.is ((refl, refl, e.few refl, record { whole = length-given w header.captured e.start; short = e.short; fits = search rules; early = early_moment r.format header e.fraction early }, shown), refl, e.unread)
+    rw c.in-None.is ((refl, refl, record { whole = length-given w header.captured e.start; short = e.short; fits = search rules; early = early_moment r.format header e.fraction early }, shown), refl, e.unread)
