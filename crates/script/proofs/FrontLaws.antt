@@ -1,10 +1,10 @@
 -- Lines as most are written, at the front of octets.
-use Rattle.std.proofs.Common.{◌≡◌, ◌≤◌, ◌^◌, ◌+◌, ◌-◌, ℕ, zero, suc, Bool, true, false, eqb, List, [], ◌∷◌, ◌++◌, Some, Result, codes, length, take, get_or, refl, sym, ap, ◌∙◌, append_assoc, length-append, arith}
+use Rattle.std.proofs.Common.{◌≡◌, ◌≤◌, ◌^◌, ◌+◌, ◌-◌, ℕ, zero, suc, Bool, true, false, eqb, List, [], ◌∷◌, ◌++◌, Some, Result, codes, length, take, drop, get_or, refl, sym, ap, ◌∙◌, append_assoc, length-append, arith}
 use Rattle.std.specs.Prelude.{not, ◌&&◌, ◌||◌, ◌==◌}
 use Rattle.std.specs.List.{list_all}
-use Rattle.std.proofs.lemmas.List.{append-nil}
+use Rattle.std.proofs.lemmas.List.{append-nil, length-drop, take-append-drop}
 use Rattle.std.proofs.Math.Seq.{get_or-append_seam}
-use Rattle.script.specs.Words.{greatest_moment, Event, Arrive, Clock, words_of, said_in, clock_event, frame_event, tag_in, BeginsWithEvent, BeginsWithLine, tag_text, ScriptFault}
+use Rattle.script.specs.Words.{greatest_moment, Event, Arrive, Clock, words_of, said_in, clock_event, frame_event, tag_in, BeginsWithEvent, BeginsWithLine, HasLine, tag_text, ScriptFault}
 use Rattle.words.specs.Numbers.{BeginsWithNumber, IsNumber, is_digit}
 use Rattle.words.specs.Words.{starts_blank, starts_with_break}
 use Rattle.words.proofs.FrontLaws.{number_before}
@@ -185,4 +185,21 @@ ends_line octets rest event n is e =
       ended = ap (λ k. get_or octets k 0) same ∙ ap (λ l. get_or l (length is.line) 0) is.parts ∙ get_or-append_seam is.line 10 rest 0;
       unbroken = ap is_unbroken line ∙ is.unbroken;
       unjoined = ap joins line ∙ is.unjoined;
+    }
+
+-- a line in the first octets
+pub window_line : (few n : ℕ) (octets window rest : List ℕ) (event : Event) → few ≤ length octets → window ≡ take few octets → BeginsWithLine window event rest → n ≡ few - length rest - 1 → HasLine octets n event
+window_line few n octets window rest event there is begins e =
+    let behind = drop few octets in
+    let whole : BeginsWithLine octets event (rest ++ behind) = record {
+      line = begins.line;
+      parts = sym (take-append-drop few octets) ∙ ap (λ t. t ++ behind) (sym is ∙ begins.parts) ∙ append_assoc begins.line (10 ∷ rest) behind;
+      unbroken = begins.unbroken;
+      unjoined = begins.unjoined;
+      says = begins.says;
+    } in
+    let same : n ≡ length octets - length (rest ++ behind) - 1 = omega (arith, e, length-append rest behind, length-drop few octets) in
+    record {
+      ends = ends_line octets (rest ++ behind) event n whole same;
+      says = ap said_in (taken_line octets (rest ++ behind) event n whole same) ∙ begins.says;
     }

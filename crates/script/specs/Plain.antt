@@ -1,8 +1,8 @@
 -- Lines as most are written, at the front of octets.
-use Rattle.std.specs.Prelude.{◌≡◌, ◌∷◌, ◌++◌, [], ℕ, List, Bool, true, false, Option, Some, Ok, Result, codes, not, ◌&&◌, ◌==◌}
+use Rattle.std.specs.Prelude.{◌≡◌, ◌∷◌, ◌++◌, [], ℕ, List, Bool, true, false, Option, Some, Ok, Result, codes, not, take, ◌&&◌, ◌==◌}
 use Rattle.std.specs.List.{list_all}
 use Rattle.abstract_port.specs.declared.Event.{Event}
-use Rattle.line_reader.specs.LineReader.{Advances, next_number, script_left}
+use Rattle.line_reader.specs.LineReader.{Advances, EndsLine, next_number, script_left}
 use Rattle.line_reader.specs.Script.{joins}
 use Rattle.line_reader.specs.PhysicalLines.{is_unbroken}
 use Rattle.line_reader.specs.declared.lines.LineReader.{LineReader}
@@ -34,6 +34,11 @@ pub record BeginsWithLine (octets : List ℕ) (event : Event) (rest : List ℕ) 
   pub unbroken : is_unbroken line ≡ true
   pub unjoined : joins line ≡ false
   pub says : said_in line ≡ Ok (Some (Says.Asked event))
+
+-- octets that begin with a line of so many octets, which asks an event
+pub record HasLine (octets : List ℕ) (length : ℕ) (event : Event) : Type 0 where
+  pub ends : EndsLine octets length
+  pub says : said_in (take length octets) ≡ Ok (Some (Says.Asked event))
 
 -- a reader that goes past a line which asks an event
 pub record GoesPast {R A : Type 0} (remaining : R → Option (List ℕ)) (old : LineReader R A) (event : Event) (new : LineReader R A) : Type 0 where

@@ -1,7 +1,7 @@
 //! Lines as most are written, read where they stand in hand.
 
 ghost use Rattle.std.specs.Prelude.{◌≡◌, ◌<◌, ◌∷◌, IfSome, MatchOption};
-ghost use Rattle.script.specs.Words.{Arrive, Clock, most_lines, BeginsWithEvent, BeginsWithLine, GoesPast, clock_event, frame_event};
+ghost use Rattle.script.specs.Words.{Arrive, Clock, most_lines, BeginsWithEvent, BeginsWithLine, GoesPast, HasLine, clock_event, frame_event};
 
 use crate::fronts::{behind_clock, behind_frame, behind_tag};
 use abstract_port::Event;
@@ -9,7 +9,10 @@ use line_reader::LineReader;
 use std::alloc::Allocator;
 use std::io::Read;
 use wire_time::{Frame, MAX_MOMENT};
-use words::{front_number, front_short};
+use words::{front_digit, front_number, front_short};
+
+/// How many octets have to be in hand where a line is read here: more than such a line has.
+const WINDOW: usize = 64;
 
 /// What comes after a space, where octets begin with it.
 #[inline(always)]
@@ -33,21 +36,22 @@ fn behind_feed(octets: &[u8]) -> Option<&[u8]>
     }
 }
 
-/// The frame that a line is, after its first word, and what comes after the line.
+/// The frame that a line is, after its first word, and what comes after the line: with a priority of one digit, and a length of at most
+/// eight.
 #[inline(always)]
 fn front_frame(octets: &[u8]) -> Option<(Frame, &[u8])>
     ensures { IfSome result (λ x. BeginsWithEvent frame_event octets.now (Arrive x.0) x.1.now) }
 {
-    let (id, rest) = front_short(octets)?;
-    let (priority, rest) = front_short(behind_space(rest)?)?;
+    let (id, rest) = front_number(octets)?;
+    let (priority, rest) = front_digit(behind_space(rest)?)?;
     let (len, rest) = front_short(behind_space(rest)?)?;
     let (tagged, rest) = behind_tag(rest);
     let rest = behind_feed(rest)?;
-    if priority > u64::from(u8::MAX) || len > u64::from(u32::MAX) {
+    if id > u128::from(u64::MAX) {
         return None;
     }
     let frame = Frame {
-        id,
+        id: id as u64,
         priority: priority as u8,
         len: len as u32,
         tagged,
@@ -81,6 +85,17 @@ fn front_event(octets: &[u8]) -> Option<(Event<'static>, &[u8])>
     Some((Event::Clock(moment), rest))
 }
 
+/// The event that the first line asks, where it is as most are written, and how many octets the line has. It is looked for in a window,
+/// so that its numbers are known to be within the octets in hand.
+#[inline(always)]
+fn front_line(octets: &[u8]) -> Option<(Event<'static>, usize)>
+    ensures { IfSome result (λ x. HasLine octets.now x.1 x.0) }
+{
+    let window = octets.first_chunk::<WINDOW>()?;
+    let (event, rest) = front_event(window)?;
+    Some((event, WINDOW - rest.len() - 1))
+}
+
 /// Goes past the next line, where it is a frame or a moment as most are written and stands whole in hand, and answers the event
 /// that it asks. Else nothing changes.
 #[inline(always)]
@@ -90,9 +105,7 @@ pub(crate) fn pass_plain<R: Read + Drop, B: Allocator>(
     ensures event { MatchOption result (lines.new ≡ lines.old) (λ event. GoesPast R.remaining lines.old event lines.new) }
     ensures fewer { IfSome result (λ _. most_lines lines.new < most_lines lines.old) }
 {
-    let octets = lines.in_hand();
-    let (event, rest) = front_event(octets)?;
-    let length = octets.len() - rest.len() - 1;
+    let (event, length) = front_line(lines.in_hand())?;
     if lines.pass_line(length) {
         Some(event)
     } else {

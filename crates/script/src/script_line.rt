@@ -88,7 +88,7 @@ fn plain_tag(octets: &[u8]) -> Option<bool>
     ensures { IfSome result (λ tagged. tag_in (words_of octets.now) ≡ Some tagged) }
 {
     match octets {
-        [] => Some(false),
+        [] | [b'\r'] => Some(false),
         [b' ', b't', b'a', b'g', b'g', b'e', b'd'] => Some(true),
         _ => None,
     }

@@ -1,12 +1,9 @@
 -- Eight digits in a word.
-use Rattle.std.proofs.Common.{◌≡◌, ◌<◌, ◌≤◌, ℕ, ◌+◌, ◌-◌, ◌*◌, ◌/◌, ◌%◌, ◌^◌, suc, true, List, [], ◌∷◌, ◌++◌, length, take, drop, None, Some, Option, rules, refl, sym, ap, ◌∙◌, arith}
+use Rattle.std.proofs.Common.{◌≡◌, ◌<◌, ◌≤◌, ℕ, ◌+◌, ◌-◌, ◌*◌, ◌/◌, ◌%◌, true, List, [], ◌∷◌, length, Some, refl, ap, ◌∙◌, arith}
 use Rattle.std.specs.Prelude.{option_and_then}
 use Rattle.std.specs.List.{list_all}
 use Rattle.std.specs.Int.{from_le_bytes, w64}
 use Rattle.words.specs.Numbers.{digit_in, is_digit, value_behind}
-use Rattle.std.proofs.lemmas.List.{take-append-drop, take-take, drop-take}
-use Rattle.std.proofs.lemmas.Grind.{pow_more}
-use Rattle.words.proofs.Digits.{value_append}
 use Rattle.words.proofs.JoinedLaws.{and_first, and_second}
 
 -- so many octets one after another, as a word has them
@@ -42,28 +39,28 @@ pub record Eight (octets : List ℕ) (word : ℕ) : Type 0 where
 digit_is : (x : ℕ) → is_digit x ≡ true → digit_in 10 x ≡ Some (x - 48)
 digit_is x e = grind arith
 
-digit_small : (x : ℕ) → is_digit x ≡ true → x - 48 < 10
+pub digit_small : (x : ℕ) → is_digit x ≡ true → x - 48 < 10
 digit_small x e = grind arith
 
-digit_above : (x : ℕ) → is_digit x ≡ true → x ≡ 48 + (x - 48)
+pub digit_above : (x : ℕ) → is_digit x ≡ true → x ≡ 48 + (x - 48)
 digit_above x e = let above : 48 ≤ x = grind arith in omega (arith, above)
 
-word_above : (a b c d e f g h s t u v w x y z : ℕ) → a ≡ 48 + s → b ≡ 48 + t → c ≡ 48 + u → d ≡ 48 + v → e ≡ 48 + w → f ≡ 48 + x → g ≡ 48 + y → h ≡ 48 + z
+pub word_above : (a b c d e f g h s t u v w x y z : ℕ) → a ≡ 48 + s → b ≡ 48 + t → c ≡ 48 + u → d ≡ 48 + v → e ≡ 48 + w → f ≡ 48 + x → g ≡ 48 + y → h ≡ 48 + z
     → from_le_bytes w64 (a ∷ b ∷ c ∷ d ∷ e ∷ f ∷ g ∷ h ∷ []) ≡ 3472328296227680304 + word_of s t u v w x y z
 word_above a b c d e f g h s t u v w x y z ia ib ic id ie if_ ig ih = omega arith
 
-digit_on : (n x : ℕ) (xs : List ℕ) → is_digit x ≡ true → value_behind 10 n (x ∷ xs) ≡ value_behind 10 (n * 10 + (x - 48)) xs
+pub digit_on : (n x : ℕ) (xs : List ℕ) → is_digit x ≡ true → value_behind 10 n (x ∷ xs) ≡ value_behind 10 (n * 10 + (x - 48)) xs
 unfolding value_behind
 digit_on n x xs e = ap (option_and_then (λ d. value_behind 10 (n * 10 + d) xs)) (digit_is x e)
 
-digit_first : (x : ℕ) (xs : List ℕ) → is_digit x ≡ true → value_behind 10 0 (x ∷ xs) ≡ value_behind 10 (x - 48) xs
+pub digit_first : (x : ℕ) (xs : List ℕ) → is_digit x ≡ true → value_behind 10 0 (x ∷ xs) ≡ value_behind 10 (x - 48) xs
 digit_first x xs e = digit_on 0 x xs e ∙ ap (λ n. value_behind 10 n xs) (omega arith)
 
-no_more : (n : ℕ) → value_behind 10 n [] ≡ Some n
+pub no_more : (n : ℕ) → value_behind 10 n [] ≡ Some n
 unfolding value_behind
 no_more n = refl
 
-pub eight : (octets : List ℕ) → length octets ≡ 8 → list_all is_digit octets ≡ true → Eight octets (from_le_bytes w64 octets)
+unfoldable pub eight : (octets : List ℕ) → length octets ≡ 8 → list_all is_digit octets ≡ true → Eight octets (from_le_bytes w64 octets)
 eight (a ∷ b ∷ c ∷ d ∷ e ∷ f ∷ g ∷ h ∷ []) long all =
     let all_b = and_second _ _ all in
     let all_c = and_second _ _ all_b in
@@ -193,34 +190,15 @@ module _ (a b c d e f g h ones : ℕ) (sa : a < 10) (sb : b < 10) (sc : c < 10) 
   pub all_fours : (apart * 100 + apart / 65536) % 65536 * 10000 + (apart * 100 + apart / 65536) / 4294967296 % 65536 ≡ decimal_of a b c d e f g h
   all_fours = two_fours (10 * a + b) (10 * c + d) (10 * e + f) (10 * g + h) apart (omega arith) (omega arith) (omega arith) (omega arith) apart_is ∙ omega arith
 
-ten_times : (n p : ℕ) → n * 10 * p ≡ n * (p * 10)
-ten_times n p = grind arith
+-- what eight digits in a word are put together to
+abbrev pub pairs_of : ℕ → ℕ
+pairs_of ones = ones * 10 + ones / 256
 
-further_on : (n k m b : ℕ) (bs : List ℕ) → ((i j : ℕ) → value_behind 10 j bs ≡ Some m → value_behind 10 (i + j) bs ≡ Some (i * 10 ^ length bs + m)) → (o : Option ℕ) → digit_in 10 b ≡ o → option_and_then (λ d. value_behind 10 (k * 10 + d) bs) o ≡ Some m
-    → option_and_then (λ d. value_behind 10 ((n + k) * 10 + d) bs) (digit_in 10 b) ≡ Some (n * 10 ^ suc (length bs) + m)
-further_on n k m b bs after None is e = absurd cc
-further_on n k m b bs after (Some d) is e =
-    let more = pow_more 10 (length bs) in
-    let is_suc : length bs + 1 ≡ suc (length bs) = omega arith in
-    ap (option_and_then (λ d. value_behind 10 ((n + k) * 10 + d) bs)) is
-    ∙ ap (λ j. value_behind 10 j bs) (omega arith)
-    ∙ after (n * 10) (k * 10 + d) e
-    ∙ ap (λ j. Some (j + m)) (ten_times n (10 ^ length bs) ∙ ap (λ j. n * j) (sym more ∙ ap (λ i. 10 ^ i) is_suc))
+abbrev pub fours_of : ℕ → ℕ
+fours_of pairs = pairs % 256 + pairs / 65536 % 256 * 65536 + pairs / 4294967296 % 256 * 4294967296 + pairs / 281474976710656 % 256 * 281474976710656
 
--- what digits stand for after others, by what they stand for alone
-value_further : (n k m : ℕ) (xs : List ℕ) → value_behind 10 k xs ≡ Some m → value_behind 10 (n + k) xs ≡ Some (n * 10 ^ length xs + m)
-unfolding value_behind
-value_further n k m [] e = (let same : k ≡ m = cc in ap Some (omega (arith, same)))
-value_further n k m (b ∷ bs) e = further_on n k m b bs (λ i j. value_further i j m bs) (digit_in 10 b) refl e
+abbrev pub joined_fours : ℕ → ℕ
+joined_fours apart = (apart * 100 + apart / 65536) % 65536 * 10000 + (apart * 100 + apart / 65536) / 4294967296 % 65536
 
--- eight digits and eight after them
-pub sixteen : (n m : ℕ) (octets : List ℕ) → 16 ≤ length octets → value_behind 10 0 (take 8 octets) ≡ Some n → value_behind 10 0 (take 8 (drop 8 octets)) ≡ Some m → value_behind 10 0 (take 16 octets) ≡ Some (n * 100000000 + m)
-sixteen n m octets long first second =
-    let rest = take 8 (drop 8 octets) in
-    let split : take 16 octets ≡ take 8 octets ++ rest = sym (take-append-drop 8 (take 16 octets)) ∙ ap (λ xs. xs ++ drop 8 (take 16 octets)) (take-take 8 16 octets (omega arith)) ∙ ap (λ xs. take 8 octets ++ xs) (drop-take 8 8 octets) in
-    let eight_long : length rest ≡ 8 = search (rules, arith) in
-    ap (value_behind 10 0) split
-    ∙ value_append 10 0 n (take 8 octets) rest first
-    ∙ ap (λ j. value_behind 10 j rest) (omega arith)
-    ∙ value_further n 0 m rest second
-    ∙ ap (λ i. Some (n * 10 ^ i + m)) eight_long
+abbrev pub joined : ℕ → ℕ
+joined ones = joined_fours (fours_of (pairs_of ones))

@@ -3,7 +3,7 @@ use Rattle.std.proofs.Common.{◌≡◌, ◌<◌, ◌≤◌, ℕ, ◌+◌, ◌*�
 use Rattle.std.specs.Prelude.{not, option_and_then}
 use Rattle.std.specs.List.{list_all}
 use Rattle.std.proofs.lemmas.Bool.{lt-ltb}
-use Rattle.std.proofs.lemmas.List.{take-append-drop}
+use Rattle.std.proofs.lemmas.List.{take-append-drop, take-take}
 use Rattle.words.specs.Numbers.{BeginsWithNumber, IsNumber, digit_in, is_digit, value_behind}
 use Rattle.words.specs.Words.{is_blank, starts_blank, starts_with_break, words_of}
 use Rattle.words.proofs.JoinedLaws.{and_first, and_second, word_before}
@@ -36,6 +36,11 @@ begins end n octets rest some within is behind =
         number = λ most. value_first most end n octets some within is;
       };
     }
+
+-- digits at the front of the first octets
+pub at_front : (end n few : ℕ) (octets front rest : List ℕ) → 0 < end → end ≤ few → few ≤ length octets → front ≡ take few octets → value_behind 10 0 (take end front) ≡ Some n → rest ≡ drop end octets → BeginsWithNumber octets n rest
+at_front end n few octets front rest some within there is value behind =
+    begins end n octets rest some (omega arith) (sym (ap (λ xs. value_behind 10 0 (take end xs)) is ∙ ap (value_behind 10 0) (take-take end few octets within)) ∙ value) behind
 
 digit_unblank : (b : ℕ) → is_digit b ≡ true → not (is_blank b) ≡ true
 digit_unblank b e = grind arith

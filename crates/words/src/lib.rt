@@ -8,5 +8,5 @@ pub mod laws;
 mod numbers;
 mod words;
 
-pub use numbers::{front_number, front_short, hex_number, is_digits, number};
+pub use numbers::{front_digit, front_number, front_short, hex_number, is_digits, number};
 pub use words::Words;

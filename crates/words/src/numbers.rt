@@ -1,9 +1,12 @@
 //! Words that are numbers.
 
-ghost use Rattle.std.specs.Prelude.{◌≡◌, ◌<◌, ◌≤◌, ◌^◌, Some, IfSome, length, take};
+ghost use Rattle.std.specs.Prelude.{◌≡◌, ◌<◌, ◌≤◌, ◌^◌, Some, IfSome, drop, length, map, not, take, true};
 ghost use Rattle.std.specs.List.{list_all};
-ghost use Rattle.words.specs.declared.numbers.TheConstants.{SHORT_DIGITS, LONG_DIGITS, HEX_DIGITS};
+ghost use Rattle.words.specs.declared.numbers.TheConstants.{LANES, SHORT_DIGITS, LONG_DIGITS, HEX_DIGITS};
 ghost use Rattle.words.specs.Numbers.{BeginsWithNumber, digit_in, number_in, value_behind, is_digit, is_digits};
+ghost use Rattle.std.specs.Simd.Lanes.{mask_l};
+
+use std::simd::prelude::*;
 
 fn digit_in(base: u8, octet: u8) -> Option<u8>
     ensures digit { result ≡ digit_in base octet }
@@ -85,146 +88,185 @@ pub(crate) fn short_run(octets: &[u8]) -> (u64, usize)
     }
 }
 
-/// How many octets are looked at together where digits are read eight at a time: more than any digits that are.
-const FRONT: usize = 24;
+/// How many octets are looked at together for digits.
+const LANES: usize = 16;
 
-/// Whether eight octets are decimal digits, all looked at.
+/// Which of 16 octets are no decimal digits: a bit for each, the lowest for the first.
 #[inline(always)]
-fn are_digits(octets: &[u8; 8]) -> bool
-    ensures { result ≡ list_all is_digit octets.now }
+fn others_in(octets: u8x16) -> u64
+    ensures { result ≡ mask_l (map (λ octet. not (is_digit octet)) octets) }
 {
-    let mut other = false;
-    for octet in octets {
-        other |= *octet < b'0' || b'9' < *octet;
-    }
-    !other
+    (octets - u8x16::splat(b'0'))
+        .simd_ge(u8x16::splat(10))
+        .to_bitmask()
 }
 
-/// The number that eight decimal digits are. They stand in one word, the first in its lowest octet; there each is put together with the
-/// next one, of the pairs every second one counts, and these are put together in the same way.
+/// How many decimal digits stand at the front of 16 octets.
 #[inline(always)]
-fn eight_digits(octets: &[u8; 8]) -> Option<u64>
-    ensures value { IfSome result (λ n. value_behind 10 0 octets.now ≡ Some n) }
-    ensures bound { IfSome result (λ n. n < 10 ^ 8) }
+fn digits_in_front(octets: &[u8; LANES]) -> usize
+    ensures within { result ≤ LANES }
+    ensures digits { list_all is_digit (take result octets.now) ≡ true }
 {
-    if !are_digits(octets) {
-        return None;
+    let others = others_in(u8x16::from_array(*octets));
+    if others == 0 {
+        LANES
+    } else {
+        others.trailing_zeros() as usize
     }
-    let ones = u64::from_le_bytes(*octets) - 0x3030_3030_3030_3030;
+}
+
+/// The number that the first digits of eight octets are, so many. They are moved to the end of a word, the first in its lowest octet,
+/// so that zeros stand before them. There each digit is put together with the next one, of the pairs every second one counts, and
+/// these are put together in the same way.
+#[inline(always)]
+fn eight_digits(octets: &[u8; 8], count: usize) -> u64
+    requires some { 0 < count }
+    requires few { count ≤ 8 }
+    requires digits { list_all is_digit (take count octets.now) ≡ true }
+    ensures value { value_behind 10 0 (take count octets.now) ≡ Some result }
+    ensures bound { result < 10 ^ 8 }
+{
+    let all = u64::from_le_bytes(*octets).wrapping_sub(0x3030_3030_3030_3030);
+    let ones = all << (64 - 8 * count);
     let pairs = ones * 10 + ones / 256;
     let apart = pairs % 256
         + pairs / 65_536 % 256 * 65_536
         + pairs / 4_294_967_296 % 256 * 4_294_967_296
         + pairs / 281_474_976_710_656 % 256 * 281_474_976_710_656;
     let fours = apart * 100 + apart / 65_536;
-    Some(fours % 65_536 * 10_000 + fours / 4_294_967_296 % 65_536)
+    fours % 65_536 * 10_000 + fours / 4_294_967_296 % 65_536
 }
 
-/// The number that the first eight of octets are, where they are digits.
+/// The number that the first digits of octets are, so many, where eight octets are there.
 #[inline(always)]
-fn eight_in(octets: &[u8]) -> Option<u64>
-    ensures value { IfSome result (λ n. value_behind 10 0 (take 8 octets.now) ≡ Some n) }
-    ensures bound { IfSome result (λ n. n < 10 ^ 8) }
+fn digits_of(octets: &[u8], count: usize) -> u64
+    requires some { 0 < count }
+    requires few { count ≤ 8 }
+    requires there { 8 ≤ length octets.now }
+    requires digits { list_all is_digit (take count octets.now) ≡ true }
+    ensures value { value_behind 10 0 (take count octets.now) ≡ Some result }
+    ensures bound { result < 10 ^ 8 }
 {
     match octets.first_chunk::<8>() {
-        Some(front) => eight_digits(front),
-        None => None,
+        Some(front) => eight_digits(front, count),
+        None => 0,
     }
 }
 
-/// The number that the digits at the front of an array are, at most 19 of them, where those up to a place are known.
+/// The number that the first digits of 16 octets are, so many: the last eight of them, and those before.
 #[inline(always)]
-fn run_on(octets: &[u8; FRONT], front: u64, from: usize) -> (u64, usize)
-    requires few { from ≤ SHORT_DIGITS }
-    requires value { value_behind 10 0 (take from octets.now) ≡ Some front }
-    requires bound { front < 10 ^ from }
-    ensures few { result.1 ≤ SHORT_DIGITS }
-    ensures value { value_behind 10 0 (take result.1 octets.now) ≡ Some result.0 }
-    ensures bound { result.0 < 10 ^ result.1 }
+fn wide_digits(octets: &[u8; LANES], count: usize) -> u64
+    requires some { 8 < count }
+    requires few { count ≤ LANES }
+    requires digits { list_all is_digit (take count octets.now) ≡ true }
+    ensures { value_behind 10 0 (take count octets.now) ≡ Some result }
 {
-    let mut total = front;
-    let mut end = from;
-    while end < SHORT_DIGITS {
-        let Some(digit) = decimal_digit(octets[end]) else {
-            return (total, end);
-        };
-        total = total * 10 + digit;
-        end += 1;
-    }
-    (total, end)
+    let (_, last) = octets.split_at(count - 8);
+    digits_of(octets, count - 8) * 100_000_000 + digits_of(last, 8)
 }
 
-/// The number that the digits at the front of an array are, at most 19 of them, read eight at a time.
-#[inline(always)]
-fn eights_run(octets: &[u8; FRONT]) -> (u64, usize)
-    ensures few { result.1 ≤ SHORT_DIGITS }
-    ensures value { value_behind 10 0 (take result.1 octets.now) ≡ Some result.0 }
-    ensures bound { result.0 < 10 ^ result.1 }
-{
-    let (front, rest) = octets.split_at(8);
-    let Some(first) = eight_in(front) else {
-        return run_on(octets, 0, 0);
-    };
-    let Some(second) = eight_in(rest) else {
-        return run_on(octets, first, 8);
-    };
-    run_on(octets, first * 100_000_000 + second, 16)
-}
+/// The powers of ten up to the eighth.
+const TENS: [u64; 9] = [
+    1,
+    10,
+    100,
+    1_000,
+    10_000,
+    100_000,
+    1_000_000,
+    10_000_000,
+    100_000_000,
+];
 
-/// What `short_run` answers, made for numbers of which most are long.
+/// The number that one digit before a space is, and what comes after the digit.
 #[inline(always)]
-fn front_run(octets: &[u8]) -> (u64, usize)
-    ensures within { result.1 ≤ length octets.now }
-    ensures few { result.1 ≤ SHORT_DIGITS }
-    ensures value { value_behind 10 0 (take result.1 octets.now) ≡ Some result.0 }
-    ensures bound { result.0 < 10 ^ result.1 }
+pub fn front_digit(octets: &[u8]) -> Option<(u64, &[u8])>
+    ensures number { IfSome result (λ x. BeginsWithNumber octets.now x.0 x.1.now) }
+    ensures bound { IfSome result (λ x. x.0 < 10) }
 {
-    match octets.first_chunk::<FRONT>() {
-        Some(front) => eights_run(front),
-        None => short_run(octets),
+    match octets {
+        [octet, b' ', ..] => {
+            let digit = decimal_digit(*octet)?;
+            let (_, rest) = octets.split_at(1);
+            Some((digit, rest))
+        }
+        _ => None,
     }
 }
 
-/// The number that the decimal digits at the front of octets are, one digit or more and at most 19, and what comes after them. None
-/// where there is no digit.
+/// The number that one digit to eight at the front of octets are, and what comes after them. None where fewer than 16 octets are there.
 #[inline(always)]
 pub fn front_short(octets: &[u8]) -> Option<(u64, &[u8])>
-    ensures { IfSome result (λ x. BeginsWithNumber octets.now x.0 x.1.now) }
+    ensures number { IfSome result (λ x. BeginsWithNumber octets.now x.0 x.1.now) }
+    ensures bound { IfSome result (λ x. x.0 < 10 ^ 8) }
 {
-    let (number, end) = short_run(octets);
-    if end == 0 {
+    let front = octets.first_chunk::<LANES>()?;
+    let count = digits_in_front(front);
+    if count == 0 || count > 8 {
         return None;
     }
-    let (_, rest) = octets.split_at(end);
-    Some((number, rest))
+    let (_, rest) = octets.split_at(count);
+    Some((digits_of(front, count), rest))
 }
 
-/// The number that the decimal digits at the front of octets are, one digit or more and at most 38, and what comes after them. None
-/// where there is no digit.
+/// The number that digits at the front of octets are, of which the first 16 are this number, and what comes after them. None where they
+/// are more than 23, or fewer than 24 octets are there.
+#[inline(always)]
+fn long_number<'a>(octets: &'a [u8], number: u64, rest: &'a [u8]) -> Option<(u128, &'a [u8])>
+    requires there { LANES ≤ length octets.now }
+    requires value { value_behind 10 0 (take LANES octets.now) ≡ Some number }
+    requires rest { rest.now ≡ drop LANES octets.now }
+    ensures { IfSome result (λ x. BeginsWithNumber octets.now x.0 x.1.now) }
+{
+    let (_, back) = octets.split_at(8);
+    let count = digits_in_front(back.first_chunk::<LANES>()?);
+    // The first eight are digits.
+    if count <= 8 {
+        return Some((u128::from(number), rest));
+    }
+    if count == LANES {
+        return None;
+    }
+    let more = count - 8;
+    let (_, behind) = rest.split_at(more);
+    let last = digits_of(rest, more);
+    Some((
+        u128::from(number) * u128::from(TENS[more]) + u128::from(last),
+        behind,
+    ))
+}
+
+/// The number that digits at the front of octets are, and what comes after them. None where it has none or more than 23, or fewer octets
+/// are there than are looked at: 16 for 15 digits, and 24 for more.
 #[inline(always)]
 pub fn front_number(octets: &[u8]) -> Option<(u128, &[u8])>
     ensures { IfSome result (λ x. BeginsWithNumber octets.now x.0 x.1.now) }
 {
-    let (number, end) = decimal_run(octets);
-    if end == 0 {
+    let front = octets.first_chunk::<LANES>()?;
+    let count = digits_in_front(front);
+    if count == 0 {
         return None;
     }
-    let (_, rest) = octets.split_at(end);
-    Some((number, rest))
+    let (_, rest) = octets.split_at(count);
+    if count <= 8 {
+        return Some((u128::from(digits_of(front, count)), rest));
+    }
+    let number = wide_digits(front, count);
+    if count < LANES {
+        return Some((u128::from(number), rest));
+    }
+    long_number(octets, number, rest)
 }
 
-/// The number that the digits at the front are, as far as they surely fit 128 bits, from the number that the first of them are.
-#[inline(always)]
-fn long_run(front: u64, octets: &[u8]) -> (u128, usize)
-    requires within { SHORT_DIGITS ≤ length octets.now }
-    requires value { value_behind 10 0 (take SHORT_DIGITS octets.now) ≡ Some front }
-    requires bound { front < 10 ^ SHORT_DIGITS }
+// The number that the decimal digits at the front of octets are, but for those past 38, and how many these are.
+pub(crate) fn decimal_run(octets: &[u8]) -> (u128, usize)
     ensures within { result.1 ≤ length octets.now }
     ensures value { value_behind 10 0 (take result.1 octets.now) ≡ Some result.0 }
 {
+    let (front, begin) = short_run(octets);
     let stop = octets.len().min(LONG_DIGITS);
     let mut number = u128::from(front);
-    let mut end = SHORT_DIGITS;
+    let mut end = begin;
     while end < stop {
         let Some(digit) = decimal_digit(octets[end]) else {
             return (number, end);
@@ -233,19 +275,6 @@ fn long_run(front: u64, octets: &[u8]) -> (u128, usize)
         end += 1;
     }
     (number, end)
-}
-
-// The number that the decimal digits at the front of octets are, but for those past 38, and how many these are.
-#[inline(always)]
-pub(crate) fn decimal_run(octets: &[u8]) -> (u128, usize)
-    ensures within { result.1 ≤ length octets.now }
-    ensures value { value_behind 10 0 (take result.1 octets.now) ≡ Some result.0 }
-{
-    let (front, end) = front_run(octets);
-    if end == SHORT_DIGITS {
-        return long_run(front, octets);
-    }
-    (u128::from(front), end)
 }
 
 /// The number of at most `most` that digits of a base are.

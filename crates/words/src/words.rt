@@ -124,13 +124,15 @@ fn past_text<'a, const N: usize>(octets: &'a [u8], text: &[u8; N]) -> Option<&'a
     }
 }
 
-/// Whether octets end at this place, or go on with a space.
+/// Whether octets end at this place, maybe after a CR, or go on with a space.
 fn is_plain_end(octets: &[u8], place: usize) -> bool
     requires { place ≤ length octets.now }
     ensures blank { result ≡ true → starts_blank (drop place octets.now) ≡ true }
     ensures whole { result ≡ true → starts_with_break (drop place octets.now) ≡ false }
 {
-    place == octets.len() || octets[place] == b' '
+    place == octets.len()
+        || octets[place] == b' '
+        || (octets[place] == b'\r' && place + 1 == octets.len())
 }
 
 /// Whether there is an octet at this place that is no blank by itself.

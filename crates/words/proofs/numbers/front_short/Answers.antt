@@ -1,8 +1,11 @@
-use Rattle.std.proofs.Common.{◌<◌, rules, arith}
-use Rattle.words.proofs.FrontLaws.{begins}
+use Rattle.std.proofs.Common.{◌≡◌, ◌≤◌, ◌<◌, length, take, rules, arith}
+use Rattle.words.proofs.FrontLaws.{at_front}
 use Rattle.words.proofs.numbers.front_short.Goals as goal
 
-pub returns : goal.returns
-returns c =
-    let some : 0 < c.short_run-number.result.1 = search (rules, arith) in
-    begins _ _ _ _ some c.short_run-number.ensures.within c.short_run-number.ensures.value c.split_at.ensures.back
+pub returns-clause-number : goal.returns-clause-number
+returns-clause-number c =
+    let octets = c.args.octets.now in
+    let there : 16 ≤ length octets = search (rules, arith) in
+    let front : c.in_ok-front.front.now ≡ take 16 octets = search rules in
+    let some : 0 < c.digits_in_front-count.result = search (rules, arith) in
+    at_front _ _ 16 octets _ _ some c.digits_in_front-count.ensures.within there front c.digits_of.ensures.value c.split_at.ensures.back

@@ -1,14 +1,14 @@
 use Rattle.std.proofs.Common.{◌≡◌, ◌<◌, ◌≤◌, ◌^◌, ◌-◌, Some, take}
 use Rattle.words.specs.Numbers.{value_behind}
-use Rattle.words.proofs.numbers.run_on.Given as goal
+use Rattle.words.proofs.numbers.decimal_run.Given as goal
 
 -- the digits so far, and that so many make no greater number
 abbrev pub invariant-loop-end : goal.invariant-loop-end
 invariant-loop-end l = record {
-  within : l.end ≤ 19;
-  value : value_behind 10 0 (take l.end l.octets) ≡ Some l.total;
-  bound : l.total < 10 ^ l.end;
+  within : l.end ≤ l.stop;
+  value : value_behind 10 0 (take l.end l.octets) ≡ Some l.number;
+  bound : l.number < 10 ^ l.end;
 }
 
 abbrev pub decreases-loop-end : goal.decreases-loop-end
-decreases-loop-end l = 19 - l.end
+decreases-loop-end l = l.stop - l.end

@@ -1,6 +1,6 @@
 use Rattle.std.proofs.Common.{◌<◌, rules, arith}
 use Rattle.words.proofs.Digits.{digit_fits, next_digit}
-use Rattle.words.proofs.numbers.long_run.Goals as goal
+use Rattle.words.proofs.numbers.decimal_run.Goals as goal
 
 pub overflow_mul-number : goal.overflow_mul-number
 overflow_mul-number c =
