@@ -2,8 +2,7 @@
 use Rattle.std.specs.Prelude.{◌≡◌, ◌<◌, ◌⊎◌, List, ℕ, [], ◌++◌, drop, length, Option, Some, None, Result, Ok, Err}
 use Rattle.job.specs.Outcome.{Outcome}
 use Rattle.job.specs.Report.{Telling}
-use Rattle.script.specs.Texts.{script_telling, value_text}
-use Rattle.script.specs.declared.faults.BadLine.{BadLine}
+use Rattle.script.specs.Texts.{value_text}
 use Rattle.script.specs.declared.settings.BadValue.{BadValue}
 use Rattle.in_memory.specs.declared.jobs.Ran.{Ran}
 
@@ -34,9 +33,9 @@ abbrev pub refused : BadValue → Told
 refused value = record { status = 2; output = []; fault = value_text value }
 
 -- by what values say: what is to be written by them, or the first that is bad
-abbrev pub told_by : {S : Type 0} → (S → Outcome BadLine) → Result S BadValue → Told
-told_by whole (Ok settings) = told_of script_telling (whole settings)
-told_by whole (Err value) = refused value
+abbrev pub told_by : {S I : Type 0} → Telling I → (S → Outcome I) → Result S BadValue → Told
+told_by telling whole (Ok given) = told_of telling (whole given)
+told_by telling whole (Err value) = refused value
 
 -- 2. What is left in the slices
 

@@ -3,8 +3,7 @@
 ghost use Rattle.std.specs.Prelude.{◌≡◌, List, ℕ, Result};
 ghost use Rattle.abstract_port.specs.declared.Command.{Command};
 ghost use Rattle.in_memory.specs.Bounds.{bounds_told_by, frames_at, bounds_settings_at};
-ghost use Rattle.in_memory.specs.Slices.{Answers, slices, told_of};
-ghost use Rattle.stream_bounds.specs.Faults.{bounds_telling};
+ghost use Rattle.in_memory.specs.Slices.{Answers, slices};
 ghost use Rattle.stream_bounds.specs.Outcome.{outcome_of};
 ghost use Rattle.tc_reader.specs.Reader.{IsReader};
 ghost use Rattle.tc_reader.specs.declared.fault.TcFault.{TcFault};
@@ -47,29 +46,6 @@ fn bounds_settings_at(values: PortValues, frames: u64) -> Result<BoundsSettings,
     }
 }
 
-/// Answers about schedules and the streams of a table, with settings.
-fn bounds_with(
-    alloc: Global,
-    settings: BoundsSettings,
-    table: &[u8],
-    schedules: &[u8],
-    output: &mut [u8],
-    fault: &mut [u8],
-) -> Ran
-    ensures { (read : List (List ℕ) → Result Command TcFault) → IsReader read → Answers (told_of bounds_telling (outcome_of read settings table.now schedules.now)) result (slices output.old fault.old) (slices output.new fault.new) }
-{
-    let mut written = Vec::new(alloc);
-    let run = bounds(
-        alloc,
-        table,
-        schedules,
-        &mut written,
-        settings,
-        &mut Unwatched,
-    );
-    end_in_memory(&alloc, run, written.as_slice(), output, fault)
-}
-
 /// Answers how long the frames of a table's streams wait under each schedule, for ever, with these values: what `stream_bounds::bounds` writes comes
 /// into `output`, and the text of a fault into `fault`, as the program writes it on its standard error. `frames`, 1 to 1,000,000,000, is how many
 /// frames of a class are looked at, at most. A deadline that is missed is no fault: the lines say it. The moment to run to and the summary of the
@@ -89,9 +65,19 @@ pub fn bounds_octets(
     ensures { (read : List (List ℕ) → Result Command TcFault) → IsReader read →
         Answers (bounds_told_by (λ settings. outcome_of read settings table.now schedules.now) (bounds_settings_at values frames)) result (slices output.old fault.old) (slices output.new fault.new) }
 {
-    match bounds_settings_at(values, frames) {
-        Ok(settings) => bounds_with(alloc, settings, table, schedules, output, fault),
-        Err(BoundsValue::Port(value)) => refuse_value(&alloc, value, output, fault),
-        Err(BoundsValue::Frames) => put_told(2, b"", BAD_FRAMES, output, fault),
-    }
+    let settings = match bounds_settings_at(values, frames) {
+        Ok(settings) => settings,
+        Err(BoundsValue::Port(value)) => return refuse_value(&alloc, value, output, fault),
+        Err(BoundsValue::Frames) => return put_told(2, b"", BAD_FRAMES, output, fault),
+    };
+    let mut written = Vec::new(alloc);
+    let run = bounds(
+        alloc,
+        table,
+        schedules,
+        &mut written,
+        settings,
+        &mut Unwatched,
+    );
+    end_in_memory(&alloc, run, written.as_slice(), output, fault)
 }

@@ -16,7 +16,7 @@ use crate::jobs::put_front;
 use crate::values::{PortValues, settings_at};
 use job::say_fault;
 use replay::{ReplayFault, Stamp, replay};
-use script::{BadValue, Settings, Unwatched, say_value};
+use script::{BadValue, Unwatched, say_value};
 use std::alloc::Allocator;
 
 /// How a replay ended, and how many octets there are of what it reports. C sees it as it stands.
@@ -129,43 +129,6 @@ fn refuse_replay<A: Allocator>(
     )
 }
 
-/// Replays a script and a capture with settings.
-fn replay_with<A: Allocator>(
-    alloc: &A,
-    settings: Settings,
-    stamp: Stamp,
-    script: &[u8],
-    capture: &[u8],
-    report: &mut [u8],
-    departures: &mut [u8],
-    fault: &mut [u8],
-) -> ReplayRan
-    ensures { (read : List (List ℕ) → Result Command TcFault) → IsReader read → (records : Result (List Entry × End) CapFault) → ReadsAs capture.now records →
-        Replays (told_of_replay (outcome_of read settings stamp script.now records)) result (outputs report.old departures.old fault.old) (outputs report.new departures.new fault.new) }
-{
-    let mut told = Vec::new(alloc);
-    let mut left = Vec::new(alloc);
-    let run = replay(
-        alloc,
-        script,
-        capture,
-        &mut left,
-        &mut told,
-        settings,
-        stamp,
-        &mut Unwatched,
-    );
-    end_replay(
-        alloc,
-        run,
-        told.as_slice(),
-        left.as_slice(),
-        report,
-        departures,
-        fault,
-    )
-}
-
 /// Replays a script and a capture with these values: both outputs, as `replay::replay` writes them, come into `report` and `departures`, and
 /// the text of a fault into `fault`, as the program writes it on its standard error.
 ///
@@ -187,10 +150,29 @@ pub fn replay_octets<A: Allocator>(
     ensures { (read : List (List ℕ) → Result Command TcFault) → IsReader read → (records : Result (List Entry × End) CapFault) → ReadsAs capture.now records →
         Replays (told_by_replay (λ settings. outcome_of read settings stamp script.now records) (settings_at values)) result (outputs report.old departures.old fault.old) (outputs report.new departures.new fault.new) }
 {
-    match settings_at(values) {
-        Ok(settings) => replay_with(
-            alloc, settings, stamp, script, capture, report, departures, fault,
-        ),
-        Err(value) => refuse_replay(alloc, value, report, departures, fault),
-    }
+    let settings = match settings_at(values) {
+        Ok(settings) => settings,
+        Err(value) => return refuse_replay(alloc, value, report, departures, fault),
+    };
+    let mut told = Vec::new(alloc);
+    let mut left = Vec::new(alloc);
+    let run = replay(
+        alloc,
+        script,
+        capture,
+        &mut left,
+        &mut told,
+        settings,
+        stamp,
+        &mut Unwatched,
+    );
+    end_replay(
+        alloc,
+        run,
+        told.as_slice(),
+        left.as_slice(),
+        report,
+        departures,
+        fault,
+    )
 }

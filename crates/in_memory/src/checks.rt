@@ -2,7 +2,7 @@
 
 ghost use Rattle.std.specs.Prelude.{List, ℕ, Result, false};
 ghost use Rattle.abstract_port.specs.declared.Command.{Command};
-ghost use Rattle.in_memory.specs.Slices.{Answers, slices, told_by, told_of};
+ghost use Rattle.in_memory.specs.Slices.{Answers, slices, told_by};
 ghost use Rattle.in_memory.specs.Values.{rate_at};
 ghost use Rattle.schedule_check.specs.Checked.{whole_check};
 ghost use Rattle.schedule_check.specs.Windows.{IsTeller, Teller};
@@ -15,28 +15,6 @@ use crate::values::rate_at;
 use schedule_check::{CheckSettings, check};
 use script::Unwatched;
 use std::alloc::Allocator;
-use wire_time::Rate;
-
-/// Checks schedule commands at a rate.
-fn check_at<A: Allocator>(
-    alloc: &A,
-    rate: Rate,
-    windows: bool,
-    schedules: &[u8],
-    output: &mut [u8],
-    fault: &mut [u8],
-) -> Ran
-    ensures { (tell : Teller) → IsTeller tell → (read : List (List ℕ) → Result Command TcFault) → IsReader read → Answers (told_of script_telling (whole_check tell windows false rate read schedules.now)) result (slices output.old fault.old) (slices output.new fault.new) }
-{
-    let mut written = Vec::new(alloc);
-    let settings = CheckSettings {
-        rate,
-        windows,
-        script: false,
-    };
-    let run = check(alloc, schedules, &mut written, settings, &mut Unwatched);
-    end_in_memory(alloc, run, written.as_slice(), output, fault)
-}
 
 /// Checks schedule commands at a line rate in Mb/s: what is reported of each, as `schedule_check::check` writes it, comes into `output`, with
 /// what a schedule gives each class where `windows` asks for it; and the text of a fault into `fault`, as the program writes it on its
@@ -52,10 +30,18 @@ pub fn check_octets<A: Allocator>(
     fault: &mut [u8],
 ) -> Ran
     ensures { (tell : Teller) → IsTeller tell → (read : List (List ℕ) → Result Command TcFault) → IsReader read →
-        Answers (told_by (λ ps. whole_check tell windows false ps read schedules.now) (rate_at rate)) result (slices output.old fault.old) (slices output.new fault.new) }
+        Answers (told_by script_telling (λ ps. whole_check tell windows false ps read schedules.now) (rate_at rate)) result (slices output.old fault.old) (slices output.new fault.new) }
 {
-    match rate_at(rate) {
-        Ok(rate) => check_at(alloc, rate, windows, schedules, output, fault),
-        Err(value) => refuse_value(alloc, value, output, fault),
-    }
+    let rate = match rate_at(rate) {
+        Ok(rate) => rate,
+        Err(value) => return refuse_value(alloc, value, output, fault),
+    };
+    let settings = CheckSettings {
+        rate,
+        windows,
+        script: false,
+    };
+    let mut written = Vec::new(alloc);
+    let run = check(alloc, schedules, &mut written, settings, &mut Unwatched);
+    end_in_memory(alloc, run, written.as_slice(), output, fault)
 }

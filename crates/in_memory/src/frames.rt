@@ -8,8 +8,8 @@ ghost use Rattle.capture.specs.declared.reader.End.{End};
 ghost use Rattle.frame_table.specs.ByStream.{frames_by_stream};
 ghost use Rattle.frame_table.specs.OfCapture.{frames_of_capture};
 ghost use Rattle.frame_table.specs.Outcome.{frames_of};
-ghost use Rattle.in_memory.specs.Slices.{Answers, slices, told_by, told_of};
-ghost use Rattle.in_memory.specs.Values.{capture_told_by, settings_at, streams_told_by};
+ghost use Rattle.in_memory.specs.Slices.{Answers, slices, told_by};
+ghost use Rattle.in_memory.specs.Values.{settings_at};
 ghost use Rattle.replay.specs.Outcome.{ReadsAs};
 ghost use Rattle.replay.specs.Texts.{replay_telling};
 ghost use Rattle.script.specs.Texts.{script_telling};
@@ -20,23 +20,8 @@ ghost use Rattle.traffic.specs.Faults.{streams_telling};
 use crate::jobs::{Ran, end_in_memory, refuse_value};
 use crate::values::{PortValues, settings_at};
 use frame_table::{run_frames, run_frames_by_stream, run_frames_of_capture};
-use script::{Settings, Unwatched};
+use script::Unwatched;
 use std::alloc::Allocator;
-
-/// Writes the table of a script with settings.
-fn frames_with<A: Allocator>(
-    alloc: &A,
-    settings: Settings,
-    script: &[u8],
-    output: &mut [u8],
-    fault: &mut [u8],
-) -> Ran
-    ensures { (read : List (List ℕ) → Result Command TcFault) → IsReader read → Answers (told_of script_telling (frames_of read settings script.now)) result (slices output.old fault.old) (slices output.new fault.new) }
-{
-    let mut written = Vec::new(alloc);
-    let run = run_frames(alloc, script, &mut written, settings, &mut Unwatched);
-    end_in_memory(alloc, run, written.as_slice(), output, fault)
-}
 
 /// Runs a script with these values: the table of its frames, as `frame_table::run_frames` writes it, comes into `output`, and the text of a
 /// fault into `fault`, as the program writes it on its standard error.
@@ -50,27 +35,14 @@ pub fn frames_octets<A: Allocator>(
     fault: &mut [u8],
 ) -> Ran
     ensures { (read : List (List ℕ) → Result Command TcFault) → IsReader read →
-        Answers (told_by (λ settings. frames_of read settings script.now) (settings_at values)) result (slices output.old fault.old) (slices output.new fault.new) }
+        Answers (told_by script_telling (λ settings. frames_of read settings script.now) (settings_at values)) result (slices output.old fault.old) (slices output.new fault.new) }
 {
-    match settings_at(values) {
-        Ok(settings) => frames_with(alloc, settings, script, output, fault),
-        Err(value) => refuse_value(alloc, value, output, fault),
-    }
-}
-
-/// Writes the table of a script with settings, and with the streams of a table.
-fn frames_by_stream_with<A: Allocator>(
-    alloc: &A,
-    settings: Settings,
-    table: &[u8],
-    script: &[u8],
-    output: &mut [u8],
-    fault: &mut [u8],
-) -> Ran
-    ensures { (read : List (List ℕ) → Result Command TcFault) → IsReader read → Answers (told_of streams_telling (frames_by_stream read settings table.now script.now)) result (slices output.old fault.old) (slices output.new fault.new) }
-{
+    let settings = match settings_at(values) {
+        Ok(settings) => settings,
+        Err(value) => return refuse_value(alloc, value, output, fault),
+    };
     let mut written = Vec::new(alloc);
-    let run = run_frames_by_stream(alloc, table, script, &mut written, settings, &mut Unwatched);
+    let run = run_frames(alloc, script, &mut written, settings, &mut Unwatched);
     end_in_memory(alloc, run, written.as_slice(), output, fault)
 }
 
@@ -88,35 +60,14 @@ pub fn frames_by_stream_octets<A: Allocator>(
     fault: &mut [u8],
 ) -> Ran
     ensures { (read : List (List ℕ) → Result Command TcFault) → IsReader read →
-        Answers (streams_told_by (λ settings. frames_by_stream read settings table.now script.now) (settings_at values)) result (slices output.old fault.old) (slices output.new fault.new) }
+        Answers (told_by streams_telling (λ settings. frames_by_stream read settings table.now script.now) (settings_at values)) result (slices output.old fault.old) (slices output.new fault.new) }
 {
-    match settings_at(values) {
-        Ok(settings) => frames_by_stream_with(alloc, settings, table, script, output, fault),
-        Err(value) => refuse_value(alloc, value, output, fault),
-    }
-}
-
-/// Writes the table of a script and a capture with settings.
-fn frames_of_capture_with<A: Allocator>(
-    alloc: &A,
-    settings: Settings,
-    script: &[u8],
-    capture: &[u8],
-    output: &mut [u8],
-    fault: &mut [u8],
-) -> Ran
-    ensures { (read : List (List ℕ) → Result Command TcFault) → IsReader read → (records : Result (List Entry × End) CapFault) → ReadsAs capture.now records →
-        Answers (told_of replay_telling (frames_of_capture read settings script.now records)) result (slices output.old fault.old) (slices output.new fault.new) }
-{
+    let settings = match settings_at(values) {
+        Ok(settings) => settings,
+        Err(value) => return refuse_value(alloc, value, output, fault),
+    };
     let mut written = Vec::new(alloc);
-    let run = run_frames_of_capture(
-        alloc,
-        script,
-        capture,
-        &mut written,
-        settings,
-        &mut Unwatched,
-    );
+    let run = run_frames_by_stream(alloc, table, script, &mut written, settings, &mut Unwatched);
     end_in_memory(alloc, run, written.as_slice(), output, fault)
 }
 
@@ -136,10 +87,20 @@ pub fn frames_of_capture_octets<A: Allocator>(
     fault: &mut [u8],
 ) -> Ran
     ensures { (read : List (List ℕ) → Result Command TcFault) → IsReader read → (records : Result (List Entry × End) CapFault) → ReadsAs capture.now records →
-        Answers (capture_told_by (λ settings. frames_of_capture read settings script.now records) (settings_at values)) result (slices output.old fault.old) (slices output.new fault.new) }
+        Answers (told_by replay_telling (λ settings. frames_of_capture read settings script.now records) (settings_at values)) result (slices output.old fault.old) (slices output.new fault.new) }
 {
-    match settings_at(values) {
-        Ok(settings) => frames_of_capture_with(alloc, settings, script, capture, output, fault),
-        Err(value) => refuse_value(alloc, value, output, fault),
-    }
+    let settings = match settings_at(values) {
+        Ok(settings) => settings,
+        Err(value) => return refuse_value(alloc, value, output, fault),
+    };
+    let mut written = Vec::new(alloc);
+    let run = run_frames_of_capture(
+        alloc,
+        script,
+        capture,
+        &mut written,
+        settings,
+        &mut Unwatched,
+    );
+    end_in_memory(alloc, run, written.as_slice(), output, fault)
 }

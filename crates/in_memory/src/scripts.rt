@@ -2,7 +2,7 @@
 
 ghost use Rattle.std.specs.Prelude.{List, ℕ, Result};
 ghost use Rattle.abstract_port.specs.declared.Command.{Command};
-ghost use Rattle.in_memory.specs.Slices.{Answers, slices, told_by, told_of};
+ghost use Rattle.in_memory.specs.Slices.{Answers, slices, told_by};
 ghost use Rattle.in_memory.specs.Values.{settings_at};
 ghost use Rattle.script.specs.Outcome.{outcome_of};
 ghost use Rattle.script.specs.Texts.{script_telling};
@@ -11,23 +11,8 @@ ghost use Rattle.tc_reader.specs.declared.fault.TcFault.{TcFault};
 
 use crate::jobs::{Ran, end_in_memory, refuse_value};
 use crate::values::{PortValues, settings_at};
-use script::{Settings, Unwatched, run_script};
+use script::{Unwatched, run_script};
 use std::alloc::Allocator;
-
-/// Runs a script with settings.
-fn run_with<A: Allocator>(
-    alloc: &A,
-    settings: Settings,
-    script: &[u8],
-    output: &mut [u8],
-    fault: &mut [u8],
-) -> Ran
-    ensures { (read : List (List ℕ) → Result Command TcFault) → IsReader read → Answers (told_of script_telling (outcome_of read settings script.now)) result (slices output.old fault.old) (slices output.new fault.new) }
-{
-    let mut written = Vec::new(alloc);
-    let run = run_script(alloc, script, &mut written, settings, &mut Unwatched);
-    end_in_memory(alloc, run, written.as_slice(), output, fault)
-}
 
 /// Runs a script with these values: its answers, as `script::run_script` writes them, come into `output`, and the text of a fault into
 /// `fault`, as the program writes it on its standard error.
@@ -41,10 +26,13 @@ pub fn run_octets<A: Allocator>(
     fault: &mut [u8],
 ) -> Ran
     ensures { (read : List (List ℕ) → Result Command TcFault) → IsReader read →
-        Answers (told_by (λ settings. outcome_of read settings script.now) (settings_at values)) result (slices output.old fault.old) (slices output.new fault.new) }
+        Answers (told_by script_telling (λ settings. outcome_of read settings script.now) (settings_at values)) result (slices output.old fault.old) (slices output.new fault.new) }
 {
-    match settings_at(values) {
-        Ok(settings) => run_with(alloc, settings, script, output, fault),
-        Err(value) => refuse_value(alloc, value, output, fault),
-    }
+    let settings = match settings_at(values) {
+        Ok(settings) => settings,
+        Err(value) => return refuse_value(alloc, value, output, fault),
+    };
+    let mut written = Vec::new(alloc);
+    let run = run_script(alloc, script, &mut written, settings, &mut Unwatched);
+    end_in_memory(alloc, run, written.as_slice(), output, fault)
 }

@@ -1,34 +1,15 @@
 //! A table of streams in memory.
 
-ghost use Rattle.std.specs.Prelude.{◌≤◌};
-ghost use Rattle.in_memory.specs.Slices.{Answers, slices, told_of};
-ghost use Rattle.in_memory.specs.Values.{from_at, streams_told_by};
+ghost use Rattle.in_memory.specs.Slices.{Answers, slices, told_by};
+ghost use Rattle.in_memory.specs.Values.{from_at};
 ghost use Rattle.traffic.specs.Faults.{streams_telling};
 ghost use Rattle.traffic.specs.Outcome.{outcome_of};
-ghost use Rattle.wire_time.specs.Moment.{greatest_moment};
 
 use crate::jobs::{Ran, end_in_memory, refuse_value};
 use crate::values::from_at;
 use script::Unwatched;
 use std::alloc::Allocator;
 use traffic::write_streams;
-
-/// Makes a script of a table of streams whose offsets count from a moment.
-fn streams_from<A: Allocator>(
-    alloc: &A,
-    from: u128,
-    table: &[u8],
-    script: &[u8],
-    output: &mut [u8],
-    fault: &mut [u8],
-) -> Ran
-    requires { from ≤ greatest_moment }
-    ensures { Answers (told_of streams_telling (outcome_of from table.now script.now)) result (slices output.old fault.old) (slices output.new fault.new) }
-{
-    let mut written = Vec::new(alloc);
-    let run = write_streams(alloc, table, script, &mut written, from, &mut Unwatched);
-    end_in_memory(alloc, run, written.as_slice(), output, fault)
-}
 
 /// Makes a script of a table of streams, with the lines of `script` among their frames, which may have no octets: what
 /// `traffic::write_streams` writes comes into `output`, and the text of a fault into `fault`, as the program writes it on its standard error.
@@ -44,10 +25,13 @@ pub fn streams_octets<A: Allocator>(
     output: &mut [u8],
     fault: &mut [u8],
 ) -> Ran
-    ensures { Answers (streams_told_by (λ moment. outcome_of moment table.now script.now) (from_at from)) result (slices output.old fault.old) (slices output.new fault.new) }
+    ensures { Answers (told_by streams_telling (λ moment. outcome_of moment table.now script.now) (from_at from)) result (slices output.old fault.old) (slices output.new fault.new) }
 {
-    match from_at(from) {
-        Ok(from) => streams_from(alloc, from, table, script, output, fault),
-        Err(value) => refuse_value(alloc, value, output, fault),
-    }
+    let from = match from_at(from) {
+        Ok(from) => from,
+        Err(value) => return refuse_value(alloc, value, output, fault),
+    };
+    let mut written = Vec::new(alloc);
+    let run = write_streams(alloc, table, script, &mut written, from, &mut Unwatched);
+    end_in_memory(alloc, run, written.as_slice(), output, fault)
 }

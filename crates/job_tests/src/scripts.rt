@@ -4,7 +4,7 @@ use job::{Ended, say_fault};
 use linked_list_allocator::LocalHeap;
 use script::{RunFault, Settings, Unwatched, Values, answer_script, run_script};
 use std::alloc::Global;
-use std::io::{self, BufWriter, Write};
+use std::io::{self, BufWriter, Read, Write};
 use std::process::Abort;
 use std::test::Fail;
 use test_streams::{Narrow, Pieces};
@@ -192,24 +192,27 @@ const FAILED: Ended = Ended {
     told: true,
 };
 
+/// How the script that `reader` gives ends, what its answers go to, and the text of a fault.
+fn ended_into<R: Read, W: Write + Drop>(
+    alloc: Global,
+    reader: &mut R,
+    writer: W,
+) -> io::Result<(Ended, W, Vec<u8>)> {
+    let answers = BufWriter::new(alloc, writer)?;
+    let mut errors = Vec::new(alloc);
+    let (ended, writer) = answer_script(alloc, NONE, reader, answers, &mut errors, &mut Unwatched);
+    Ok((ended, writer, errors))
+}
+
 /// Whether a failed read is reported, and what was answered before it let out.
 fn is_failed_read_told(alloc: Global) -> io::Result<bool> {
     let mut reader = Pieces::new(b"frame 1 0 60\nframe 2 0 60\n", 1);
     reader.fails_at = 14;
-    let writer = BufWriter::new(alloc, Vec::new(alloc))?;
-    let mut errors = Vec::new(alloc);
-    let (ended, got) = answer_script(
-        alloc,
-        NONE,
-        &mut reader,
-        writer,
-        &mut errors,
-        &mut Unwatched,
-    );
+    let (ended, got, said) = ended_into(alloc, &mut reader, Vec::new(alloc))?;
     Ok(
         ended == FAILED
             && got.as_slice() == b"queued 1 class 0\n".as_slice()
-            && errors.as_slice() == b"taprio_port: read failed\n".as_slice(),
+            && said.as_slice() == b"taprio_port: read failed\n".as_slice(),
     )
 }
 
@@ -221,21 +224,12 @@ fn is_failed_write_told(alloc: Global) -> io::Result<bool> {
         fails_at: 0,
         calls: 0,
     };
-    let writer = BufWriter::new(alloc, narrow)?;
-    let mut errors = Vec::new(alloc);
-    let (ended, once) = answer_script(
-        alloc,
-        NONE,
-        &mut reader,
-        writer,
-        &mut errors,
-        &mut Unwatched,
-    );
+    let (ended, once, said) = ended_into(alloc, &mut reader, narrow)?;
     Ok(
         ended == FAILED
             && once.calls == 1
             && once.got.is_empty()
-            && errors.as_slice() == b"taprio_port: write failed\n".as_slice(),
+            && said.as_slice() == b"taprio_port: write failed\n".as_slice(),
     )
 }
 

@@ -18,12 +18,14 @@ ghost use Rattle.in_memory.specs.Bounds.{bounds_settings_at, bounds_told_by};
 ghost use Rattle.in_memory.specs.Captures.{Replays, outputs, told_by_replay};
 ghost use Rattle.in_memory.specs.Pictures.{DrawsWith, options_at};
 ghost use Rattle.in_memory.specs.Slices.{Answers, slices, told_by, told_of};
-ghost use Rattle.in_memory.specs.Values.{capture_told_by, from_at, rate_at, settings_at, streams_told_by};
+ghost use Rattle.in_memory.specs.Values.{from_at, rate_at, settings_at};
 ghost use Rattle.replay.specs.Outcome.{ReadsAs, outcome_of as replay_outcome_of};
+ghost use Rattle.replay.specs.Texts.{replay_telling};
 ghost use Rattle.replay.specs.declared.stamps.Stamp.TheVariants as Stamps;
 ghost use Rattle.schedule_check.specs.Checked.{whole_check};
 ghost use Rattle.schedule_check.specs.Windows.{IsTeller, Teller};
 ghost use Rattle.script.specs.Outcome.{outcome_of};
+ghost use Rattle.script.specs.Texts.{script_telling};
 ghost use Rattle.stream_bounds.specs.Outcome.{outcome_of as bounds_outcome_of};
 ghost use Rattle.taprio_c.specs.FromC.{is_wanted, moment_of, moment_said, picture_values, port_values, stamp_of};
 ghost use Rattle.tc_reader.specs.Reader.{IsReader};
@@ -51,7 +53,7 @@ pub extern "C" fn taprio_run(
     ran: &mut Ran,
 )
     ensures { (read : List (List ℕ) → Result Command TcFault) → IsReader read →
-        Answers (told_by (λ settings. outcome_of read settings script.now) (settings_at (port_values values.now))) ran.new (slices output.old fault.old) (slices output.new fault.new) }
+        Answers (told_by script_telling (λ settings. outcome_of read settings script.now) (settings_at (port_values values.now))) ran.new (slices output.old fault.old) (slices output.new fault.new) }
 {
     *ran = run_octets(&alloc, port_values(values), script, output, fault);
 }
@@ -67,7 +69,7 @@ pub extern "C" fn taprio_frames(
     ran: &mut Ran,
 )
     ensures { (read : List (List ℕ) → Result Command TcFault) → IsReader read →
-        Answers (told_by (λ settings. frames_of read settings script.now) (settings_at (port_values values.now))) ran.new (slices output.old fault.old) (slices output.new fault.new) }
+        Answers (told_by script_telling (λ settings. frames_of read settings script.now) (settings_at (port_values values.now))) ran.new (slices output.old fault.old) (slices output.new fault.new) }
 {
     *ran = frames_octets(&alloc, port_values(values), script, output, fault);
 }
@@ -84,7 +86,7 @@ pub extern "C" fn taprio_frames_by_stream(
     ran: &mut Ran,
 )
     ensures { (read : List (List ℕ) → Result Command TcFault) → IsReader read →
-        Answers (streams_told_by (λ settings. frames_by_stream read settings table.now script.now) (settings_at (port_values values.now))) ran.new (slices output.old fault.old) (slices output.new fault.new) }
+        Answers (told_by streams_telling (λ settings. frames_by_stream read settings table.now script.now) (settings_at (port_values values.now))) ran.new (slices output.old fault.old) (slices output.new fault.new) }
 {
     *ran = frames_by_stream_octets(&alloc, port_values(values), table, script, output, fault);
 }
@@ -101,7 +103,7 @@ pub extern "C" fn taprio_frames_of_capture(
     ran: &mut Ran,
 )
     ensures { (read : List (List ℕ) → Result Command TcFault) → IsReader read → (records : Result (List Entry × End) CapFault) → ReadsAs capture.now records →
-        Answers (capture_told_by (λ settings. frames_of_capture read settings script.now records) (settings_at (port_values values.now))) ran.new (slices output.old fault.old) (slices output.new fault.new) }
+        Answers (told_by replay_telling (λ settings. frames_of_capture read settings script.now records) (settings_at (port_values values.now))) ran.new (slices output.old fault.old) (slices output.new fault.new) }
 {
     *ran = frames_of_capture_octets(&alloc, port_values(values), script, capture, output, fault);
 }
@@ -126,7 +128,7 @@ pub extern "C" fn taprio_check(
     ran: &mut Ran,
 )
     ensures { (tell : Teller) → IsTeller tell → (read : List (List ℕ) → Result Command TcFault) → IsReader read →
-        Answers (told_by (λ ps. whole_check tell (is_wanted windows) false ps read schedules.now) (rate_at rate)) ran.new (slices output.old fault.old) (slices output.new fault.new) }
+        Answers (told_by script_telling (λ ps. whole_check tell (is_wanted windows) false ps read schedules.now) (rate_at rate)) ran.new (slices output.old fault.old) (slices output.new fault.new) }
 {
     let windows = is_wanted(windows);
     *ran = check_octets(&alloc, rate, windows, schedules, output, fault);
@@ -159,7 +161,7 @@ pub extern "C" fn taprio_streams_from(
     fault: &mut [u8],
     ran: &mut Ran,
 )
-    ensures { Answers (streams_told_by (λ from. streams_outcome_of from table.now script.now) (from_at (moment_of from_low from_high))) ran.new (slices output.old fault.old) (slices output.new fault.new) }
+    ensures { Answers (told_by streams_telling (λ from. streams_outcome_of from table.now script.now) (from_at (moment_of from_low from_high))) ran.new (slices output.old fault.old) (slices output.new fault.new) }
 {
     let from = moment_of(from_low, from_high);
     *ran = streams_octets(&alloc, from, table, script, output, fault);

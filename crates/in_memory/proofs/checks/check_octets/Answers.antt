@@ -1,4 +1,5 @@
+use Rattle.std.proofs.Common.{rules}
 use Rattle.in_memory.proofs.checks.check_octets.Goals as goal
 
-pub returns-in-Ok : goal.returns-in-Ok
-returns-in-Ok g c = λ tell tells read reads. rw (← c.in-Ok.ensures) (c.check_at.ensures tell tells read reads)
+pub returns : goal.returns
+returns g c = λ tell tells read reads. let told = c.check-run.ensures tell tells read reads in search rules

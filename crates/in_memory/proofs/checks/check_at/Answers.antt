@@ -1,5 +1,0 @@
-use Rattle.std.proofs.Common.{rules}
-use Rattle.in_memory.proofs.checks.check_at.Goals as goal
-
-pub returns : goal.returns
-returns g c = λ tell tells read reads. let told = c.check-run.ensures tell tells read reads in search rules
