@@ -1,5 +1,6 @@
 -- When the frames that wait have come.
 use Rattle.std.specs.Prelude.{ℕ, nat_lt, List, [], ◌∷◌, ◌++◌, length, drop, slice_get, slice_set, slice_index_or, Option, None, if◌then◌else◌}
+use Rattle.per_class.specs.Eight.{eight}
 
 -- the arrival moments of the frames of a class that wait, the first to go first, in picoseconds; and for how many there is room
 pub record Waiting : Type 0 where
@@ -20,7 +21,7 @@ without_first w = record w { moments = drop 1 w.moments }
 
 -- nothing waits in any of the eight classes
 abbrev pub none_wait : ℕ → List Waiting
-none_wait room = none_waits room ∷ none_waits room ∷ none_waits room ∷ none_waits room ∷ none_waits room ∷ none_waits room ∷ none_waits room ∷ none_waits room ∷ []
+none_wait room = eight (none_waits room)
 
 -- a class that isn't there
 abbrev pub waiting_in : List Waiting → ℕ → Waiting

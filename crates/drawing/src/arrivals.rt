@@ -4,6 +4,7 @@ ghost use Rattle.std.specs.Prelude.{◌≡◌, ◌<◌, IfOk, Some, length, slic
 ghost use Rattle.drawing.specs.Words.{none_wait, none_waits, waiting_in, with_arrival, without_first};
 
 use circular_buffer::HeapCircularBuffer;
+use per_class::{PerClass, classes_of};
 use std::alloc::{AllocError, Allocator};
 use std::marker::Model;
 use wire_time::CLASSES;
@@ -23,17 +24,17 @@ impl<A: Allocator> Model for ClassArrivals<A> {
     ghost view = { λ c. record { moments = c.moments.items; room = c.moments.capacity } };
 }
 
-impl<A: Allocator> ClassArrivals<A> {
+impl<A: Allocator + Clone> PerClass<A> for ClassArrivals<A> {
+    ghost made = { none_waits };
+
     /// No frame waits; there is room for so many.
-    pub fn new(alloc: &A, room: usize) -> Result<ClassArrivals<A>, AllocError>
-    where
-        A: Clone,
-        ensures { IfOk result (λ c. c ≡ none_waits room) }
-    {
+    fn make(alloc: &A, room: usize) -> Result<ClassArrivals<A>, AllocError> {
         let moments = HeapCircularBuffer::with_capacity(alloc.clone()?, room)?;
         Ok(ClassArrivals { moments })
     }
+}
 
+impl<A: Allocator> ClassArrivals<A> {
     /// A frame came at this moment, in picoseconds. One for which there is no room isn't noted.
     pub fn put(&mut self, moment: u128)
         ensures { self.new ≡ with_arrival moment self.old }
@@ -63,52 +64,6 @@ impl<A: Allocator> ClassArrivals<A> {
     {
         self.moments.get(place).copied().unwrap()
     }
-}
-
-/// Two classes of which no frame waits.
-fn two_classes<A: Allocator + Clone>(
-    alloc: &A,
-    room: usize,
-) -> Result<(ClassArrivals<A>, ClassArrivals<A>), AllocError>
-    ensures { IfOk result (λ two. (two.0 ≡ none_waits room) × (two.1 ≡ none_waits room)) }
-{
-    let first = ClassArrivals::new(alloc, room)?;
-    let second = ClassArrivals::new(alloc, room)?;
-    Ok((first, second))
-}
-
-/// Four classes of which no frame waits.
-fn four_classes<A: Allocator + Clone>(
-    alloc: &A,
-    room: usize,
-) -> Result<
-    (
-        ClassArrivals<A>,
-        ClassArrivals<A>,
-        ClassArrivals<A>,
-        ClassArrivals<A>,
-    ),
-    AllocError,
->
-    ensures { IfOk result (λ four. (four.0 ≡ none_waits room) × (four.1 ≡ none_waits room) × (four.2 ≡ none_waits room) × (four.3 ≡ none_waits room)) }
-{
-    let (class_0, class_1) = two_classes(alloc, room)?;
-    let (class_2, class_3) = two_classes(alloc, room)?;
-    Ok((class_0, class_1, class_2, class_3))
-}
-
-/// Eight classes of which no frame waits: four by four, so that few are given back when out of memory.
-fn classes_of<A: Allocator + Clone>(
-    alloc: &A,
-    room: usize,
-) -> Result<[ClassArrivals<A>; CLASSES], AllocError>
-    ensures { IfOk result (λ classes. classes ≡ none_wait room) }
-{
-    let (class_0, class_1, class_2, class_3) = four_classes(alloc, room)?;
-    let (class_4, class_5, class_6, class_7) = four_classes(alloc, room)?;
-    Ok([
-        class_0, class_1, class_2, class_3, class_4, class_5, class_6, class_7,
-    ])
 }
 
 /// A frame of a class came.

@@ -1,10 +1,11 @@
 -- The frames that wait, by class, each with its arrival.
 use Rattle.std.specs.Prelude.{ℕ, nat_lt, List, [], ◌∷◌, ◌++◌, drop, slice_get, slice_set, slice_index_or, Option, None, if◌then◌else◌}
+use Rattle.per_class.specs.Eight.{eight}
 use Rattle.frame_table.specs.declared.rows.Arrival.{Arrival}
 
 -- nothing waits in any of the eight classes
 abbrev pub none_wait : List (List Arrival)
-none_wait = [] ∷ [] ∷ [] ∷ [] ∷ [] ∷ [] ∷ [] ∷ [] ∷ []
+none_wait = eight []
 
 -- the frames of a class that wait, the first to go first
 abbrev pub waiting_in : List (List Arrival) → ℕ → List Arrival

@@ -5,6 +5,7 @@ ghost use Rattle.frame_table.specs.Waits.{none_wait, waiting_in};
 
 use crate::rows::Arrival;
 use circular_buffer::HeapCircularBuffer;
+use per_class::{PerClass, classes_of};
 use std::alloc::{AllocError, Allocator};
 use std::marker::Model;
 use wire_time::CLASSES;
@@ -39,17 +40,17 @@ impl<A: Allocator> Model for ClassArrivals<A> {
     ghost view = { λ c. c.arrivals.items };
 }
 
-impl<A: Allocator> ClassArrivals<A> {
-    /// No frame waits.
-    pub fn new(alloc: &A) -> Result<ClassArrivals<A>, AllocError>
-    where
-        A: Clone,
-        ensures { IfOk result (λ c. c ≡ []) }
-    {
-        let arrivals = HeapCircularBuffer::with_capacity(alloc.clone()?, 0)?;
+impl<A: Allocator + Clone> PerClass<A> for ClassArrivals<A> {
+    ghost made = { λ _. [] };
+
+    /// No frame waits; there is room for so many at first.
+    fn make(alloc: &A, room: usize) -> Result<ClassArrivals<A>, AllocError> {
+        let arrivals = HeapCircularBuffer::with_capacity(alloc.clone()?, room)?;
         Ok(ClassArrivals { arrivals })
     }
+}
 
+impl<A: Allocator> ClassArrivals<A> {
     /// A frame came. When out of memory, nothing changes.
     pub fn put(&mut self, arrival: Arrival) -> Result<(), AllocError>
     where
@@ -84,47 +85,6 @@ impl<A: Allocator> ClassArrivals<A> {
     {
         self.arrivals.get(place).copied().unwrap()
     }
-}
-
-/// Two classes of which no frame waits.
-fn two_classes<A: Allocator + Clone>(
-    alloc: &A,
-) -> Result<(ClassArrivals<A>, ClassArrivals<A>), AllocError>
-    ensures { IfOk result (λ two. (two.0 ≡ []) × (two.1 ≡ [])) }
-{
-    let first = ClassArrivals::new(alloc)?;
-    let second = ClassArrivals::new(alloc)?;
-    Ok((first, second))
-}
-
-/// Four classes of which no frame waits.
-fn four_classes<A: Allocator + Clone>(
-    alloc: &A,
-) -> Result<
-    (
-        ClassArrivals<A>,
-        ClassArrivals<A>,
-        ClassArrivals<A>,
-        ClassArrivals<A>,
-    ),
-    AllocError,
->
-    ensures { IfOk result (λ four. (four.0 ≡ []) × (four.1 ≡ []) × (four.2 ≡ []) × (four.3 ≡ [])) }
-{
-    let (class_0, class_1) = two_classes(alloc)?;
-    let (class_2, class_3) = two_classes(alloc)?;
-    Ok((class_0, class_1, class_2, class_3))
-}
-
-/// Eight classes of which no frame waits: four by four, so that few are given back when out of memory.
-fn classes_of<A: Allocator + Clone>(alloc: &A) -> Result<[ClassArrivals<A>; CLASSES], AllocError>
-    ensures { IfOk result (λ classes. classes ≡ none_wait) }
-{
-    let (class_0, class_1, class_2, class_3) = four_classes(alloc)?;
-    let (class_4, class_5, class_6, class_7) = four_classes(alloc)?;
-    Ok([
-        class_0, class_1, class_2, class_3, class_4, class_5, class_6, class_7,
-    ])
 }
 
 /// A frame of a class came. When out of memory, nothing changes.
@@ -181,7 +141,7 @@ impl<A: Allocator> Arrivals<A> {
         A: Clone,
         ensures { IfOk result (λ a. a ≡ none_wait) }
     {
-        let classes = classes_of(alloc)?;
+        let classes = classes_of(alloc, 0)?;
         Ok(Arrivals { classes })
     }
 

@@ -1,5 +1,6 @@
 -- What is kept of the frames of one class.
 use Rattle.std.specs.Prelude.{◌≡◌, ℕ, List, [], ◌∷◌, All, length, map, slice_index_or}
+use Rattle.per_class.specs.Eight.{eight}
 use Rattle.octet_store.specs.Stored.{Kept}
 
 -- the frames, the first to go first, and for how many there is room
@@ -13,8 +14,7 @@ empty_class room = record { frames = []; room = room }
 
 -- eight classes without frames, each with so much room
 abbrev pub empty_classes : ℕ → List Waiting
-empty_classes room =
-    empty_class room ∷ empty_class room ∷ empty_class room ∷ empty_class room ∷ empty_class room ∷ empty_class room ∷ empty_class room ∷ empty_class room ∷ []
+empty_classes room = eight (empty_class room)
 
 -- a class with other frames
 abbrev pub with_frames : Waiting → List Kept → Waiting

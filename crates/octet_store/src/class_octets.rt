@@ -1,11 +1,13 @@
 //! The octets of the frames of one class: a ring of lengths, and a queue of octets.
 
 ghost use Rattle.std.specs.Prelude.{◌≡◌, ◌≤◌, ◌<◌, ◌++◌, ◌∷◌, ◌↔◌, [], Some, IsTrue, IfOk, OnOk, OnErr, length, drop, slice_get};
+ghost use Rattle.octet_store.specs.ClassOctets.{empty_class};
 ghost use Rattle.octet_store.specs.declared.TheConstants.{MAX_OCTETS};
 
 use crate::MAX_OCTETS;
 use crate::queue::OctetQueue;
 use circular_buffer::HeapCircularBuffer;
+use per_class::PerClass;
 use std::alloc::{AllocError, Allocator, Global};
 use std::marker::Model;
 
@@ -50,20 +52,20 @@ impl<A: Allocator> Model for ClassOctets<A> {
     ghost invariant = { λ c. AreLaid c.lengths.items (held c.octets) };
 }
 
-impl<A: Allocator> ClassOctets<A> {
-    ghost use Rattle.octet_store.specs.Stored.{kept};
-    ghost use Rattle.octet_store.specs.ClassOctets.{empty_class, with_frames};
+impl<A: Allocator + Clone> PerClass<A> for ClassOctets<A> {
+    ghost made = { empty_class };
 
     /// No frame yet, and room for so many. The room for their lengths is taken here; for their octets there is none yet.
-    pub fn new(alloc: &A, room: usize) -> Result<ClassOctets<A>, AllocError>
-    where
-        A: Clone,
-        ensures { IfOk result (λ c. c ≡ empty_class room) }
-    {
+    fn make(alloc: &A, room: usize) -> Result<ClassOctets<A>, AllocError> {
         let lengths = HeapCircularBuffer::with_capacity(alloc.clone()?, room)?;
         let octets = OctetQueue::new(alloc.clone()?);
         Ok(ClassOctets { lengths, octets })
     }
+}
+
+impl<A: Allocator> ClassOctets<A> {
+    ghost use Rattle.octet_store.specs.Stored.{kept};
+    ghost use Rattle.octet_store.specs.ClassOctets.{with_frames};
 
     /// How many frames are kept.
     pub fn len(&self) -> usize

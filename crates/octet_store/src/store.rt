@@ -3,58 +3,13 @@
 ghost use Rattle.std.specs.Prelude.{◌≡◌, ◌≤◌, ◌<◌, ◌++◌, ◌∷◌, ◌↔◌, [], Some, IsTrue, IfOk, OnOk, OnErr, length, drop, slice_get, slice_set};
 ghost use Rattle.octet_store.specs.declared.TheConstants.{MAX_OCTETS};
 ghost use Rattle.octet_store.specs.Stored.{kept, kept_at, new_store};
-ghost use Rattle.octet_store.specs.ClassOctets.{class_at, empty_class, empty_classes, with_frames};
+ghost use Rattle.octet_store.specs.ClassOctets.{class_at, with_frames};
 
 use crate::MAX_OCTETS;
 use crate::class_octets::{ClassOctets, First};
+use per_class::classes_of;
 use std::alloc::{AllocError, Allocator, Global};
 use std::marker::Model;
-
-/// Two classes without frames.
-fn two_classes<A: Allocator + Clone>(
-    alloc: &A,
-    room: usize,
-) -> Result<(ClassOctets<A>, ClassOctets<A>), AllocError>
-    ensures { IfOk result (λ two. (two.0 ≡ empty_class room) × (two.1 ≡ empty_class room)) }
-{
-    let first = ClassOctets::new(alloc, room)?;
-    let second = ClassOctets::new(alloc, room)?;
-    Ok((first, second))
-}
-
-/// Four classes without frames.
-fn four_classes<A: Allocator + Clone>(
-    alloc: &A,
-    room: usize,
-) -> Result<
-    (
-        ClassOctets<A>,
-        ClassOctets<A>,
-        ClassOctets<A>,
-        ClassOctets<A>,
-    ),
-    AllocError,
->
-    ensures { IfOk result (λ four. (four.0 ≡ empty_class room) × (four.1 ≡ empty_class room) × (four.2 ≡ empty_class room) × (four.3 ≡ empty_class room)) }
-{
-    let (class_0, class_1) = two_classes(alloc, room)?;
-    let (class_2, class_3) = two_classes(alloc, room)?;
-    Ok((class_0, class_1, class_2, class_3))
-}
-
-/// Eight classes without frames: four by four, so that few are given back when out of memory.
-fn classes_of<A: Allocator + Clone>(
-    alloc: &A,
-    room: usize,
-) -> Result<[ClassOctets<A>; 8], AllocError>
-    ensures { IfOk result (λ classes. classes ≡ empty_classes room) }
-{
-    let (class_0, class_1, class_2, class_3) = four_classes(alloc, room)?;
-    let (class_4, class_5, class_6, class_7) = four_classes(alloc, room)?;
-    Ok([
-        class_0, class_1, class_2, class_3, class_4, class_5, class_6, class_7,
-    ])
-}
 
 /// How many frames of a class are kept.
 fn len_in<A: Allocator>(classes: &[ClassOctets<A>; 8], class: u8) -> usize

@@ -1,6 +1,7 @@
 -- The bands of eight classes, in lanes.
 use Rattle.std.specs.Prelude.{ℕ, ◌≡◌, ◌<◌, ◌≤◌, zero, suc, ◌+◌, ◌-◌, ◌*◌, ◌/◌, ◌%◌, ◌⊎◌, min, max, Bool, false, ◌&&◌, ◌||◌, not, List, [], ◌∷◌, length, Option, Some, None, unwrap_or, slice_index_or}
 use Rattle.wire_time.specs.declared.TheConstants.{CLASSES}
+use Rattle.per_class.specs.Eight.{eight}
 use Rattle.gate_list.specs.Gate.{opens, plan_fault}
 use Rattle.gate_list.specs.Open.{open_while}
 use Rattle.picture.specs.declared.TheConstants.{MAX_WIDTH, MOST_BOUNDARIES}
@@ -121,7 +122,7 @@ class_at classes class = slice_index_or classes class no_bands
 
 -- eight classes that have none
 abbrev pub no_classes : List ClassLane
-no_classes = no_bands ∷ no_bands ∷ no_bands ∷ no_bands ∷ no_bands ∷ no_bands ∷ no_bands ∷ no_bands ∷ []
+no_classes = eight no_bands
 
 -- The history of the gates and their moment; the moments from which and up to which bands are drawn; the bands of the classes; the times at which
 -- a class is mixed; and at how many boundaries the gates may still be looked at.

@@ -1,51 +1,19 @@
 //! The bands of eight classes: when each is open, by gates of their own.
 
 ghost use Rattle.std.specs.Prelude.{◌≡◌, ◌≤◌, ◌<◌, ◌+◌, ◌-◌, ◌*◌, ℕ, IfOk, Ok, Some, false, if◌then◌else◌, is_some, length, max, min, slice_set};
-ghost use Rattle.picture.specs.Words.{greatest_lead, greatest_moment, lead_of, opens, plan_fault, gates, kept, IsCurrent, accepted_at, deletion_at, with_command, AbstractPort, installs, plan_asked, MAX_WIDTH, MOST_BOUNDARIES, MOST_SHAPES, AreUsedUp, bands_joined, class_at, drawn, IsDrawnInPieces, IsGoneOn, IsPiece, is_mixed, most_asked, most_mixed, most_moved, no_needs, open_while, opens_within, history_with, new_drawing, no_bands, no_classes, piece_of, stepped, up_to, with_plan};
+ghost use Rattle.picture.specs.Words.{greatest_lead, greatest_moment, lead_of, opens, plan_fault, gates, kept, IsCurrent, accepted_at, deletion_at, with_command, AbstractPort, installs, plan_asked, MAX_WIDTH, MOST_BOUNDARIES, MOST_SHAPES, AreUsedUp, bands_joined, class_at, drawn, IsDrawnInPieces, IsGoneOn, IsPiece, is_mixed, most_asked, most_mixed, most_moved, no_needs, open_while, opens_within, history_with, new_drawing, no_bands, piece_of, stepped, up_to, with_plan};
 
 use crate::class_bands::ClassBands;
 use crate::span::Shape;
-use crate::{MAX_WIDTH, MOST_BOUNDARIES};
+use crate::{MAX_WIDTH, MOST_BOUNDARIES, MOST_SHAPES};
 use abstract_port::{Change, Command};
 use gate_list::{Schedule, Visits, is_open};
 use jumping::Jumping;
 use list_config::Gates;
+use per_class::classes_of;
 use std::alloc::{AllocError, Allocator, Global};
 use std::marker::Model;
 use wire_time::{CLASSES, Rate};
-
-/// Two classes without bands.
-fn two_classes<A: Allocator + Clone>(
-    alloc: &A,
-) -> Result<(ClassBands<A>, ClassBands<A>), AllocError>
-    ensures { IfOk result (λ two. (two.0 ≡ no_bands) × (two.1 ≡ no_bands)) }
-{
-    let first = ClassBands::new(alloc)?;
-    let second = ClassBands::new(alloc)?;
-    Ok((first, second))
-}
-
-/// Two pairs of classes without bands.
-fn four_classes<A: Allocator + Clone>(
-    alloc: &A,
-) -> Result<(ClassBands<A>, ClassBands<A>, ClassBands<A>, ClassBands<A>), AllocError>
-    ensures { IfOk result (λ four. (four.0 ≡ no_bands) × (four.1 ≡ no_bands) × (four.2 ≡ no_bands) × (four.3 ≡ no_bands)) }
-{
-    let (class_0, class_1) = two_classes(alloc)?;
-    let (class_2, class_3) = two_classes(alloc)?;
-    Ok((class_0, class_1, class_2, class_3))
-}
-
-/// Eight classes without bands: four by four, so that few are given back when out of memory.
-fn no_classes<A: Allocator + Clone>(alloc: &A) -> Result<[ClassBands<A>; CLASSES], AllocError>
-    ensures { IfOk result (λ classes. classes ≡ no_classes) }
-{
-    let (class_0, class_1, class_2, class_3) = four_classes(alloc)?;
-    let (class_4, class_5, class_6, class_7) = four_classes(alloc)?;
-    Ok([
-        class_0, class_1, class_2, class_3, class_4, class_5, class_6, class_7,
-    ])
-}
 
 /// The bands of a class that are complete.
 fn shapes_in<A: Allocator>(classes: &[ClassBands<A>; CLASSES], class: u8) -> &[Shape]
@@ -336,8 +304,8 @@ impl<A: Allocator> Bands<A> {
         A: Clone,
         ensures { IfOk result (λ bands. bands ≡ new_drawing from to) }
     {
-        let classes = no_classes(alloc)?;
-        let mixed = no_classes(alloc)?;
+        let classes = classes_of(alloc, MOST_SHAPES)?;
+        let mixed = classes_of(alloc, MOST_SHAPES)?;
         Ok(Bands {
             gates: Jumping::begin(),
             classes,

@@ -1,11 +1,12 @@
 //! The bands of one class.
 
-ghost use Rattle.std.specs.Prelude.{◌≡◌, ◌≤◌, ◌<◌, IfOk, length};
-ghost use Rattle.picture.specs.Words.{greatest_moment, MOST_SHAPES};
+ghost use Rattle.std.specs.Prelude.{◌≡◌, ◌≤◌, ◌<◌, length};
+ghost use Rattle.picture.specs.Words.{greatest_moment, MOST_SHAPES, no_bands};
 
 use crate::lane::Lane;
 use crate::span::{Shape, Span};
 use gate_list::is_open;
+use per_class::PerClass;
 use std::alloc::{AllocError, Allocator, Global};
 use std::marker::Model;
 use wire_time::CLASSES;
@@ -31,18 +32,18 @@ impl<A: Allocator> Model for ClassBands<A> {
     ghost invariant = { λ c. ForSome c.since (λ m. m ≤ greatest_moment) };
 }
 
-impl<A: Allocator> ClassBands<A> {
-    ghost use Rattle.picture.specs.Drawn.{no_bands, bands_joined, stepped};
+impl<A: Allocator + Clone> PerClass<A> for ClassBands<A> {
+    ghost made = { λ _. no_bands };
 
-    /// No bands yet, and the room for all that the lane ever has.
-    pub(crate) fn new(alloc: &A) -> Result<ClassBands<A>, AllocError>
-    where
-        A: Clone,
-        ensures { IfOk result (λ c. c ≡ no_bands) }
-    {
+    /// No bands yet, and the room for all that a lane ever has: `MOST_SHAPES`.
+    fn make(alloc: &A, _room: usize) -> Result<ClassBands<A>, AllocError> {
         let lane = Lane::new(alloc.clone()?)?;
         Ok(ClassBands { since: None, lane })
     }
+}
+
+impl<A: Allocator> ClassBands<A> {
+    ghost use Rattle.picture.specs.Drawn.{bands_joined, stepped};
 
     /// At a moment, in picoseconds, the class is open or closed.
     pub(crate) fn step(&mut self, is_open: bool, moment: u128)

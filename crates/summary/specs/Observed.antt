@@ -1,6 +1,7 @@
 -- What is seen of a run, answer by answer: how long frames wait, and how long the wire is busy. Moments and durations are in
 -- picoseconds.
 use Rattle.std.specs.Prelude.{ℕ, ◌+◌, ◌-◌, ◌^◌, ◌==◌, ◌/◌, nat_lt, min, max, List, [], ◌∷◌, ◌++◌, length, Option, Some, None, slice_set, slice_index_or, if◌then◌else◌}
+use Rattle.per_class.specs.Eight.{eight}
 use Rattle.abstract_port.specs.AbstractPort.{AbstractPort}
 use Rattle.abstract_port.specs.Answers.{answers_to}
 use Rattle.abstract_port.specs.declared.Answer.{Answer}
@@ -79,7 +80,7 @@ pub record Observed : Type 0 where
 -- nothing, with room for so many frames a class
 abbrev pub nothing_seen : ℕ → Observed
 nothing_seen room = record {
-  classes = no_frames room ∷ no_frames room ∷ no_frames room ∷ no_frames room ∷ no_frames room ∷ no_frames room ∷ no_frames room ∷ no_frames room ∷ [];
+  classes = eight (no_frames room);
   busy = 0;
   free = 0;
   first = None;

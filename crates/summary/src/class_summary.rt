@@ -1,9 +1,11 @@
 //! What is seen of one class.
 
-ghost use Rattle.std.specs.Prelude.{◌≡◌, IfOk};
+ghost use Rattle.std.specs.Prelude.{◌≡◌};
+ghost use Rattle.summary.specs.Observed.{no_frames};
 
 use crate::waits::Waits;
 use circular_buffer::HeapCircularBuffer;
+use per_class::PerClass;
 use std::alloc::{AllocError, Allocator, Global};
 use std::marker::Model;
 
@@ -26,15 +28,11 @@ impl<A: Allocator> Model for ClassSummary<A> {
     ghost view = { λ c. record { arrivals = c.arrivals.items; room = c.arrivals.capacity; most = c.most; waits = c.waits } };
 }
 
-impl<A: Allocator> ClassSummary<A> {
-    ghost use Rattle.summary.specs.Observed.{no_frames, with_arrival, with_start};
+impl<A: Allocator + Clone> PerClass<A> for ClassSummary<A> {
+    ghost made = { no_frames };
 
     /// A class without frames, with room for so many. All memory that it ever wants is taken here.
-    pub fn new(alloc: &A, room: usize) -> Result<ClassSummary<A>, AllocError>
-    where
-        A: Clone,
-        ensures { IfOk result (λ c. c ≡ no_frames room) }
-    {
+    fn make(alloc: &A, room: usize) -> Result<ClassSummary<A>, AllocError> {
         let arrivals = HeapCircularBuffer::with_capacity(alloc.clone()?, room)?;
         Ok(ClassSummary {
             arrivals,
@@ -42,6 +40,10 @@ impl<A: Allocator> ClassSummary<A> {
             waits: Waits::default(),
         })
     }
+}
+
+impl<A: Allocator> ClassSummary<A> {
+    ghost use Rattle.summary.specs.Observed.{with_arrival, with_start};
 
     /// A frame is queued at this moment, in picoseconds. One for which there is no room isn't noted.
     pub fn arrives(&mut self, now: u128)

@@ -3,62 +3,17 @@
 ghost use Rattle.std.specs.Prelude.{◌≡◌, ◌≤◌, ◌<◌, ◌-◌, ◌+◌, max, IfOk, slice_set};
 ghost use Rattle.octet_writer.specs.Writes.{Writes};
 ghost use Rattle.wire_time.specs.Moment.{greatest_moment};
-ghost use Rattle.summary.specs.Observed.{class_at, no_frames, nothing_seen, with_arrival, with_start};
+ghost use Rattle.summary.specs.Observed.{class_at, nothing_seen, with_arrival, with_start};
 ghost use Rattle.summary.specs.Lines.{busy_by, class_text, wire_text};
 
 use crate::class_summary::ClassSummary;
 use crate::lines::{put_class_text, put_wire_line};
 use abstract_port::{Answer, Counters, Start};
 use answer_text::WriteFault;
+use per_class::classes_of;
 use std::alloc::{AllocError, Allocator, Global};
 use std::io::Write;
 use std::marker::Model;
-
-/// Two classes without frames.
-fn two_classes<A: Allocator + Clone>(
-    alloc: &A,
-    room: usize,
-) -> Result<(ClassSummary<A>, ClassSummary<A>), AllocError>
-    ensures { IfOk result (λ two. (two.0 ≡ no_frames room) × (two.1 ≡ no_frames room)) }
-{
-    let first = ClassSummary::new(alloc, room)?;
-    let second = ClassSummary::new(alloc, room)?;
-    Ok((first, second))
-}
-
-/// Four classes without frames.
-fn four_classes<A: Allocator + Clone>(
-    alloc: &A,
-    room: usize,
-) -> Result<
-    (
-        ClassSummary<A>,
-        ClassSummary<A>,
-        ClassSummary<A>,
-        ClassSummary<A>,
-    ),
-    AllocError,
->
-    ensures { IfOk result (λ four. (four.0 ≡ no_frames room) × (four.1 ≡ no_frames room) × (four.2 ≡ no_frames room) × (four.3 ≡ no_frames room)) }
-{
-    let (class_0, class_1) = two_classes(alloc, room)?;
-    let (class_2, class_3) = two_classes(alloc, room)?;
-    Ok((class_0, class_1, class_2, class_3))
-}
-
-/// Eight classes without frames: four by four, so that few are given back when out of memory.
-fn classes_of<A: Allocator + Clone>(
-    alloc: &A,
-    room: usize,
-) -> Result<[ClassSummary<A>; 8], AllocError>
-    ensures { IfOk result (λ classes. classes ≡ (nothing_seen room).classes) }
-{
-    let (class_0, class_1, class_2, class_3) = four_classes(alloc, room)?;
-    let (class_4, class_5, class_6, class_7) = four_classes(alloc, room)?;
-    Ok([
-        class_0, class_1, class_2, class_3, class_4, class_5, class_6, class_7,
-    ])
-}
 
 /// A frame of a class is queued at a moment.
 fn arrives_in<A: Allocator>(classes: &mut [ClassSummary<A>; 8], class: u8, now: u128)
