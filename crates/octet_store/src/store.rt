@@ -10,9 +10,10 @@ use crate::class_octets::{ClassOctets, First};
 use per_class::classes_of;
 use std::alloc::{AllocError, Allocator, Global};
 use std::marker::Model;
+use wire_time::CLASSES;
 
 /// How many frames of a class are kept.
-fn len_in<A: Allocator>(classes: &[ClassOctets<A>; 8], class: u8) -> usize
+fn len_in<A: Allocator>(classes: &[ClassOctets<A>; CLASSES], class: u8) -> usize
     requires { class < 8 }
     ensures { result ≡ length (class_at classes.now class).frames }
 {
@@ -20,7 +21,7 @@ fn len_in<A: Allocator>(classes: &[ClassOctets<A>; 8], class: u8) -> usize
 }
 
 /// Whether there is room for one frame more in a class.
-fn has_room_in<A: Allocator>(classes: &[ClassOctets<A>; 8], class: u8) -> bool
+fn has_room_in<A: Allocator>(classes: &[ClassOctets<A>; CLASSES], class: u8) -> bool
     requires { class < 8 }
     ensures { IsTrue result ↔ (length (class_at classes.now class).frames < (class_at classes.now class).room) }
 {
@@ -29,7 +30,7 @@ fn has_room_in<A: Allocator>(classes: &[ClassOctets<A>; 8], class: u8) -> bool
 
 /// Puts a frame at the end of its class.
 fn put_in<A: Allocator + Clone>(
-    classes: &mut [ClassOctets<A>; 8],
+    classes: &mut [ClassOctets<A>; CLASSES],
     class: u8,
     original: u32,
     octets: &[u8],
@@ -44,7 +45,7 @@ fn put_in<A: Allocator + Clone>(
 }
 
 /// The first frame of a class.
-fn first_in<A: Allocator>(classes: &[ClassOctets<A>; 8], class: u8) -> First<'_>
+fn first_in<A: Allocator>(classes: &[ClassOctets<A>; CLASSES], class: u8) -> First<'_>
     requires class { class < 8 }
     requires waits { 0 < length (class_at classes.now class).frames }
     ensures first { slice_get (class_at classes.now class).frames 0 ≡ Some (kept result.original result.octets.now) }
@@ -54,7 +55,7 @@ fn first_in<A: Allocator>(classes: &[ClassOctets<A>; 8], class: u8) -> First<'_>
 }
 
 /// Gives up the first frame of a class.
-fn give_up_in<A: Allocator>(classes: &mut [ClassOctets<A>; 8], class: u8)
+fn give_up_in<A: Allocator>(classes: &mut [ClassOctets<A>; CLASSES], class: u8)
     requires class { class < 8 }
     requires waits { 0 < length (class_at classes.old class).frames }
     ensures { classes.new ≡ slice_set classes.old class (with_frames (class_at classes.old class) (drop 1 (class_at classes.old class).frames)) }
@@ -68,7 +69,7 @@ fn give_up_in<A: Allocator>(classes: &mut [ClassOctets<A>; 8], class: u8)
 /// once it is large enough, a frame takes no memory. The octets of a frame lie in one piece, and are lent from there.
 #[derive(Drop)]
 pub struct OctetStore<A: Allocator = Global> {
-    classes: [ClassOctets<A>; 8],
+    classes: [ClassOctets<A>; CLASSES],
 }
 
 /// A contract sees eight lists and a room.

@@ -19,6 +19,7 @@ use gate_list::Schedule;
 use std::alloc::Global;
 use std::marker::Model;
 use traffic::Stream;
+use wire_time::CLASSES;
 
 /// The answer about a class: the verdict, the bounds of its streams, and how many of them are told.
 #[derive(Drop)]
@@ -135,7 +136,7 @@ fn class_answer(
 /// The answers about all classes.
 #[derive(Drop)]
 pub struct Answers {
-    classes: [ClassAnswer; 8],
+    classes: [ClassAnswer; CLASSES],
 }
 
 /// A contract sees the eight answers.
@@ -155,7 +156,7 @@ fn all_answers(
     change: &Change,
     schedule: &Schedule,
     streams: &[Stream],
-) -> Result<[ClassAnswer; 8], BoundsFault>
+) -> Result<[ClassAnswer; CLASSES], BoundsFault>
     requires plan { schedule.now ≡ plan_asked change.now }
     requires periodic { All IsPeriodic streams.now }
     ensures answers { IfOk result (λ a. a ≡ class_answers settings.now change.now streams.now) }
@@ -174,7 +175,7 @@ fn all_answers(
 }
 
 /// The verdict about a class.
-fn verdict_at(classes: &[ClassAnswer; 8], class: u8) -> Verdict
+fn verdict_at(classes: &[ClassAnswer; CLASSES], class: u8) -> Verdict
     requires { class < 8 }
     ensures { result ≡ (answer_at classes.now class).verdict }
 {
@@ -182,7 +183,7 @@ fn verdict_at(classes: &[ClassAnswer; 8], class: u8) -> Verdict
 }
 
 /// The next bounds of a class that are still to be told; they then are.
-fn next_of(classes: &mut [ClassAnswer; 8], class: u8) -> Option<Bound>
+fn next_of(classes: &mut [ClassAnswer; CLASSES], class: u8) -> Option<Bound>
     requires { class < 8 }
     ensures first { result ≡ slice_get (answer_at classes.old class).left 0 }
     ensures left { classes.new ≡ one_told classes.old class }

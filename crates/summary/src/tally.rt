@@ -14,9 +14,10 @@ use per_class::classes_of;
 use std::alloc::{AllocError, Allocator, Global};
 use std::io::Write;
 use std::marker::Model;
+use wire_time::CLASSES;
 
 /// A frame of a class is queued at a moment.
-fn arrives_in<A: Allocator>(classes: &mut [ClassSummary<A>; 8], class: u8, now: u128)
+fn arrives_in<A: Allocator>(classes: &mut [ClassSummary<A>; CLASSES], class: u8, now: u128)
     requires { class < 8 }
     ensures { classes.new ≡ slice_set classes.old class (with_arrival now (class_at classes.old class)) }
 {
@@ -24,7 +25,7 @@ fn arrives_in<A: Allocator>(classes: &mut [ClassSummary<A>; 8], class: u8, now: 
 }
 
 /// The first frame of a class starts at a moment.
-fn starts_in<A: Allocator>(classes: &mut [ClassSummary<A>; 8], class: u8, at: u128)
+fn starts_in<A: Allocator>(classes: &mut [ClassSummary<A>; CLASSES], class: u8, at: u128)
     requires { class < 8 }
     ensures { classes.new ≡ slice_set classes.old class (with_start at (class_at classes.old class)) }
 {
@@ -32,7 +33,7 @@ fn starts_in<A: Allocator>(classes: &mut [ClassSummary<A>; 8], class: u8, at: u1
 }
 
 /// What is seen of a class.
-fn class_in<A: Allocator>(classes: &[ClassSummary<A>; 8], class: u8) -> &ClassSummary<A>
+fn class_in<A: Allocator>(classes: &[ClassSummary<A>; CLASSES], class: u8) -> &ClassSummary<A>
     requires { class < 8 }
     ensures { result.now ≡ class_at classes.now class }
 {
@@ -52,7 +53,7 @@ struct WireSeen {
 /// What is seen of a run, from the answers of a port: how long the frames of each class waited, and how long the wire was busy.
 #[derive(Drop)]
 pub struct Summary<A: Allocator = Global> {
-    classes: [ClassSummary<A>; 8],
+    classes: [ClassSummary<A>; CLASSES],
     wire: WireSeen,
 }
 
