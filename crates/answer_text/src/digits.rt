@@ -1,11 +1,10 @@
 //! Numbers in decimal, at the front of what ends a line.
 
-ghost use Rattle.std.specs.Prelude.{◌≡◌, ◌<◌, ◌≤◌, ◌+◌, ◌*◌, ◌/◌, ◌%◌, ◌^◌, ◌++◌, ℕ, drop, decimal};
+ghost use Rattle.std.specs.Prelude.{◌≡◌, ◌<◌, ◌≤◌, ◌+◌, ◌*◌, ◌/◌, ◌%◌, ◌^◌, ◌++◌, ℕ, length, drop, decimal};
 ghost use Rattle.answer_text.specs.Digits.{eight_octets, four_lanes};
 ghost use Rattle.answer_text.specs.declared.digits.TheConstants.{EIGHT_DIGITS, OCTET_CAPACITY, SHORT_CAPACITY, NUMBER_CAPACITY};
-ghost use Rattle.answer_text.specs.declared.line_buffer.TheConstants.{LINE_CAPACITY};
 
-use crate::line_buffer::{LINE_CAPACITY, Line, text_before};
+use crate::line_buffer::text_before;
 use itoa::{Buffer, write_digits};
 
 /// The octets of a line that a number of 8 bits in decimal may take.
@@ -55,10 +54,10 @@ fn eight_digits(number: u64) -> [u8; 8]
 
 /// Puts the last eight digits of a number before what ends a line from `end` on, and answers where they begin.
 #[inline(always)]
-pub(crate) fn eight_before(eight: u64, line: &mut Line, end: usize) -> usize
+pub(crate) fn eight_before(eight: u64, line: &mut [u8], end: usize) -> usize
     requires eight { eight < EIGHT_DIGITS }
     requires room { 8 ≤ end }
-    requires within { end ≤ LINE_CAPACITY }
+    requires within { end ≤ length line.old }
     ensures start { result + 8 ≡ end }
     ensures line { (front : ℕ) → 0 < front → front * EIGHT_DIGITS + eight < 2 ^ 128 →
         decimal front ++ drop result line.new ≡ decimal (front * EIGHT_DIGITS + eight) ++ drop end line.old }
@@ -68,9 +67,9 @@ pub(crate) fn eight_before(eight: u64, line: &mut Line, end: usize) -> usize
 
 /// Puts a number of 64 bits in decimal before what ends a line from `end` on, and answers where the line begins then.
 #[inline(always)]
-pub(crate) fn short_before(number: u64, line: &mut Line, end: usize) -> usize
+pub(crate) fn short_before(number: u64, line: &mut [u8], end: usize) -> usize
     requires room { SHORT_CAPACITY ≤ end }
-    requires within { end ≤ LINE_CAPACITY }
+    requires within { end ≤ length line.old }
     ensures start { end ≤ result + SHORT_CAPACITY }
     ensures before { result ≤ end }
     ensures line { drop result line.new ≡ decimal number ++ drop end line.old }
@@ -84,9 +83,9 @@ pub(crate) fn short_before(number: u64, line: &mut Line, end: usize) -> usize
 
 /// Puts a number of 8 bits in decimal before what ends a line from `end` on, and answers where the line begins then.
 #[inline]
-pub(crate) fn octet_before(number: u8, line: &mut Line, end: usize) -> usize
+pub(crate) fn octet_before(number: u8, line: &mut [u8], end: usize) -> usize
     requires room { OCTET_CAPACITY ≤ end }
-    requires within { end ≤ LINE_CAPACITY }
+    requires within { end ≤ length line.old }
     ensures start { end ≤ result + OCTET_CAPACITY }
     ensures before { result ≤ end }
     ensures line { drop result line.new ≡ decimal number ++ drop end line.old }
@@ -100,9 +99,9 @@ pub(crate) fn octet_before(number: u8, line: &mut Line, end: usize) -> usize
 
 /// Puts a number of more than 64 bits in decimal before what ends a line from `end` on, and answers where the line begins then.
 #[inline(never)]
-fn long_before(number: u128, line: &mut Line, end: usize) -> usize
+fn long_before(number: u128, line: &mut [u8], end: usize) -> usize
     requires room { NUMBER_CAPACITY ≤ end }
-    requires within { end ≤ LINE_CAPACITY }
+    requires within { end ≤ length line.old }
     ensures start { end ≤ result + NUMBER_CAPACITY }
     ensures before { result ≤ end }
     ensures line { drop result line.new ≡ decimal number ++ drop end line.old }
@@ -118,9 +117,9 @@ fn long_before(number: u128, line: &mut Line, end: usize) -> usize
 }
 
 /// Puts a number in decimal before what ends a line from `end` on, and answers where the line begins then.
-pub(crate) fn number_before(number: u128, line: &mut Line, end: usize) -> usize
+pub(crate) fn number_before(number: u128, line: &mut [u8], end: usize) -> usize
     requires room { NUMBER_CAPACITY ≤ end }
-    requires within { end ≤ LINE_CAPACITY }
+    requires within { end ≤ length line.old }
     ensures start { end ≤ result + NUMBER_CAPACITY }
     ensures before { result ≤ end }
     ensures line { drop result line.new ≡ decimal number ++ drop end line.old }

@@ -1,12 +1,11 @@
 //! Two moments of a line. Where the second comes soon after the first, all but their last eight digits are mostly the same.
 
-ghost use Rattle.std.specs.Prelude.{◌≡◌, ◌<◌, ◌≤◌, ◌+◌, ◌*◌, ◌/◌, ◌++◌, IfSome, codes, drop, decimal};
+ghost use Rattle.std.specs.Prelude.{◌≡◌, ◌<◌, ◌≤◌, ◌+◌, ◌*◌, ◌/◌, ◌++◌, IfSome, codes, length, drop, decimal};
 ghost use Rattle.answer_text.specs.declared.digits.TheConstants.{EIGHT_DIGITS, SHORT_CAPACITY};
-ghost use Rattle.answer_text.specs.declared.line_buffer.TheConstants.{LINE_CAPACITY};
 ghost use Rattle.answer_text.specs.declared.span.TheConstants.{SPAN_CAPACITY};
 
 use crate::digits::{EIGHT_DIGITS, SHORT_CAPACITY, eight_before, number_before};
-use crate::line_buffer::{LINE_CAPACITY, Line, text_before};
+use crate::line_buffer::text_before;
 use itoa::write_digits;
 
 /// The octets of a line that two moments may take.
@@ -14,9 +13,9 @@ pub(crate) const SPAN_CAPACITY: usize = 85;
 
 /// Two numbers, each by itself.
 #[inline(never)]
-fn apart_before(first: u128, second: u128, line: &mut Line, end: usize) -> usize
+fn apart_before(first: u128, second: u128, line: &mut [u8], end: usize) -> usize
     requires room { SPAN_CAPACITY ≤ end }
-    requires within { end ≤ LINE_CAPACITY }
+    requires within { end ≤ length line.old }
     ensures start { end ≤ result + SPAN_CAPACITY }
     ensures before { result ≤ end }
     ensures line { drop result line.new ≡ decimal first ++ (codes " end " ++ (decimal second ++ drop end line.old)) }
@@ -28,10 +27,10 @@ fn apart_before(first: u128, second: u128, line: &mut Line, end: usize) -> usize
 
 /// The digits of a number, from `from` on, by a copy of a length that is known.
 #[inline(always)]
-fn copy_before(digits: &[u8; SHORT_CAPACITY], from: usize, line: &mut Line, end: usize) -> usize
+fn copy_before(digits: &[u8; SHORT_CAPACITY], from: usize, line: &mut [u8], end: usize) -> usize
     requires from { from ≤ SHORT_CAPACITY }
     requires room { SHORT_CAPACITY ≤ end }
-    requires within { end ≤ LINE_CAPACITY }
+    requires within { end ≤ length line.old }
     ensures start { result + SHORT_CAPACITY ≡ end + from }
     ensures line { drop result line.new ≡ drop from digits.now ++ drop end line.old }
 {
@@ -40,12 +39,12 @@ fn copy_before(digits: &[u8; SHORT_CAPACITY], from: usize, line: &mut Line, end:
 
 /// Two numbers that differ in their last eight digits alone.
 #[inline(always)]
-fn near_before(front: u64, first: u64, second: u64, line: &mut Line, end: usize) -> usize
+fn near_before(front: u64, first: u64, second: u64, line: &mut [u8], end: usize) -> usize
     requires front { 0 < front }
     requires first { first < EIGHT_DIGITS }
     requires second { second < EIGHT_DIGITS }
     requires room { SPAN_CAPACITY ≤ end }
-    requires within { end ≤ LINE_CAPACITY }
+    requires within { end ≤ length line.old }
     ensures start { end ≤ result + SPAN_CAPACITY }
     ensures before { result ≤ end }
     ensures line { drop result line.new ≡
@@ -129,9 +128,9 @@ fn near(first: u128, second: u128) -> Option<(u64, u64, u64)>
 /// Puts the moment of a start, ` end ` and the moment of its end before what ends a line from `end` on, and answers where the line begins
 /// then. Both are in picoseconds.
 #[inline(always)]
-pub(crate) fn span_before(first: u128, second: u128, line: &mut Line, end: usize) -> usize
+pub(crate) fn span_before(first: u128, second: u128, line: &mut [u8], end: usize) -> usize
     requires room { SPAN_CAPACITY ≤ end }
-    requires within { end ≤ LINE_CAPACITY }
+    requires within { end ≤ length line.old }
     ensures start { end ≤ result + SPAN_CAPACITY }
     ensures before { result ≤ end }
     ensures line { drop result line.new ≡ decimal first ++ (codes " end " ++ (decimal second ++ drop end line.old)) }

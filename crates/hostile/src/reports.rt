@@ -2,12 +2,13 @@
 
 use super::rows::{Given, Job, Runs};
 use job::Ended;
+use octet_writer::BufWriter;
 use refusing_heap::RefusingHeap;
 use replay::{Inputs, Outputs, Stamp, answer_replay};
 use schedule_check::{CheckWords, answer_check};
 use script::{Settings, Unwatched, Values, answer_script};
 use std::alloc::Global;
-use std::io::{self, BufWriter};
+use std::io;
 use test_streams::TWO_RECORDS;
 use traffic::answer_streams;
 

@@ -1,6 +1,7 @@
 //! What is fed: jobs over lines, replays, and settings.
 
 use capture::{CAPTURE_END, CaptureWriter};
+use octet_writer::PutFront;
 use replay::{ReplayFault, Stamp, replay};
 use schedule_check::{CheckSettings, check};
 use script::{RunFault, Settings, Unwatched, run_script};
@@ -70,7 +71,7 @@ impl Job {
     }
 
     /// Does it, from any reader to any writer.
-    pub fn run<A: Allocator, R: Read + Drop, W: Write>(
+    pub fn run<A: Allocator, R: Read + Drop, W: PutFront>(
         self,
         given: &Given,
         alloc: A,
@@ -195,7 +196,7 @@ impl Replaying {
     }
 
     /// Does it without script lines, from any reader to any writers.
-    pub fn run<A: Allocator, R: Read + Drop, W: Write, V: Write>(
+    pub fn run<A: Allocator, R: Read + Drop, W: Write, V: PutFront>(
         given: &Given,
         alloc: A,
         capture: R,

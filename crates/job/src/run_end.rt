@@ -1,7 +1,7 @@
 //! How a run ends whose output goes through a buffer.
 
 ghost use Rattle.std.specs.Prelude.{◌≡◌, ◌⊎◌, [], Err};
-ghost use Rattle.std.specs.Io.Buffered.{writer_buffer, writer_contents};
+ghost use Rattle.octet_writer.specs.Buffered.{writer_buffer, writer_contents};
 ghost use Rattle.std.specs.Io.KnownBytes.{Keeps, append_known};
 ghost use Rattle.job.specs.RunEnd.{IsEndOf};
 ghost use Rattle.job.specs.declared.fault.Fault.TheVariants as Faults;
@@ -9,8 +9,9 @@ ghost use Rattle.job.specs.declared.fault.Fault.TheVariants as Faults;
 use crate::fault::Fault;
 use crate::input::InputFault;
 use crate::report::{Ended, say_run};
+use octet_writer::BufWriter;
 use std::alloc::Allocator;
-use std::io::{BufWriter, Write};
+use std::io::Write;
 
 /// Lets out what was written, also before a fault, unless a write failed already: no write is tried again.
 fn let_out<I: Copy, W: Write + Drop, B: Allocator>(

@@ -4,6 +4,7 @@ use crate::replays::{
     END, REPORT, Replayed, TWO_CAPTURED, is_front_and, replay_of, settings, three_captured,
 };
 use linked_list_allocator::LocalHeap;
+use octet_writer::PutFront;
 use refusing_heap::RefusingHeap;
 use replay::{ReplayFault, Stamp, replay};
 use script::{Settings, Unwatched};
@@ -144,7 +145,7 @@ fn narrow(alloc: Global, room: usize, fails: bool, recovers: bool) -> Narrow {
 }
 
 /// What a replay of the two frames ends with, whose output capture and report go to these writers.
-fn replay_to<W: Write, V: Write>(
+fn replay_to<W: Write, V: PutFront>(
     alloc: Global,
     written: &mut W,
     report: &mut V,

@@ -2,9 +2,10 @@
 
 use job::{Ended, say_fault};
 use linked_list_allocator::LocalHeap;
+use octet_writer::BufWriter;
 use script::{RunFault, Settings, Unwatched, Values, answer_script, run_script};
 use std::alloc::Global;
-use std::io::{self, BufWriter, Read, Write};
+use std::io::{self, Read, Write};
 use std::process::Abort;
 use std::test::Fail;
 use test_streams::{Narrow, Pieces};

@@ -5,15 +5,22 @@
 
 ghost use Rattle.octet_writer.specs.Writes.{Writes};
 
+mod buffered;
+mod held;
+mod put_front;
+mod write_out;
+
+pub use buffered::BufWriter;
+pub use put_front::{CHUNK, PutFront};
 use std::io::Write;
 
 /// A write failed, or took nothing.
 #[derive(Clone, Copy, Debug, PartialEq, Eq)]
 pub struct WriteFault;
 
-/// Writes octets of which one call did not take all.
+/// Writes all of the octets, by a loop apart. At a fault a prefix of them is written, and not all.
 #[inline(never)]
-fn put_rest<W: Write>(writer: &mut W, octets: &[u8]) -> Result<(), WriteFault>
+pub fn put_rest<W: Write>(writer: &mut W, octets: &[u8]) -> Result<(), WriteFault>
     ensures { Writes result (W.contents writer.old) (W.contents writer.new) octets.now }
 {
     let mut rest = octets;

@@ -1,7 +1,7 @@
 //! The delays of the streams of a table from a file.
 
 ghost use Rattle.std.specs.Prelude.{Some, codes};
-ghost use Rattle.std.specs.Io.Buffered.{writer_contents};
+ghost use Rattle.octet_writer.specs.Buffered.{writer_contents};
 ghost use Rattle.clap.specs.Matches.{first_value, found_of};
 ghost use Rattle.program.specs.Given.{IsGivenBounds, bounds_in};
 
@@ -9,9 +9,10 @@ use crate::options::bounds_of;
 use crate::replay_call::{end_unopened, open};
 use clap::ArgMatches;
 use job::{Ended, end_told};
+use octet_writer::BufWriter;
 use script::Watch;
 use std::alloc::{Allocator, Global};
-use std::io::{BufWriter, Read, Write};
+use std::io::{Read, Write};
 use std::rt::Files;
 use stream_bounds::answer_bounds;
 

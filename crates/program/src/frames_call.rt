@@ -1,7 +1,7 @@
 //! The table of the frames of a script, which may have the streams of a table from a file, or run beside a capture from one.
 
 ghost use Rattle.std.specs.Prelude.{◌≡◌, IfErr, Some, codes};
-ghost use Rattle.std.specs.Io.Buffered.{writer_contents};
+ghost use Rattle.octet_writer.specs.Buffered.{writer_contents};
 ghost use Rattle.clap.specs.Matches.{first_value, found_of};
 ghost use Rattle.capture.specs.declared.writer.TheConstants.{CAPTURE_END};
 ghost use Rattle.program.specs.Given.{IsGivenCapture, IsGivenFrames, IsGivenTable, frames_settings, settings_in};
@@ -13,9 +13,10 @@ use capture::CAPTURE_END;
 use clap::ArgMatches;
 use frame_table::{answer_frames, answer_frames_by_stream, answer_frames_of_capture};
 use job::Ended;
+use octet_writer::BufWriter;
 use script::{Watch, end_with_value, settings_given};
 use std::alloc::{Allocator, Global};
-use std::io::{BufWriter, Read, Write};
+use std::io::{Read, Write};
 use std::rt::Files;
 
 /// Writes the table of the frames of a replay of the script that `reader` gives and of the capture in the file of this path, by the values that the words

@@ -8,7 +8,7 @@
 #![tactic(auto)]
 
 ghost use Rattle.std.specs.Prelude.{◌≡◌};
-ghost use Rattle.std.specs.Io.Buffered.{writer_contents};
+ghost use Rattle.octet_writer.specs.Buffered.{writer_contents};
 ghost use Rattle.job.specs.RunEnd.{IsUnanswered};
 ghost use Rattle.job.specs.Texts.{IsTold};
 ghost use Rattle.program.specs.Jobs.{memory_text};
@@ -33,6 +33,7 @@ pub use calls::{answer_given, check_given, draw_given};
 pub use frames_call::frames_given;
 use job::{Ended, end_told, say_fault};
 pub use laws::replay_words;
+use octet_writer::BufWriter;
 use options::reads_input;
 pub use options::values_of;
 use piped::Piped;
@@ -40,7 +41,7 @@ pub use progress::Progress;
 pub use replay_call::replay_given;
 use script::RunFault;
 use std::alloc::Allocator;
-use std::io::{BufWriter, IsTerminal, Write};
+use std::io::{IsTerminal, Write};
 use std::process::ExitCode;
 pub use streams_call::streams_given;
 

@@ -1,7 +1,7 @@
 //! A script and a capture from files through the port.
 
 ghost use Rattle.std.specs.Prelude.{◌≡◌, IfErr, IfNone, IfOk, None, OnOk, Some, [], codes, option_map, unwrap_or};
-ghost use Rattle.std.specs.Io.Buffered.{writer_contents};
+ghost use Rattle.octet_writer.specs.Buffered.{writer_contents};
 ghost use Rattle.clap.specs.Matches.{first_value, found_of};
 ghost use Rattle.program.specs.Given.{over_input_text, settings_in, stamp_in};
 ghost use Rattle.program.specs.Jobs.{IsGivenReplay, IsReplayed, IsReplayedOrForgotten};
@@ -20,11 +20,12 @@ use arrayvec::ArrayVec;
 use capture::CAPTURE_END;
 use clap::ArgMatches;
 use job::{Ended, end_told};
+use octet_writer::BufWriter;
 use replay::{Inputs, Outputs, Stamp, answer_replay, say_stamp, say_unopened, stamp_given};
 use script::{Settings, Watch, end_with_value, settings_given};
 use std::alloc::{Allocator, Global};
 use std::fs;
-use std::io::{BufWriter, Read, Write};
+use std::io::{Read, Write};
 use std::rt::Files;
 
 /// The path that is given for one of the files.

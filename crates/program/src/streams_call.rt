@@ -1,16 +1,17 @@
 //! A table of streams, and a script from a file, become a script.
 
 ghost use Rattle.std.specs.Prelude.{Some, codes};
-ghost use Rattle.std.specs.Io.Buffered.{writer_contents};
+ghost use Rattle.octet_writer.specs.Buffered.{writer_contents};
 ghost use Rattle.clap.specs.Matches.{first_value, found_of};
 ghost use Rattle.program.specs.Given.{IsGivenStreams, from_in};
 
 use crate::replay_call::{end_unopened, open};
 use clap::ArgMatches;
 use job::Ended;
+use octet_writer::BufWriter;
 use script::Watch;
 use std::alloc::{Allocator, Global};
-use std::io::{BufWriter, Read, Write};
+use std::io::{Read, Write};
 use std::rt::Files;
 use traffic::answer_streams;
 

@@ -13,13 +13,14 @@ use crate::kept_script::KeptScript;
 use crate::lines::run_lines;
 use crate::sender::{Sending, put_arrival, put_clock};
 use capture::{CapFault, CaptureReader, Record, frame_of};
+use octet_writer::PutFront;
 use script::Watch;
 use std::alloc::Allocator;
 use std::io::{Read, Write};
 
 /// Takes a record: a clock event at this moment, and the arrival of its frame.
 #[inline(always)]
-fn take_record<A: Allocator + Clone, W: Write, V: Write>(
+fn take_record<A: Allocator + Clone, W: Write, V: PutFront>(
     sending: &mut Sending<A>,
     moment: u128,
     number: u32,
@@ -81,7 +82,7 @@ pub(crate) fn run_records<
     C: Allocator,
     R: Read,
     W: Write,
-    V: Write,
+    V: PutFront,
     P: Watch,
 >(
     sending: &mut Sending<A>,

@@ -1,15 +1,16 @@
 //! The program's second job: schedules are checked by the values of options.
 
 ghost use Rattle.std.specs.Prelude.{◌≡◌, IfErr};
-ghost use Rattle.std.specs.Io.Buffered.{writer_contents};
+ghost use Rattle.octet_writer.specs.Buffered.{writer_contents};
 ghost use Rattle.schedule_check.specs.Words.{whole_check, IsTeller, Teller, IsEnding, rate_given, octets_of};
 
 use crate::schedules::check;
 use crate::settings::CheckSettings;
 use job::{Ended, end_run};
+use octet_writer::BufWriter;
 use script::{Watch, end_with_value, rate_given};
 use std::alloc::Allocator;
-use std::io::{BufWriter, Read, Write};
+use std::io::{Read, Write};
 
 /// The value of the rate, in Mb/s, where it is given, and what is asked for.
 #[derive(Clone, Copy, Debug)]

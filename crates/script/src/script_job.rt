@@ -1,7 +1,7 @@
 //! The program's main job: a script is answered by the values of options.
 
 ghost use Rattle.std.specs.Prelude.{◌≡◌, ◌≤◌, IfErr};
-ghost use Rattle.std.specs.Io.Buffered.{writer_contents};
+ghost use Rattle.octet_writer.specs.Buffered.{writer_contents};
 ghost use Rattle.script.specs.Words.{greatest_moment, octets_of, words_of_values, IsEnding, IsRefusal, rate_given, settings_given, settings_or_usual, whole_script};
 
 use crate::faults::say_value;
@@ -9,8 +9,9 @@ use crate::script_run::run_script;
 use crate::settings::{BadValue, Settings, read_rate};
 use crate::watch::Watch;
 use job::{Ended, end_run, end_told};
+use octet_writer::BufWriter;
 use std::alloc::Allocator;
-use std::io::{BufWriter, Read, Write};
+use std::io::{Read, Write};
 use wire_time::{MAX_MOMENT, Rate};
 
 /// The line rate where none is given, in Mb/s.

@@ -16,14 +16,15 @@ use abstract_port::Event;
 use answer_text::WriteFault;
 use job::next_line;
 use line_reader::LineReader;
+use octet_writer::PutFront;
 use separation::settling;
 use std::alloc::Allocator;
-use std::io::{Read, Write};
+use std::io::Read;
 use summary::{Summary, summary_wanted};
 
 /// Runs to the moment after the input, if there is one, and writes the answers, then how many frames are left, and the summary where
 /// one is wanted.
-fn end<A: Allocator, W: Write>(
+fn end<A: Allocator, W: PutFront>(
     port: &mut RunningPort<A>,
     summary: &mut Option<Summary<A>>,
     until: Option<u128>,
@@ -42,7 +43,7 @@ fn end<A: Allocator, W: Write>(
 }
 
 /// Runs the lines that are to come, and the end.
-fn run_lines<A: Allocator, B: Allocator, R: Read + Drop, W: Write, H: Watch>(
+fn run_lines<A: Allocator, B: Allocator, R: Read + Drop, W: PutFront, H: Watch>(
     port: &mut RunningPort<A>,
     summary: &mut Option<Summary<A>>,
     lines: &mut LineReader<R, B>,
@@ -92,7 +93,7 @@ fn run_lines<A: Allocator, B: Allocator, R: Read + Drop, W: Write, H: Watch>(
 ///
 /// What is written are the lines of the abstract port's answers to the events of the script, with the faults of `tc` lines at
 /// their places; so what holds of those answers holds of the output (`faithful`).
-pub fn run_script<A: Allocator, R: Read + Drop, W: Write, H: Watch>(
+pub fn run_script<A: Allocator, R: Read + Drop, W: PutFront, H: Watch>(
     alloc: A,
     reader: R,
     writer: &mut W,

@@ -1,7 +1,7 @@
 //! The program's job: the delays of streams, for ever.
 
 ghost use Rattle.std.specs.Prelude.{◌≡◌, IfErr, None, Some};
-ghost use Rattle.std.specs.Io.Buffered.{writer_contents};
+ghost use Rattle.octet_writer.specs.Buffered.{writer_contents};
 ghost use Rattle.script.specs.Given.{octets_of, words_of_values};
 ghost use Rattle.stream_bounds.specs.BoundsEnd.{IsBoundsEnding, bounds_given, frames_where};
 ghost use Rattle.stream_bounds.specs.declared.settings.TheConstants.{MAX_FRAMES};
@@ -10,9 +10,10 @@ ghost use Rattle.words.specs.Numbers.{number_in};
 use crate::settings::{BoundsSettings, BoundsValue, MAX_FRAMES, say_bounds_value};
 use crate::table_bounds::bounds;
 use job::{Ended, end_run, end_told};
+use octet_writer::BufWriter;
 use script::{Values, Watch, settings_given};
 use std::alloc::{Allocator, Global};
-use std::io::{BufWriter, Read, Write};
+use std::io::{Read, Write};
 use wire_time::MAX_MOMENT;
 use words::number;
 

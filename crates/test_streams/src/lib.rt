@@ -8,6 +8,7 @@ mod captures;
 mod turns;
 
 pub use captures::{BOTH_LEFT, BOTH_TOLD, FIRST_LEFT, FIRST_TOLD, TWO_RECORDS};
+use octet_writer::PutFront;
 use std::io::{self, Read, Write};
 pub use turns::{Tally, Turn, TurningReader, TurningWriter, nth_turn};
 
@@ -75,6 +76,8 @@ pub struct Narrow {
     /// Whether it fails once alone, and then takes all.
     pub recovers: bool,
 }
+
+impl PutFront for Narrow {}
 
 impl Write for Narrow {
     fn write(&mut self, buf: &[u8]) -> io::Result<usize> {

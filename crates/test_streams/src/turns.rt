@@ -3,6 +3,7 @@
 ghost use Rattle.std.specs.Prelude.{◌≡◌, ◌/◌, ◌%◌, []};
 ghost use Rattle.test_streams.specs.Turns.{turn_of};
 
+use octet_writer::PutFront;
 use std::alloc::Global;
 use std::cell::Cell;
 use std::io::{self, Read, Write};
@@ -133,6 +134,8 @@ impl TurningWriter {
         }
     }
 }
+
+impl PutFront for TurningWriter {}
 
 impl Write for TurningWriter {
     fn write(&mut self, buf: &[u8]) -> io::Result<usize> {

@@ -1,14 +1,15 @@
 //! The program's job: a table of streams becomes a script.
 
 ghost use Rattle.std.specs.Prelude.{◌≡◌, ◌≤◌, IfErr, IfOk};
-ghost use Rattle.std.specs.Io.Buffered.{writer_contents};
+ghost use Rattle.octet_writer.specs.Buffered.{writer_contents};
 ghost use Rattle.traffic.specs.Words.{octets_of, IsStreamsEnding, from_given, greatest_moment};
 
 use crate::streams::write_streams;
 use job::{Ended, end_run};
+use octet_writer::BufWriter;
 use script::{BadValue, Watch, end_with_value};
 use std::alloc::Allocator;
-use std::io::{BufWriter, Read, Write};
+use std::io::{Read, Write};
 use times::moment;
 use wire_time::MAX_MOMENT;
 

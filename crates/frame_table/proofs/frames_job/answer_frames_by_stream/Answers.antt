@@ -1,5 +1,5 @@
 use Rattle.std.proofs.Common.{◌≡◌, Result, Ok, sym, ◌∙◌, subst}
-use Rattle.std.specs.Io.Buffered.{writer_contents}
+use Rattle.octet_writer.specs.Buffered.{writer_contents}
 use Rattle.frame_table.specs.Words.{IsByStreamEnding, frames_by_stream, streams_telling}
 use Rattle.job.proofs.RunEndLaws.{ended}
 use Rattle.script.specs.Setup.{Setup}

@@ -1,5 +1,5 @@
 use Rattle.std.proofs.Common.{Bool, List, ℕ, Option, Result, Some, codes, inl, inr, ap, ◌∙◌, subst}
-use Rattle.std.specs.Io.Buffered.{writer_contents}
+use Rattle.octet_writer.specs.Buffered.{writer_contents}
 use Rattle.clap.specs.Matches.{first_value, found_of}
 use Rattle.program.specs.Given.{IsGivenBounds, bounds_in, words_in}
 use Rattle.script.specs.Given.{GivenWords, octets_of}

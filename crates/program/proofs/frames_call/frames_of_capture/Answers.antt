@@ -1,5 +1,5 @@
 use Rattle.std.proofs.Common.{◌≡◌, List, ℕ, Result, Ok, inr, sym, ◌∙◌, subst}
-use Rattle.std.specs.Io.Buffered.{writer_contents}
+use Rattle.octet_writer.specs.Buffered.{writer_contents}
 use Rattle.capture.specs.declared.writer.TheConstants.{CAPTURE_END}
 use Rattle.job.specs.RunEnd.{IsUnanswered}
 use Rattle.program.specs.Given.{IsGivenCapture}

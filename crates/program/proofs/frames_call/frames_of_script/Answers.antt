@@ -1,5 +1,5 @@
 use Rattle.std.proofs.Common.{◌≡◌, List, ℕ, Option, Some, Result, Ok, Err, inl, inr, refl, ap, ◌∙◌, subst}
-use Rattle.std.specs.Io.Buffered.{writer_contents}
+use Rattle.octet_writer.specs.Buffered.{writer_contents}
 use Rattle.std.specs.Prelude.{IfErr}
 use Rattle.clap.specs.Matches.{found_of}
 use Rattle.frame_table.specs.ByStream.{IsByStreamEnding}

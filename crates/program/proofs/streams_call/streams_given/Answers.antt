@@ -1,5 +1,5 @@
 use Rattle.std.proofs.Common.{List, ℕ, Option, Some, inr, ap, ◌∙◌, subst}
-use Rattle.std.specs.Io.Buffered.{writer_contents}
+use Rattle.octet_writer.specs.Buffered.{writer_contents}
 use Rattle.program.specs.Given.{IsGivenStreams, from_in}
 use Rattle.clap.specs.Matches.{found_of}
 use Rattle.program.proofs.streams_call.streams_given.Goals as goal
