@@ -1,6 +1,6 @@
 //! The lines of answers.
 
-ghost use Rattle.std.specs.Prelude.{◌≤◌, ◌+◌, length, slice_range};
+ghost use Rattle.std.specs.Prelude.{◌≤◌, ◌+◌, ◌*◌, length, slice_range};
 ghost use Rattle.abstract_port.specs.Answers.{arrival_answer, command_answer};
 ghost use Rattle.answer_text.specs.Lines.{queued_line, dropped_line, installed_line, refused_line, start_line, count_line, left_line, answer_lines, tc_fault_line};
 ghost use Rattle.octet_writer.specs.Writes.{Writes};
@@ -15,7 +15,7 @@ use crate::reports::put_report;
 use crate::span::span_before;
 use crate::text_writer::{Part, put_parts};
 use abstract_port::{Answer, Counters, Dropped, Refused, Start};
-use octet_writer::{CHUNK, PutFront, WriteFault, put, put_rest};
+use octet_writer::{CHUNK, PutFront, WriteFault, put};
 use std::io::Write;
 use tc_reader::TcFault;
 use wire_time::Frame;
@@ -39,7 +39,8 @@ fn put_short<W: PutFront>(
     writer.put_front(chunk, end - start)
 }
 
-/// Writes a line of any length: the octets from `start` up to `end`, behind which is room for a chunk.
+/// Writes a line of up to 128 octets, as two chunks where it has more than one: those from `start` up to `end`, behind which is
+/// room for a chunk.
 #[inline(always)]
 fn put_line<W: PutFront>(
     writer: &mut W,
@@ -48,13 +49,16 @@ fn put_line<W: PutFront>(
     end: usize,
 ) -> Result<(), WriteFault>
     requires ordered { start ≤ end }
+    requires short { end ≤ start + 2 * CHUNK }
     requires room { end + CHUNK ≤ length line.now }
     ensures { Writes result (W.contents writer.old) (W.contents writer.new) (slice_range line.now start end) }
 {
-    if end - start > CHUNK {
-        return put_rest(writer, &line[start..end]);
+    if end - start <= CHUNK {
+        return put_short(writer, line, start, end);
     }
-    put_short(writer, line, start, end)
+    let next = start + CHUNK;
+    put_short(writer, line, start, next)?;
+    put_short(writer, line, next, end)
 }
 
 fn put_queued<W: PutFront>(writer: &mut W, id: u64, class: u8) -> Result<(), WriteFault>

@@ -44,20 +44,20 @@ pub(crate) struct Sending<A: Allocator = Global> {
     pub leaving: Leaving,
 }
 
-/// Writes an answer to an event that is taken at this moment, noted where a summary is wanted. At a fault a prefix of it is written.
-/// Apart, since an answer is large, and those to most events are written without one.
+/// Reports a clock event of a moment that has passed, noted where a summary is wanted. At a fault a prefix of it is written.
+/// Apart, since an answer is large.
 #[inline(never)]
-fn put_noted<A: Allocator, V: PutFront>(
+fn put_backward<A: Allocator, V: PutFront>(
     summary: &mut Option<Summary<A>>,
     now: u128,
-    answer: &Answer,
     report: &mut V,
 ) -> Result<(), WriteFault>
-    ensures text { Writes result (V.contents report.old) (V.contents report.new) (answer_lines answer.now) }
-    ensures seen { summary.new ≡ noted now answer.now summary.old }
+    ensures text { Writes result (V.contents report.old) (V.contents report.new) (answer_lines Answered.Backward) }
+    ensures seen { summary.new ≡ noted now Answered.Backward summary.old }
 {
-    note(summary, now, answer);
-    put_answer(report, answer)
+    let answer = Answer::Backward;
+    note(summary, now, &answer);
+    put_answer(report, &answer)
 }
 
 /// Writes the start of a frame, noted where a summary is wanted. At a fault a prefix of it is written. Apart, since its
@@ -190,7 +190,7 @@ pub(crate) fn put_clock<A: Allocator, W: Write, V: PutFront>(
 {
     let now = sending.port.now();
     if moment < now {
-        put_noted(&mut sending.summary, now, &Answer::Backward, report)?;
+        put_backward(&mut sending.summary, now, report)?;
         return Ok(());
     }
     put_starts(sending, moment, departures, report)

@@ -12,26 +12,26 @@ use Rattle.replay.proofs.StartLaws.{none-before}
 use Rattle.replay.proofs.TellLaws.{answers_one, clock_back, clock_on}
 use Rattle.replay.proofs.sender.put_clock.Goals as goal
 
-pub returns-in_err-put_noted-clause-answers : goal.returns-in_err-put_noted-clause-answers
-returns-in_err-put_noted-clause-answers g c = λ es k.
+pub returns-in_err-put_backward-clause-answers : goal.returns-in_err-put_backward-clause-answers
+returns-in_err-put_backward-clause-answers g c = λ es k.
     let p = err_from_is_err_and c.from_residual.result c.from_residual.ensures.1 in
     let s = state c.args.sending.now (g.V.Write.contents c.args.report.now) (g.W.Write.contents c.args.departures.now) in
-    let t : State = record { port = s.port; store = s.store; seen = c.put_noted.new.summary; stamping = s.stamping; got = record { report = g.V.Write.contents c.put_noted.new.report; departures = g.W.Write.contents c.args.departures.now } } in
+    let t : State = record { port = s.port; store = s.store; seen = c.put_backward.new.summary; stamping = s.stamping; got = record { report = g.V.Write.contents c.put_backward.new.report; departures = g.W.Write.contents c.args.departures.now } } in
     let P : ℕ → Type 0 = λ n. c.args.moment < n in
     let back = clock_back c.args.moment s.port (subst P c.now-now.ensures.now c.if-moment-now.true) in
-    let out = report_short c.from_residual.result (g.W.Write.contents c.args.departures.now) [] p.1 c.in_err-put_noted.ensures.text in
+    let out = report_short c.from_residual.result (g.W.Write.contents c.args.departures.now) [] p.1 c.in_err-put_backward.ensures.text in
     answers_one c.from_residual.result es (Events.Clock c.args.moment) s t (Answered.Backward ∷ []) s.port back (never _ p.1) (never _ p.1) (never _ p.1)
     (rw (one_answer es Answered.Backward refl) out)
 
 pub returns-then-moment-now-clause-answers : goal.returns-then-moment-now-clause-answers
 returns-then-moment-now-clause-answers g c = λ es k.
     let s = state c.args.sending.now (g.V.Write.contents c.args.report.now) (g.W.Write.contents c.args.departures.now) in
-    let t : State = record { port = s.port; store = s.store; seen = c.put_noted.new.summary; stamping = s.stamping; got = record { report = g.V.Write.contents c.put_noted.new.report; departures = g.W.Write.contents c.args.departures.now } } in
+    let t : State = record { port = s.port; store = s.store; seen = c.put_backward.new.summary; stamping = s.stamping; got = record { report = g.V.Write.contents c.put_backward.new.report; departures = g.W.Write.contents c.args.departures.now } } in
     let P : ℕ → Type 0 = λ n. c.args.moment < n in
     let back = clock_back c.args.moment s.port (subst P c.now-now.ensures.now c.if-moment-now.true) in
     answers_one (Ok tt) es (Events.Clock c.args.moment) s t (Answered.Backward ∷ []) s.port back (sym (settled-current s.port c.requires.together.sound.current)) k
-    (c.in_ok-put_noted.ensures.seen ∙ ap (λ n. noted n Answered.Backward s.seen) c.now-now.ensures.now ∙ noted-one s.port.now Answered.Backward s.seen)
-    (rw (one_answer es Answered.Backward refl) (report_whole tt (g.W.Write.contents c.args.departures.now) c.in_ok-put_noted.ensures.text))
+    (c.in_ok-put_backward.ensures.seen ∙ ap (λ n. noted n Answered.Backward s.seen) c.now-now.ensures.now ∙ noted-one s.port.now Answered.Backward s.seen)
+    (rw (one_answer es Answered.Backward refl) (report_whole tt (g.W.Write.contents c.args.departures.now) c.in_ok-put_backward.ensures.text))
 
 pub returns-clause-answers : goal.returns-clause-answers
 returns-clause-answers g c = λ es k.
@@ -42,11 +42,11 @@ returns-clause-answers g c = λ es k.
     let a = c.put_starts.ensures.starts es k in
     answers_one c.put_starts.result es (Events.Clock c.args.moment) s t (map Answered.Start (starts_until s.port c.args.moment).0) (starts_until s.port c.args.moment).1 on a.port a.keeps a.seen a.out
 
-pub returns-in_err-put_noted-clause-together : goal.returns-in_err-put_noted-clause-together
-returns-in_err-put_noted-clause-together g c = never _ (err_from_is_err_and c.from_residual.result c.from_residual.ensures.1).1
+pub returns-in_err-put_backward-clause-together : goal.returns-in_err-put_backward-clause-together
+returns-in_err-put_backward-clause-together g c = never _ (err_from_is_err_and c.from_residual.result c.from_residual.ensures.1).1
 
-pub returns-in_err-put_noted-clause-fault : goal.returns-in_err-put_noted-clause-fault
-returns-in_err-put_noted-clause-fault g c =
+pub returns-in_err-put_backward-clause-fault : goal.returns-in_err-put_backward-clause-fault
+returns-in_err-put_backward-clause-fault g c =
     let p = err_from_is_err_and c.from_residual.result c.from_residual.ensures.1 in
     of_error c.from_residual.result Stops.Write (λ fault. fault ≡ Stops.Write) (p.1 ∙ ap Err p.2) refl
 
@@ -69,8 +69,8 @@ put_starts-requires g c =
     let P : ℕ → Type 0 = λ n. n ≤ c.args.moment in
     (search, (subst P c.now-now.ensures.now c.if-moment-now.false, (c.requires.within, c.requires.together)))
 
-pub returns-in_err-put_noted-clause-last : goal.returns-in_err-put_noted-clause-last
-returns-in_err-put_noted-clause-last g c = never _ (err_from_is_err_and c.from_residual.result c.from_residual.ensures.1).1
+pub returns-in_err-put_backward-clause-last : goal.returns-in_err-put_backward-clause-last
+returns-in_err-put_backward-clause-last g c = never _ (err_from_is_err_and c.from_residual.result c.from_residual.ensures.1).1
 
 pub returns-then-moment-now-clause-last : goal.returns-then-moment-now-clause-last
 returns-then-moment-now-clause-last g c =
