@@ -1,7 +1,7 @@
 -- What the heads of the queues need, as a lookout keeps it.
 use Rattle.std.proofs.Common.{◌≡◌, ◌<◌, ℕ, List, [], ◌∷◌, ◌++◌, length, map, drop, Option, Some, None, refl, sym, ap, ◌∙◌, arith}
 use Rattle.std.specs.Prelude.{slice_get, slice_index_or, slice_set}
-use Rattle.std.specs.Option.{option_or, IsSome}
+use Rattle.std.specs.Option.{option_map, option_or, IsSome}
 use Rattle.std.proofs.lemmas.List.{map-set, get_or-set_same}
 use Rattle.port.specs.Words.{Frame, occupancy_of, Queue, head_need, frames_of, queue_at, no_queue, with_frames}
 use Rattle.port.proofs.HeadLaws.{need_at}
@@ -35,3 +35,16 @@ needs_taken ps queues class needs within same =
 pub first_is_some : (frames : List Frame) → 0 < length frames → IsSome (slice_get frames 0)
 first_is_some [] l = absurd (omega arith)
 first_is_some (f ∷ rest) l = refl
+
+-- what is kept of a class is what its first frame needs
+first_need : (ps : ℕ) (frames : List Frame) (f : Frame) → slice_get frames 0 ≡ Some f → head_need ps frames ≡ Some (occupancy_of ps f.len)
+first_need ps [] f is = absurd (by is)
+  where
+    by : {x : Frame} → None ≡ Some x → ⊥
+    by e = cc
+first_need ps (x ∷ rest) f is = ap (λ g. option_map (λ (y : Frame). occupancy_of ps y.len) g) is
+
+pub kept_need : (ps : ℕ) (queues : List Queue) (class : ℕ) (needs : List (Option ℕ)) → class < length queues → needs ≡ map (head_need ps) (frames_of queues)
+    → (f : Frame) → slice_get (queue_at queues class).frames 0 ≡ Some f → slice_index_or needs class None ≡ Some (occupancy_of ps f.len)
+kept_need ps queues class needs within same f first =
+    ap (λ x. slice_index_or x class None) same ∙ (need_at ps queues class no_queue within ∙ first_need ps (queue_at queues class).frames f first)

@@ -1,8 +1,8 @@
 //! The queues of a port: how they are made, and what is done in the one of a class.
 
-ghost use Rattle.std.specs.Prelude.{◌≡◌, ◌<◌, ◌≤◌, ◌∷◌, [], ◌++◌, IfOk, length, drop, slice_get, slice_set};
+ghost use Rattle.std.specs.Prelude.{◌≡◌, ◌<◌, ◌∷◌, [], ◌++◌, IfOk, length, drop, slice_get, slice_set};
 ghost use Rattle.std.specs.Option.{ForSome};
-ghost use Rattle.port.specs.Words.{greatest_moment, head_need, HaveRoom, IsEmpty, frames_of, queue_at, with_frames};
+ghost use Rattle.port.specs.Words.{occupancy_of, head_need, HaveRoom, IsEmpty, frames_of, queue_at, with_frames};
 
 use class_queue::{ClassQueue, QueueNew};
 use std::alloc::Allocator;
@@ -56,28 +56,38 @@ fn queue_of<A: Allocator + Clone>(alloc: &A, room: u32) -> Result<ClassQueue<A>,
     }
 }
 
-/// How long the head of a queue occupies the wire, if a frame waits.
-fn need_of<A: Allocator>(rate: Rate, queue: &ClassQueue<A>) -> Option<u128>
+/// How long a frame occupies the wire, in picoseconds.
+pub(crate) fn need_of(rate: Rate, frame: &Frame) -> u64
+    ensures value { result ≡ occupancy_of rate frame.now.len }
+    ensures above { 0 < result }
+{
+    // For the prover: the getter says within which limits a rate lies.
+    let _ps = rate.ps_per_octet();
+    occupancy(rate, frame.len) as u64
+}
+
+/// How long the head of a queue occupies the wire, in picoseconds, if a frame waits.
+fn head_need<A: Allocator>(rate: Rate, queue: &ClassQueue<A>) -> Option<u64>
     ensures value { result ≡ head_need rate queue.now.frames }
-    ensures within { ForSome result (λ d. d ≤ greatest_moment) }
+    ensures above { ForSome result (λ d. 0 < d) }
 {
     match queue.head() {
-        Some(frame) => Some(occupancy(rate, frame.len)),
+        Some(frame) => Some(need_of(rate, &frame)),
         None => None,
     }
 }
 
-/// How long the head of a class occupies the wire, if a frame waits.
+/// How long the head of a class occupies the wire, in picoseconds, if a frame waits.
 pub(crate) fn need_in<A: Allocator>(
     rate: Rate,
     queues: &[ClassQueue<A>; CLASSES],
     class: u8,
-) -> Option<u128>
+) -> Option<u64>
     requires { class < 8 }
     ensures value { result ≡ head_need rate (queue_at queues.now class).frames }
-    ensures within { ForSome result (λ d. d ≤ greatest_moment) }
+    ensures above { ForSome result (λ d. 0 < d) }
 {
-    need_of(rate, &queues[class as usize])
+    head_need(rate, &queues[class as usize])
 }
 
 /// How many frames of a class wait.

@@ -1,1 +1,3 @@
+pub mod ChooseLaws
+pub mod HeadLaws
 pub mod WatchLaws

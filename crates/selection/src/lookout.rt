@@ -8,8 +8,9 @@ ghost use Rattle.list_config.specs.Choice.{first_choice};
 ghost use Rattle.list_config.specs.Current.{IsCurrent, longest, accepted_at, deletion_at, answer_to, with_command, installed_of};
 ghost use Rattle.selection.specs.Watched.{IsStill, with_needs};
 
-use crate::choice::{Heads, move_to_choice};
-use gate_list::{Schedule, Visits};
+use crate::choice::find_choice;
+use crate::heads::Heads;
+use gate_list::{Schedule, Visits, is_open};
 use list_config::{Gates, Installed, NotNow};
 use std::marker::Model;
 
@@ -71,9 +72,7 @@ pub struct Lookout<G: Gates> {
 
 /// A contract sees the history of the gates, which is what they would keep at the moment, the moment, and the needs.
 impl<G: Gates> Model for Lookout<G> {
-    ghost use Rattle.std.specs.Prelude.{◌≡◌, ◌≤◌, All, true, false};
-    ghost use Rattle.std.specs.Option.{ForSome};
-    ghost use Rattle.wire_time.specs.Moment.{greatest_moment};
+    ghost use Rattle.std.specs.Prelude.{◌≡◌, ◌≤◌, true, false};
     ghost use Rattle.list_config.specs.Current.{IsCurrent};
     ghost use Rattle.selection.specs.Watched.{Watched, IsIdle, IsStill};
 
@@ -82,14 +81,13 @@ impl<G: Gates> Model for Lookout<G> {
     ghost view = { λ w. record {
       history = G.history w.gates;
       moment = w.moment;
-      needs = w.heads.need;
+      needs = w.heads;
     } };
 
     ghost invariant = { λ w. (G.is_sound w.gates)
         × (G.moment w.gates ≤ w.moment)
         × IsCurrent (G.history w.gates) w.moment
-        × All (λ need. ForSome need (λ d. d ≤ greatest_moment)) w.heads.need
-        × IsIdle (G.history w.gates) w.heads.need w.moment w.idle
+        × IsIdle (G.history w.gates) w.heads w.moment w.idle
         × (w.still ≡ true → IsStill (G.history w.gates) (G.moment w.gates))
         × (w.still ≡ false → G.moment w.gates ≡ w.moment) };
 }
@@ -103,7 +101,7 @@ impl<G: Gates> Lookout<G> {
         Lookout {
             gates: G::begin(),
             moment: 0,
-            heads: Heads { need: [None; 8] },
+            heads: Heads::none(),
             idle: 0,
             still: false,
         }
@@ -117,23 +115,32 @@ impl<G: Gates> Lookout<G> {
         self.moment
     }
 
-    /// The head of a class needs the wire for so long, in picoseconds; none: no frame waits there.
-    pub fn set_need(&mut self, class: u8, need: Option<u128>)
+    /// How long the head of a class needs the wire, in picoseconds, where a frame waits.
+    pub fn need(&self, class: u8) -> u64
+        requires { class < 8 }
+        ensures { (d : ℕ) → slice_index_or self.now.needs class None ≡ Some d → result ≡ d }
+    {
+        self.heads.need(class)
+    }
+
+    /// The head of a class needs the wire for so long, in picoseconds and more than 0; none: no frame waits there.
+    pub fn set_need(&mut self, class: u8, need: Option<u64>)
         requires class { class < 8 }
-        requires within { ForSome need (λ d. d ≤ greatest_moment) }
+        requires some { ForSome need (λ d. 0 < d) }
         ensures { self.new ≡ with_needs self.old (slice_set self.old.needs class need) }
     {
-        self.heads.need[class as usize] = need;
+        self.heads.set(class, need);
         self.idle = self.moment;
     }
 
-    /// A frame that needs the wire for so long, in picoseconds, waits in a class from now on, after those that do already.
-    pub fn add_need(&mut self, class: u8, need: u128)
+    /// A frame that needs the wire for so long, in picoseconds and more than 0, waits in a class from now on, after those that do
+    /// already.
+    pub fn add_need(&mut self, class: u8, need: u64)
         requires class { class < 8 }
-        requires within { need ≤ greatest_moment }
+        requires some { 0 < need }
         ensures { self.new ≡ with_needs self.old (slice_set self.old.needs class (option_or (slice_index_or self.old.needs class None) (Some need))) }
     {
-        if self.heads.need[class as usize].is_none() {
+        if !is_open(self.heads.waits(), class) {
             self.set_need(class, Some(need));
         }
     }
@@ -161,8 +168,8 @@ impl<G: Gates> Lookout<G> {
     }
 
     /// Moves on to the first moment from `from` on, which is not before now, and before `until` at which some class may start, and answers
-    /// the greatest that may; or to `until`, where there is none. All are in picoseconds. Apart, since `find_start` mostly knows more.
-    #[inline(never)]
+    /// the greatest that may; or to `until`, where there is none. All are in picoseconds.
+    #[inline(always)]
     fn find_from(&mut self, from: u128, until: u128, visits: &mut Visits) -> Option<u8>
         requires onward { self.old.moment ≤ from }
         requires before { from < until }
@@ -179,7 +186,7 @@ impl<G: Gates> Lookout<G> {
         ensures visits { IsTrue G.JUMPS → visits.new ≤ visits.old + 16 * (longest self.old.history + 1) }
     {
         self.gates.move_to(from, visits);
-        match move_to_choice(&self.heads, &mut self.gates, until, visits) {
+        match find_choice(&self.heads, &mut self.gates, until, visits) {
             Ok(class) => {
                 self.moment = self.gates.now();
                 Some(class)

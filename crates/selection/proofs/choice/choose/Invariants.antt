@@ -1,9 +1,12 @@
 use Rattle.std.proofs.Common.{◌≡◌, ◌≤◌, IsTrue}
-use Rattle.list_config.specs.Choice.{greatest_below, may_go}
+use Rattle.selection.proofs.ChooseLaws.{AreLeft}
 use Rattle.selection.proofs.choice.choose.Given as goal
 
-abbrev pub invariant-loop-class : goal.invariant-loop-class
-invariant-loop-class g l =
-    (greatest_below 8 (may_go (g.G.Gates.history l.gates) (g.G.Gates.moment l.gates) l.heads.need) ≡ greatest_below l.class (may_go (g.G.Gates.history l.gates) (g.G.Gates.moment l.gates) l.heads.need))
+abbrev pub invariant-loop-left : goal.invariant-loop-left
+invariant-loop-left g l =
+    AreLeft (g.G.Gates.history l.gates) (g.G.Gates.moment l.gates) l.heads l.left
     × (l.initial.visits ≤ l.visits)
     × (IsTrue g.G.Gates.JUMPS → l.visits ≡ l.initial.visits)
+
+abbrev pub decreases-loop-left : goal.decreases-loop-left
+decreases-loop-left g l = l.left

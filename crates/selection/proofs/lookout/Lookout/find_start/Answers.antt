@@ -12,8 +12,7 @@ invariant_of-self g c =
       e.sound,
       e.upto,
       e.current,
-      c.self.invariant.3,
-      subst (λ h. IsIdle h c.self.inside.heads.need c.args.until c.self.inside.idle) (sym e.history) (idle_at _ _ current c.args.until c.self.inside.moment _ _ c.self.invariant.4 (le_trans c.self.invariant.1 later) later),
+      subst (λ h. IsIdle h c.self.inside.heads c.args.until c.self.inside.idle) (sym e.history) (idle_at _ _ current c.args.until c.self.inside.moment _ _ c.self.invariant.3 (le_trans c.self.invariant.1 later) later),
       e.still,
       e.there,
     )
@@ -25,6 +24,6 @@ returns-clause-idle g c =
     let free = c.max.ensures in
     rw (← c.self.view_is) (λ m after late below.
     elim (cases_lt m c.max-from.result) [
-      | inl early ↦ c.self.invariant.4 m after (omega (arith, early, after, late, from, free))
+      | inl early ↦ c.self.invariant.3 m after (omega (arith, early, after, late, from, free))
       | inr past ↦ then m after past below
     ])

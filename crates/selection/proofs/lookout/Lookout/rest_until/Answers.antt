@@ -11,8 +11,7 @@ invariant_of-self g c =
       e.sound,
       e.upto,
       e.current,
-      c.self.invariant.3,
-      subst (λ h. IsIdle h c.self.inside.heads.need c.args.until c.self.inside.idle) (sym e.history) (idle_at _ _ current c.args.until c.self.inside.moment _ _ c.self.invariant.4 (le_trans c.self.invariant.1 later) later),
+      subst (λ h. IsIdle h c.self.inside.heads c.args.until c.self.inside.idle) (sym e.history) (idle_at _ _ current c.args.until c.self.inside.moment _ _ c.self.invariant.3 (le_trans c.self.invariant.1 later) later),
       e.still,
       e.there,
     )

@@ -1,0 +1,15 @@
+use Rattle.std.proofs.Common.{◌≡◌, None, is_some, sym, ap, ◌∙◌, subst}
+use Rattle.std.specs.Prelude.{slice_index_or}
+use Rattle.gate_list.specs.Gate.{opens}
+use Rattle.selection.proofs.HeadLaws.{kept_at, kept_is, kept_waits}
+use Rattle.selection.proofs.heads.Heads.waits.Goals as goal
+
+pub returns-clause-marks : goal.returns-clause-marks
+returns-clause-marks c = λ class low.
+    subst (λ needs. opens c.self.inside.waits class ≡ is_some (slice_index_or needs class None)) c.self.view_is
+    (c.self.invariant class low ∙ (kept_waits (slice_index_or c.self.inside.needs class 0) ∙ ap is_some (sym (kept_at c.self.inside.needs class))))
+
+pub returns-clause-some : goal.returns-clause-some
+returns-clause-some c = λ class d is.
+    (kept_is (slice_index_or c.self.inside.needs class 0) d
+    (sym (kept_at c.self.inside.needs class) ∙ (ap (λ needs. slice_index_or needs class None) c.self.view_is ∙ is))).1
