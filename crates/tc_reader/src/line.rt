@@ -37,6 +37,11 @@ fn take_verb(words: &mut Words<'_>) -> Option<Verb>
     ensures verb { MatchOption result (verb_at (words_left words.old) ≡ None) (λ v. verb_at (words_left words.old) ≡ Some (v, words_left words.new)) }
     ensures moves { Moves words.old words.new }
 {
+    if words.skip_text(b"tc qdisc ", 2) {
+        // So most lines begin.
+        let verb = words.next_word()?;
+        return verb_of(verb);
+    }
     let first = words.next_word()?;
     let second = words.next_word()?;
     let verb = words.next_word()?;
