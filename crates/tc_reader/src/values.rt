@@ -205,8 +205,8 @@ pub(crate) fn take_front_entry(words: &mut Words<'_>) -> Option<Entry>
     take_entry_by(words, true)
 }
 
-/// An entry whose words stand as in most lines. Else None, and no word is taken. Apart, since most entries have others after them.
-#[inline(never)]
+/// An entry whose words stand as in most lines. Else None, and no word is taken.
+#[inline(always)]
 pub(crate) fn take_plain_entry(words: &mut Words<'_>) -> Option<Entry>
     ensures entry { MatchOption result (words.new ≡ words.old)
         (λ e. StandsPlainly (words_taken words.old) (words_left words.old) e (words_left words.new)) }
