@@ -10,7 +10,7 @@ pub use Rattle.tc_reader.specs.Capped.{FailsOne, StandsPlainly, Takes, TakesOne,
 pub use Rattle.tc_reader.specs.Cursor.{Moves, Word, total}
 pub use Rattle.tc_reader.specs.Ends.{change_given, classes_of, closed_change, command_given, eight_limits, heads_missing, ranges_of}
 pub use Rattle.tc_reader.specs.Grammar.{AreNewHeads, IsCommand, head_words, heads_before}
-pub use Rattle.tc_reader.specs.Heads.{Head, ReadsHeads, dev, handle, head_at, is_dev, is_handle, is_parent, named, parent, root}
+pub use Rattle.tc_reader.specs.Heads.{Head, ReadsHeads, dev, handle, head_at, is_dev, is_handle, is_parent, named, parent, root, usual_heads}
 pub use Rattle.tc_reader.specs.Lines.{HasFault, ReadsLine, ReadsOptions, ReadsRest, deletion_before, replacement_of, verb_at, verb_of}
 pub use Rattle.tc_reader.specs.Names.{is_unsupported, option_named, word_of}
 pub use Rattle.tc_reader.specs.Options.{Item, Options, allowed, base_time, begins, clock, clock_item, cycle_time, extension, flags, is_given, limits, no_options, num_tc, priorities, ranges, sched_entry, value_or, with_item, ◌>>=◌}

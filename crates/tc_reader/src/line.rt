@@ -1,7 +1,7 @@
 //! A whole line.
 
-ghost use Rattle.std.specs.Prelude.{◌≡◌, ◌↔◌, Option, Some, None, Ok, MatchOption, IfErr};
-ghost use Rattle.tc_reader.specs.Words.{words_of, words_left, total, Moves, behind_heads, verb_of, verb_at, ReadsOptions, deletion_before, ReadsLine, HasFault, IsCommand};
+ghost use Rattle.std.specs.Prelude.{◌≡◌, ◌↔◌, Option, Some, None, Ok, true, false, MatchOption, IfErr};
+ghost use Rattle.tc_reader.specs.Words.{words_of, words_left, total, Moves, Word, usual_heads, behind_heads, verb_of, verb_at, ReadsOptions, deletion_before, ReadsLine, HasFault, IsCommand};
 
 use crate::capped::CappedOptions;
 use crate::end::{CommandPlace, check_heads, give_command, put_fault};
@@ -37,11 +37,6 @@ fn take_verb(words: &mut Words<'_>) -> Option<Verb>
     ensures verb { MatchOption result (verb_at (words_left words.old) ≡ None) (λ v. verb_at (words_left words.old) ≡ Some (v, words_left words.new)) }
     ensures moves { Moves words.old words.new }
 {
-    if words.skip_text(b"tc qdisc ", 2) {
-        // So most lines begin.
-        let verb = words.next_word()?;
-        return verb_of(verb);
-    }
     let first = words.next_word()?;
     let second = words.next_word()?;
     let verb = words.next_word()?;
@@ -50,6 +45,27 @@ fn take_verb(words: &mut Words<'_>) -> Option<Verb>
     } else {
         None
     }
+}
+
+/// Goes past the heads of most lines, which name a device and `root`. Else false, and no word is taken.
+#[inline(always)]
+fn skip_usual_heads(words: &mut Words<'_>) -> bool
+    ensures heads { result ≡ true → (name : Word) × (words_left words.old ≡ usual_heads name (words_left words.new)) }
+    ensures moves { Moves words.old words.new }
+    ensures kept { result ≡ false → words.new ≡ words.old }
+{
+    let mut after = *words;
+    if !after.skip_text(b"tc qdisc ", 2) || !after.skip_text(b"replace dev ", 2) {
+        return false;
+    }
+    let Some(_name) = after.next_word() else {
+        return false;
+    };
+    if !after.skip_text(b" root taprio ", 2) {
+        return false;
+    }
+    *words = after;
+    true
 }
 
 /// The command of the options after `taprio`, written where it is kept, as they are.
@@ -98,6 +114,15 @@ fn read_line(line: &[u8], given: &mut CappedOptions, answer: &mut Result<Command
     ensures { ReadsLine (words_of line.now) answer.new }
 {
     let mut words = Words::new(line);
+    if skip_usual_heads(&mut words) {
+        let seen = Seen {
+            dev: true,
+            parent: true,
+            handle: false,
+        };
+        read_replacement(words, seen, given, answer);
+        return;
+    }
     let Some(verb) = take_verb(&mut words) else {
         put_fault(TcFault::NotTaprio, answer);
         return;
