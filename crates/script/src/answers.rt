@@ -16,7 +16,7 @@ use port::Port;
 use std::alloc::Allocator;
 use std::io::Write;
 use summary::{Summary, note, note_start, note_verdict};
-use tc_reader::{TcFault, closed_command};
+use tc_reader::{CommandPlace, TcFault};
 use wire_time::{Frame, MAX_MOMENT};
 
 /// The port that runs. Another implementation of the gates takes the place of this one here.
@@ -180,6 +180,27 @@ fn put_command<A: Allocator, W: Write, H: Watch>(
     }
 }
 
+/// Takes a line that begins with `tc`, with its number, and writes what is reported of it, as `put_tc` does. The command is read into
+/// a place that is kept from line to line.
+#[inline(never)]
+pub(crate) fn put_tc_by<A: Allocator, W: Write, H: Watch>(
+    place: &mut CommandPlace,
+    port: &mut RunningPort<A>,
+    summary: &mut Option<Summary<A>>,
+    number: u32,
+    line: &[u8],
+    writer: &mut W,
+    watch: &mut H,
+) -> Result<(), WriteFault>
+    ensures answered { (read : List (List ℕ) → Result Command TcFault) → IsReader read →
+        IsAnswered (tc_request (read (words_of line.now))) result (W.contents writer.old) (W.contents writer.new) port.old port.new summary.old summary.new }
+    ensures sound { OnOk result (IsSoundPort port.new.port) }
+    ensures few { HasFewVisits port.old.port port.old port.new }
+{
+    read_tc_into(line, place);
+    put_command(port, summary, number, line, &place.answer, writer, watch)
+}
+
 /// Takes a line that begins with `tc`, with its number, and writes what is reported of it. At a fault a prefix of that is written.
 /// Who watches is called where the line changes nothing. Apart, since its locals are large.
 #[inline(never)]
@@ -196,9 +217,8 @@ pub fn put_tc<A: Allocator, W: Write, H: Watch>(
     ensures sound { OnOk result (IsSoundPort port.new.port) }
     ensures few { HasFewVisits port.old.port port.old port.new }
 {
-    let mut answer = Ok(closed_command());
-    read_tc_into(line, &mut answer);
-    put_command(port, summary, number, line, &answer, writer, watch)
+    let mut place = CommandPlace::new();
+    put_tc_by(&mut place, port, summary, number, line, writer, watch)
 }
 
 /// Writes how many frames a class still has, where it has some.

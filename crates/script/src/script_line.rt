@@ -7,7 +7,7 @@ use crate::faults::ScriptFault;
 use crate::fronts::{behind_clock, behind_frame};
 use abstract_port::{Command, Event};
 use tc_reader::laws::one_reading;
-use tc_reader::{TcFault, read_command, read_command_into};
+use tc_reader::{CommandPlace, TcFault, read_command, read_command_into};
 use wire_time::{Frame, MAX_MOMENT};
 use words::Words;
 
@@ -188,13 +188,12 @@ pub fn read_tc(line: &[u8]) -> Result<Command, TcFault>
     read_command(line)
 }
 
-/// Puts the command that a line is, or its first fault, in place of another answer: where that one has a list (`closed_command`), the list
-/// is written over.
-pub(crate) fn read_tc_into(line: &[u8], answer: &mut Result<Command, TcFault>)
-    ensures { (read : List (List ℕ) → Result Command TcFault) → IsReader read → answer.new ≡ read (words_of line.now) }
+/// Puts the command that a line is, or its first fault, in place of another answer.
+pub(crate) fn read_tc_into(line: &[u8], place: &mut CommandPlace)
+    ensures { (read : List (List ℕ) → Result Command TcFault) → IsReader read → place.new.answer ≡ read (words_of line.now) }
 {
     one_reading();
-    read_command_into(line, answer);
+    read_command_into(line, place);
 }
 
 /// What a line says, whatever its first words and blanks are.

@@ -4,7 +4,7 @@ ghost use Rattle.std.specs.Prelude.{ℕ, List, Result, IfSome};
 ghost use Rattle.script.specs.Words.{Command, Writes, script_left, TcFault, RunsOut, HasFewVisits, IsFaithfulTo, events_of, reading_of, ending_text, outcome_from, outcome_of, IsReader};
 ghost use Rattle.abstract_port.specs.Answers.{port_after};
 
-use crate::answers::{RunningPort, put_answers, put_tc};
+use crate::answers::{RunningPort, put_answers, put_tc_by};
 use crate::faults::{BadLine, RunFault};
 use crate::laws::faithful;
 use crate::plain::pass_plain;
@@ -21,6 +21,7 @@ use separation::settling;
 use std::alloc::Allocator;
 use std::io::Read;
 use summary::{Summary, summary_wanted};
+use tc_reader::CommandPlace;
 
 /// Runs to the moment after the input, if there is one, and writes the answers, then how many frames are left, and the summary where
 /// one is wanted.
@@ -59,6 +60,7 @@ fn run_lines<A: Allocator, B: Allocator, R: Read + Drop, W: PutFront, H: Watch>(
     settling();
     // For the prover: a call on a port says what holds of every port.
     let _now = port.now();
+    let mut place = CommandPlace::new();
     'lines: loop {
         if let Some(event) = pass_plain(lines) {
             put_answers(port, summary, &event, writer)?;
@@ -72,7 +74,15 @@ fn run_lines<A: Allocator, B: Allocator, R: Read + Drop, W: PutFront, H: Watch>(
             Ok(None) => watch.line_passed(lines.line_number(), line),
             Ok(Some(Said::Asked(event))) => put_answers(port, summary, &event, writer)?,
             Ok(Some(Said::Tc)) => {
-                put_tc(port, summary, lines.line_number(), line, writer, watch)?;
+                put_tc_by(
+                    &mut place,
+                    port,
+                    summary,
+                    lines.line_number(),
+                    line,
+                    writer,
+                    watch,
+                )?;
             }
             Err(fault) => {
                 watch.line_failed(line);

@@ -5,7 +5,7 @@ use Rattle.std.specs.declared.option.Option.{Option}
 use Rattle.std.specs.List.{list_any}
 use Rattle.std.specs.Str.{bytes_eq}
 use Rattle.abstract_port.specs.declared.Change.{Change}
-use Rattle.tc_reader.specs.Words.{Command, Verb, Replace, Delete, TcFault, Word, ◌>>=◌, Item, Options, no_options, given_by, Head, is_dev, is_parent, ReadsHeads, change_given, heads_missing, verb_of, verb_at, replacement_of, ReadsOptions, deletion_before, ReadsRest, ReadsLine, HasFault, heads_before, AreNewHeads, IsCommand}
+use Rattle.tc_reader.specs.Words.{Command, Verb, Replace, Delete, TcFault, Word, ◌>>=◌, Item, Options, no_options, given_by, Head, dev, root, usual_heads, is_dev, is_parent, ReadsHeads, change_given, heads_missing, verb_of, verb_at, replacement_of, ReadsOptions, deletion_before, ReadsRest, ReadsLine, HasFault, heads_before, AreNewHeads, IsCommand}
 use Rattle.abstract_port.specs.declared.Command.TheVariants as commands
 use Rattle.tc_reader.specs.declared.fault.TcFault.TheVariants as faults
 use Rattle.tc_reader.specs.Lines.{verb_with_rest, deletion_of}
@@ -229,3 +229,12 @@ one_fault line f g a b = (let e = line_one line (Err f) (Err g) a b in cc)
 
 pub not_both : (line : List Word) (c : Command) (f : TcFault) → IsCommand line c → HasFault line f → ⊥
 not_both line c f a b = (let e = line_one line (Ok c) (Err f) (line_again line c a) b in cc)
+
+-- ---- a line with the heads of most lines
+
+pub usual_line : (name : Word) (line rest : List Word) (result : Result Command TcFault) → line ≡ usual_heads name rest → ReadsOptions (length line) true true rest result → ReadsLine line result
+usual_line name line rest result is options =
+    let said : ReadsOptions (length (usual_heads name rest)) true true rest result = subst (λ (ws : List Word). ReadsOptions (length ws) true true rest result) is options in
+    let behind_name : List Word = codes "root" ∷ codes "taprio" ∷ rest in
+    let reads : ReadsHeads [] (codes "dev" ∷ name ∷ behind_name) (dev name ∷ root ∷ []) (Ok (Some rest)) = (refl, behind_name, refl, (refl, codes "taprio" ∷ rest, refl, refl)) in
+    subst (λ (ws : List Word). ReadsLine ws result) (sym is) (dev name ∷ root ∷ [], Ok (Some rest), reads, said)

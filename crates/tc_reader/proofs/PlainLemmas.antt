@@ -1,10 +1,10 @@
 -- An entry whose words stand in front.
-use Rattle.std.proofs.Common.{◌≡◌, ◌<◌, ◌≤◌, ℕ, suc, ◌+◌, ◌-◌, ◌*◌, ◌^◌, Bool, true, false, cond, List, [], ◌∷◌, Option, None, Some, Ok, refl, sym, ap, ◌∙◌, get_or, arith, option_and_then}
-use Rattle.std.proofs.lemmas.Bool.{le-leb}
+use Rattle.std.proofs.Common.{◌≡◌, ◌<◌, ◌≤◌, ℕ, suc, ◌+◌, ◌-◌, ◌*◌, ◌^◌, Bool, true, false, cond, eqb, List, [], ◌∷◌, Option, None, Some, Ok, refl, sym, ap, ◌∙◌, get_or, arith, option_and_then}
+use Rattle.std.proofs.lemmas.Bool.{agree_below_at, eqb-true, le-leb, le-ltb}
 use Rattle.std.specs.Str.{bytes_eq}
 use Rattle.std.proofs.lemmas.Slice.Eq.{bytes_eq-Decides}
-use Rattle.std.specs.Prelude.{IfSome, codes, length}
-use Rattle.tc_reader.specs.Words.{at_most, digit_in, number_in, value_behind, Word, after_0x, hex_in, Options, sched_entry, value_at, value_or, command_at, entry_at, values_at, item_at, SchedEntry}
+use Rattle.std.specs.Prelude.{◌||◌, IfSome, codes, length, nat_lt}
+use Rattle.tc_reader.specs.Words.{DIGITS, at_most, digit_in, number_in, value_behind, Word, after_0x, hex_in, Options, sched_entry, value_at, value_or, command_at, entry_at, values_at, item_at, SchedEntry}
 use Rattle.words.specs.Numbers.{behind_first, first_number}
 
 pub plain_entry : (place : ℕ) (behind after rest : List Word) (mask interval : ℕ)
@@ -32,6 +32,24 @@ no_prefix high low d digit false is = refl
 -- a number that is not over the greatest
 within : (most n : ℕ) → n ≤ most → at_most most (Some n) ≡ Some n
 within most n small = ap (λ b. cond b (Some n) None) (le-leb n most small)
+
+-- the table has the digit that an octet is
+abbrev is_one : Option ℕ → ℕ → Bool
+is_one None d = false
+is_one (Some e) d = eqb e d
+
+abbrev pub tabled : ℕ → ℕ
+tabled octet = get_or DIGITS octet 0
+
+says_digit : (octet : ℕ) → octet < 256 → (nat_lt 15 (tabled octet) || is_one (digit_in 16 octet) (tabled octet)) ≡ true
+says_digit octet small = agree_below_at (λ x. nat_lt 15 (tabled x) || is_one (digit_in 16 x) (tabled x)) (λ x. true) 256 octet refl small
+
+pub tabled_digit : (octet : ℕ) → octet < 256 → tabled octet ≤ 15 → digit_in 16 octet ≡ Some (tabled octet)
+tabled_digit octet small few = by_digit (digit_in 16 octet) (ap (λ b. b || is_one (digit_in 16 octet) (tabled octet)) (sym (le-ltb _ _ few)) ∙ says_digit octet small)
+  where
+    by_digit : (o : Option ℕ) → is_one o (tabled octet) ≡ true → o ≡ Some (tabled octet)
+    by_digit None e = absurd cc
+    by_digit (Some d) e = ap Some (eqb-true d (tabled octet) e)
 
 pub two_digits : (high low a b : ℕ) → digit_in 16 high ≡ Some a → digit_in 16 low ≡ Some b → a < 16 → b < 16 → hex_in 255 (high ∷ low ∷ []) ≡ Some (a * 16 + b)
 unfolding value_behind

@@ -2,9 +2,9 @@
 use Rattle.std.proofs.Common.{◌≡◌, ℕ, ◌+◌, ◌-◌, Bool, cond, List, [], ◌∷◌, ◌++◌, length, take, None, Some, Result, Ok, Err, refl, sym, ap, subst, ◌∙◌, append_assoc, append-nil}
 use Rattle.std.specs.Prelude.{fold, is_some, option_map}
 use Rattle.std.specs.declared.option.Option.{Option}
-use Rattle.tc_reader.specs.Words.{Entry, Opt, Dev, Parent, Handle, NumTc, Map, Queues, BaseTime, CycleTime, CycleTimeExtension, SchedEntry, Clockid, Flags, TxtimeDelay, MaxSdu, Fp, TcFault, KEPT_PRIORITIES, KEPT_RANGES, KEPT_ENTRIES, CLASSES, Word, ◌>>=◌, Item, num_tc, priorities, ranges, base_time, cycle_time, extension, sched_entry, clock, flags, limits, Options, no_options, with_item, is_given, allowed, values_at, item_at, is_unsupported, option_named, capped, Reads, given_by}
+use Rattle.tc_reader.specs.Words.{Entry, Opt, Dev, Parent, Handle, NumTc, Map, Queues, BaseTime, CycleTime, CycleTimeExtension, SchedEntry, Clockid, Flags, TxtimeDelay, MaxSdu, Fp, TcFault, KEPT_PRIORITIES, KEPT_RANGES, KEPT_ENTRIES, CLASSES, Word, ◌>>=◌, Item, num_tc, priorities, ranges, base_time, cycle_time, extension, sched_entry, clock, flags, limits, Options, no_options, with_item, is_given, allowed, values_at, item_at, is_unsupported, option_named, capped, Reads, SoFar, given_by}
 use Rattle.tc_reader.specs.declared.fault.TcFault.TheVariants as faults
-use Rattle.tc_reader.specs.Capped.{capped_with, with_read}
+use Rattle.tc_reader.specs.Capped.{TakesOne, capped_with, with_read}
 use Rattle.tc_reader.proofs.RunLemmas.{take-push, ok_is}
 
 -- ---- what is capped says what was given
@@ -59,12 +59,6 @@ given_by-push items i = pushed no_options items
     pushed g [] = refl
     pushed g (j ∷ items) = pushed (with_item g j) items
 
--- what the code has read so far, of a line of so many words
-pub record SoFar (count : ℕ) (start now : List Word) (have : Options) : Type 0 where
-  pub items : List Item
-  pub have_is : have ≡ capped (given_by items)
-  pub rest_reads : (more : List Item) (end : Option TcFault) → Reads (given_by items) count now more end → Reads no_options count start (items ++ more) end
-
 pub SoFar-begin : (count : ℕ) (start : List Word) (have : Options) → have ≡ no_options → SoFar count start start have
 SoFar-begin count start have e = record { items = []; have_is = e; rest_reads = λ more end r. r }
 
@@ -74,7 +68,7 @@ with_read-ok g (Ok x) new rest e =
     (x.0, ap (λ (ws : List Word). Ok (x.0, ws)) (ap (λ (q : Options × List Word). q.1) p), sym (ap (λ (q : Options × List Word). q.0) p))
 with_read-ok g (Err f) new rest e = absurd cc
 
-pub SoFar-more : (count : ℕ) (start : List Word) (w : Word) (ws rest : List Word) (have new : Options) (place : ℕ)
+SoFar-more : (count : ℕ) (start : List Word) (w : Word) (ws rest : List Word) (have new : Options) (place : ℕ)
     → SoFar count start (w ∷ ws) have → place ≡ count - length (w ∷ ws) → with_read have (item_at have place w ws) ≡ Ok (new, rest) → SoFar count start rest new
 SoFar-more count start w ws rest have new place was at took =
     let k = with_read-ok have (item_at have place w ws) new rest took in
@@ -88,6 +82,10 @@ SoFar-more count start w ws rest have new place was at took =
           let one : Reads (with_item g i) count rest more end = subst (λ (h : Options). Reads h count rest more end) (given_by-push was.items i) r in
           subst (λ (is : List Item). Reads no_options count start is end) (sym (append_assoc was.items (i ∷ []) more)) (was.rest_reads (i ∷ more) end (rest, stands, one));
     }
+
+pub SoFar-took : (count : ℕ) (start left rest : List Word) (have new : Options) (place : ℕ) → TakesOne have place left new rest → place ≡ count - length left → SoFar count start left have → SoFar count start rest new
+SoFar-took count start left rest have new place (w, ws, is, took) at was =
+    SoFar-more count start w ws rest have new place (subst (λ v. SoFar count start v have) is was) (at ∙ ap (λ (v : List Word). count - length v) is) took
 
 pub SoFar-fault : (count : ℕ) (start : List Word) (w : Word) (ws : List Word) (have : Options) (place : ℕ) (f : TcFault)
     → SoFar count start (w ∷ ws) have → place ≡ count - length (w ∷ ws) → item_at have place w ws ≡ Err f → (items : List Item) × Reads no_options count start items (Some f)

@@ -56,3 +56,7 @@ ReadsHeads before [] [] end = end ≡ Ok None
 ReadsHeads before (w ∷ ws) [] end = MatchBool (bytes_eq w (codes "taprio")) (end ≡ Ok (Some ws)) ((f : TcFault) × (head_at before w ws ≡ Err f) × (end ≡ Err f))
 ReadsHeads before [] (h ∷ hs) end = ⊥
 ReadsHeads before (w ∷ ws) (h ∷ hs) end = (bytes_eq w (codes "taprio") ≡ false) × (rest : List Word) × (head_at before w ws ≡ Ok (h, rest)) × ReadsHeads (before ++ h ∷ []) rest hs end
+
+-- the words of most lines up to `taprio`, and those after it: they name a device and `root`
+abbrev pub usual_heads : Word → List Word → List Word
+usual_heads name rest = codes "tc" ∷ codes "qdisc" ∷ codes "replace" ∷ codes "dev" ∷ name ∷ codes "root" ∷ codes "taprio" ∷ rest

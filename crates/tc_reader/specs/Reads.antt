@@ -1,6 +1,7 @@
 -- What a whole list of words after `taprio` is, from the left.
-use Rattle.std.specs.Prelude.{◌≡◌, ℕ, ◌-◌, List, [], ◌∷◌, length, fold, Option, Some, None, Ok, Err}
+use Rattle.std.specs.Prelude.{◌≡◌, ℕ, ◌-◌, List, [], ◌∷◌, ◌++◌, length, fold, Option, Some, None, Ok, Err}
 use Rattle.tc_reader.specs.declared.fault.TcFault.{TcFault}
+use Rattle.tc_reader.specs.Capped.{capped}
 use Rattle.tc_reader.specs.Cursor.{Word}
 use Rattle.tc_reader.specs.Options.{Item, Options, no_options, with_item, item_at}
 
@@ -22,3 +23,9 @@ Reads g count ws (i ∷ is) end = (rest : List Word) × OptionInFront g count ws
 -- what options give together
 abbrev pub given_by : List Item → Options
 given_by items = fold with_item no_options items
+
+-- options of a line of so many words were read from the first list of words to the second, and only so much of them is kept
+pub record SoFar (count : ℕ) (start now : List Word) (have : Options) : Type 0 where
+  pub items : List Item
+  pub have_is : have ≡ capped (given_by items)
+  pub rest_reads : (more : List Item) (end : Option TcFault) → Reads (given_by items) count now more end → Reads no_options count start (items ++ more) end

@@ -64,6 +64,22 @@ impl CappedOptions {
         }
     }
 
+    /// Before the first option again. The places of the entries are not written anew but for those that were taken.
+    pub fn clear(&mut self)
+        ensures { view self.new ≡ no_options }
+    {
+        self.num_tc = None;
+        self.priorities = None;
+        self.ranges = None;
+        self.base_time = None;
+        self.cycle_time = None;
+        self.extension = None;
+        self.entries.clear();
+        self.clock = false;
+        self.flags = false;
+        self.limits = None;
+    }
+
     /// Whether an option may not come once more.
     pub fn has(&self, opt: Opt) -> bool
         ensures { result ≡ is_given (view self.now) opt }

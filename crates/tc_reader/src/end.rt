@@ -94,11 +94,25 @@ fn closed_change() -> Change
     }
 }
 
-/// A command with a list that closes all classes: a place to read another command into.
-pub fn closed_command() -> Command
-    ensures { result ≡ Command.Replace closed_change }
-{
-    Command::Replace(closed_change())
+/// A place that commands are read into, one after another, since each takes two kilobytes, and so do its options while they are read.
+#[derive(Debug, Drop)]
+pub struct CommandPlace {
+    /// The command of the last line that was read, or its first fault.
+    pub answer: Result<Command, TcFault>,
+    /// Its options.
+    pub(crate) given: CappedOptions,
+}
+
+impl CommandPlace {
+    /// Before the first line: with a command that closes all classes.
+    pub fn new() -> CommandPlace
+        ensures { result.answer ≡ Ok (Command.Replace closed_change) }
+    {
+        CommandPlace {
+            answer: Ok(Command::Replace(closed_change())),
+            given: CappedOptions::new(),
+        }
+    }
 }
 
 /// The change that the options give, with their map and ranges, takes the place of another one.

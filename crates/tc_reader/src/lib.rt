@@ -15,6 +15,6 @@ mod option_list;
 mod options;
 mod values;
 
-pub use end::closed_command;
+pub use end::CommandPlace;
 pub use fault::{Opt, TcFault};
 pub use line::{read_command, read_command_into};

@@ -1,13 +1,13 @@
 //! All options of a line.
 
 ghost use Rattle.std.specs.Prelude.{◌≡◌, ◌+◌, ◌<◌, List, [], Some, None, true, IfOk, MatchBool, MatchResult};
-ghost use Rattle.tc_reader.specs.Words.{words_left, words_taken, total, Moves, Item, no_options, item_at, allowed, view, capped, FailsOne, Takes, TakesOne, Reads, given_by};
+ghost use Rattle.tc_reader.specs.Words.{words_left, words_taken, total, Moves, Item, no_options, item_at, allowed, view, capped, FailsOne, Takes, TakesOne, Reads, SoFar, Word, given_by};
 
 use crate::capped::CappedOptions;
 use crate::fault::{Opt, TcFault};
 use crate::lists::push_capped;
 use crate::options::{option_named, take_values};
-use crate::values::take_plain_entry;
+use crate::values::{take_front_entry, take_plain_entry};
 use words::Words;
 
 fn allowed(given: &CappedOptions, place: usize, opt: Option<Opt>) -> Result<Opt, TcFault>
@@ -49,7 +49,6 @@ fn take_next(given: &mut CappedOptions, words: &mut Words<'_>) -> Result<bool, T
     ensures onward { IfOk result (λ more. more ≡ true → words_taken words.old < words_taken words.new) }
 {
     if let Some(entry) = take_plain_entry(words) {
-        // Most options of a long line.
         push_capped(&mut given.entries, entry);
         return Ok(true);
     }
@@ -61,6 +60,32 @@ fn take_next(given: &mut CappedOptions, words: &mut Words<'_>) -> Result<bool, T
     Ok(true)
 }
 
+/// An entry that others come after, and that stands as in most lines. False where none does, and then nothing changes.
+#[inline(always)]
+fn take_entry_on(given: &mut CappedOptions, words: &mut Words<'_>) -> bool
+    ensures next { MatchBool result (TakesOne (view given.old) (words_taken words.old) (words_left words.old) (view given.new) (words_left words.new)) ((words.new ≡ words.old) × (view given.new ≡ view given.old)) }
+    ensures moves { Moves words.old words.new }
+    ensures onward { result ≡ true → words_taken words.old < words_taken words.new }
+{
+    let Some(entry) = take_front_entry(words) else {
+        return false;
+    };
+    push_capped(&mut given.entries, entry);
+    true
+}
+
+/// The entries that stand as in most lines, up to the last: most options of a long line. The cursor is a local one, which the compiler
+/// keeps in registers.
+#[inline(always)]
+fn take_entries(given: &mut CappedOptions, words: &mut Words<'_>)
+    ensures read { (start : List Word) → SoFar (total words.old) start (words_left words.old) (view given.old) → SoFar (total words.old) start (words_left words.new) (view given.new) }
+    ensures moves { Moves words.old words.new }
+{
+    let mut after = *words;
+    'entries: while take_entry_on(given, &mut after) {}
+    *words = after;
+}
+
 /// Reads the options of the words after `taprio`, up to the end or the first fault. They are written where they are kept, since they
 /// take two kilobytes.
 pub(crate) fn read_options(words: Words<'_>, given: &mut CappedOptions) -> Result<(), TcFault>
@@ -70,6 +95,8 @@ pub(crate) fn read_options(words: Words<'_>, given: &mut CappedOptions) -> Resul
         (λ f. (items : List Item) × Reads no_options (total words.entry) (words_left words.entry) items (Some f)) }
 {
     let mut rest = words;
-    'options: while take_next(given, &mut rest)? {}
+    'options: while take_next(given, &mut rest)? {
+        take_entries(given, &mut rest);
+    }
     Ok(())
 }

@@ -2,7 +2,7 @@
 
 ghost use Rattle.std.specs.Prelude.{◌≡◌, ◌≤◌, ◌<◌, ◌+◌, ◌^◌, ◌-◌, ◌∷◌, [], Ok, Err, Some, MatchResult, MatchOption, IfOk, IfSome};
 ghost use Rattle.std.specs.List.{position, before_first, after_first};
-ghost use Rattle.tc_reader.specs.Words.{digit_in, number_in, words_left, words_taken, Moves, after_0x, hex_in, is_sign, is_range, range_of, is_clock, limit_in, StandsPlainly, value_at, command_at, entry_at, flags_at, clock_item, sched_entry, clock, flags};
+ghost use Rattle.tc_reader.specs.Words.{number_in, words_left, words_taken, Moves, after_0x, hex_in, is_sign, is_range, range_of, is_clock, limit_in, StandsPlainly, value_at, command_at, entry_at, flags_at, clock_item, sched_entry, clock, flags};
 
 use crate::fault::{Opt, TcFault};
 use gate_list::Entry;
@@ -87,29 +87,39 @@ pub(crate) fn take_entry(words: &mut Words<'_>) -> Result<Entry, TcFault>
     Ok(Entry { mask, interval })
 }
 
-fn hex_digit(octet: u8) -> Option<u8>
-    ensures digit { IfSome result (λ d. digit_in 16 octet ≡ Some d) }
-    ensures bound { IfSome result (λ d. d < 16) }
-{
-    match octet {
-        b'0'..=b'9' => Some(octet - b'0'),
-        b'a'..=b'f' => Some(octet - b'a' + 10),
-        b'A'..=b'F' => Some(octet - b'A' + 10),
-        _ => None,
-    }
-}
+/// The hexadecimal digit that each octet is; 255 where it is none.
+const DIGITS: [u8; 256] = [
+    255, 255, 255, 255, 255, 255, 255, 255, 255, 255, 255, 255, 255, 255, 255, 255, 255, 255, 255,
+    255, 255, 255, 255, 255, 255, 255, 255, 255, 255, 255, 255, 255, 255, 255, 255, 255, 255, 255,
+    255, 255, 255, 255, 255, 255, 255, 255, 255, 255, 0, 1, 2, 3, 4, 5, 6, 7, 8, 9, 255, 255, 255,
+    255, 255, 255, 255, 10, 11, 12, 13, 14, 15, 255, 255, 255, 255, 255, 255, 255, 255, 255, 255,
+    255, 255, 255, 255, 255, 255, 255, 255, 255, 255, 255, 255, 255, 255, 255, 255, 10, 11, 12, 13,
+    14, 15, 255, 255, 255, 255, 255, 255, 255, 255, 255, 255, 255, 255, 255, 255, 255, 255, 255,
+    255, 255, 255, 255, 255, 255, 255, 255, 255, 255, 255, 255, 255, 255, 255, 255, 255, 255, 255,
+    255, 255, 255, 255, 255, 255, 255, 255, 255, 255, 255, 255, 255, 255, 255, 255, 255, 255, 255,
+    255, 255, 255, 255, 255, 255, 255, 255, 255, 255, 255, 255, 255, 255, 255, 255, 255, 255, 255,
+    255, 255, 255, 255, 255, 255, 255, 255, 255, 255, 255, 255, 255, 255, 255, 255, 255, 255, 255,
+    255, 255, 255, 255, 255, 255, 255, 255, 255, 255, 255, 255, 255, 255, 255, 255, 255, 255, 255,
+    255, 255, 255, 255, 255, 255, 255, 255, 255, 255, 255, 255, 255, 255, 255, 255, 255, 255, 255,
+    255, 255, 255, 255, 255, 255, 255, 255, 255, 255, 255, 255, 255, 255, 255, 255, 255, 255, 255,
+    255, 255, 255,
+];
 
 /// The number that two hexadecimal digits are.
+#[inline(always)]
 fn two_digits(high: u8, low: u8) -> Option<u8>
     ensures { IfSome result (λ n. hex_in 255 (high ∷ low ∷ []) ≡ Some n) }
 {
-    let front = hex_digit(high)?;
-    let behind = hex_digit(low)?;
+    let front = DIGITS[usize::from(high)];
+    let behind = DIGITS[usize::from(low)];
+    if front > 15 || behind > 15 {
+        return None;
+    }
     Some(front * 16 + behind)
 }
 
 /// The next word as a mask, where it has two hexadecimal digits. Else None, and some words are taken or none.
-#[inline]
+#[inline(always)]
 fn take_plain_mask(words: &mut Words<'_>) -> Option<u8>
     ensures value { IfSome result (λ n. value_at Opt.SchedEntry (hex_in 255) (words_taken words.old) (words_left words.old) ≡ Ok (n, words_left words.new)) }
     ensures place { IfSome result (λ _. words_taken words.new ≡ words_taken words.old + 1) }
@@ -119,8 +129,19 @@ fn take_plain_mask(words: &mut Words<'_>) -> Option<u8>
     two_digits(high, low)
 }
 
+/// The next word as an interval, where it has one digit to eight, no blank before it and a space after it. Else None.
+#[inline(always)]
+fn take_front_interval(words: &mut Words<'_>) -> Option<u32>
+    ensures value { IfSome result (λ n. value_at Opt.SchedEntry (number_in 10 (2 ^ 32 - 1)) (words_taken words.old) (words_left words.old) ≡ Ok (n, words_left words.new)) }
+    ensures place { IfSome result (λ _. words_taken words.new ≡ words_taken words.old + 1) }
+    ensures moves { IfSome result (λ _. Moves words.old words.new) }
+{
+    let interval = words.next_front()?;
+    Some(interval as u32)
+}
+
 /// The next word as an interval, where it can be read at once. Else None.
-#[inline]
+#[inline(always)]
 fn take_plain_interval(words: &mut Words<'_>) -> Option<u32>
     ensures value { IfSome result (λ n. value_at Opt.SchedEntry (number_in 10 (2 ^ 32 - 1)) (words_taken words.old) (words_left words.old) ≡ Ok (n, words_left words.new)) }
     ensures place { IfSome result (λ _. words_taken words.new ≡ words_taken words.old + 1) }
@@ -133,9 +154,24 @@ fn take_plain_interval(words: &mut Words<'_>) -> Option<u32>
     Some(interval as u32)
 }
 
-/// An entry whose words stand as in most lines, with a space before each, and its mask in two digits. None where they don't, and then
-/// no word is taken.
-pub(crate) fn take_plain_entry(words: &mut Words<'_>) -> Option<Entry>
+/// The next word as an interval: a short one before a space, or any that can be read at once. Else None.
+#[inline(always)]
+fn take_interval(words: &mut Words<'_>, short: bool) -> Option<u32>
+    ensures value { IfSome result (λ n. value_at Opt.SchedEntry (number_in 10 (2 ^ 32 - 1)) (words_taken words.old) (words_left words.old) ≡ Ok (n, words_left words.new)) }
+    ensures place { IfSome result (λ _. words_taken words.new ≡ words_taken words.old + 1) }
+    ensures moves { IfSome result (λ _. Moves words.old words.new) }
+{
+    if short {
+        take_front_interval(words)
+    } else {
+        take_plain_interval(words)
+    }
+}
+
+/// An entry whose words stand as in most lines, with a space before each, its mask in two digits, and its interval short or of any
+/// length. None where they don't, and then no word is taken.
+#[inline(always)]
+fn take_entry_by(words: &mut Words<'_>, short: bool) -> Option<Entry>
     ensures entry { MatchOption result (words.new ≡ words.old)
         (λ e. StandsPlainly (words_taken words.old) (words_left words.old) e (words_left words.new)) }
     ensures moves { Moves words.old words.new }
@@ -146,9 +182,38 @@ pub(crate) fn take_plain_entry(words: &mut Words<'_>) -> Option<Entry>
         return None;
     }
     let mask = take_plain_mask(&mut after)?;
-    let interval = take_plain_interval(&mut after)?;
+    let interval = take_interval(&mut after, short)?;
     *words = after;
     Some(Entry { mask, interval })
+}
+
+/// How many octets are there at least where an entry is taken that others come after. As it is asked once, no part of an entry asks for
+/// its own length.
+const FRONT: usize = 34;
+
+/// An entry whose words stand as in most lines, where others come after it. Else None, and no word is taken.
+#[inline(always)]
+pub(crate) fn take_front_entry(words: &mut Words<'_>) -> Option<Entry>
+    ensures entry { MatchOption result (words.new ≡ words.old)
+        (λ e. StandsPlainly (words_taken words.old) (words_left words.old) e (words_left words.new)) }
+    ensures moves { Moves words.old words.new }
+    ensures onward { IfSome result (λ _. words_taken words.old < words_taken words.new) }
+{
+    if words.octets().len() < FRONT {
+        return None;
+    }
+    take_entry_by(words, true)
+}
+
+/// An entry whose words stand as in most lines. Else None, and no word is taken.
+#[inline(always)]
+pub(crate) fn take_plain_entry(words: &mut Words<'_>) -> Option<Entry>
+    ensures entry { MatchOption result (words.new ≡ words.old)
+        (λ e. StandsPlainly (words_taken words.old) (words_left words.old) e (words_left words.new)) }
+    ensures moves { Moves words.old words.new }
+    ensures onward { IfSome result (λ _. words_taken words.old < words_taken words.new) }
+{
+    take_entry_by(words, false)
 }
 
 /// Flags that change nothing: 0 or 2.

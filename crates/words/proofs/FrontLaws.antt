@@ -1,10 +1,10 @@
 -- A word of digits at the front of octets.
-use Rattle.std.proofs.Common.{◌≡◌, ◌<◌, ◌≤◌, ℕ, ◌+◌, ◌*◌, true, false, List, [], ◌∷◌, ◌++◌, length, take, drop, None, Some, Option, refl, sym, ap, ◌∙◌, rules, arith}
+use Rattle.std.proofs.Common.{◌≡◌, ◌<◌, ◌≤◌, ℕ, ◌+◌, ◌*◌, true, false, List, [], ◌∷◌, ◌++◌, length, get_or, take, drop, None, Some, Option, refl, sym, ap, ◌∙◌, rules, arith}
 use Rattle.std.specs.Prelude.{not, option_and_then}
 use Rattle.std.specs.List.{list_all}
 use Rattle.std.proofs.lemmas.Bool.{lt-ltb}
 use Rattle.std.proofs.lemmas.List.{take-append-drop, take-take}
-use Rattle.words.specs.Numbers.{BeginsWithNumber, IsNumber, digit_in, is_digit, value_behind}
+use Rattle.words.specs.Numbers.{BeginsWithNumber, IsNumber, at_most, behind_first, digit_in, first_number, is_digit, value_behind}
 use Rattle.words.specs.Words.{is_blank, starts_blank, starts_with_break, words_of}
 use Rattle.words.proofs.JoinedLaws.{and_first, and_second, word_before}
 use Rattle.words.proofs.NumberWord.{value_first}
@@ -53,3 +53,19 @@ digits_unblank (b ∷ bs) e = both _ _ (digit_unblank b (and_first _ _ e)) (digi
 pub number_before : (word rest : List ℕ) (n : ℕ) → IsNumber word n → starts_blank rest ≡ true → starts_with_break rest ≡ false → words_of (word ++ rest) ≡ word ∷ words_of rest
 number_before [] rest n is blank whole = absurd (let some = is.digits in cc)
 number_before (b ∷ bs) rest n is blank whole = word_before b bs rest (digits_unblank (b ∷ bs) (and_second _ _ is.digits)) blank whole
+
+-- a space is a blank, and no line break
+pub space_first : (rest : List ℕ) → 1 ≤ length rest → get_or rest 0 0 ≡ 32 → (starts_blank rest ≡ true) × (starts_with_break rest ≡ false)
+space_first [] some space = absurd (omega arith)
+space_first (b ∷ bs) some space = (rw space refl, rw space refl)
+
+-- such a number is the first word
+module _ (n : ℕ) (octets rest : List ℕ) (number : BeginsWithNumber octets n rest) (blank : starts_blank rest ≡ true) (whole : starts_with_break rest ≡ false) where
+  first_word : words_of octets ≡ number.word ∷ words_of rest
+  first_word = ap words_of number.parts ∙ number_before number.word rest n number.is_number blank whole
+
+  pub first_is : (most : ℕ) → first_number most (words_of octets) ≡ Some (at_most most (Some n))
+  first_is most = ap (first_number most) first_word ∙ ap Some (number.is_number.number most)
+
+  pub behind_is : behind_first (words_of octets) ≡ words_of rest
+  behind_is = ap behind_first first_word

@@ -1,5 +1,5 @@
 -- A first word that is a number.
-use Rattle.std.proofs.Common.{◌≡◌, ◌<◌, ◌≤◌, ℕ, ◌+◌, ◌*◌, true, false, eqb, cond, List, [], ◌∷◌, length, take, drop, None, Some, Option, refl, ap, ◌∙◌, rules, arith}
+use Rattle.std.proofs.Common.{◌≡◌, ◌<◌, ◌≤◌, ℕ, ◌+◌, ◌*◌, true, false, eqb, cond, List, [], ◌∷◌, length, take, drop, None, Some, Option, refl, sym, ap, ◌∙◌, rules, arith}
 use Rattle.std.specs.Prelude.{not, option_and_then}
 use Rattle.std.specs.List.{list_all}
 use Rattle.std.proofs.lemmas.Bool.{ne_eqb}
@@ -31,3 +31,9 @@ value_first most end n octets some within is =
     let long : length (take end octets) ≡ end = search (rules, arith) in
     let nonempty : eqb (length (take end octets)) 0 ≡ false = ne_eqb _ _ (λ none. omega arith) in
     ap (λ t. cond t None (at_most most (value_behind 10 0 (take end octets)))) nonempty ∙ ap (at_most most) is
+
+-- the number that one digit is
+pub one_digit : (most octet : ℕ) (o : Option ℕ) → digit_in 10 octet ≡ o → at_most most o ≡ at_most most (value_behind 10 0 (octet ∷ []))
+unfolding value_behind
+one_digit most octet None is = ap (λ o. at_most most (option_and_then (λ d. Some (0 * 10 + d)) o)) (sym is)
+one_digit most octet (Some d) is = ap (at_most most) (ap Some (omega arith) ∙ ap (option_and_then (λ d. Some (0 * 10 + d))) (sym is))

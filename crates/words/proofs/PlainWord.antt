@@ -1,8 +1,8 @@
 -- A first word that stands before a space, or ends the line.
 use Rattle.std.proofs.Common.{◌≡◌, ◌<◌, ◌≤◌, ℕ, ◌+◌, zero, suc, Bool, true, false, List, [], ◌∷◌, ◌++◌, length, get_or, take, drop, refl, sym, ap, ◌∙◌, arith}
-use Rattle.std.specs.Prelude.{not, ◌&&◌}
+use Rattle.std.specs.Prelude.{nat_lt, not, ◌&&◌}
 use Rattle.std.specs.List.{list_all}
-use Rattle.std.proofs.lemmas.List.{take-append-drop, take_more}
+use Rattle.std.proofs.lemmas.List.{take-append-drop, take-take, take_more}
 use Rattle.words.specs.Words.{is_blank, starts_blank, starts_with_break, words_of}
 use Rattle.words.proofs.JoinedLaws.{and_first, and_second, word_before}
 
@@ -17,6 +17,20 @@ all_push (x ∷ xs) b e f = both _ _ (and_first _ _ e) (all_push xs b (and_secon
 -- octets that are no blanks, one octet on
 pub unblank_more : (i : ℕ) (octets : List ℕ) → i < length octets → list_all (λ octet. not (is_blank octet)) (take i octets) ≡ true → not (is_blank (get_or octets i 0)) ≡ true → list_all (λ octet. not (is_blank octet)) (take (i + 1) octets) ≡ true
 unblank_more i octets within all one = ap (list_all (λ octet. not (is_blank octet))) (take_more octets i 0 within) ∙ all_push (take i octets) (get_or octets i 0) all one
+
+above_space : (b : ℕ) → nat_lt 32 b ≡ true → not (is_blank b) ≡ true
+above_space b e = grind arith
+
+-- octets above the space are no blanks
+pub above_unblank : (xs : List ℕ) → list_all (λ octet. nat_lt 32 octet) xs ≡ true → list_all (λ octet. not (is_blank octet)) xs ≡ true
+above_unblank [] e = refl
+above_unblank (b ∷ bs) e = both _ _ (above_space b (and_first _ _ e)) (above_unblank bs (and_second _ _ e))
+
+-- among the first octets too
+pub unblank_front : (end few : ℕ) (octets front : List ℕ) → end ≤ few → front ≡ take few octets → list_all (λ octet. nat_lt 32 octet) (take end front) ≡ true → list_all (λ octet. not (is_blank octet)) (take end octets) ≡ true
+unblank_front end few octets front within is above =
+    let same : take end front ≡ take end octets = ap (take end) is ∙ take-take end few octets within in
+    ap (list_all (λ octet. not (is_blank octet))) (sym same) ∙ above_unblank (take end front) above
 
 -- octets that are no blanks, before a blank, are the first word
 pub plain_first : (end : ℕ) (octets : List ℕ) → 0 < end → end ≤ length octets → list_all (λ octet. not (is_blank octet)) (take end octets) ≡ true → starts_blank (drop end octets) ≡ true → starts_with_break (drop end octets) ≡ false → words_of octets ≡ take end octets ∷ words_of (drop end octets)

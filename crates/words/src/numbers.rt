@@ -1,6 +1,6 @@
 //! Words that are numbers.
 
-ghost use Rattle.std.specs.Prelude.{◌≡◌, ◌<◌, ◌≤◌, ◌^◌, Some, IfSome, drop, length, map, not, take, true};
+ghost use Rattle.std.specs.Prelude.{◌≡◌, ◌<◌, ◌≤◌, ◌^◌, ◌∷◌, [], Some, IfSome, drop, length, map, not, take, true};
 ghost use Rattle.std.specs.List.{list_all};
 ghost use Rattle.words.specs.declared.numbers.TheConstants.{LANES, SHORT_DIGITS, LONG_DIGITS, HEX_DIGITS};
 ghost use Rattle.words.specs.Numbers.{BeginsWithNumber, digit_in, number_in, value_behind, is_digit, is_digits};
@@ -88,8 +88,8 @@ pub(crate) fn short_run(octets: &[u8]) -> (u64, usize)
     }
 }
 
-/// How many octets are looked at together for digits.
-const LANES: usize = 16;
+/// How many octets are looked at together for digits, or for blanks.
+pub(crate) const LANES: usize = 16;
 
 /// Which of 16 octets are no decimal digits: a bit for each, the lowest for the first.
 #[inline(always)]
@@ -296,8 +296,34 @@ fn number_in(base: u8, most: u128, word: &[u8]) -> Option<u128>
     if number <= most { Some(number) } else { None }
 }
 
+/// The number of at most `most` that a word of one octet is.
+#[inline(always)]
+fn digit_number(octet: u8, most: u128) -> Option<u128>
+    ensures number { result ≡ number_in 10 most (octet ∷ []) }
+    ensures bound { IfSome result (λ n. n ≤ most) }
+{
+    let Some(digit) = decimal_digit(octet) else {
+        return None;
+    };
+    let number = u128::from(digit);
+    if number > most { None } else { Some(number) }
+}
+
 /// A decimal number of at most `most`: one digit or more, leading zeros allowed.
+#[inline(always)]
 pub fn number(word: &[u8], most: u128) -> Option<u128>
+    ensures number { result ≡ number_in 10 most word.now }
+    ensures bound { IfSome result (λ n. n ≤ most) }
+{
+    match word {
+        [octet] => digit_number(*octet, most),
+        _ => any_number(word, most),
+    }
+}
+
+/// The same, however many digits there are.
+#[inline(never)]
+fn any_number(word: &[u8], most: u128) -> Option<u128>
     ensures number { result ≡ number_in 10 most word.now }
     ensures bound { IfSome result (λ n. n ≤ most) }
 {

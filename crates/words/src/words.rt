@@ -1,11 +1,13 @@
 //! The words of a line, one after another.
 
-ghost use Rattle.std.specs.Prelude.{◌≡◌, ◌≤◌, ◌<◌, ◌+◌, ◌^◌, ◌∷◌, ◌++◌, [], ℕ, List, drop, get_or, length, not, take, MatchOption, IfSome, Some, true, false};
+ghost use Rattle.std.specs.Prelude.{◌≡◌, ◌≤◌, ◌<◌, ◌+◌, ◌^◌, ◌∷◌, ◌++◌, [], ℕ, List, drop, get_or, length, map, nat_lt, not, take, MatchOption, IfSome, Some, true, false};
 ghost use Rattle.std.specs.List.{list_all};
+ghost use Rattle.std.specs.Simd.Lanes.{mask_l};
 ghost use Rattle.words.specs.Numbers.{at_most, first_number, behind_first};
 ghost use Rattle.words.specs.Words.{is_blank, starts_blank, starts_with_break, word_length, words_of};
 
-use crate::numbers::{decimal_run, number, short_run};
+use crate::numbers::{LANES, decimal_run, front_short, number, short_run};
+use std::simd::prelude::*;
 
 /// Whether an octet is no blank, whatever comes after it.
 fn is_ordinary(octet: u8) -> bool
@@ -143,12 +145,54 @@ fn is_unblank_at(octets: &[u8], place: usize) -> bool
     place < octets.len() && octets[place] > b' '
 }
 
+/// Which of 16 octets are blanks by themselves, or other controls: a bit for each, the lowest for the first.
+#[inline(always)]
+fn controls_in(octets: u8x16) -> u64
+    ensures { result ≡ mask_l (map (λ octet. not (nat_lt 32 octet)) octets) }
+{
+    (octets - u8x16::splat(b'!'))
+        .simd_ge(u8x16::splat(223))
+        .to_bitmask()
+}
+
+/// How many of 16 octets stand in front of the first one that is a blank by itself, or of another control.
+#[inline(always)]
+fn unblank_in_front(octets: &[u8; LANES]) -> usize
+    ensures within { result ≤ LANES }
+    ensures above { list_all (λ octet. nat_lt 32 octet) (take result octets.now) ≡ true }
+{
+    let controls = controls_in(u8x16::from_array(*octets));
+    if controls == 0 {
+        LANES
+    } else {
+        controls.trailing_zeros() as usize
+    }
+}
+
 /// How many octets stand in front of the first one that is a blank by itself, or of another control.
 fn unblank_length(octets: &[u8]) -> usize
     ensures within { result ≤ length octets.now }
     ensures unblank { list_all (λ octet. not (is_blank octet)) (take result octets.now) ≡ true }
 {
-    let mut end = 0;
+    let Some(front) = octets.first_chunk::<LANES>() else {
+        return unblank_from(octets, 0);
+    };
+    let end = unblank_in_front(front);
+    if end < LANES {
+        // Most words are shorter.
+        return end;
+    }
+    unblank_from(octets, end)
+}
+
+/// How many octets stand in front of the first one that is a blank by itself, or of another control, where it isn't among so many.
+fn unblank_from(octets: &[u8], begin: usize) -> usize
+    requires within { begin ≤ length octets.now }
+    requires unblank { list_all (λ octet. not (is_blank octet)) (take begin octets.now) ≡ true }
+    ensures within { result ≤ length octets.now }
+    ensures unblank { list_all (λ octet. not (is_blank octet)) (take result octets.now) ≡ true }
+{
+    let mut end = begin;
     while is_unblank_at(octets, end) {
         end += 1;
     }
@@ -201,6 +245,22 @@ fn split_short(octets: &[u8]) -> Option<(u64, &[u8])>
     }
     let (_, behind) = rest.split_at(end);
     Some((number, behind))
+}
+
+/// The number that the first word is, where it has one digit to eight, no blank before it and a space after it; and what comes after it.
+/// None where fewer than 16 octets are there.
+#[inline(always)]
+fn split_front(octets: &[u8]) -> Option<(u64, &[u8])>
+    ensures number { IfSome result (λ x. (most : ℕ) → first_number most (words_of octets.now) ≡ Some (at_most most (Some x.0))) }
+    ensures rest { IfSome result (λ x. behind_first (words_of octets.now) ≡ words_of x.1.now) }
+    ensures less { IfSome result (λ x. length x.1.now < length octets.now) }
+    ensures bound { IfSome result (λ x. x.0 < 10 ^ 8) }
+{
+    let (number, rest) = front_short(octets)?;
+    match rest {
+        [b' ', ..] => Some((number, rest)),
+        _ => None,
+    }
 }
 
 /// The words of a line: the runs of octets that are no blanks.
@@ -330,6 +390,21 @@ impl<'a> Words<'a> {
         }
         let word = self.next_word()?;
         Some(number(word, most))
+    }
+
+    /// The number that the next word is, where it has one digit to eight, no blank before it and a space after it, and 16 octets are
+    /// there. Else None, and nothing changes.
+    #[inline(always)]
+    pub fn next_front(&mut self) -> Option<u64>
+        ensures number { IfSome result (λ n. (most : ℕ) → first_number most (words_left self.old) ≡ Some (at_most most (Some n))) }
+        ensures bound { IfSome result (λ n. n < 10 ^ 8) }
+        ensures left { IfSome result (λ _. words_left self.new ≡ behind_first (words_left self.old)) }
+        ensures taken { IfSome result (λ _. words_taken self.new ≡ words_taken self.old + 1) }
+        ensures kept { result ≡ None → self.new ≡ self.old }
+    {
+        let (number, rest) = split_front(self.rest)?;
+        self.go_on(rest, 1);
+        Some(number)
     }
 
     /// The number that the next word is, where it can be read at once: it has decimal digits alone, at most 19 of them, and no blanks

@@ -6,4 +6,4 @@ pub returns : goal.returns
 returns c = λ read is.
     let line = words_of c.args.line.now in
     let law = c.one_reading.ensures in
-    says_read line c.read_command_into.new.answer (read line) (law.command line) (law.not_both line) (law.fault line) (λ command said. (c.read_command_into.ensures.command command).0 said) c.read_command_into.ensures.fault (is line)
+    says_read line c.read_command_into.new.place.answer (read line) (law.command line) (law.not_both line) (law.fault line) (λ command said. (c.read_command_into.ensures.command command).0 said) c.read_command_into.ensures.fault (is line)

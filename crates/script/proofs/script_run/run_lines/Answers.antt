@@ -1,4 +1,4 @@
-use Rattle.std.proofs.Common.{◌≡◌, ℕ, Bool, List, Option, Ok, Err, None, Some, refl, rules, sym, ap, ◌∙◌, subst, subst₂}
+use Rattle.std.proofs.Common.{◌≡◌, ℕ, Bool, List, Option, Ok, Err, None, Some, refl, sym, ap, ◌∙◌, subst, subst₂}
 use Rattle.script.specs.Words.{Advances, script_left, Script, words_of, Asks, request_of, said_in, tc_request, bad_line, long_line, BadLine}
 use Rattle.job.specs.Lines.{Steps}
 use Rattle.job.specs.declared.fault.Fault.{Fault}
@@ -37,10 +37,10 @@ returns-in_err-put_answers-clause-script g c = λ read is.
     goes_no_further read _ _ _ _ _ _ _ _ _ _ _ _ (c.lines.invariant read is) c.settling.ensures _ (Asks c.in-Some.event) past.past e c.in_err-put_answers.ensures.text (p.1 ∙ ap Err p.2)
 
 pub put_answers-requires-in-Ok-Some-Asked : goal.put_answers-requires-in-Ok-Some-Asked
-put_answers-requires-in-Ok-Some-Asked g c = search rules
+put_answers-requires-in-Ok-Some-Asked g c = (search c.requires-raw, search c.requires-raw)
 
-pub put_tc-requires : goal.put_tc-requires
-put_tc-requires g c = search rules
+pub put_tc_by-requires : goal.put_tc_by-requires
+put_tc_by-requires g c = (search c.requires-raw, search c.requires-raw)
 
 pub lines-preserved-in-Ok-None : goal.lines-preserved-in-Ok-None
 lines-preserved-in-Ok-None g c = λ read is.
@@ -67,7 +67,7 @@ lines-preserved g c = λ read is.
     let i = kept read _ _ _ _ _ _ _ _ _ _ (c.lines.invariant read is) c.in_ok-next_line.ensures.kept in
     let same : c.pass_plain.new.lines ≡ c.lines.lines = c.in_default.ensures.event in
     let a = advanced g.R.Read.remaining _ _ _ same c.if-not-branch.false c.in_ok-next_line.ensures.step in
-    let done = rw c.line-line.ensures at c.in_ok-put_tc-in-Ok-Some-Tc.ensures.answered read is in
+    let done = rw c.line-line.ensures at c.in_ok-put_tc_by-in-Ok-Some-Tc.ensures.answered read is in
     goes_on read _ _ _ _ _ _ _ _ _ _ _ _ i c.settling.ensures _ _ _ (tc_request (read (words_of c.next_line.new.lines.line.items))) a e done
 
 pub returns-in_err-next_line-clause-script : goal.returns-in_err-next_line-clause-script
@@ -87,15 +87,15 @@ returns-in_err-put_answers-in-Ok-Some-Asked-clause-script g c = λ read is.
     let a = advanced g.R.Read.remaining _ _ _ same c.if-not-branch.false c.in_ok-next_line.ensures.step in
     goes_no_further read _ _ _ _ _ _ _ _ _ _ _ _ i c.settling.ensures _ (Asks c.in-Ok-Some-Asked.event) a e c.in_err-put_answers-in-Ok-Some-Asked.ensures.text (p.1 ∙ ap Err p.2)
 
-pub returns-in_err-put_tc-in-Ok-Some-Tc-clause-script : goal.returns-in_err-put_tc-in-Ok-Some-Tc-clause-script
-returns-in_err-put_tc-in-Ok-Some-Tc-clause-script g c = λ read is.
-    let p = err_from_is_err_and c.from_residual-in_err-put_tc-in-Ok-Some-Tc.result c.from_residual-in_err-put_tc-in-Ok-Some-Tc.ensures.1 in
+pub returns-in_err-put_tc_by-in-Ok-Some-Tc-clause-script : goal.returns-in_err-put_tc_by-in-Ok-Some-Tc-clause-script
+returns-in_err-put_tc_by-in-Ok-Some-Tc-clause-script g c = λ read is.
+    let p = err_from_is_err_and c.from_residual-in_err-put_tc_by-in-Ok-Some-Tc.result c.from_residual-in_err-put_tc_by-in-Ok-Some-Tc.ensures.1 in
     let said : said_in c.next_line.new.lines.line.items ≡ Ok (Some Says.Tc) = ap said_in (sym c.line-line.ensures) ∙ sym c.read_line.ensures ∙ c.in-Ok-Some-Tc.is ∙ ap Ok (c.in-Ok-Some-Tc.field-0-is ∙ ap Some c.in-Ok-Some-Tc.field-0-0-is) in
     let e : request_of read c.next_line.new.lines.line.items ≡ Ok (Some (tc_request (read (words_of c.next_line.new.lines.line.items)))) = ap (request_said (read (words_of c.next_line.new.lines.line.items))) said in
     let i = kept read _ _ _ _ _ _ _ _ _ _ (c.lines.invariant read is) c.in_ok-next_line.ensures.kept in
     let same : c.pass_plain.new.lines ≡ c.lines.lines = c.in_default.ensures.event in
     let a = advanced g.R.Read.remaining _ _ _ same c.if-not-branch.false c.in_ok-next_line.ensures.step in
-    let done = rw c.line-line.ensures at c.in_err-put_tc-in-Ok-Some-Tc.ensures.answered read is in
+    let done = rw c.line-line.ensures at c.in_err-put_tc_by-in-Ok-Some-Tc.ensures.answered read is in
     goes_no_further read _ _ _ _ _ _ _ _ _ _ _ _ i c.settling.ensures _ (tc_request (read (words_of c.next_line.new.lines.line.items))) a e done.text (p.1 ∙ ap Err p.2)
 
 pub returns-in-Err-clause-script : goal.returns-in-Err-clause-script
@@ -131,8 +131,8 @@ returns-in_err-next_line-clause-few g c = λ read is. (c.lines.invariant read is
 pub returns-in_err-put_answers-in-Ok-Some-Asked-clause-few : goal.returns-in_err-put_answers-in-Ok-Some-Asked-clause-few
 returns-in_err-put_answers-in-Ok-Some-Asked-clause-few g c = λ read is. few_further read c.args.until _ _ _ _ _ _ _ _ (c.lines.invariant read is) c.put_answers-in-Ok-Some-Asked.new.port c.in_err-put_answers-in-Ok-Some-Asked.ensures.few
 
-pub returns-in_err-put_tc-in-Ok-Some-Tc-clause-few : goal.returns-in_err-put_tc-in-Ok-Some-Tc-clause-few
-returns-in_err-put_tc-in-Ok-Some-Tc-clause-few g c = λ read is. few_further read c.args.until _ _ _ _ _ _ _ _ (c.lines.invariant read is) c.put_tc.new.port c.put_tc.ensures.few
+pub returns-in_err-put_tc_by-in-Ok-Some-Tc-clause-few : goal.returns-in_err-put_tc_by-in-Ok-Some-Tc-clause-few
+returns-in_err-put_tc_by-in-Ok-Some-Tc-clause-few g c = λ read is. few_further read c.args.until _ _ _ _ _ _ _ _ (c.lines.invariant read is) c.put_tc_by.new.port c.put_tc_by.ensures.few
 
 pub returns-in-Err-clause-few : goal.returns-in-Err-clause-few
 returns-in-Err-clause-few g c = λ read is. (c.lines.invariant read is).few

@@ -1,7 +1,7 @@
-use Rattle.std.proofs.Common.{◌≡◌, ◌-◌, ◌∷◌, length, ap, subst, ◌∙◌, rules, arith}
+use Rattle.std.proofs.Common.{◌≡◌, ◌-◌, ◌∷◌, length, sym, ap, subst, ◌∙◌, rules, arith}
 use Rattle.std.proofs.lemmas.Result.{err_from_is_err_and}
-use Rattle.tc_reader.specs.Words.{words_left, words_taken, total, view}
-use Rattle.tc_reader.proofs.ReadsLemmas.{SoFar, SoFar-begin, SoFar-more, SoFar-fault, SoFar-end}
+use Rattle.tc_reader.specs.Words.{words_left, words_taken, total, view, SoFar}
+use Rattle.tc_reader.proofs.ReadsLemmas.{SoFar-begin, SoFar-took, SoFar-fault, SoFar-end}
 use Rattle.tc_reader.proofs.option_list.read_options.Goals as goal
 
 pub options-init : goal.options-init
@@ -22,17 +22,19 @@ returns-in_err-take_next c =
 pub options-smaller : goal.options-smaller
 options-smaller c =
     let onward = c.in_ok-take_next.ensures.onward c.if-branch.true in
-    omega (arith, onward, c.take_next.ensures.moves.0, c.take_next.ensures.moves.1)
+    omega (arith, onward, c.take_next.ensures.moves.0, c.take_next.ensures.moves.1, c.take_entries.ensures.moves.0, c.take_entries.ensures.moves.1)
 
 pub options-preserved : goal.options-preserved
 options-preserved c =
     let l = c.options in
     let took = rw c.if-branch.true at c.in_ok-take_next.ensures.next in
-    let was = subst (λ v. SoFar (total c.args.words) (words_left c.args.words) v (view l.given)) took.2 l.invariant.so_far in
-    let at : words_taken l.rest ≡ total c.args.words - length (took.0 ∷ took.1) = omega (arith, l.invariant.count, ap length took.2) in
+    let at : words_taken l.rest ≡ total c.args.words - length (words_left l.rest) = omega (arith, l.invariant.count) in
+    let one = SoFar-took (total c.args.words) (words_left c.args.words) (words_left l.rest) (words_left c.take_next.new.words) (view l.given) (view c.take_next.new.given) (words_taken l.rest) took at l.invariant.so_far in
+    let count : total c.take_next.new.words ≡ total c.args.words = c.take_next.ensures.moves.0 ∙ l.invariant.count in
     record {
-      count = c.take_next.ensures.moves.0 ∙ l.invariant.count;
-      so_far = SoFar-more (total c.args.words) (words_left c.args.words) took.0 took.1 (words_left c.take_next.new.words) (view l.given) (view c.take_next.new.given) (words_taken l.rest) was at took.3;
+      count = c.take_entries.ensures.moves.0 ∙ count;
+      so_far = subst (λ n. SoFar n (words_left c.args.words) (words_left c.take_entries.new.words) (view c.take_entries.new.given)) count
+          (c.take_entries.ensures.read (words_left c.args.words) (subst (λ n. SoFar n (words_left c.args.words) (words_left c.take_next.new.words) (view c.take_next.new.given)) (sym count) one));
     }
 
 pub returns : goal.returns

@@ -1,6 +1,5 @@
 use Rattle.std.proofs.Common.{◌≡◌, length}
-use Rattle.tc_reader.specs.Words.{words_left, total, view}
-use Rattle.tc_reader.proofs.ReadsLemmas.{SoFar}
+use Rattle.tc_reader.specs.Words.{words_left, total, view, SoFar}
 use Rattle.tc_reader.proofs.option_list.read_options.Given as goal
 
 abbrev pub invariant-options : goal.invariant-options

@@ -1,9 +1,9 @@
-use Rattle.std.proofs.Common.{arith}
-use Rattle.words.proofs.PlainWord.{unblank_more}
+use Rattle.std.proofs.Common.{rules}
+use Rattle.words.proofs.PlainWord.{unblank_front}
 use Rattle.words.proofs.words.unblank_length.Goals as goal
 
-pub loop-end-preserved : goal.loop-end-preserved
-loop-end-preserved c =
-    let is = c.is_unblank_at.ensures in
-    let within = is.within c.loop-end-test.true in
-    record { within = omega (arith, within); unblank = unblank_more c.loop-end.end c.args.octets.now within c.loop-end.invariant.unblank (is.unblank c.loop-end-test.true) }
+pub returns-then-end-lt-LANES-clause-unblank : goal.returns-then-end-lt-LANES-clause-unblank
+returns-then-end-lt-LANES-clause-unblank c = unblank_front _ 16 c.args.octets.now c.in-Some.front.now c.unblank_in_front-end.ensures.within (search rules) c.unblank_in_front-end.ensures.above
+
+pub unblank_from-requires-2-clause-unblank : goal.unblank_from-requires-2-clause-unblank
+unblank_from-requires-2-clause-unblank c = unblank_front _ 16 c.args.octets.now c.in-Some.front.now c.unblank_in_front-end.ensures.within (search rules) c.unblank_in_front-end.ensures.above

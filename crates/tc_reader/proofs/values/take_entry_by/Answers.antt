@@ -2,7 +2,7 @@ use Rattle.std.proofs.Common.{◌≡◌, ◌+◌, ◌-◌, ◌^◌, List, ◌∷
 use Rattle.std.specs.Prelude.{codes}
 use Rattle.tc_reader.specs.Words.{number_in, words_left, words_taken, Word, hex_in, value_at, SchedEntry}
 use Rattle.tc_reader.proofs.PlainLemmas.{plain_entry}
-use Rattle.tc_reader.proofs.values.take_plain_entry.Goals as goal
+use Rattle.tc_reader.proofs.values.take_entry_by.Goals as goal
 
 pub returns-clause-entry : goal.returns-clause-entry
 returns-clause-entry c =
@@ -14,5 +14,5 @@ returns-clause-entry c =
     let third : words_taken c.take_plain_mask.new.words ≡ place + 3 = omega (arith, c.in_ok-mask.ensures.place, second) in
     let stands : words_left c.args.words.now ≡ codes "sched-entry" ∷ codes "S" ∷ behind = skipped.1 ∙ ap (λ (ws : List Word). codes "sched-entry" ∷ codes "S" ∷ ws) (sym skipped.2) in
     let masked = subst (λ n. value_at SchedEntry (hex_in 255) n behind ≡ Ok (c.in_ok-mask.mask, words_left c.take_plain_mask.new.words)) second c.in_ok-mask.ensures.value in
-    let timed = subst (λ n. value_at SchedEntry (number_in 10 (2 ^ 32 - 1)) n (words_left c.take_plain_mask.new.words) ≡ Ok (c.in_ok-interval.interval, words_left c.take_plain_interval.new.words)) third c.in_ok-interval.ensures.value in
-    (codes "sched-entry", codes "S" ∷ behind, stands, plain_entry place behind (words_left c.take_plain_mask.new.words) (words_left c.take_plain_interval.new.words) c.in_ok-mask.mask c.in_ok-interval.interval masked timed)
+    let timed = subst (λ n. value_at SchedEntry (number_in 10 (2 ^ 32 - 1)) n (words_left c.take_plain_mask.new.words) ≡ Ok (c.in_ok-interval.interval, words_left c.take_interval.new.words)) third c.in_ok-interval.ensures.value in
+    (codes "sched-entry", codes "S" ∷ behind, stands, plain_entry place behind (words_left c.take_plain_mask.new.words) (words_left c.take_interval.new.words) c.in_ok-mask.mask c.in_ok-interval.interval masked timed)

@@ -2,7 +2,7 @@ use Rattle.std.proofs.Common.{◌≡◌, ◌≤◌, ◌-◌, length, take, true}
 use Rattle.std.specs.Prelude.{not}
 use Rattle.std.specs.List.{list_all}
 use Rattle.words.specs.Words.{is_blank}
-use Rattle.words.proofs.words.unblank_length.Given as goal
+use Rattle.words.proofs.words.unblank_from.Given as goal
 
 abbrev pub invariant-loop-end : goal.invariant-loop-end
 invariant-loop-end l = record { within : l.end ≤ length l.octets; unblank : list_all (λ octet. not (is_blank octet)) (take l.end l.octets) ≡ true }
