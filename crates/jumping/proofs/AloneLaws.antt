@@ -1,9 +1,10 @@
 -- A list that goes on for ever.
-use Rattle.std.proofs.Common.{Bool, ◌≡◌, ◌<◌, ◌≤◌, ℕ, zero, suc, ◌+◌, ◌*◌, ◌%◌, ◌^◌, min, max, ◌==◌, true, false, List, [], ◌∷◌, get_or, slice_get, length, Option, Some, None, inl, inr, refl, sym, ap, ◌∙◌, subst, arith}
+use Rattle.std.proofs.Common.{Bool, ◌≡◌, ◌<◌, ◌≤◌, ℕ, zero, suc, ◌+◌, ◌*◌, ◌/◌, ◌-◌, ◌%◌, ◌^◌, min, max, ◌==◌, true, false, List, [], ◌∷◌, get_or, slice_get, length, Option, Some, None, inl, inr, refl, sym, ap, ◌∙◌, subst, arith, le_refl}
 use Rattle.std.proofs.lemmas.Bool.{cases_lt, false_from_ne_true}
 use Rattle.std.proofs.Math.Nat.{mod-eq_of_lt}
 use Rattle.std.proofs.Math.Pow.{pow-lt}
 use Rattle.std.proofs.lemmas.Option.{slice_get_cases}
+use Rattle.std.proofs.lemmas.Nat.{shr-shr, shr_le}
 use Rattle.std.proofs.lemmas.Nat.Bits.{bit_at-zero, bit_at-lt, bit_at-pow_same, bit_at_above, bit_at_and, bit_at_or}
 use Rattle.std.specs.Int.{bit_at}
 use Rattle.std.specs.Int.Bits.{bit_and, bit_or}
@@ -12,7 +13,7 @@ use Rattle.list_position.proofs.PositionLaws.{flat_min, flat_cycle}
 use Rattle.accepted_commands.specs.declared.command.AcceptedList.{AcceptedList}
 use Rattle.accepted_commands.specs.InForce.{Standing, accepted_list}
 use Rattle.jumping.proofs.RepeatLaws.{plan_repeats}
-use Rattle.jumping.proofs.SearchLaws.{fits_flat, none_jump, searched_more}
+use Rattle.jumping.proofs.SearchLaws.{fits_flat, fits_join, none_jump, searched_more}
 
 -- a bit is set where a mask opens the class
 pub opens_bit : (mask class : ℕ) → bit_at mask class ≡ 1 → opens mask class ≡ true
@@ -61,6 +62,41 @@ module _ (plan : Plan) (ok : IsSchedule plan) (start n : ℕ) (position : Positi
     where
       same : (a b : ℕ) → Some a ≡ Some b → a ≡ b
       same a b e = cc
+
+-- the list stood so at a moment of a search, and none fits up to the end of what it shows there
+pub record IsPassed (list : AcceptedList) (needs : List (Option ℕ)) (from : ℕ) (position : Position) : Type 0 where
+  pub moment : ℕ
+  pub stands : IsPlaced list.schedule list.change None moment position
+  pub begun : from ≤ moment
+  pub none : NoneFits (shows_alone list) needs from (boundary_in position.timer.next_start (end_of position.walk))
+
+module _ (list : AcceptedList) (ok : IsSchedule list.schedule) (needs : List (Option ℕ)) (from : ℕ) (position : Position) where
+  -- where the search begins
+  pub passed_first : IsPlaced list.schedule list.change None from position → ((class d : ℕ) → slice_get needs class ≡ Some (Some d) → open_while (shows_alone list) class from d ≡ false) → IsPassed list needs from position
+  passed_first placed fails = record {
+    moment = from;
+    stands = placed;
+    begun = le_refl from;
+    none = none_alone list.schedule ok list.change from position placed needs _ (le_refl _) fails;
+  }
+
+  module _ (passed : IsPassed list needs from position) where
+    -- what is shown ends later
+    pub passed_ahead : from < boundary_in position.timer.next_start (end_of position.walk)
+    passed_ahead = let begun = passed.begun in let ahead = alone_ahead list.schedule ok list.change passed.moment position passed.stands in omega (arith, begun, ahead)
+
+    -- where the entry ends before its cycle does
+    pub passed_end : (end : ℕ) → end_of position.walk ≡ Some end → end < position.timer.next_start → end ≡ boundary_in position.timer.next_start (end_of position.walk)
+    passed_end end ends inside = let least : end ≡ min end position.timer.next_start = omega (arith, inside) in least ∙ ap (boundary_in position.timer.next_start) (sym ends)
+
+    -- at the end of the entry, where the next one begins
+    pub passed_next : (end : ℕ) (next : Position) → end ≡ boundary_in position.timer.next_start (end_of position.walk) → IsPlaced list.schedule list.change None end next → ((class d : ℕ) → slice_get needs class ≡ Some (Some d) → open_while (shows_alone list) class end d ≡ false) → IsPassed list needs from next
+    passed_next end next is placed fails = record {
+      moment = end;
+      stands = placed;
+      begun = let ahead = passed_ahead in omega (arith, ahead, is);
+      none = fits_join (shows_alone list) needs from end _ (subst (NoneFits (shows_alone list) needs from) (sym is) passed.none) (none_alone list.schedule ok list.change end next placed needs _ (le_refl _) fails);
+    }
 
 -- where there is none in a cycle, there is none
 pub searched_round : (plan : Plan) (start : ℕ) (needs : List (Option ℕ)) (from cycle before : ℕ) (r : Option ℕ) → cycle ≡ in_ps plan.cycle → 0 < cycle → start ≤ from → Searched (mask_since (Some plan) start None) needs from (min before (from + cycle)) r → Searched (mask_since (Some plan) start None) needs from before r
@@ -120,6 +156,29 @@ opens_low mask class octet on =
           let clear = bit_at_above mask 8 class octet high in
           absurd (omega arith))
     ]
+
+-- a mask without the classes below one
+shifted_less : (mask j k : ℕ) → j ≤ k → mask / 2 ^ k ≤ mask / 2 ^ j
+shifted_less mask j k l =
+    let there : j + (k - j) ≡ k = omega (arith, l) in
+    subst (λ n. n ≤ mask / 2 ^ j) (shr-shr mask j (k - j) ∙ ap (λ i. mask / 2 ^ i) there) (shr_le (mask / 2 ^ j) (k - j))
+
+pub shifted_low : (mask class : ℕ) → mask < 256 → 0 < mask / 2 ^ class → class < 8
+shifted_low mask class octet some =
+    elim (cases_lt class 8) [
+      | inl low ↦ low
+      | inr high ↦
+          (let less = shifted_less mask 8 class high in
+          let none : mask / 2 ^ 8 ≡ 0 = omega (arith, octet) in
+          absurd (omega (arith, some, less, none)))
+    ]
+
+pub shifted_past : (mask class k : ℕ) → mask / 2 ^ class ≡ 0 → class ≤ k → opens mask k ≡ false
+shifted_past mask class k none past =
+    ap (λ q. (q % 2) == 1) (let less = shifted_less mask class k past in let all : mask / 2 ^ k ≡ 0 = omega (arith, less, none) in all)
+
+pub shifted_next : (mask class : ℕ) → mask / 2 ^ class / 2 ≡ mask / 2 ^ (class + 1)
+shifted_next mask class = shr-shr mask class 1
 
 -- where two masks open no class together, and one opens it, the other doesn't
 pub none_both : (a b class : ℕ) → bit_and a b ≡ 0 → opens b class ≡ true → opens a class ≡ false

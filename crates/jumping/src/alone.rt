@@ -3,7 +3,6 @@ ghost use Rattle.std.specs.Prelude.{◌≡◌, ℕ, ◌+◌, ◌*◌, ◌<◌, �
 ghost use Rattle.std.specs.Option.{ForSome};
 ghost use Rattle.jumping.specs.Words.{greatest_moment, IsSchedule, in_ps, opens, open_while, IsPlaced, Fits, Searched, HaveNeeds, IsAlone, IsShown, shows_alone};
 
-use crate::search::boundary;
 use accepted_commands::AcceptedList;
 use gate_list::{Stay, Visits, is_open};
 use list_position::Position;
@@ -83,10 +82,14 @@ impl LoneSearch<'_> {
         ensures some { result ≡ true → Fits (shows_alone self.now.list.now) self.now.needs.now shown.now.at }
         ensures none { result ≡ false → (class d : ℕ) → opens mask class ≡ true → slice_get self.now.needs.now class ≡ Some (Some d) → open_while (shows_alone self.now.list.now) class shown.now.at d ≡ false }
     {
-        for class in 0..CLASSES as u8 {
-            if is_open(mask, class) && self.class_fits(class, shown) {
+        let mut class = 0;
+        let mut left = mask;
+        while left != 0 {
+            if left % 2 == 1 && self.class_fits(class, shown) {
                 return true;
             }
+            left /= 2;
+            class += 1;
         }
         false
     }
@@ -128,18 +131,21 @@ impl LoneSearch<'_> {
         ensures counted { visits.old ≤ visits.new }
         ensures visits { visits.new + first.now.walk.index + 1 ≤ visits.old + length self.now.list.now.schedule.entries }
     {
+        if self.fits_at(from, first) {
+            return Some(from);
+        }
         let limit = stop.min(first.timer.next_start());
-        let mut moment = from;
         let mut position = *first;
-        while !self.fits_at(moment, &position) {
-            let end = boundary(&position);
+        while let Some(end) = position.walk.entry_end() {
             if limit <= end {
                 return None;
             }
             position.next_entry(&self.list.schedule, visits);
-            moment = end;
+            if self.fits_at(end, &position) {
+                return Some(end);
+            }
         }
-        Some(moment)
+        None
     }
 
     /// The first such moment from where the list in force stands, in the cycle that runs and in the next one.
