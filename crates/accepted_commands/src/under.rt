@@ -48,29 +48,22 @@ impl AcceptedList {
         )
     }
 
-    /// Where the list stands at a later moment `t`, in picoseconds, with the same change pending.
-    pub(crate) fn position_later(
-        &self,
-        pending: Option<&AcceptedCommand>,
-        t: u128,
-        visits: &mut Visits,
-    ) -> Position
-        requires usable { IsUsable (accepted_list self.now) }
+    /// Lets the list go on to a later moment `t`, in picoseconds, with the same change pending.
+    #[inline(always)]
+    fn go_on(&mut self, pending: Option<&AcceptedCommand>, t: u128, visits: &mut Visits)
+        requires usable { IsUsable (accepted_list self.old) }
         requires pending { ForSome (command_of pending) IsUsable }
         requires within { t ≤ 2 * greatest_moment }
-        requires stood { StoodBy self.now.schedule self.now.change (hold_for (Some self.now.schedule) self.now.change (command_of pending)) t self.now.position }
-        ensures placed { IsPlaced self.now.schedule self.now.change (hold_for (Some self.now.schedule) self.now.change (command_of pending.entry)) t result }
+        requires stood { StoodBy self.old.schedule self.old.change (hold_for (Some self.old.schedule) self.old.change (command_of pending)) t self.old.position }
+        ensures same { self.new ≡ record self.old { position = self.new.position } }
+        ensures placed { IsPlaced self.old.schedule self.old.change (hold_for (Some self.old.schedule) self.old.change (command_of pending.entry)) t self.new.position }
         ensures counted { visits.old ≤ visits.new }
-        ensures visits { visits.new ≤ visits.old + (length self.now.schedule.entries + 1) }
-        ensures next { (n e : ℕ) → IsPlaced self.now.schedule self.now.change (hold_for (Some self.now.schedule) self.now.change (command_of pending.entry)) n self.now.position → BeginsAtMost (Some self.now.schedule) self.now.change n t e → visits.new ≤ visits.old + 2 }
+        ensures visits { visits.new ≤ visits.old + (length self.old.schedule.entries + 1) }
+        ensures next { (n e : ℕ) → IsPlaced self.old.schedule self.old.change (hold_for (Some self.old.schedule) self.old.change (command_of pending.entry)) n self.old.position → BeginsAtMost (Some self.old.schedule) self.old.change n t e → visits.new ≤ visits.old + 2 }
     {
-        self.position.later(
-            &self.schedule,
-            self.change,
-            self.held_from(pending),
-            t,
-            visits,
-        )
+        let held_from = self.held_from(pending);
+        self.position
+            .go_on(&self.schedule, self.change, held_from, t, visits);
     }
 }
 
@@ -88,9 +81,7 @@ impl AcceptedCommand {
         ensures next { (n e : ℕ) → Stands (Some (accepted_in self.old)) (command_of pending.entry) n (position_in self.old) → BeginsAtMost (accepted_in self.old).plan (accepted_in self.old).change n t e → visits.new ≤ visits.old + 2 }
     {
         match self {
-            AcceptedCommand::Install(list) => list.position = list.position_later(
-                pending, t, visits,
-            ),
+            AcceptedCommand::Install(list) => list.go_on(pending, t, visits),
             AcceptedCommand::Delete(_) => {}
         }
     }

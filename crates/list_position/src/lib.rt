@@ -227,10 +227,37 @@ impl Position {
         })
     }
 
-    /// The position of the same list at a later moment `t`, where the same hold counts: in the cycle that runs it goes on from
-    /// the entry that is shown, and in a further one from the first. Its cycles began at `start`, and its last state is held
-    /// from `held_from` on; none: from no moment on. All are in picoseconds.
+    /// Goes on to a later moment `t`, where the same hold counts: in the cycle that runs from the entry that is shown, and in a
+    /// further one from the first. The cycles of the list began at `start`, and its last state is held from `held_from` on; none:
+    /// from no moment on. All are in picoseconds.
     #[inline(always)]
+    pub fn go_on(
+        &mut self,
+        schedule: &Schedule,
+        start: u128,
+        held_from: Option<u128>,
+        t: u128,
+        visits: &mut Visits,
+    )
+        requires sound { IsSchedule schedule.now }
+        requires within { t ≤ 2 * greatest_moment }
+        requires stood { StoodBy schedule.now start held_from t self.old }
+        ensures placed { IsPlaced schedule.now start held_from t self.new }
+        ensures counted { visits.old ≤ visits.new }
+        ensures visits { visits.new ≤ visits.old + (length schedule.now.entries + 1) }
+        ensures next { (n e : ℕ) → IsPlaced schedule.now start held_from n self.old → BeginsAtMost (Some schedule.now) start n t e → visits.new ≤ visits.old + 2 }
+    {
+        if has_come(held_from, self.timer.started()) {
+            return;
+        }
+        if self.timer.next_start() <= t {
+            *self = self.at(schedule, start, held_from, t, visits);
+            return;
+        }
+        self.walk.go_on(schedule, t - self.timer.started(), visits);
+    }
+
+    /// The position of the same list at a later moment `t`, as `go_on` goes there. All are in picoseconds.
     pub fn later(
         &self,
         schedule: &Schedule,
@@ -247,15 +274,9 @@ impl Position {
         ensures visits { visits.new ≤ visits.old + (length schedule.now.entries + 1) }
         ensures next { (n e : ℕ) → IsPlaced schedule.now start held_from n self.now → BeginsAtMost (Some schedule.now) start n t e → visits.new ≤ visits.old + 2 }
     {
-        if has_come(held_from, self.timer.started()) {
-            return *self;
-        }
-        if self.timer.next_start() <= t {
-            return self.at(schedule, start, held_from, t, visits);
-        }
-        let mut walk = self.walk;
-        walk.go_on(schedule, t - self.timer.started(), visits);
-        Position { walk, ..*self }
+        let mut position = *self;
+        position.go_on(schedule, start, held_from, t, visits);
+        position
     }
 
     /// Goes on to the end of the entry, where the next one begins in the same cycle and is looked at.

@@ -4,6 +4,6 @@ use Rattle.accepted_commands.proofs.command.AcceptedCommand.go_on.Goals as goal
 
 pub returns-in-Install-clause-next : goal.returns-in-Install-clause-next
 returns-in-Install-clause-next c = λ n e stands only.
-    c.position_later-list.ensures.next n e
+    c.go_on.ensures.next n e
     (subst (λ (k : AcceptedCommand). Stands (Some (accepted_in k)) (command_of c.args.pending) n (position_in k)) c.in-Install.is stands)
     (subst (λ (k : AcceptedCommand). BeginsAtMost (accepted_in k).plan (accepted_in k).change n c.args.t e) c.in-Install.is only)

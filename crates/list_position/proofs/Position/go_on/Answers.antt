@@ -2,7 +2,7 @@ use Rattle.std.proofs.Common.{◌≤◌, ◌-◌, ap, sym, ◌∙◌, subst, ari
 use Rattle.gate_list.specs.Gate.{IsShownAt, has_come}
 use Rattle.list_execute.specs.Walk.{ShowsEntry}
 use Rattle.list_position.proofs.PositionLaws.{entry_at, held_still, next_cycle, next_on, shows_list}
-use Rattle.list_position.proofs.Position.later.Goals as goal
+use Rattle.list_position.proofs.Position.go_on.Goals as goal
 
 pub returns-then-has_come-clause-placed : goal.returns-then-has_come-clause-placed
 returns-then-has_come-clause-placed c =
