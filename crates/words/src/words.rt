@@ -263,6 +263,18 @@ fn split_front(octets: &[u8]) -> Option<(u64, &[u8])>
     }
 }
 
+/// The number that the first word is, where it has one digit to eight, and no blanks about it but spaces, one of them after it; and what
+/// comes after it. None where fewer than 16 octets are there.
+#[inline(always)]
+fn split_few(octets: &[u8]) -> Option<(u64, &[u8])>
+    ensures number { IfSome result (λ x. (most : ℕ) → first_number most (words_of octets.now) ≡ Some (at_most most (Some x.0))) }
+    ensures rest { IfSome result (λ x. behind_first (words_of octets.now) ≡ words_of x.1.now) }
+    ensures less { IfSome result (λ x. length x.1.now < length octets.now) }
+{
+    let (number, rest) = split_front(past_space(octets))?;
+    Some((number, rest))
+}
+
 /// The words of a line: the runs of octets that are no blanks.
 ///
 /// Blanks are space, tab, CR and LF, and a backslash directly before LF or CR LF, which joins two physical lines.
@@ -384,6 +396,11 @@ impl<'a> Words<'a> {
         ensures taken { MatchOption result (words_taken self.new ≡ words_taken self.old)
             (λ _. words_taken self.new ≡ words_taken self.old + 1) }
     {
+        if let Some((few, rest)) = split_few(self.rest) {
+            self.go_on(rest, 1);
+            let value = u128::from(few);
+            return Some(if value <= most { Some(value) } else { None });
+        }
         if let Some((value, rest)) = split_number(self.rest) {
             self.go_on(rest, 1);
             return Some(if value <= most { Some(value) } else { None });
