@@ -1,14 +1,11 @@
 -- Reading a run of values.
-use Rattle.std.proofs.Common.{◌≡◌, ℕ, ◌<◌, ◌+◌, ◌≤◌, Bool, true, false, List, [], ◌∷◌, ◌++◌, length, take, None, Some, Result, Ok, Err, refl, sym, ap, ◌∙◌, append_assoc, append-nil, arith, inl, inr}
+use Rattle.std.proofs.Common.{◌≡◌, ℕ, ◌<◌, ◌+◌, ◌≤◌, Bool, true, false, List, [], ◌∷◌, ◌++◌, length, take, None, Some, Result, Ok, Err, refl, sym, ap, subst, ◌∙◌, append_assoc, append-nil, arith, inl, inr}
 use Rattle.std.specs.declared.option.Option.{Option}
 use Rattle.std.proofs.lemmas.List.{take_all, take-take, take-append-le, length-take}
 use Rattle.std.proofs.lemmas.Bool.{cases_lt}
-use Rattle.tc_reader.specs.Words.{Opt, TcFault, Word, first_ones, ◌>>=◌, value_or, value_at, run_at, begins}
+use Rattle.tc_reader.specs.Words.{Opt, TcFault, Word, first_ones, with_front, ◌>>=◌, value_or, value_at, run_at, begins}
 use Rattle.tc_reader.specs.declared.fault.TcFault.TheVariants as faults
 use Rattle.std.specs.Prelude.{◌==◌, if◌then◌else◌}
-
-abbrev pub with_front : {X : Type 0} → List X → Result (List X × List Word) TcFault → Result (List X × List Word) TcFault
-with_front front read = read >>= λ x. Ok (front ++ x.0, x.1)
 
 abbrev done : {A : Type 0} → A → Result A TcFault
 done x = Ok x
@@ -38,6 +35,16 @@ run_goes_on opt form value front place w ws rest x all is read so_far =
     let r = value_at-ok opt (value place) place w ws x rest read in
     let one : with_front front (run_at form value place (w ∷ ws)) ≡ with_front (front ++ x ∷ []) (run_at form value (place + 1) ws) = rw (is, r.0) (regroup front x (run_at form value (place + 1) ws)) in
     rw (← r.1) (sym one ∙ so_far)
+
+-- a value that was told with its word
+told : {X : Type 0} (opt : Opt) (value : Word → Option X) (place : ℕ) (w : Word) (ws : List Word) (x : X) → value w ≡ Some x → value_at opt value place (w ∷ ws) ≡ Ok (x, ws)
+unfolding value_at
+told opt value place w ws x is = ap (value_or place ws) is
+
+pub run_told : {X : Type 0} (opt : Opt) (form : Word → Bool) (value : ℕ → Word → Option X) (front : List X) (place : ℕ) (left rest : List Word) (w : Word) (x : X) (all : Result (List X × List Word) TcFault)
+    → left ≡ w ∷ rest → form w ≡ true → value place w ≡ Some x → with_front front (run_at form value place left) ≡ all → with_front (front ++ x ∷ []) (run_at form value (place + 1) rest) ≡ all
+run_told opt form value front place left rest w x all is formed says so_far =
+    run_goes_on opt form value front place w rest rest x all formed (told opt (value place) place w rest x says) (subst (λ (ws : List Word). with_front front (run_at form value place ws) ≡ all) is so_far)
 
 pub run_fails : {X : Type 0} (opt : Opt) (form : Word → Bool) (value : ℕ → Word → Option X) (front : List X) (place : ℕ) (w : Word) (ws : List Word) (f : TcFault) (all : Result (List X × List Word) TcFault)
     → form w ≡ true → value_at opt (value place) place (w ∷ ws) ≡ Err f → with_front front (run_at form value place (w ∷ ws)) ≡ all → all ≡ Err f

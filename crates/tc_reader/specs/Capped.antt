@@ -6,7 +6,7 @@ use Rattle.tc_reader.specs.declared.capped.TheConstants.{KEPT_PRIORITIES, KEPT_R
 use Rattle.wire_time.specs.declared.TheConstants.{CLASSES}
 use Rattle.gate_list.specs.declared.Entry.{Entry}
 use Rattle.tc_reader.specs.Cursor.{Word}
-use Rattle.tc_reader.specs.Options.{Options, Item, priorities, ranges, sched_entry, limits, with_item, item_at}
+use Rattle.tc_reader.specs.Options.{◌>>=◌, Options, Item, priorities, ranges, sched_entry, limits, with_item, item_at}
 
 -- the options that are kept, as lists
 abbrev pub view : CappedOptions → Options
@@ -35,6 +35,10 @@ capped_with g i = with_item g i
 abbrev pub first_ones : {X : Type 0} → ℕ → Result (List X × List Word) TcFault → Result (List X × List Word) TcFault
 first_ones n (Ok x) = Ok (take n x.0, x.1)
 first_ones n (Err f) = Err f
+
+-- what was read after values of the same list
+abbrev pub with_front : {X : Type 0} → List X → Result (List X × List Word) TcFault → Result (List X × List Word) TcFault
+with_front front read = read >>= λ x. Ok (front ++ x.0, x.1)
 
 -- the option that was read is capped
 abbrev pub with_read : Options → Result (Item × List Word) TcFault → Result (Options × List Word) TcFault

@@ -116,6 +116,7 @@ impl CommandPlace {
 }
 
 /// The change that the options give, with their map and ranges, takes the place of another one.
+#[inline(always)]
 fn give_change(
     given: &CappedOptions,
     map: Option<ClassMap>,

@@ -1,12 +1,12 @@
 //! Options with a list of values: the longest run of words of their form.
 
-ghost use Rattle.std.specs.Prelude.{◌≡◌, ◌≤◌, ◌<◌, ◌+◌, ◌-◌, ℕ, Bool, List, Option, Ok, Err, [], ◌∷◌, ◌++◌, take, IfOk, MatchResult};
+ghost use Rattle.std.specs.Prelude.{◌≡◌, ◌≤◌, ◌<◌, ◌+◌, ◌-◌, ℕ, Bool, List, Option, Ok, Err, [], ◌∷◌, ◌++◌, take, IfOk, IfSome, MatchOption, MatchResult, Some, true};
 ghost use Rattle.words.specs.Numbers.{number_in, is_digits};
 ghost use Rattle.words.specs.WordsLeft.{words_left, words_taken};
 ghost use Rattle.tc_reader.specs.Cursor.{Moves};
 ghost use Rattle.tc_reader.specs.Values.{is_range, range_of, limit_in};
 ghost use Rattle.tc_reader.specs.Options.{begins, run_at, some_at, value_at};
-ghost use Rattle.tc_reader.specs.Capped.{first_ones};
+ghost use Rattle.tc_reader.specs.Capped.{first_ones, with_front};
 ghost use Rattle.tc_reader.specs.declared.fault.Opt.{Opt};
 ghost use Rattle.tc_reader.specs.declared.fault.Opt.TheVariants.{Map, Queues, MaxSdu};
 
@@ -34,6 +34,12 @@ pub trait ListValue: Copy + Default {
     /// The value that a word is, after so many values.
     fn value_in(word: &[u8], before: usize) -> Option<Self>
         ensures { result ≡ value before word.now };
+
+    /// The value that the next word is, whichever values came before, where it can be read at once. Else None, and nothing changes.
+    fn front_value(words: &mut Words<'_>) -> Option<Self>
+        ensures value { MatchOption result (words.new ≡ words.old)
+            (λ x. (w : List ℕ) × (words_left words.old ≡ w ∷ words_left words.new) × (form w ≡ true) × ((before : ℕ) → value before w ≡ Some x)) }
+        ensures taken { IfSome result (λ _. words_taken words.new ≡ words_taken words.old + 1) };
 }
 
 // The class of a priority.
@@ -54,6 +60,12 @@ impl ListValue for u8 {
 
     fn value_in(word: &[u8], _before: usize) -> Option<u8> {
         let class = number(word, 255)?;
+        Some(class as u8)
+    }
+
+    #[inline(always)]
+    fn front_value(words: &mut Words<'_>) -> Option<u8> {
+        let class = words.next_digit()?;
         Some(class as u8)
     }
 }
@@ -77,6 +89,11 @@ impl ListValue for (u16, u16) {
     fn value_in(word: &[u8], _before: usize) -> Option<(u16, u16)> {
         range_of(word)
     }
+
+    #[inline(always)]
+    fn front_value(_words: &mut Words<'_>) -> Option<(u16, u16)> {
+        None
+    }
 }
 
 // The size limit of a class, in octets.
@@ -97,6 +114,11 @@ impl ListValue for u32 {
 
     fn value_in(word: &[u8], before: usize) -> Option<u32> {
         limit_in(word, before)
+    }
+
+    #[inline(always)]
+    fn front_value(_words: &mut Words<'_>) -> Option<u32> {
+        None
     }
 }
 
@@ -139,6 +161,18 @@ fn take_next<T: ListValue>(words: &mut Words<'_>, first: usize) -> Result<T, TcF
     }
 }
 
+/// Adds the values in front that can be read at once, or the first N where there are more.
+#[inline(always)]
+fn take_front_run<T: ListValue, const N: usize>(words: &mut Words<'_>, found: &mut ArrayVec<T, N>)
+    requires { found.old.items ≡ [] }
+    ensures value { (first : ℕ) → (front : List T) × (found.new.items ≡ take N front) × (with_front front (run_at T.form (λ place. T.value (place - first)) (words_taken words.new) (words_left words.new)) ≡ run_at T.form (λ place. T.value (place - first)) (words_taken words.old) (words_left words.old)) }
+    ensures moves { Moves words.old words.new }
+{
+    'values: while let Some(value) = T::front_value(words) {
+        push_capped(found, value);
+    }
+}
+
 fn take_run<T: ListValue, const N: usize>(words: &mut Words<'_>) -> Result<ArrayVec<T, N>, TcFault>
     ensures value { MatchResult result
         (λ v. first_ones N (run_at T.form (λ place. T.value (place - words_taken words.old)) (words_taken words.old) (words_left words.old)) ≡ Ok (v.items, words_left words.new))
@@ -147,6 +181,7 @@ fn take_run<T: ListValue, const N: usize>(words: &mut Words<'_>) -> Result<Array
 {
     let first = words.place();
     let mut found = ArrayVec::new();
+    take_front_run(words, &mut found);
     while begins::<T>(words) {
         let value = take_next(words, first)?;
         push_capped(&mut found, value);

@@ -41,6 +41,7 @@ fn take_option(
 }
 
 /// The next option with its values. False at the end of the line.
+#[inline(always)]
 fn take_next(given: &mut CappedOptions, words: &mut Words<'_>) -> Result<bool, TcFault>
     ensures next { MatchResult result
         (λ more. MatchBool more (TakesOne (view given.old) (words_taken words.old) (words_left words.old) (view given.new) (words_left words.new)) ((words_left words.old ≡ []) × (view given.new ≡ view given.old)))

@@ -61,7 +61,7 @@ space_first (b ∷ bs) some space = (rw space refl, rw space refl)
 
 -- such a number is the first word
 module _ (n : ℕ) (octets rest : List ℕ) (number : BeginsWithNumber octets n rest) (blank : starts_blank rest ≡ true) (whole : starts_with_break rest ≡ false) where
-  first_word : words_of octets ≡ number.word ∷ words_of rest
+  pub first_word : words_of octets ≡ number.word ∷ words_of rest
   first_word = ap words_of number.parts ∙ number_before number.word rest n number.is_number blank whole
 
   pub first_is : (most : ℕ) → first_number most (words_of octets) ≡ Some (at_most most (Some n))

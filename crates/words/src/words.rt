@@ -3,10 +3,10 @@
 ghost use Rattle.std.specs.Prelude.{◌≡◌, ◌≤◌, ◌<◌, ◌+◌, ◌^◌, ◌∷◌, ◌++◌, [], ℕ, List, drop, get_or, length, map, nat_lt, not, take, MatchOption, IfSome, Some, true, false};
 ghost use Rattle.std.specs.List.{list_all};
 ghost use Rattle.std.specs.Simd.Lanes.{mask_l};
-ghost use Rattle.words.specs.Numbers.{at_most, first_number, behind_first};
+ghost use Rattle.words.specs.Numbers.{IsNumber, at_most, first_number, behind_first};
 ghost use Rattle.words.specs.Words.{is_blank, starts_blank, starts_with_break, word_length, words_of};
 
-use crate::numbers::{LANES, decimal_run, front_short, number, short_run};
+use crate::numbers::{LANES, decimal_run, front_digit, front_short, number, short_run};
 use std::simd::prelude::*;
 
 /// Whether an octet is no blank, whatever comes after it.
@@ -263,6 +263,33 @@ fn split_front(octets: &[u8]) -> Option<(u64, &[u8])>
     }
 }
 
+/// The number that the first word is, where it has one digit to eight, and no blanks about it but spaces, one of them after it; and what
+/// comes after it. None where fewer than 16 octets are there.
+#[inline(always)]
+fn split_few(octets: &[u8]) -> Option<(u64, &[u8])>
+    ensures number { IfSome result (λ x. (most : ℕ) → first_number most (words_of octets.now) ≡ Some (at_most most (Some x.0))) }
+    ensures rest { IfSome result (λ x. behind_first (words_of octets.now) ≡ words_of x.1.now) }
+    ensures less { IfSome result (λ x. length x.1.now < length octets.now) }
+{
+    let (number, rest) = split_front(past_space(octets))?;
+    Some((number, rest))
+}
+
+/// The number that the first word is, where it is one digit with no blanks about it but spaces, one of them after it; and what comes after
+/// it.
+#[inline(always)]
+fn split_digit(octets: &[u8]) -> Option<(u64, &[u8])>
+    ensures word { IfSome result (λ x. (word : List ℕ) × IsNumber word x.0 × (words_of octets.now ≡ word ∷ words_of x.1.now)) }
+    ensures less { IfSome result (λ x. length x.1.now < length octets.now) }
+    ensures bound { IfSome result (λ x. x.0 < 10) }
+{
+    let (digit, rest) = front_digit(past_space(octets))?;
+    match rest {
+        [b' ', ..] => Some((digit, rest)),
+        _ => None,
+    }
+}
+
 /// The words of a line: the runs of octets that are no blanks.
 ///
 /// Blanks are space, tab, CR and LF, and a backslash directly before LF or CR LF, which joins two physical lines.
@@ -384,12 +411,31 @@ impl<'a> Words<'a> {
         ensures taken { MatchOption result (words_taken self.new ≡ words_taken self.old)
             (λ _. words_taken self.new ≡ words_taken self.old + 1) }
     {
+        if let Some((few, rest)) = split_few(self.rest) {
+            self.go_on(rest, 1);
+            let value = u128::from(few);
+            return Some(if value <= most { Some(value) } else { None });
+        }
         if let Some((value, rest)) = split_number(self.rest) {
             self.go_on(rest, 1);
             return Some(if value <= most { Some(value) } else { None });
         }
         let word = self.next_word()?;
         Some(number(word, most))
+    }
+
+    /// The number that the next word is, where it is one digit with no blanks about it but spaces, one of them after it. Else None, and
+    /// nothing changes.
+    #[inline(always)]
+    pub fn next_digit(&mut self) -> Option<u64>
+        ensures word { IfSome result (λ n. (word : List ℕ) × IsNumber word n × (words_left self.old ≡ word ∷ words_left self.new)) }
+        ensures bound { IfSome result (λ n. n < 10) }
+        ensures taken { IfSome result (λ _. words_taken self.new ≡ words_taken self.old + 1) }
+        ensures kept { result ≡ None → self.new ≡ self.old }
+    {
+        let (digit, rest) = split_digit(self.rest)?;
+        self.go_on(rest, 1);
+        Some(digit)
     }
 
     /// The number that the next word is, where it has one digit to eight, no blank before it and a space after it, and 16 octets are

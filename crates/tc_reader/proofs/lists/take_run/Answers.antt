@@ -41,3 +41,6 @@ returns-clause-value g c =
     let stops : begins g.T.ListValue.form (words_left l) ≡ false = search rules in
     let whole = run_stops g.T.ListValue.form (λ place. g.T.ListValue.value (place - words_taken start)) c.loop-words.invariant.so_far.0 (words_taken l) (words_left l) all stops c.loop-words.invariant.so_far.2 in
     ap (first_ones g.row.N) whole ∙ ap (λ xs. Ok (xs, words_left l)) (sym c.loop-words.invariant.so_far.1)
+
+pub loop-words-init : goal.loop-words-init
+loop-words-init g c = record { moves = c.take_front_run.ensures.moves; so_far = c.take_front_run.ensures.value (words_taken c.args.words.now) }

@@ -1,6 +1,5 @@
 use Rattle.std.proofs.Common.{◌≡◌, ◌-◌, List, take, length}
-use Rattle.tc_reader.specs.Words.{words_left, words_taken, Moves, run_at}
-use Rattle.tc_reader.proofs.RunLemmas.{with_front}
+use Rattle.tc_reader.specs.Words.{words_left, words_taken, Moves, run_at, with_front}
 use Rattle.tc_reader.proofs.lists.take_run.Given as goal
 
 abbrev pub invariant-loop-words : goal.invariant-loop-words
