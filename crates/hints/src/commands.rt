@@ -2,7 +2,7 @@
 
 use crate::marks::{Hint, Span, put_hint, span_at, span_behind, span_of, word_at};
 use crate::near::nearest;
-use abstract_port::{Answer, Refused};
+use abstract_port::Refused;
 use answer_text::{Part, WriteFault, put_installation, put_parts, put_tc_fault};
 use class_map::{MapFault, QueueFault};
 use gate_list::{GateFault, PlanFault};

@@ -6,7 +6,7 @@ ghost use Rattle.std.specs.List.{flat_map};
 
 use crate::settings::CheckSettings;
 use crate::window_lines::put_asked;
-use abstract_port::{Answer, Change, Command, Refused};
+use abstract_port::{Change, Command, Refused};
 use answer_text::{Part, WriteFault, put, put_installation, put_parts, put_tc_fault};
 use arrayvec::ArrayVec;
 use class_map::ClassMap;

@@ -19,7 +19,7 @@ use crate::class_lines::put_classes;
 use crate::faults::{BoundsFault, Finding};
 use crate::settings::BoundsSettings;
 use crate::stream_lines::put_streams;
-use abstract_port::{Answer, Change, Command, Refused};
+use abstract_port::{Change, Command, Refused};
 use answer_text::{WriteFault, put_installation, put_tc_fault};
 use gate_list::Schedule;
 use schedule_check::{class_count, classes_apart, put_apart};
