@@ -29,10 +29,7 @@ fn two_of<A: Allocator, C: PerClass<A>>(alloc: &A, room: usize) -> Result<(C, C)
 }
 
 /// Four of a thing.
-fn four_of<A: Allocator, C: PerClass<A>>(
-    alloc: &A,
-    room: usize,
-) -> Result<(C, C, C, C), AllocError>
+fn four_of<A: Allocator, C: PerClass<A>>(alloc: &A, room: usize) -> Result<(C, C, C, C), AllocError>
     ensures { IfOk result (λ four. (four.0 ≡ C.made room) × (four.1 ≡ C.made room) × (four.2 ≡ C.made room) × (four.3 ≡ C.made room)) }
 {
     let (class_0, class_1) = two_of::<A, C>(alloc, room)?;

@@ -14,8 +14,8 @@ word_of a b c d e f g h = a + 256 * (b + 256 * (c + 256 * (d + 256 * (e + 256 * 
 abbrev pub decimal_of : ℕ → ℕ → ℕ → ℕ → ℕ → ℕ → ℕ → ℕ → ℕ
 decimal_of a b c d e f g h = ((((((a * 10 + b) * 10 + c) * 10 + d) * 10 + e) * 10 + f) * 10 + g) * 10 + h
 
--- eight digits, and the word of their octets
-pub record Eight (octets : List ℕ) (word : ℕ) : Type 0 where
+-- eight digits
+pub record Digits : Type 0 where
   pub a : ℕ
   pub b : ℕ
   pub c : ℕ
@@ -32,8 +32,20 @@ pub record Eight (octets : List ℕ) (word : ℕ) : Type 0 where
   pub small_f : f < 10
   pub small_g : g < 10
   pub small_h : h < 10
-  pub word_is : word ≡ 3472328296227680304 + word_of a b c d e f g h
-  pub value : value_behind 10 0 octets ≡ Some (decimal_of a b c d e f g h)
+
+-- their word
+abbrev pub word_in : Digits → ℕ
+word_in x = word_of x.a x.b x.c x.d x.e x.f x.g x.h
+
+-- what they stand for
+abbrev pub decimal_in : Digits → ℕ
+decimal_in x = decimal_of x.a x.b x.c x.d x.e x.f x.g x.h
+
+-- eight digits, and the word of their octets
+pub record Eight (octets : List ℕ) (word : ℕ) : Type 0 where
+  pub digits : Digits
+  pub word_is : word ≡ 3472328296227680304 + word_in digits
+  pub value : value_behind 10 0 octets ≡ Some (decimal_in digits)
 
 -- a digit by its octet
 digit_is : (x : ℕ) → is_digit x ≡ true → digit_in 10 x ≡ Some (x - 48)
@@ -78,22 +90,24 @@ eight (a ∷ b ∷ c ∷ d ∷ e ∷ f ∷ g ∷ h ∷ []) long all =
     let ig = and_first _ _ all_g in
     let ih = and_first _ _ all_h in
     record {
-      a = a - 48;
-      b = b - 48;
-      c = c - 48;
-      d = d - 48;
-      e = e - 48;
-      f = f - 48;
-      g = g - 48;
-      h = h - 48;
-      small_a = digit_small a ia;
-      small_b = digit_small b ib;
-      small_c = digit_small c ic;
-      small_d = digit_small d id;
-      small_e = digit_small e ie;
-      small_f = digit_small f if_;
-      small_g = digit_small g ig;
-      small_h = digit_small h ih;
+      digits = record {
+        a = a - 48;
+        b = b - 48;
+        c = c - 48;
+        d = d - 48;
+        e = e - 48;
+        f = f - 48;
+        g = g - 48;
+        h = h - 48;
+        small_a = digit_small a ia;
+        small_b = digit_small b ib;
+        small_c = digit_small c ic;
+        small_d = digit_small d id;
+        small_e = digit_small e ie;
+        small_f = digit_small f if_;
+        small_g = digit_small g ig;
+        small_h = digit_small h ih;
+      };
       word_is = word_above _ _ _ _ _ _ _ _ _ _ _ _ _ _ _ _ (digit_above a ia) (digit_above b ib) (digit_above c ic) (digit_above d id) (digit_above e ie) (digit_above f if_) (digit_above g ig) (digit_above h ih);
       value = digit_first a _ ia ∙ digit_on _ b _ ib ∙ digit_on _ c _ ic ∙ digit_on _ d _ id ∙ digit_on _ e _ ie ∙ digit_on _ f _ if_ ∙ digit_on _ g _ ig ∙ digit_on _ h _ ih ∙ no_more _;
     }

@@ -4,55 +4,21 @@ use Rattle.std.specs.List.{list_all}
 use Rattle.std.specs.Int.{from_le_bytes, w64}
 use Rattle.words.specs.Numbers.{is_digit, value_behind}
 use Rattle.words.proofs.JoinedLaws.{and_first, and_second}
-use Rattle.words.proofs.EightDigits.{Eight, all_fours, decimal_of, digit_above, digit_on, digit_small, eight, joined, word_of}
+use Rattle.words.proofs.EightDigits.{Digits, Eight, all_fours, decimal_in, digit_above, digit_on, digit_small, eight, joined, word_in, word_of}
 
 -- digits, and the word that has them in its last octets, and zeros before them
 pub record Moved (front : List ℕ) (ones : ℕ) : Type 0 where
-  pub a : ℕ
-  pub b : ℕ
-  pub c : ℕ
-  pub d : ℕ
-  pub e : ℕ
-  pub f : ℕ
-  pub g : ℕ
-  pub h : ℕ
-  pub small_a : a < 10
-  pub small_b : b < 10
-  pub small_c : c < 10
-  pub small_d : d < 10
-  pub small_e : e < 10
-  pub small_f : f < 10
-  pub small_g : g < 10
-  pub small_h : h < 10
-  pub ones_is : ones ≡ word_of a b c d e f g h
-  pub value : value_behind 10 0 front ≡ Some (decimal_of a b c d e f g h)
+  pub digits : Digits
+  pub ones_is : ones ≡ word_in digits
+  pub value : value_behind 10 0 front ≡ Some (decimal_in digits)
 
 zeros_first : (n : ℕ) (xs : List ℕ) → value_behind 10 0 (replicate n 48 ++ xs) ≡ value_behind 10 0 xs
 zeros_first zero xs = refl
 zeros_first (suc n) xs = digit_on 0 48 (replicate n 48 ++ xs) refl ∙ zeros_first n xs
 
 -- the octets before which zeros are put, as eight digits
-moved_by : (n word ones : ℕ) (xs : List ℕ) → (x : Eight (replicate n 48 ++ xs) word) → ones ≡ word_of x.a x.b x.c x.d x.e x.f x.g x.h → Moved xs ones
-moved_by n word ones xs x is = record {
-  a = x.a;
-  b = x.b;
-  c = x.c;
-  d = x.d;
-  e = x.e;
-  f = x.f;
-  g = x.g;
-  h = x.h;
-  small_a = x.small_a;
-  small_b = x.small_b;
-  small_c = x.small_c;
-  small_d = x.small_d;
-  small_e = x.small_e;
-  small_f = x.small_f;
-  small_g = x.small_g;
-  small_h = x.small_h;
-  ones_is = is;
-  value = sym (zeros_first n xs) ∙ x.value;
-}
+moved_by : (n word ones : ℕ) (xs : List ℕ) → (x : Eight (replicate n 48 ++ xs) word) → ones ≡ word_in x.digits → Moved xs ones
+moved_by n word ones xs x is = record { digits = x.digits; ones_is = is; value = sym (zeros_first n xs) ∙ x.value }
 
 cut_1 : (front behind all : ℕ) → front < 256 → all ≡ (front + 256 * behind) % 18446744073709551616 → all * 72057594037927936 % 18446744073709551616 ≡ front * 72057594037927936
 cut_1 front behind all small is = omega (arith, is, small)
@@ -295,15 +261,21 @@ moved_word octets count word long some few digits is =
 
 -- neighbours are put together without loss
 pub fits : (front : List ℕ) (n : ℕ) → Moved front n → n * 10 + n / 256 < 2 ^ 64
-fits front n x = omega (arith, x.ones_is, x.small_a, x.small_b, x.small_c, x.small_d, x.small_e, x.small_f, x.small_g, x.small_h)
+fits front n x =
+    let d = x.digits in
+    omega (arith, x.ones_is, d.small_a, d.small_b, d.small_c, d.small_d, d.small_e, d.small_f, d.small_g, d.small_h)
 
 -- and are the number
+joined_in : (front : List ℕ) (n : ℕ) (x : Moved front n) → joined n ≡ decimal_in x.digits
+joined_in front n x =
+    let d = x.digits in
+    all_fours d.a d.b d.c d.d d.e d.f d.g d.h n d.small_a d.small_b d.small_c d.small_d d.small_e d.small_f d.small_g d.small_h x.ones_is
+
 pub joined_is : (front : List ℕ) (n : ℕ) → Moved front n → value_behind 10 0 front ≡ Some (joined n)
-joined_is front n x =
-    x.value ∙ ap Some (sym (all_fours x.a x.b x.c x.d x.e x.f x.g x.h n x.small_a x.small_b x.small_c x.small_d x.small_e x.small_f x.small_g x.small_h x.ones_is))
+joined_is front n x = x.value ∙ ap Some (sym (joined_in front n x))
 
 pub joined_small : (front : List ℕ) (n : ℕ) → Moved front n → joined n < 10 ^ 8
 joined_small front n x =
-    let same = all_fours x.a x.b x.c x.d x.e x.f x.g x.h n x.small_a x.small_b x.small_c x.small_d x.small_e x.small_f x.small_g x.small_h x.ones_is in
-    let least : decimal_of x.a x.b x.c x.d x.e x.f x.g x.h < 10 ^ 8 = omega (arith, x.small_a, x.small_b, x.small_c, x.small_d, x.small_e, x.small_f, x.small_g, x.small_h) in
-    subst (λ k. k < 10 ^ 8) (sym same) least
+    let d = x.digits in
+    let least : decimal_in d < 10 ^ 8 = omega (arith, d.small_a, d.small_b, d.small_c, d.small_d, d.small_e, d.small_f, d.small_g, d.small_h) in
+    subst (λ k. k < 10 ^ 8) (sym (joined_in front n x)) least
