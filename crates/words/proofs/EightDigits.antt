@@ -1,5 +1,5 @@
 -- Eight digits in a word.
-use Rattle.std.proofs.Common.{◌≡◌, ◌<◌, ◌≤◌, ℕ, ◌+◌, ◌-◌, ◌*◌, ◌/◌, ◌%◌, true, List, [], ◌∷◌, length, Some, refl, ap, ◌∙◌, arith}
+use Rattle.std.proofs.Common.{◌≡◌, ◌<◌, ◌≤◌, ℕ, ◌+◌, ◌-◌, ◌*◌, ◌/◌, ◌%◌, ◌^◌, true, List, [], ◌∷◌, length, Some, refl, ap, ◌∙◌, arith}
 use Rattle.std.specs.Prelude.{option_and_then}
 use Rattle.std.specs.List.{list_all}
 use Rattle.std.specs.Int.{from_le_bytes, w64}
@@ -216,3 +216,52 @@ joined_fours apart = (apart * 100 + apart / 65536) % 65536 * 10000 + (apart * 10
 
 abbrev pub joined : ℕ → ℕ
 joined ones = joined_fours (fours_of (pairs_of ones))
+
+-- ---- products of 64 bits, which lose what no pair counts
+
+abbrev pub quick_pairs : ℕ → ℕ
+quick_pairs ones = ones * 2561 % 2 ^ 64 / 256
+
+abbrev pub quick_fours : ℕ → ℕ
+quick_fours apart = apart * 6553601 % 2 ^ 64 / 65536
+
+abbrev pub quick_joined_fours : ℕ → ℕ
+quick_joined_fours apart = quick_fours apart % 65536 * 10000 + quick_fours apart / 4294967296 % 65536
+
+abbrev pub quick_joined : ℕ → ℕ
+quick_joined ones = quick_joined_fours (fours_of (quick_pairs ones))
+
+cut_pairs : (n : ℕ) → n * 2561 % 18446744073709551616 / 256 ≡ (n * 10 + n / 256) % 72057594037927936
+cut_pairs n = omega arith
+
+cut_fours : (n : ℕ) → n * 6553601 % 18446744073709551616 / 65536 ≡ (n * 100 + n / 65536) % 281474976710656
+cut_fours n = omega arith
+
+first_kept : (n : ℕ) → n % 72057594037927936 % 256 ≡ n % 256
+first_kept n = omega arith
+
+second_kept : (n : ℕ) → n % 72057594037927936 / 65536 % 256 ≡ n / 65536 % 256
+second_kept n = omega arith
+
+third_kept : (n : ℕ) → n % 72057594037927936 / 4294967296 % 256 ≡ n / 4294967296 % 256
+third_kept n = omega arith
+
+fourth_kept : (n : ℕ) → n % 72057594037927936 / 281474976710656 % 256 ≡ n / 281474976710656 % 256
+fourth_kept n = omega arith
+
+pairs_kept : (n : ℕ) → fours_of (n % 72057594037927936) ≡ fours_of n
+pairs_kept n = omega (arith, first_kept n, second_kept n, third_kept n, fourth_kept n)
+
+front_kept : (n : ℕ) → n % 281474976710656 % 65536 ≡ n % 65536
+front_kept n = omega arith
+
+back_kept : (n : ℕ) → n % 281474976710656 / 4294967296 % 65536 ≡ n / 4294967296 % 65536
+back_kept n = omega arith
+
+fours_kept : (n : ℕ) → quick_joined_fours n ≡ joined_fours n
+fours_kept n =
+    let fours : ℕ = n * 100 + n / 65536 in
+    ap (λ k. k % 65536 * 10000 + k / 4294967296 % 65536) (cut_fours n) ∙ omega (arith, front_kept fours, back_kept fours)
+
+pub quick_is : (n : ℕ) → quick_joined n ≡ joined n
+quick_is n = fours_kept _ ∙ ap joined_fours (ap fours_of (cut_pairs n) ∙ pairs_kept (n * 10 + n / 256))

@@ -4,7 +4,7 @@ use Rattle.std.specs.List.{list_all}
 use Rattle.std.specs.Int.{from_le_bytes, w64}
 use Rattle.words.specs.Numbers.{is_digit, value_behind}
 use Rattle.words.proofs.JoinedLaws.{and_first, and_second}
-use Rattle.words.proofs.EightDigits.{Digits, Eight, all_fours, decimal_in, digit_above, digit_on, digit_small, eight, joined, word_in, word_of}
+use Rattle.words.proofs.EightDigits.{Digits, Eight, all_fours, decimal_in, digit_above, digit_on, digit_small, eight, quick_is, quick_joined, word_in, word_of}
 
 -- digits, and the word that has them in its last octets, and zeros before them
 pub record Moved (front : List ℕ) (ones : ℕ) : Type 0 where
@@ -259,22 +259,16 @@ pub moved_word : (octets : List ℕ) (count word : ℕ) → length octets ≡ 8 
 moved_word octets count word long some few digits is =
     moved octets count ((word + (2 ^ 64 - 3472328296227680304)) % 2 ^ 64) long some few digits (ap (λ n. (n + (2 ^ 64 - 3472328296227680304)) % 2 ^ 64) is)
 
--- neighbours are put together without loss
-pub fits : (front : List ℕ) (n : ℕ) → Moved front n → n * 10 + n / 256 < 2 ^ 64
-fits front n x =
-    let d = x.digits in
-    omega (arith, x.ones_is, d.small_a, d.small_b, d.small_c, d.small_d, d.small_e, d.small_f, d.small_g, d.small_h)
-
--- and are the number
-joined_in : (front : List ℕ) (n : ℕ) (x : Moved front n) → joined n ≡ decimal_in x.digits
+-- neighbours that are put together are the number
+joined_in : (front : List ℕ) (n : ℕ) (x : Moved front n) → quick_joined n ≡ decimal_in x.digits
 joined_in front n x =
     let d = x.digits in
-    all_fours d.a d.b d.c d.d d.e d.f d.g d.h n d.small_a d.small_b d.small_c d.small_d d.small_e d.small_f d.small_g d.small_h x.ones_is
+    quick_is n ∙ all_fours d.a d.b d.c d.d d.e d.f d.g d.h n d.small_a d.small_b d.small_c d.small_d d.small_e d.small_f d.small_g d.small_h x.ones_is
 
-pub joined_is : (front : List ℕ) (n : ℕ) → Moved front n → value_behind 10 0 front ≡ Some (joined n)
+pub joined_is : (front : List ℕ) (n : ℕ) → Moved front n → value_behind 10 0 front ≡ Some (quick_joined n)
 joined_is front n x = x.value ∙ ap Some (sym (joined_in front n x))
 
-pub joined_small : (front : List ℕ) (n : ℕ) → Moved front n → joined n < 10 ^ 8
+pub joined_small : (front : List ℕ) (n : ℕ) → Moved front n → quick_joined n < 10 ^ 8
 joined_small front n x =
     let d = x.digits in
     let least : decimal_in d < 10 ^ 8 = omega (arith, d.small_a, d.small_b, d.small_c, d.small_d, d.small_e, d.small_f, d.small_g, d.small_h) in

@@ -1,9 +1,9 @@
 -- Runs of digits, one after another.
-use Rattle.std.proofs.Common.{◌≡◌, ◌≤◌, ℕ, ◌+◌, ◌-◌, ◌*◌, ◌^◌, ◌<◌, zero, suc, true, List, [], ◌∷◌, ◌++◌, length, get_or, take, drop, None, Some, Option, refl, sym, ap, ◌∙◌, arith}
+use Rattle.std.proofs.Common.{◌≡◌, ◌≤◌, ℕ, ◌+◌, ◌*◌, ◌^◌, zero, suc, true, List, [], ◌∷◌, ◌++◌, length, get_or, take, drop, None, Some, Option, refl, sym, ap, ◌∙◌, arith}
 use Rattle.std.specs.Prelude.{option_and_then}
 use Rattle.std.specs.List.{list_all}
 use Rattle.std.proofs.lemmas.Grind.{pow_more}
-use Rattle.std.proofs.lemmas.List.{drop-drop, length-drop, length-take-le, take-append-drop, take-take, drop-take}
+use Rattle.std.proofs.lemmas.List.{length-drop, length-take-le, take-append-drop, take-take, drop-take}
 use Rattle.words.specs.Numbers.{digit_in, is_digit, value_behind}
 use Rattle.words.proofs.Digits.{value_append}
 use Rattle.words.proofs.JoinedLaws.{and_first, and_second}
@@ -53,14 +53,6 @@ digits_apart (x ∷ xs) ys all =
 -- digits, cut in two
 pub cut_digits : (i k : ℕ) (octets : List ℕ) → list_all is_digit (take (i + k) octets) ≡ true → (list_all is_digit (take i octets) ≡ true) × (list_all is_digit (take k (drop i octets)) ≡ true)
 cut_digits i k octets all = digits_apart (take i octets) (take k (drop i octets)) (ap (list_all is_digit) (sym (parts i k octets)) ∙ all)
-
--- eight digits and more, seen eight octets further on
-pub digits_behind : (more : ℕ) (octets front : List ℕ) → 8 < more → more ≤ 16 → front ≡ take 16 (drop 8 octets) → list_all is_digit (take more front) ≡ true → list_all is_digit (take (more - 8) (drop 16 octets)) ≡ true
-digits_behind more octets front some few is all =
-    let whole : 8 + (more - 8) ≡ more = omega arith in
-    let back : drop 8 front ≡ take 8 (drop 16 octets) = ap (drop 8) is ∙ drop-take 8 8 (drop 8 octets) ∙ ap (take 8) (drop-drop 8 8 octets) in
-    let rest : take (more - 8) (drop 8 front) ≡ take (more - 8) (drop 16 octets) = ap (take (more - 8)) back ∙ take-take (more - 8) 8 (drop 16 octets) (omega arith) in
-    ap (list_all is_digit) (sym rest) ∙ (cut_digits 8 (more - 8) front (ap (λ k. list_all is_digit (take k front)) whole ∙ all)).1
 
 -- the powers of ten, by a table
 pub tens : (i : ℕ) → i ≤ 8 → get_or (1 ∷ 10 ∷ 100 ∷ 1000 ∷ 10000 ∷ 100000 ∷ 1000000 ∷ 10000000 ∷ 100000000 ∷ []) i 0 ≡ 10 ^ i

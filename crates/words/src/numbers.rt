@@ -128,12 +128,14 @@ fn eight_digits(octets: &[u8; 8], count: usize) -> u64
 {
     let all = u64::from_le_bytes(*octets).wrapping_sub(0x3030_3030_3030_3030);
     let ones = all << (64 - 8 * count);
-    let pairs = ones * 10 + ones / 256;
+    // ones * 10 + ones / 256, by a product that loses what no pair counts.
+    let pairs = ones.wrapping_mul(2_561) / 256;
     let apart = pairs % 256
         + pairs / 65_536 % 256 * 65_536
         + pairs / 4_294_967_296 % 256 * 4_294_967_296
         + pairs / 281_474_976_710_656 % 256 * 281_474_976_710_656;
-    let fours = apart * 100 + apart / 65_536;
+    // apart * 100 + apart / 65,536, in the same way.
+    let fours = apart.wrapping_mul(6_553_601) / 65_536;
     fours % 65_536 * 10_000 + fours / 4_294_967_296 % 65_536
 }
 
@@ -210,7 +212,7 @@ pub fn front_short(octets: &[u8]) -> Option<(u64, &[u8])>
 }
 
 /// The number that digits at the front of octets are, of which the first 16 are this number, and what comes after them. None where they
-/// are more than 23, or fewer than 24 octets are there.
+/// are more than 24, or fewer than 32 octets are there.
 #[inline(always)]
 fn long_number<'a>(octets: &'a [u8], number: u64, rest: &'a [u8]) -> Option<(u128, &'a [u8])>
     requires there { LANES ≤ length octets.now }
@@ -218,16 +220,13 @@ fn long_number<'a>(octets: &'a [u8], number: u64, rest: &'a [u8]) -> Option<(u12
     requires rest { rest.now ≡ drop LANES octets.now }
     ensures { IfSome result (λ x. BeginsWithNumber octets.now x.0 x.1.now) }
 {
-    let (_, back) = octets.split_at(8);
-    let count = digits_in_front(back.first_chunk::<LANES>()?);
-    // The first eight are digits.
-    if count <= 8 {
+    let more = digits_in_front(rest.first_chunk::<LANES>()?);
+    if more == 0 {
         return Some((u128::from(number), rest));
     }
-    if count == LANES {
+    if more > 8 {
         return None;
     }
-    let more = count - 8;
     let (_, behind) = rest.split_at(more);
     let last = digits_of(rest, more);
     Some((
@@ -236,8 +235,8 @@ fn long_number<'a>(octets: &'a [u8], number: u64, rest: &'a [u8]) -> Option<(u12
     ))
 }
 
-/// The number that digits at the front of octets are, and what comes after them. None where it has none or more than 23, or fewer octets
-/// are there than are looked at: 16 for 15 digits, and 24 for more.
+/// The number that digits at the front of octets are, and what comes after them. None where it has none or more than 24, or fewer octets
+/// are there than are looked at: 16 for 15 digits, and 32 for more.
 #[inline(always)]
 pub fn front_number(octets: &[u8]) -> Option<(u128, &[u8])>
     ensures { IfSome result (λ x. BeginsWithNumber octets.now x.0 x.1.now) }

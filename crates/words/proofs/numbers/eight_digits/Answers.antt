@@ -1,5 +1,5 @@
 use Rattle.std.proofs.Common.{rules, arith}
-use Rattle.words.proofs.MovedDigits.{fits, joined_is, joined_small, moved_word}
+use Rattle.words.proofs.MovedDigits.{joined_is, joined_small, moved_word}
 use Rattle.words.proofs.numbers.eight_digits.Goals as goal
 
 pub returns-clause-value : goal.returns-clause-value
@@ -7,9 +7,3 @@ returns-clause-value c = joined_is _ _ (moved_word c.args.octets.now c.args.coun
 
 pub returns-clause-bound : goal.returns-clause-bound
 returns-clause-bound c = joined_small _ _ (moved_word c.args.octets.now c.args.count _ (search rules) c.requires.some c.requires.few c.requires.digits c.from_le_bytes-all.ensures)
-
-pub overflow_mul-pairs : goal.overflow_mul-pairs
-overflow_mul-pairs c = omega (arith, fits _ _ (moved_word c.args.octets.now c.args.count _ (search rules) c.requires.some c.requires.few c.requires.digits c.from_le_bytes-all.ensures))
-
-pub overflow_add-pairs : goal.overflow_add-pairs
-overflow_add-pairs c = omega (arith, fits _ _ (moved_word c.args.octets.now c.args.count _ (search rules) c.requires.some c.requires.few c.requires.digits c.from_le_bytes-all.ensures))
