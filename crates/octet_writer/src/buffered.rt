@@ -1,4 +1,4 @@
-//! A buffer in front of a writer: std's `BufWriter`, but that it takes the front of a chunk by a copy of the whole chunk.
+//! A buffer in front of a writer: std's `BufWriter`, but that a line is made where it is kept back.
 
 ghost use Rattle.std.specs.Prelude.{◌≡◌, ◌≤◌, ◌+◌, [], length, IfOk, IfErr, OnOk, OnErr};
 ghost use Rattle.std.specs.Io.{WritesAtMost};
@@ -6,10 +6,10 @@ ghost use Rattle.std.specs.Io.KnownBytes.{Appends, Keeps, WriteAppends};
 ghost use Rattle.std.specs.IoError.{error_kind};
 ghost use Rattle.octet_writer.specs.Buffered.{writer_buffer, writer_capacity, writer_contents, writer_inner};
 
+use crate::WriteFault;
 use crate::held::Held;
-use crate::put_front::{CHUNK, PutFront};
+use crate::put_line::{HEAD, Line, PutLine, put_apart, put_both};
 use crate::write_out::write_out;
-use crate::{WriteFault, put_rest};
 use std::alloc::{Allocator, Global};
 use std::io::{self, ErrorKind, Write};
 
@@ -115,13 +115,21 @@ impl<W: Write + Drop, A: Allocator> Write for BufWriter<W, A> {
     }
 }
 
-impl<W: Write + Drop, A: Allocator> PutFront for BufWriter<W, A> {
+impl<W: Write + Drop, A: Allocator> PutLine for BufWriter<W, A> {
     #[inline(always)]
-    fn put_front(&mut self, chunk: &[u8; CHUNK], length: usize) -> Result<(), WriteFault> {
-        if self.held.append_front(chunk, length) {
+    fn put_line<L: Line>(&mut self, line: &L) -> Result<(), WriteFault> {
+        if self.held.append_line(line) {
             return Ok(());
         }
-        put_rest(self, &chunk[..length])
+        put_apart(self, line)
+    }
+
+    #[inline(always)]
+    fn put_headed(&mut self, head: &[u8; HEAD], rest: &[u8]) -> Result<(), WriteFault> {
+        if self.held.append_headed(head, rest) {
+            return Ok(());
+        }
+        put_both(self, head, rest)
     }
 }
 

@@ -1,9 +1,9 @@
 //! The octets that a writer keeps back.
 
 ghost use Rattle.std.specs.Prelude.{◌≡◌, ◌+◌, ◌-◌, ◌≤◌, ◌++◌, length, take, drop, true, false, IfOk, vec_len};
-ghost use Rattle.octet_writer.specs.declared.put_front.TheConstants.{CHUNK};
+ghost use Rattle.octet_writer.specs.declared.put_line.TheConstants.{HEAD, LINE_ROOM};
 
-use crate::put_front::CHUNK;
+use crate::put_line::{HEAD, LINE_ROOM, Line};
 use std::alloc::{AllocError, Allocator};
 
 /// The first `filled` of these octets are held. Their length is the most that can be.
@@ -14,25 +14,48 @@ pub(crate) struct Held<A: Allocator> {
     ghost within: { filled ≤ vec_len octets },
 }
 
-/// Puts a chunk over as many octets.
+/// Puts a line over the front of room for it, and answers its length.
 #[inline(always)]
-fn chunk_over(room: &mut [u8], chunk: &[u8; CHUNK])
-    requires { length room.old ≡ CHUNK }
-    ensures { room.new ≡ chunk.now }
+fn line_over<L: Line>(room: &mut [u8], line: &L) -> usize
+    requires { length room.old ≡ LINE_ROOM }
+    ensures short { result ≤ LINE_ROOM }
+    ensures line { take result room.new ≡ L.text line.now }
 {
-    let Some(room) = room.as_mut_array::<CHUNK>() else {
+    let Some(room) = room.as_mut_array::<LINE_ROOM>() else {
         unreachable!()
     };
-    *room = *chunk;
+    line.put_into(room)
 }
 
-/// Puts a whole chunk at a place.
+/// Puts a line at a place, and answers its length. What is behind it may change, as far as there is room for a line.
 #[inline(always)]
-fn chunk_at(octets: &mut [u8], at: usize, chunk: &[u8; CHUNK])
-    requires { at + CHUNK ≤ length octets.old }
-    ensures { take (at + CHUNK) octets.new ≡ take at octets.old ++ chunk.now }
+fn line_at<L: Line>(octets: &mut [u8], at: usize, line: &L) -> usize
+    requires { at + LINE_ROOM ≤ length octets.old }
+    ensures short { result ≤ LINE_ROOM }
+    ensures line { take (at + result) octets.new ≡ take at octets.old ++ L.text line.now }
 {
-    chunk_over(&mut octets[at..at + CHUNK], chunk);
+    line_over(&mut octets[at..at + LINE_ROOM], line)
+}
+
+/// Puts a head over as many octets.
+#[inline(always)]
+fn head_over(room: &mut [u8], head: &[u8; HEAD])
+    requires { length room.old ≡ HEAD }
+    ensures { room.new ≡ head.now }
+{
+    let Some(room) = room.as_mut_array::<HEAD>() else {
+        unreachable!()
+    };
+    *room = *head;
+}
+
+/// Puts a head at a place.
+#[inline(always)]
+fn head_at(octets: &mut [u8], at: usize, head: &[u8; HEAD])
+    requires { at + HEAD ≤ length octets.old }
+    ensures { take (at + HEAD) octets.new ≡ take at octets.old ++ head.now }
+{
+    head_over(&mut octets[at..at + HEAD], head);
 }
 
 impl<A: Allocator> Held<A> {
@@ -80,19 +103,46 @@ impl<A: Allocator> Held<A> {
         self.filled = end;
     }
 
-    /// Holds the first `length` octets of a chunk too, where there is room for the whole of it, and answers whether there is.
+    /// Holds a line too, where there is room for any line, and answers whether there is.
     #[inline(always)]
-    pub(crate) fn append_front(&mut self, chunk: &[u8; CHUNK], length: usize) -> bool
-        requires { length ≤ CHUNK }
-        ensures held { result ≡ true → take self.new.filled self.new.octets.items ≡ take self.old.filled self.old.octets.items ++ take length chunk.now }
+    pub(crate) fn append_line<L: Line>(&mut self, line: &L) -> bool
+        ensures held { result ≡ true → take self.new.filled self.new.octets.items ≡ take self.old.filled self.old.octets.items ++ L.text line.now }
         ensures none { result ≡ false → self.new ≡ self.old }
     {
-        if self.room() < CHUNK {
+        if self.room() < LINE_ROOM {
             return false;
         }
         let filled = self.filled;
-        chunk_at(self.octets.as_mut_slice(), filled, chunk);
+        let length = line_at(self.octets.as_mut_slice(), filled, line);
         self.filled = filled + length;
+        true
+    }
+
+    /// Holds a head too.
+    #[inline(always)]
+    pub(crate) fn append_head(&mut self, head: &[u8; HEAD])
+        requires { self.old.filled + HEAD ≤ vec_len self.old.octets }
+        ensures held { take self.new.filled self.new.octets.items ≡ take self.old.filled self.old.octets.items ++ head.now }
+        ensures filled { self.new.filled ≡ self.old.filled + HEAD }
+        ensures capacity { vec_len self.new.octets ≡ vec_len self.old.octets }
+    {
+        let filled = self.filled;
+        head_at(self.octets.as_mut_slice(), filled, head);
+        self.filled = filled + HEAD;
+    }
+
+    /// Holds a head and what follows it too, where there is room for both, and answers whether there is.
+    #[inline(always)]
+    pub(crate) fn append_headed(&mut self, head: &[u8; HEAD], rest: &[u8]) -> bool
+        ensures held { result ≡ true → take self.new.filled self.new.octets.items ≡ take self.old.filled self.old.octets.items ++ (head.now ++ rest.now) }
+        ensures none { result ≡ false → self.new ≡ self.old }
+    {
+        let room = self.room();
+        if room < HEAD || room - HEAD < rest.len() {
+            return false;
+        }
+        self.append_head(head);
+        self.append(rest);
         true
     }
 
