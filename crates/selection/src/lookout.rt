@@ -35,6 +35,17 @@ fn is_still<G: Gates>(gates: &G) -> bool
     gates.pending().is_none() && gates.announced().is_none()
 }
 
+/// Gates for which no command is to come show at a later moment, in picoseconds, what they do where they stand. It runs nothing: its
+/// contract is its law.
+fn stay_till<G: Gates>(gates: &G, t: u128)
+    requires sound { G.is_sound gates.now }
+    requires still { IsStill (G.history gates.now) (G.moment gates.now) }
+    requires later { G.moment gates.now ≤ t }
+    requires within { t ≤ greatest_moment }
+    ensures history { G.history gates.now ≡ kept (G.history gates.now) t }
+    ensures current { IsCurrent (G.history gates.now) t }
+{}
+
 /// Moves gates for which a command is to come to a moment, in picoseconds; where none is (`still`), the gates show there what they do
 /// where they stand. Answers whether none is to come then.
 fn catch_up<G: Gates>(gates: &mut G, still: bool, t: u128, visits: &mut Visits) -> bool
@@ -159,10 +170,10 @@ impl<G: Gates> Lookout<G> {
         ensures idle { result ≡ true → (m : ℕ) → self.old.moment ≤ m → free ≤ m → m < self.new.moment → first_choice self.old.history m self.old.needs ≡ None }
         ensures kept { result ≡ false → self.new ≡ self.old }
     {
-        if !self.still || free.max(self.moment).max(self.idle) < until {
+        if !self.still || (self.idle < until && free < until) {
             return false;
         }
-        self.still = catch_up(&mut self.gates, self.still, until, &mut Visits::zero());
+        stay_till(&self.gates, until);
         self.moment = until;
         true
     }
