@@ -160,7 +160,7 @@ impl<G: Gates> Lookout<G> {
         ensures idle { result ≡ true → (m : ℕ) → self.old.moment ≤ m → free ≤ m → m < self.new.moment → first_choice self.old.history m self.old.needs ≡ None }
         ensures kept { result ≡ false → self.new ≡ self.old }
     {
-        if !self.still || free.max(self.moment).max(self.idle) < until {
+        if !self.still || self.idle < until && free.max(self.moment) < until {
             return false;
         }
         self.still = catch_up(&mut self.gates, self.still, until, &mut Visits::zero());
