@@ -144,6 +144,7 @@ impl AcceptedList {
 
     /// The first boundary from which the last state is held for a change, in picoseconds.
     #[tactic(auto, using(crate::proofs::HoldLaws::boundary_not_before))]
+    #[inline(never)]
     pub(crate) fn hold_moment(&self, command: &AcceptedCommand) -> u128
         requires sound { IsSchedule self.now.schedule }
         requires start { self.now.change ≤ 2 * greatest_moment }

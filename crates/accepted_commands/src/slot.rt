@@ -49,6 +49,7 @@ impl CommandSlot {
     }
 
     /// What is in another slot, which is empty then.
+    #[inline(never)]
     pub fn take_from(&mut self, other: &mut CommandSlot)
         ensures taken { self.new ≡ other.old }
         ensures left { other.new ≡ None }

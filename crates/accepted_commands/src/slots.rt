@@ -158,6 +158,7 @@ impl CommandSlots {
     }
 
     /// Lets the list in force stand where it stands now, wherever it stood.
+    #[inline(never)]
     fn place(&mut self, visits: &mut Visits)
         ensures commands { self.new.commands ≡ self.old.commands }
         ensures stands { Stands self.new.commands.in_force self.new.commands.pending self.new.commands.moment self.new.position }

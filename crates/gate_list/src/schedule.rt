@@ -1,7 +1,8 @@
 //! Schedules: a gate control list with its times, and what it says about open time.
-ghost use Rattle.std.specs.Prelude.{◌≡◌, ◌<◌, ◌≤◌, ◌+◌, ◌^◌, OnErr, OnOk, Some, length, max, slice_get, sum_by};
+ghost use Rattle.std.specs.Prelude.{◌≡◌, ◌<◌, ◌≤◌, ℕ, ◌+◌, ◌*◌, ◌^◌, None, OnErr, OnOk, Some, length, max, slice_get, sum_by};
 ghost use Rattle.gate_list.specs.Closed.{closed_plan};
-ghost use Rattle.gate_list.specs.Gate.{Plan, IsSchedule, in_ps, prefix, change_of, boundary_from, plan_with, plan_fault, ok_unless, least_interval, first_shorter, keeps_apart, is_apart_in};
+ghost use Rattle.gate_list.specs.Gate.{Plan, IsSchedule, IsShownAt, in_ps, mask_since, prefix, change_of, boundary_from, plan_with, plan_fault, ok_unless, least_interval, first_shorter, keeps_apart, is_apart_in};
+ghost use Rattle.gate_list.specs.Open.{open_while};
 ghost use Rattle.gate_list.specs.Stay.{AreStays, AreClosed, TellOpenTime, TellsOpenTime, stay_from};
 ghost use Rattle.gate_list.specs.Visits.{one_more};
 ghost use Rattle.gate_list.specs.declared.Stay.TheVariants.{Lasts};
@@ -328,5 +329,21 @@ impl Schedule {
         ensures unseen { in_ps self.now.cycle ≤ prefix self.now.entries i → result ≡ Lasts 0 }
     {
         stay_at(&self.stays, class as usize, i)
+    }
+
+    /// Whether a class stays open for so long from a moment on, which is so long after the start of the entry of an index and before
+    /// its end, where the list is repeated for ever. Both times are in picoseconds. It looks at no entry.
+    #[inline(always)]
+    pub fn stays_open(&self, i: usize, class: u8, past: u64, for_ps: u64) -> bool
+        requires class { class < CLASSES }
+        requires some { 0 < for_ps }
+        requires within { prefix self.now.entries i + past < in_ps self.now.cycle }
+        requires shown { IsShownAt self.now.entries (prefix self.now.entries i + past) i }
+        ensures { (start k : ℕ) → result ≡ open_while (mask_since (Some self.now) start None) class (start + in_ps self.now.cycle * k + (prefix self.now.entries i + past)) for_ps }
+    {
+        match self.stay(i, class) {
+            Stay::Always => true,
+            Stay::Lasts(t) => u128::from(past) + u128::from(for_ps) <= t,
+        }
     }
 }

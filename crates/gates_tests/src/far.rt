@@ -5,6 +5,7 @@ ghost use Rattle.list_config.specs.Current.{IsCurrent};
 use gate_list::{Entry, GateList, Schedule, Visits};
 use jumping::Jumping;
 use list_config::Gates;
+use queue_heads::Heads;
 use std::process::Abort;
 use wire_time::Rate;
 
@@ -72,12 +73,11 @@ fn far_searches_take_few_visits(rt: HostRuntime) {
         (1, 1000000, 16000000),
         (1, 1000001, FAR),
         (2, 1, FAR),
-        (2, 0, 15000000),
     ] {
-        let mut needs = [None; 8];
-        needs[class] = Some(length);
+        let mut heads = Heads::none();
+        heads.set(class, Some(length));
         let mut visits = Visits::zero();
-        assert_eq!(rt; gates.quiet(&needs, FAR, &mut visits), want);
+        assert_eq!(rt; gates.quiet(&heads, FAR, &mut visits), want);
         assert!(rt; visits.count() <= 48);
     }
 }

@@ -3,7 +3,7 @@
 
 use gate_list::{Entry, GateFault, GateList, Schedule, Stay, Visits, laws};
 use std::process::Abort;
-use wire_time::Rate;
+use wire_time::{CLASSES, Rate};
 
 const ALL_OPEN: Entry = Entry {
     mask: 0xff,
@@ -20,7 +20,7 @@ fn schedule_of(rt: &impl Abort, entries: &[Entry], cycle_ns: u64) -> Schedule {
 /// The stay that a row says.
 fn stay_in(rt: &impl Abort, schedule: &Schedule, i: usize, class: usize) -> Stay {
     assert!(rt; i < schedule.len());
-    assert!(rt; class < 8);
+    assert!(rt; class < CLASSES as u8);
     schedule.row(i, &mut Visits::zero()).stay[class]
 }
 

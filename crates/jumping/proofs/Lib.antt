@@ -1,6 +1,7 @@
 pub mod SteadyLaws
 pub mod SearchLaws
 pub mod RepeatLaws
+pub mod RoundLaws
 pub mod LegLaws
 pub mod ListedLaws
 pub mod QuietLaws

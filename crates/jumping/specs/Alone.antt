@@ -1,28 +1,33 @@
 -- The search in a list that no other command follows.
-use Rattle.std.specs.Prelude.{◌≡◌, ◌<◌, ◌≤◌, ℕ, true, List, All, Option, Some, None, slice_get}
-use Rattle.std.specs.Option.{ForSome}
-use Rattle.wire_time.specs.Moment.{greatest_moment}
-use Rattle.gate_list.specs.Gate.{IsSchedule, mask_since, opens}
+use Rattle.std.specs.Prelude.{◌≡◌, ◌<◌, ℕ, true, List, Option, Some, None, is_some, length, slice_get, slice_index_or}
+use Rattle.wire_time.specs.declared.TheConstants.{CLASSES}
+use Rattle.gate_list.specs.Gate.{Plan, IsShownAt, mask_since, opens, prefix}
 use Rattle.list_position.specs.declared.Position.{Position}
 use Rattle.list_position.specs.Position.{IsPlaced}
 use Rattle.accepted_commands.specs.declared.command.AcceptedList.{AcceptedList}
 use Rattle.accepted_commands.specs.InForce.{Standing, accepted_list}
-use Rattle.jumping.specs.declared.alone.LoneSearch.{LoneSearch}
+use Rattle.jumping.specs.declared.alone.Place.{Place}
 use Rattle.jumping.specs.declared.alone.Shown.{Shown}
 
 -- what a list shows since its change, repeated for ever
 abbrev pub shows_alone : AcceptedList → ℕ → ℕ
 shows_alone list = mask_since (Some list.schedule) list.change None
 
--- a mask has each class with a need, and each of them needs some time
-abbrev pub HaveNeeds : List (Option ℕ) → ℕ → Type 0
-HaveNeeds needs classes = (class d : ℕ) → slice_get needs class ≡ Some (Some d) → (0 < d) × (opens classes class ≡ true)
+-- what a plan shows at each place of its cycles, from the start of the first one on
+abbrev pub repeated : Plan → ℕ → ℕ
+repeated plan = mask_since (Some plan) 0 None
 
--- a search in a list that can be walked, with its classes
-pub record IsAlone (search : LoneSearch) : Type 0 where
-  pub schedule : IsSchedule search.list.now.schedule
-  pub needs : All (λ need. ForSome need (λ d. d ≤ greatest_moment)) search.needs.now
-  pub classes : HaveNeeds search.needs.now search.classes
+-- the place of a cycle falls in the entry
+pub record IsPlace (plan : Plan) (place : Place) : Type 0 where
+  pub shown : IsShownAt plan.entries place.at place.index
+  pub start_is : place.start ≡ prefix plan.entries place.index
+
+-- a mask has the classes that are open at a place and in which a frame waits, and each head needs some time
+pub record AreAsked (plan : Plan) (needs : List (Option ℕ)) (at asked : ℕ) : Type 0 where
+  pub count : length needs ≡ CLASSES
+  pub timed : (class d : ℕ) → slice_get needs class ≡ Some (Some d) → 0 < d
+  pub opened : (class d : ℕ) → slice_get needs class ≡ Some (Some d) → opens (repeated plan at) class ≡ true → opens asked class ≡ true
+  pub waits : (class : ℕ) → class < CLASSES → opens asked class ≡ true → is_some (slice_index_or needs class None) ≡ true
 
 -- a list that stands somewhere at the moment shows the entry
 pub record IsShown (list : AcceptedList) (shown : Shown) : Type 0 where

@@ -1,6 +1,6 @@
 -- The words of contracts and proofs, from one place.
 pub use Rattle.wire_time.specs.Moment.{greatest_moment}
-pub use Rattle.gate_list.specs.Gate.{IsSchedule, Plan, has_come, in_ps, mask_since, opens}
+pub use Rattle.gate_list.specs.Gate.{IsSchedule, IsShownAt, Plan, has_come, in_ps, mask_since, opens, prefix}
 unfoldable pub use Rattle.gate_list.specs.Open.{open_while}
 pub use Rattle.gate_list.specs.Stay.{NoneFrom}
 pub use Rattle.cycle_timer.specs.Cycle.{Cycle}
@@ -18,6 +18,6 @@ pub use Rattle.accepted_commands.specs.InForce.{Stands, edge_at, shown_by}
 pub use Rattle.accepted_commands.specs.declared.leg.Leg.TheVariants.{Listed}
 pub use Rattle.accepted_commands.specs.declared.leg.ListedLeg.{ListedLeg}
 pub use Rattle.accepted_commands.specs.declared.leg.Rest.{Rest}
-pub use Rattle.jumping.specs.Alone.{HaveNeeds, IsAlone, IsLoneList, IsShown, shows_alone}
+pub use Rattle.jumping.specs.Alone.{AreAsked, IsLoneList, IsPlace, IsShown, repeated, shows_alone}
 pub use Rattle.jumping.specs.Edge.{IsEdge, NothingComes, OneEntryComes}
 pub use Rattle.jumping.specs.Search.{Fits, IsSearch, NoneFits, Searched, most_in, most_visits, up_to}

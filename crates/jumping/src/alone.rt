@@ -1,29 +1,11 @@
 //! The search in a list that no other command follows: what it shows repeats for ever, so that one cycle decides all.
-ghost use Rattle.std.specs.Prelude.{◌≡◌, ℕ, ◌+◌, ◌*◌, ◌<◌, ◌≤◌, IfSome, Some, None, true, false, All, length, min, slice_get};
-ghost use Rattle.std.specs.Option.{ForSome};
-ghost use Rattle.jumping.specs.Words.{greatest_moment, IsSchedule, in_ps, opens, open_while, IsPlaced, Fits, Searched, HaveNeeds, IsAlone, IsShown, shows_alone};
+ghost use Rattle.std.specs.Prelude.{◌≡◌, ℕ, ◌+◌, ◌*◌, ◌<◌, ◌≤◌, Some, None, true, false, length, slice_get};
+ghost use Rattle.jumping.specs.Words.{greatest_moment, IsSchedule, in_ps, open_while, IsPlaced, Fits, Searched, AreAsked, IsPlace, IsShown, repeated, shows_alone};
 
 use accepted_commands::AcceptedList;
-use gate_list::{Stay, Visits, is_open};
-use list_position::Position;
+use gate_list::{Schedule, Stay, Visits, is_open};
+use queue_heads::{Heads, highest, without};
 use wire_time::CLASSES;
-
-/// The classes with a need: bit c is class c; none: some class needs no time at all.
-fn classes_in_need(needs: &[Option<u128>; CLASSES]) -> Option<u8>
-    ensures some { IfSome result (HaveNeeds needs.now) }
-    ensures none { result ≡ None → (mask : ℕ → ℕ) (u : ℕ) → Fits mask needs.now u }
-{
-    let mut classes = 0;
-    for class in 0..CLASSES as u8 {
-        if let Some(length) = needs[class as usize] {
-            if length == 0 {
-                return None;
-            }
-            classes |= 1 << class;
-        }
-    }
-    Some(classes)
-}
 
 /// The entry that a list shows at a moment: its index, and when it started. Both moments are in picoseconds.
 #[derive(Clone, Copy)]
@@ -46,129 +28,6 @@ fn entry_stays_open(list: &AcceptedList, class: u8, length: u128, shown: &Shown)
     match list.schedule.stay(shown.index, class) {
         Stay::Always => true,
         Stay::Lasts(t) => shown.at - shown.start + length <= t,
-    }
-}
-
-/// A search in a list that goes on for ever: the list, what each class needs, in picoseconds, and the classes with a need, none of
-/// which needs no time at all.
-#[derive(Drop)]
-struct LoneSearch<'a> {
-    list: &'a AcceptedList,
-    needs: &'a [Option<u128>; CLASSES],
-    classes: u8,
-}
-
-impl LoneSearch<'_> {
-    /// Whether a class has a need and stays open through it.
-    fn class_fits(&self, class: u8, shown: &Shown) -> bool
-        requires alone { IsAlone self.now }
-        requires shown { IsShown self.now.list.now shown.now }
-        requires near { shown.now.at ≤ 2 * greatest_moment }
-        requires class { class < CLASSES }
-        ensures some { result ≡ true → Fits (shows_alone self.now.list.now) self.now.needs.now shown.now.at }
-        ensures none { result ≡ false → (d : ℕ) → slice_get self.now.needs.now class ≡ Some (Some d) → open_while (shows_alone self.now.list.now) class shown.now.at d ≡ false }
-    {
-        match self.needs[class as usize] {
-            None => false,
-            Some(length) => entry_stays_open(self.list, class, length, shown),
-        }
-    }
-
-    /// Whether some class of a mask has a need and stays open through it.
-    fn some_fits(&self, mask: u8, shown: &Shown) -> bool
-        requires alone { IsAlone self.now }
-        requires shown { IsShown self.now.list.now shown.now }
-        requires near { shown.now.at ≤ 2 * greatest_moment }
-        ensures some { result ≡ true → Fits (shows_alone self.now.list.now) self.now.needs.now shown.now.at }
-        ensures none { result ≡ false → (class d : ℕ) → opens mask class ≡ true → slice_get self.now.needs.now class ≡ Some (Some d) → open_while (shows_alone self.now.list.now) class shown.now.at d ≡ false }
-    {
-        let mut class = 0;
-        let mut left = mask;
-        while left != 0 {
-            if left % 2 == 1 && self.class_fits(class, shown) {
-                return true;
-            }
-            left /= 2;
-            class += 1;
-        }
-        false
-    }
-
-    /// Whether some class fits where the list stands so at a moment. Where none of those with a need is open, their masks decide.
-    fn fits_at(&self, from: u128, position: &Position) -> bool
-        requires alone { IsAlone self.now }
-        requires stands { IsPlaced self.now.list.now.schedule self.now.list.now.change None from position.now }
-        requires near { from ≤ 2 * greatest_moment }
-        ensures some { result ≡ true → Fits (shows_alone self.now.list.now) self.now.needs.now from }
-        ensures none { result ≡ false → (class d : ℕ) → slice_get self.now.needs.now class ≡ Some (Some d) → open_while (shows_alone self.now.list.now) class from d ≡ false }
-    {
-        let open = position.walk.mask() & self.classes;
-        if open == 0 {
-            return false;
-        }
-        let shown = Shown {
-            index: position.walk.index(),
-            start: position.walk.entry_start(),
-            at: from,
-        };
-        self.some_fits(open, &shown)
-    }
-
-    /// The first moment at which some class fits, from where the list stands so at a moment and before the end of its cycle. Each
-    /// further entry is a visit.
-    fn in_cycle(
-        &self,
-        from: u128,
-        first: &Position,
-        stop: u128,
-        visits: &mut Visits,
-    ) -> Option<u128>
-        requires alone { IsAlone self.now }
-        requires stands { IsPlaced self.now.list.now.schedule self.now.list.now.change None from first.now }
-        requires some { from < stop }
-        requires within { stop ≤ 2 * greatest_moment }
-        ensures searched { Searched (shows_alone self.now.list.now) self.now.needs.now from (min stop first.now.timer.next_start) result }
-        ensures counted { visits.old ≤ visits.new }
-        ensures visits { visits.new + first.now.walk.index + 1 ≤ visits.old + length self.now.list.now.schedule.entries }
-    {
-        if self.fits_at(from, first) {
-            return Some(from);
-        }
-        let limit = stop.min(first.timer.next_start());
-        let mut position = *first;
-        while let Some(end) = position.walk.entry_end() {
-            if limit <= end {
-                return None;
-            }
-            position.next_entry(&self.list.schedule, visits);
-            if self.fits_at(end, &position) {
-                return Some(end);
-            }
-        }
-        None
-    }
-
-    /// The first such moment from where the list in force stands, in the cycle that runs and in the next one.
-    fn in_two(&self, from: u128, stop: u128, visits: &mut Visits) -> Option<u128>
-        requires alone { IsAlone self.now }
-        requires stands { IsPlaced self.now.list.now.schedule self.now.list.now.change None from self.now.list.now.position }
-        requires some { from < stop }
-        requires within { stop ≤ 2 * greatest_moment }
-        requires near { stop ≤ from + in_ps self.now.list.now.schedule.cycle }
-        ensures searched { Searched (shows_alone self.now.list.now) self.now.needs.now from stop result }
-        ensures counted { visits.old ≤ visits.new }
-        ensures visits { visits.new ≤ visits.old + 2 * length self.now.list.now.schedule.entries }
-    {
-        let position = &self.list.position;
-        if let Some(found) = self.in_cycle(from, position, stop, visits) {
-            return Some(found);
-        }
-        let cycle_end = position.timer.next_start();
-        if stop <= cycle_end {
-            return None;
-        }
-        let next = position.cycle_at(&self.list.schedule, None, cycle_end, visits);
-        self.in_cycle(cycle_end, &next, stop, visits)
     }
 }
 
@@ -196,34 +55,149 @@ pub(crate) fn stays_open_alone(list: &AcceptedList, from: u128, class: u8, lengt
     entry_stays_open(list, class, length, &shown)
 }
 
-/// The first moment from `from` on and before `before`, in picoseconds, at which some class with a need stays open through it, in a
+/// The entry that a cycle shows at a place, in which it is asked: its index, and where it starts. Both times are in picoseconds from the
+/// start of the cycle.
+#[derive(Clone, Copy)]
+struct Place {
+    index: usize,
+    start: u64,
+    at: u64,
+}
+
+/// Whether some class stays open for as long as its head needs, of those that are open at a place and in which a frame waits.
+#[inline(always)]
+fn some_fits(schedule: &Schedule, heads: &Heads, asked: u8, place: Place) -> bool
+    requires schedule { IsSchedule schedule.now }
+    requires place { IsPlace schedule.now place }
+    requires within { place.at < in_ps schedule.now.cycle }
+    requires asked { AreAsked schedule.now heads.now place.at asked }
+    ensures some { result ≡ true → Fits (repeated schedule.now) heads.now place.at }
+    ensures none { result ≡ false → (class d : ℕ) → slice_get heads.now class ≡ Some (Some d) → open_while (repeated schedule.now) class place.at d ≡ false }
+{
+    let past = place.at - place.start;
+    let mut left = asked;
+    while left != 0 {
+        let class = highest(left);
+        if schedule.stays_open(place.index, class, past, heads.need(class)) {
+            return true;
+        }
+        left = without(left, class);
+    }
+    false
+}
+
+/// The first place from one on and before another of the same cycle, in picoseconds, at which some class may start that stays open
+/// for as long as its head needs. Each entry is a visit.
+fn search_cycle(
+    schedule: &Schedule,
+    heads: &Heads,
+    from: Place,
+    stop: u64,
+    visits: &mut Visits,
+) -> Option<u64>
+    requires schedule { IsSchedule schedule.now }
+    requires place { IsPlace schedule.now from }
+    requires within { stop ≤ in_ps schedule.now.cycle }
+    ensures searched { Searched (repeated schedule.now) heads.now from.at stop result }
+    ensures counted { visits.old ≤ visits.new }
+    ensures visits { visits.new + from.index ≤ visits.old + length schedule.now.entries }
+{
+    let waits = heads.waits();
+    let mut place = from;
+    while place.at < stop {
+        // The count fits a u64, which makes it no less after one more.
+        let _ = visits.count();
+        let entry = schedule.entry(place.index, visits);
+        if some_fits(schedule, heads, entry.mask & waits, place) {
+            return Some(place.at);
+        }
+        place.index += 1;
+        if place.index == schedule.len() {
+            return None;
+        }
+        place.start += 1000 * u64::from(entry.interval);
+        place.at = place.start;
+    }
+    None
+}
+
+/// The first such place from one on, and before another in the same cycle or in the next one, which goes on counting: in picoseconds
+/// from the start of the cycle.
+fn search_two(
+    schedule: &Schedule,
+    heads: &Heads,
+    from: Place,
+    stop: u64,
+    visits: &mut Visits,
+) -> Option<u64>
+    requires schedule { IsSchedule schedule.now }
+    requires place { IsPlace schedule.now from }
+    requires inside { from.at < in_ps schedule.now.cycle }
+    requires within { stop ≤ 2 * in_ps schedule.now.cycle }
+    ensures searched { Searched (repeated schedule.now) heads.now from.at stop result }
+    ensures counted { visits.old ≤ visits.new }
+    ensures visits { visits.new ≤ visits.old + 2 * length schedule.now.entries }
+{
+    let cycle = 1000 * schedule.cycle_ns();
+    if let Some(found) = search_cycle(schedule, heads, from, stop.min(cycle), visits) {
+        return Some(found);
+    }
+    if stop <= cycle {
+        return None;
+    }
+    let first = Place {
+        index: 0,
+        start: 0,
+        at: 0,
+    };
+    match search_cycle(schedule, heads, first, stop - cycle, visits) {
+        Some(place) => Some(cycle + place),
+        None => None,
+    }
+}
+
+/// Where a list stands in its cycle at a moment, in picoseconds.
+fn place_in(list: &AcceptedList, from: u128) -> Place
+    requires schedule { IsSchedule list.now.schedule }
+    requires stands { IsPlaced list.now.schedule list.now.change None from list.now.position }
+    ensures place { IsPlace list.now.schedule result }
+    ensures inside { result.at < in_ps list.now.schedule.cycle }
+    ensures at { list.now.position.timer.started + result.at ≡ from }
+{
+    let began = list.position.timer.started();
+    let walk = &list.position.walk;
+    Place {
+        index: walk.index(),
+        start: (walk.entry_start() - began) as u64,
+        at: (from - began) as u64,
+    }
+}
+
+/// The first moment from `from` on and before `before`, in picoseconds, at which some class may start, by what the heads need, in a
 /// list that stands so at `from` and that nothing follows. Where there is none within a cycle, there is none at all.
 pub(crate) fn search_alone(
     list: &AcceptedList,
     from: u128,
-    needs: &[Option<u128>; CLASSES],
+    heads: &Heads,
     before: u128,
     visits: &mut Visits,
 ) -> Option<u128>
     requires schedule { IsSchedule list.now.schedule }
     requires stands { IsPlaced list.now.schedule list.now.change None from list.now.position }
-    requires needs { All (λ need. ForSome need (λ d. d ≤ greatest_moment)) needs.now }
     requires within { before ≤ 2 * greatest_moment }
-    ensures searched { Searched (shows_alone list.now) needs.now from before result }
+    ensures searched { Searched (shows_alone list.now) heads.now from before result }
     ensures counted { visits.old ≤ visits.new }
     ensures visits { visits.new ≤ visits.old + 2 * length list.now.schedule.entries }
 {
     if before <= from {
         return None;
     }
-    let Some(classes) = classes_in_need(needs) else {
-        return Some(from);
-    };
-    let search = LoneSearch {
-        list,
-        needs,
-        classes,
-    };
-    let cycle = list.position.timer.next_start() - list.position.timer.started();
-    search.in_two(from, before.min(from + cycle), visits)
+    let place = place_in(list, from);
+    let cycle = 1000 * list.schedule.cycle_ns();
+    let ahead = (before - from).min(u128::from(cycle)) as u64;
+    let stop = place.at + ahead;
+    match search_two(&list.schedule, heads, place, stop, visits) {
+        Some(found) => Some(from + u128::from(found - place.at)),
+        None => None,
+    }
 }

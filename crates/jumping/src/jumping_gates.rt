@@ -12,6 +12,7 @@ use accepted_commands::{
 use gate_list::{Schedule, Visits, is_open};
 use list_config::{Gates, Installed, NotNow};
 use list_position::{Need, Position};
+use queue_heads::Heads;
 use std::marker::Model;
 use wire_time::CLASSES;
 
@@ -140,21 +141,20 @@ fn move_on(slots: &mut CommandSlots, edge: &mut Option<u128>, t: u128, visits: &
 fn search_legs(
     slots: &CommandSlots,
     resumed: &Option<Position>,
-    needs: &[Option<u128>; CLASSES],
+    heads: &Heads,
     before: u128,
     visits: &mut Visits,
 ) -> Option<u128>
     requires sound { AreCommands slots.now.commands }
     requires stands { Stands slots.now.commands.in_force slots.now.commands.pending slots.now.commands.moment slots.now.position }
     requires resumes { Resumes slots.now.commands resumed.now }
-    requires needs { All (λ need. ForSome need (λ d. d ≤ greatest_moment)) needs.now }
     requires within { before ≤ 2 * greatest_moment }
-    ensures searched { Searched (mask_ahead slots.now.commands) needs.now slots.now.commands.moment before result }
+    ensures searched { Searched (mask_ahead slots.now.commands) heads.now slots.now.commands.moment before result }
     ensures counted { visits.old ≤ visits.new }
     ensures visits { visits.new ≤ visits.old + most_in (stretches_of slots.now.commands) }
 {
     let ahead = legs_ahead(slots, resumed);
-    search(&ahead.leg, &ahead.rest, needs, before, visits)
+    search(&ahead.leg, &ahead.rest, &heads.list(), before, visits)
 }
 
 /// The first moment from now on and before `before`, in picoseconds, at which some class with a need stays open through it. Where no
@@ -162,22 +162,21 @@ fn search_legs(
 fn search_from_now(
     slots: &CommandSlots,
     resumed: &Option<Position>,
-    needs: &[Option<u128>; CLASSES],
+    heads: &Heads,
     before: u128,
     visits: &mut Visits,
 ) -> Option<u128>
     requires sound { AreCommands slots.now.commands }
     requires stands { Stands slots.now.commands.in_force slots.now.commands.pending slots.now.commands.moment slots.now.position }
     requires resumes { Resumes slots.now.commands resumed.now }
-    requires needs { All (λ need. ForSome need (λ d. d ≤ greatest_moment)) needs.now }
     requires within { before ≤ 2 * greatest_moment }
-    ensures searched { Searched (mask_ahead slots.now.commands) needs.now slots.now.commands.moment before result }
+    ensures searched { Searched (mask_ahead slots.now.commands) heads.now slots.now.commands.moment before result }
     ensures counted { visits.old ≤ visits.new }
     ensures visits { visits.new ≤ visits.old + most_in (stretches_of slots.now.commands) }
 {
     match lone_list(slots) {
-        Some(list) => search_alone(list, slots.moment(), needs, before, visits),
-        None => search_legs(slots, resumed, needs, before, visits),
+        Some(list) => search_alone(list, slots.moment(), heads, before, visits),
+        None => search_legs(slots, resumed, heads, before, visits),
     }
 }
 
@@ -234,8 +233,10 @@ impl Gates for Jumping {
         }
     }
 
-    fn quiet(&self, needs: &[Option<u128>; CLASSES], before: u128, visits: &mut Visits) -> u128 {
-        match search_from_now(&self.slots, &self.resumed, needs, before, visits) {
+    fn quiet(&self, heads: &Heads, before: u128, visits: &mut Visits) -> u128 {
+        // The heads are of all classes.
+        let _ = heads.waits();
+        match search_from_now(&self.slots, &self.resumed, heads, before, visits) {
             Some(start) => start,
             None => before,
         }

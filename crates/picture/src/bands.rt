@@ -11,6 +11,7 @@ use gate_list::{Schedule, Visits, is_open};
 use jumping::Jumping;
 use list_config::Gates;
 use per_class::classes_of;
+use queue_heads::Heads;
 use std::alloc::{AllocError, Allocator, Global};
 use std::marker::Model;
 use wire_time::{CLASSES, Rate};
@@ -125,13 +126,13 @@ fn draw_to<A: Allocator>(
 }
 
 /// What one class alone needs: to be open for a picosecond.
-fn need_of(class: u8) -> [Option<u128>; CLASSES]
+fn need_of(class: u8) -> Heads
     requires { class < CLASSES }
     ensures { result ≡ slice_set no_needs class (Some 1) }
 {
-    let mut needs = [None; CLASSES];
-    needs[class as usize] = Some(1);
-    needs
+    let mut heads = Heads::none();
+    heads.set(class, Some(1));
+    heads
 }
 
 /// Whether a class is open at some moment from now on and before another, in picoseconds.

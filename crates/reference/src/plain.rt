@@ -9,6 +9,7 @@ use crate::history::{announced, gates, in_force, kept, pending};
 use arrayvec::ArrayVec;
 use gate_list::{Schedule, Visits, is_open};
 use list_config::{Gates, Installed, NotNow};
+use queue_heads::Heads;
 use std::marker::Model;
 use std::mem;
 use wire_time::CLASSES;
@@ -115,7 +116,10 @@ impl Gates for Plain {
         None
     }
 
-    fn quiet(&self, needs: &[Option<u128>; CLASSES], before: u128, visits: &mut Visits) -> u128 {
+    fn quiet(&self, heads: &Heads, before: u128, visits: &mut Visits) -> u128 {
+        // The heads are of all classes.
+        let _ = heads.waits();
+        let needs = heads.list();
         for class in 0..CLASSES as u8 {
             if let Some(need) = needs[class as usize] {
                 if self.stays_open(class, need, visits) {

@@ -99,19 +99,19 @@ const WAITING: [Waiting; 3] = [
     Waiting {
         many: 2,
         interval: 100_000,
-        visits: 1,
+        visits: 2,
         mask: 0x04,
     },
     Waiting {
         many: 2,
         interval: 500,
-        visits: 1,
+        visits: 2,
         mask: 0x02,
     },
     Waiting {
         many: 256,
         interval: 1000,
-        visits: 255,
+        visits: 256,
         mask: 0x02,
     },
 ];

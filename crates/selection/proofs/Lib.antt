@@ -1,3 +1,2 @@
 pub mod ChooseLaws
-pub mod HeadLaws
 pub mod WatchLaws

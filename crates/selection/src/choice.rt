@@ -6,9 +6,9 @@ ghost use Rattle.list_config.specs.Choice.{first_choice, MovesIdle};
 ghost use Rattle.list_config.specs.Current.{longest};
 ghost use Rattle.selection.specs.Watched.{IsIdle};
 
-use crate::heads::{Heads, highest, without};
 use gate_list::Visits;
 use list_config::Gates;
+use queue_heads::{Heads, highest, without};
 use wire_time::MAX_MOMENT;
 
 /// The greatest class that stays open for as long as its head needs. Those are asked in which a frame waits, and that are open now.
@@ -66,11 +66,10 @@ pub fn move_to_choice<G: Gates>(
     if heads.waits() == 0 {
         return Err(MAX_MOMENT);
     }
-    let needs = heads.list();
     let end = search_end::<G>(until);
     let mut now = gates.now();
     while now < until {
-        now = gates.quiet(&needs, end, visits);
+        now = gates.quiet(heads, end, visits);
         if until <= now {
             return Err(now);
         }

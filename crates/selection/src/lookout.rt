@@ -9,10 +9,11 @@ ghost use Rattle.list_config.specs.Current.{IsCurrent, longest, accepted_at, del
 ghost use Rattle.selection.specs.Watched.{IsStill, with_needs};
 
 use crate::choice::find_choice;
-use crate::heads::Heads;
 use gate_list::{Schedule, Visits, is_open};
 use list_config::{Gates, Installed, NotNow};
+use queue_heads::Heads;
 use std::marker::Model;
+use wire_time::CLASSES;
 
 /// What gates show.
 #[derive(Clone, Copy, Debug, PartialEq, Eq)]
@@ -128,7 +129,7 @@ impl<G: Gates> Lookout<G> {
 
     /// How long the head of a class needs the wire, in picoseconds, where a frame waits.
     pub fn need(&self, class: u8) -> u64
-        requires { class < 8 }
+        requires { class < CLASSES }
         ensures { (d : ℕ) → slice_index_or self.now.needs class None ≡ Some d → result ≡ d }
     {
         self.heads.need(class)
@@ -136,7 +137,7 @@ impl<G: Gates> Lookout<G> {
 
     /// The head of a class needs the wire for so long, in picoseconds and more than 0; none: no frame waits there.
     pub fn set_need(&mut self, class: u8, need: Option<u64>)
-        requires class { class < 8 }
+        requires class { class < CLASSES }
         requires some { ForSome need (λ d. 0 < d) }
         ensures { self.new ≡ with_needs self.old (slice_set self.old.needs class need) }
     {
@@ -147,7 +148,7 @@ impl<G: Gates> Lookout<G> {
     /// A frame that needs the wire for so long, in picoseconds and more than 0, waits in a class from now on, after those that do
     /// already.
     pub fn add_need(&mut self, class: u8, need: u64)
-        requires class { class < 8 }
+        requires class { class < CLASSES }
         requires some { 0 < need }
         ensures { self.new ≡ with_needs self.old (slice_set self.old.needs class (option_or (slice_index_or self.old.needs class None) (Some need))) }
     {

@@ -12,6 +12,7 @@ use accepted_commands::{
 use gate_list::{Schedule, Visits};
 use list_config::{Gates, Installed, NotNow};
 use list_position::Need;
+use queue_heads::Heads;
 use std::marker::Model;
 use wire_time::CLASSES;
 
@@ -101,7 +102,10 @@ impl Gates for Stepped {
         }
     }
 
-    fn quiet(&self, needs: &[Option<u128>; CLASSES], before: u128, visits: &mut Visits) -> u128 {
+    fn quiet(&self, heads: &Heads, before: u128, visits: &mut Visits) -> u128 {
+        // The heads are of all classes.
+        let _ = heads.waits();
+        let needs = heads.list();
         for class in 0..CLASSES as u8 {
             if let Some(need) = needs[class as usize] {
                 if self.stays_open(class, need, visits) {

@@ -7,5 +7,5 @@ pub returns-in-Some-clause-searched : goal.returns-in-Some-clause-searched
 returns-in-Some-clause-searched c =
     let slots = c.args.slots.now in
     let list = c.in-Some.list.now in
-    searched_lone slots list c.in-Some.ensures c.args.needs.now slots.commands.moment c.args.before c.search_alone.result
-    (subst (λ from. Searched (shows_alone list) c.args.needs.now from c.args.before c.search_alone.result) c.moment.ensures c.search_alone.ensures.searched)
+    searched_lone slots list c.in-Some.ensures c.args.heads.now slots.commands.moment c.args.before c.search_alone.result
+    (subst (λ from. Searched (shows_alone list) c.args.heads.now from c.args.before c.search_alone.result) c.moment.ensures c.search_alone.ensures.searched)

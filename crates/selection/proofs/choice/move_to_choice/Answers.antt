@@ -1,10 +1,7 @@
-use Rattle.std.proofs.Common.{sym, ap, ◌∙◌, subst, arith, le_refl}
-use Rattle.std.specs.Prelude.{IsSome}
-use Rattle.list_config.specs.Choice.{first_choice}
+use Rattle.std.proofs.Common.{sym, ap, ◌∙◌, arith, le_refl}
 use Rattle.list_config.proofs.IdleLaws.{idle_more, idle_choice, idle_longest}
 use Rattle.gate_list.specs.Gate.{opens}
 use Rattle.gate_list.proofs.TableLaws.{opens_none}
-use Rattle.selection.specs.Watched.{IsIdle}
 use Rattle.selection.proofs.ChooseLaws.{none_waits}
 use Rattle.selection.proofs.WatchLaws.{idle_before, not_chosen, chosen_at}
 use Rattle.selection.proofs.choice.move_to_choice.Goals as goal
@@ -16,7 +13,7 @@ returns-then-waits-eq0-clause-none g c =
 pub returns-then-until-now-clause-none : goal.returns-then-until-now-clause-none
 returns-then-until-now-clause-none g c =
     let current = g.met.G.Gates.is_current c.args.gates.now c.requires.sound in
-    let quiet = subst (λ needs. IsIdle (g.G.Gates.history c.loop-now.gates) needs (g.G.Gates.moment c.loop-now.gates) c.quiet-now.result) c.list-needs.ensures.value c.quiet-now.ensures.quiet in
+    let quiet = c.quiet-now.ensures.quiet in
     (c.if-until-now.true, idle_before _ _ _ current _ _ c.loop-now.invariant.3 c.quiet-now.result quiet)
 
 pub returns-then-until-now-clause-visits : goal.returns-then-until-now-clause-visits
@@ -34,13 +31,13 @@ returns-then-until-now-clause-fewer g c = λ jumps.
 pub returns-in-Some-clause-idle : goal.returns-in-Some-clause-idle
 returns-in-Some-clause-idle g c =
     let current = g.met.G.Gates.is_current c.args.gates.now c.requires.sound in
-    let quiet = subst (λ needs. IsIdle (g.G.Gates.history c.loop-now.gates) needs (g.G.Gates.moment c.loop-now.gates) c.quiet-now.result) c.list-needs.ensures.value c.quiet-now.ensures.quiet in
+    let quiet = c.quiet-now.ensures.quiet in
     idle_more _ _ _ current _ _ c.loop-now.invariant.3 _ _ c.quiet-now.result c.quiet-now.ensures.from quiet c.move_to.ensures.moment c.move_to.ensures.history
 
 pub returns-in-Some-clause-choice : goal.returns-in-Some-clause-choice
 returns-in-Some-clause-choice g c =
     let current = g.met.G.Gates.is_current c.args.gates.now c.requires.sound in
-    let quiet = subst (λ needs. IsIdle (g.G.Gates.history c.loop-now.gates) needs (g.G.Gates.moment c.loop-now.gates) c.quiet-now.result) c.list-needs.ensures.value c.quiet-now.ensures.quiet in
+    let quiet = c.quiet-now.ensures.quiet in
     let moved = idle_more _ _ _ current _ _ c.loop-now.invariant.3 _ _ c.quiet-now.result c.quiet-now.ensures.from quiet c.move_to.ensures.moment c.move_to.ensures.history in
     sym (idle_choice _ _ _ current _ _ moved _ (le_refl _)) ∙ (sym c.choose.ensures.choice ∙ c.in-Some.is)
 
@@ -53,7 +50,7 @@ returns-in-Some-clause-visits g c = λ jumps.
 pub loop-now-preserved : goal.loop-now-preserved
 loop-now-preserved g c =
     let current = g.met.G.Gates.is_current c.args.gates.now c.requires.sound in
-    let quiet = subst (λ needs. IsIdle (g.G.Gates.history c.loop-now.gates) needs (g.G.Gates.moment c.loop-now.gates) c.quiet-now.result) c.list-needs.ensures.value c.quiet-now.ensures.quiet in
+    let quiet = c.quiet-now.ensures.quiet in
     let moved = idle_more _ _ _ current _ _ c.loop-now.invariant.3 _ _ c.quiet-now.result c.quiet-now.ensures.from quiet c.move_to.ensures.moment c.move_to.ensures.history in
     let at = c.move_to.ensures.moment in
     let counted = c.loop-now.invariant.4 in
@@ -66,5 +63,5 @@ loop-now-preserved g c =
       λ jumps. absurd (not_chosen _ _ c.choose.ensures.choice c.in_default.not-Some (
           let first = c.quiet-now.ensures.first jumps (omega (arith, before, c.search_end-end.ensures.reach)) in
           chosen_at _ _ _ current _ _ _ _ c.loop-now.invariant.3 moved c.quiet-now.result c.quiet-now.ensures.from at
-          (subst (λ needs. IsSome (first_choice (g.G.Gates.history c.loop-now.gates) c.quiet-now.result needs)) c.list-needs.ensures.value first))),
+          first)),
     )
