@@ -60,8 +60,9 @@ fn fetch<R: Read, A: Allocator>(
     Ok(true)
 }
 
-/// The next record, which has then been given, or None at the end of the input.
-fn read_record<R: Read, A: Allocator>(
+/// The next record, which has then been given, or None at the end of the input. Apart, since a record mostly stands whole in hand.
+#[inline(never)]
+fn read_record_apart<R: Read, A: Allocator>(
     ahead: &mut ReadAhead<A>,
     source: &mut R,
     format: Format,
@@ -90,6 +91,41 @@ fn read_record<R: Read, A: Allocator>(
     if !fetch(ahead, source, RECORD_HEADER + captured)? {
         return Err(CapFault::ShortRecord);
     }
+    ahead.give(RECORD_HEADER);
+    ahead.give(captured);
+    Ok(Some(header))
+}
+
+/// The next record, which has then been given, or None at the end of the input. Of a record that stands whole in hand the header is read once.
+#[inline(always)]
+fn read_record<R: Read, A: Allocator>(
+    ahead: &mut ReadAhead<A>,
+    source: &mut R,
+    format: Format,
+    number: u32,
+) -> Result<Option<RecordHeader>, CapFault>
+    ensures step { IfSome (prepend_known (held ahead.old) (R.remaining source.old)) (λ octets.
+        Step format number octets result ahead.new (prepend_known (held ahead.new) (R.remaining source.new))) }
+    ensures start { IfOk result (λ o. IfSome o (λ header. header.captured ≤ ahead.new.start)) }
+    ensures short { IfOk result (λ o. IfSome o (λ header. header.captured ≤ MAX_RECORD_OCTETS)) }
+    ensures fraction { IfOk result (λ o. IfSome o (λ header. header.fraction < fractions_of format.resolution)) }
+    ensures few { IfOk result (λ o. IsSome o → number < MAX_RECORDS) }
+    ensures fault { IfErr result (λ f. IsTrue (is_record_fault f)) }
+    ensures read { result ≡ Err CapFault.Read → fault_at format number (held ahead.old) ≡ Some CapFault.ShortRecord }
+    ensures unread { fault_at format number (held ahead.old) ≢ Some CapFault.ShortRecord → source.new ≡ source.old }
+{
+    let octets = ahead.octets();
+    if octets.len() < RECORD_HEADER {
+        return read_record_apart(ahead, source, format, number);
+    }
+    let header = read_header(format, octets);
+    let captured = header.captured as usize;
+    if octets.len() < RECORD_HEADER + captured {
+        return read_record_apart(ahead, source, format, number);
+    }
+    let Ok(()) = check_header(format, number, header) else {
+        return read_record_apart(ahead, source, format, number);
+    };
     ahead.give(RECORD_HEADER);
     ahead.give(captured);
     Ok(Some(header))
@@ -137,6 +173,7 @@ impl<R: Read, A: Allocator> CaptureReader<R, A> {
     }
 
     /// The next record, or None at the end. After None it answers None, after a fault that fault.
+    #[inline(always)]
     pub fn next(&mut self) -> Result<Option<Record<'_>>, CapFault>
         ensures few { IfOk result (λ o. IsSome o → (left self.old).number < MAX_RECORDS) }
         ensures* next { sem 𝓛 (Rests (the_row R.row A.row A.Allocator) self.entry (λ new. Next R.remaining (left self.old) (answer result) (left new))) }
@@ -153,6 +190,7 @@ impl<R: Read, A: Allocator> CaptureReader<R, A> {
         }
     }
 
+    #[inline(always)]
     fn advance(&mut self) -> Result<Option<RecordHeader>, CapFault>
         ensures next { Next R.remaining (left self.old) (shown self.new result) (left self.new) }
         ensures few { IfOk result (λ o. IsSome o → self.old.number < MAX_RECORDS) }
