@@ -25,6 +25,8 @@ impl<A: Allocator> Model for ClassArrivals<A> {
 }
 
 impl<A: Allocator + Clone> PerClass<A> for ClassArrivals<A> {
+    type Fault = AllocError;
+
     ghost made = { none_waits };
 
     /// No frame waits; there is room for so many.
@@ -68,7 +70,7 @@ impl<A: Allocator> ClassArrivals<A> {
 
 /// A frame of a class came.
 fn put_in<A: Allocator>(classes: &mut [ClassArrivals<A>; CLASSES], class: u8, moment: u128)
-    requires { class < 8 }
+    requires { class < CLASSES }
     ensures { classes.new ≡ slice_set classes.old class (with_arrival moment (waiting_in classes.old class)) }
 {
     classes[class as usize].put(moment);
@@ -76,7 +78,7 @@ fn put_in<A: Allocator>(classes: &mut [ClassArrivals<A>; CLASSES], class: u8, mo
 
 /// The first frame of a class waits no more.
 fn take_from<A: Allocator>(classes: &mut [ClassArrivals<A>; CLASSES], class: u8) -> Option<u128>
-    requires { class < 8 }
+    requires { class < CLASSES }
     ensures first { result ≡ slice_get (waiting_in classes.old class).moments 0 }
     ensures rest { classes.new ≡ slice_set classes.old class (without_first (waiting_in classes.old class)) }
 {
@@ -85,7 +87,7 @@ fn take_from<A: Allocator>(classes: &mut [ClassArrivals<A>; CLASSES], class: u8)
 
 /// The frames of a class that wait.
 fn class_in<A: Allocator>(classes: &[ClassArrivals<A>; CLASSES], class: u8) -> &ClassArrivals<A>
-    requires { class < 8 }
+    requires { class < CLASSES }
     ensures { result.now ≡ waiting_in classes.now class }
 {
     &classes[class as usize]
@@ -124,7 +126,7 @@ impl<A: Allocator> Arrivals<A> {
     pub fn put(&mut self, class: u8, moment: u128)
         ensures { self.new ≡ comes class moment self.old }
     {
-        if class < 8 {
+        if class < CLASSES as u8 {
             put_in(&mut self.classes, class, moment);
         }
     }
@@ -134,7 +136,7 @@ impl<A: Allocator> Arrivals<A> {
         ensures first { result ≡ first_came class self.old }
         ensures rest { self.new ≡ goes class self.old }
     {
-        if class < 8 {
+        if class < CLASSES as u8 {
             take_from(&mut self.classes, class)
         } else {
             None
@@ -143,7 +145,7 @@ impl<A: Allocator> Arrivals<A> {
 
     /// How many frames of a class wait.
     pub fn len(&self, class: u8) -> usize
-        requires { class < 8 }
+        requires { class < CLASSES }
         ensures { result ≡ length (waiting_in self.now class).moments }
     {
         class_in(&self.classes, class).len()
@@ -151,7 +153,7 @@ impl<A: Allocator> Arrivals<A> {
 
     /// When the frame at a place, from 0, of those of a class that wait came, in picoseconds.
     pub fn get(&self, class: u8, place: usize) -> u128
-        requires class { class < 8 }
+        requires class { class < CLASSES }
         requires place { place < length (waiting_in self.now class).moments }
         ensures { slice_get (waiting_in self.now class).moments place ≡ Some result }
     {

@@ -10,6 +10,7 @@ use crate::view::View;
 use abstract_port::{Answer, Start};
 use std::alloc::{AllocError, Allocator};
 use std::marker::Model;
+use wire_time::CLASSES;
 
 /// What an event says beside its answers.
 #[derive(Clone, Copy, Debug, PartialEq, Eq)]
@@ -41,7 +42,7 @@ impl<A: Allocator> Model for Course<A> {
 
 /// The frames of a class that wait wait on to this moment, in picoseconds.
 fn wait_on<A: Allocator>(arrivals: &Arrivals<A>, shapes: &mut Shapes<A>, class: u8, upto: u128)
-    requires class { class < 8 }
+    requires class { class < CLASSES }
     requires within { upto ≤ greatest_moment }
     ensures { shapes.new ≡ waits_on class upto (waiting_in arrivals.now class).moments shapes.old }
 {
@@ -55,7 +56,7 @@ fn all_wait_on<A: Allocator>(arrivals: &Arrivals<A>, shapes: &mut Shapes<A>, upt
     requires { upto ≤ greatest_moment }
     ensures { shapes.new ≡ all_wait_on upto 8 arrivals.now shapes.old }
 {
-    for class in 0..8u8 {
+    for class in 0..CLASSES as u8 {
         wait_on(arrivals, shapes, class, upto);
     }
 }

@@ -4,7 +4,7 @@ ghost use Rattle.std.specs.Prelude.{◌≡◌, ◌<◌, ◌≤◌, ◌+◌, ◌*
 ghost use Rattle.drawing.specs.Words.{x_in, label_at, place_of, top_of};
 
 use picture::{Span, Viewport};
-use wire_time::Rate;
+use wire_time::{CLASSES, Rate};
 
 /// Where time begins, in pixels from the left.
 pub(crate) const LEFT: u32 = 64;
@@ -27,11 +27,11 @@ pub(crate) const LANE_HEIGHT: u32 = 28;
 /// How far a lane begins below the one above it, in pixels.
 pub(crate) const LANE_STEP: u32 = 36;
 
-/// How many lanes there are: one for each class, and the wire's.
-pub(crate) const LANES: u8 = 9;
+/// The lane of the wire, after those of the classes.
+pub(crate) const WIRE: u8 = CLASSES as u8;
 
-/// The lane of the wire.
-pub(crate) const WIRE: u8 = 8;
+/// How many lanes there are: one for each class, and the wire's.
+pub(crate) const LANES: u8 = WIRE + 1;
 
 /// Where the lanes end, in pixels from above.
 pub(crate) const BOTTOM: u32 = CLASS_TOP + 9 * LANE_STEP;

@@ -29,7 +29,7 @@ use std::alloc::Global;
 use std::marker::Model;
 pub use taken::{ScheduleFault, moment_of};
 pub use values::{CAnswer, CCounters, CEntry, CFrame, CRange, CReport, CSchedule};
-use wire_time::{MAX_MOMENT, Rate};
+use wire_time::{CLASSES, MAX_MOMENT, Rate};
 
 /// Why there is no port.
 #[derive(Clone, Copy, Debug, PartialEq, Eq)]
@@ -152,7 +152,7 @@ impl DrivenPort {
     pub fn counters(&self, class: u32) -> CCounters
         ensures { result ≡ counters_told class self.now }
     {
-        counters_told(if class < 8 {
+        counters_told(if class < CLASSES as u32 {
             Some(self.port.counters(class as u8))
         } else {
             None

@@ -7,7 +7,7 @@ use crate::values::{CFrame, CSchedule};
 use abstract_port::{Change, Command};
 use class_map::{ClassMap, MapFault, QueueFault, Queues};
 use gate_list::{Entry, GateFault, GateList};
-use wire_time::Frame;
+use wire_time::{CLASSES, Frame};
 
 /// Why a schedule is none.
 #[derive(Clone, Copy, Debug, PartialEq, Eq)]
@@ -71,7 +71,7 @@ fn queues_of_classes(schedule: &CSchedule) -> Result<Option<Queues>, ScheduleFau
 }
 
 /// The limits, if there are some.
-fn limits_of(schedule: &CSchedule) -> Option<[u32; 8]>
+fn limits_of(schedule: &CSchedule) -> Option<[u32; CLASSES]>
     ensures { result ≡ limits_of schedule.now }
 {
     if schedule.has_max_sdu != 0 {

@@ -1,5 +1,7 @@
 //! Values of a fixed layout: fields of a fixed size, none of which has a value that is no value.
 
+use wire_time::CLASSES;
+
 /// A frame that arrives.
 #[repr(C)]
 #[derive(Clone, Copy)]
@@ -57,9 +59,9 @@ pub struct CSchedule {
     /// The class of each priority.
     pub map: [u8; 16],
     /// The device queues of each class.
-    pub queues: [CRange; 8],
+    pub queues: [CRange; CLASSES],
     /// For each class the longest service data unit that is queued, in octets; 0 for no limit of its own.
-    pub max_sdu: [u32; 8],
+    pub max_sdu: [u32; CLASSES],
     /// The gate control list: the first `length` count.
     pub entries: [CEntry; 256],
 }

@@ -41,6 +41,8 @@ impl<A: Allocator> Model for ClassArrivals<A> {
 }
 
 impl<A: Allocator + Clone> PerClass<A> for ClassArrivals<A> {
+    type Fault = AllocError;
+
     ghost made = { λ _. [] };
 
     /// No frame waits; there is room for so many at first.
@@ -93,7 +95,7 @@ fn put_in<A: Allocator + Clone>(
     class: u8,
     arrival: Arrival,
 ) -> Result<(), AllocError>
-    requires { class < 8 }
+    requires { class < CLASSES }
     ensures { OnOk result (classes.new ≡ slice_set classes.old class (waiting_in classes.old class ++ arrival ∷ [])) }
 {
     classes[class as usize].put(arrival)
@@ -101,7 +103,7 @@ fn put_in<A: Allocator + Clone>(
 
 /// The first frame of a class waits no more.
 fn take_from<A: Allocator>(classes: &mut [ClassArrivals<A>; CLASSES], class: u8) -> Option<Arrival>
-    requires { class < 8 }
+    requires { class < CLASSES }
     ensures first { result ≡ slice_get (waiting_in classes.old class) 0 }
     ensures rest { classes.new ≡ slice_set classes.old class (drop 1 (waiting_in classes.old class)) }
 {
@@ -110,7 +112,7 @@ fn take_from<A: Allocator>(classes: &mut [ClassArrivals<A>; CLASSES], class: u8)
 
 /// The frames of a class that wait.
 fn class_in<A: Allocator>(classes: &[ClassArrivals<A>; CLASSES], class: u8) -> &ClassArrivals<A>
-    requires { class < 8 }
+    requires { class < CLASSES }
     ensures { result.now ≡ waiting_in classes.now class }
 {
     &classes[class as usize]
@@ -151,7 +153,7 @@ impl<A: Allocator> Arrivals<A> {
         A: Clone,
         ensures { OnOk result (self.new ≡ comes class arrival self.old) }
     {
-        if class < 8 {
+        if class < CLASSES as u8 {
             put_in(&mut self.classes, class, arrival)
         } else {
             Ok(())
@@ -163,7 +165,7 @@ impl<A: Allocator> Arrivals<A> {
         ensures first { result ≡ first_came class self.old }
         ensures rest { self.new ≡ goes class self.old }
     {
-        if class < 8 {
+        if class < CLASSES as u8 {
             take_from(&mut self.classes, class)
         } else {
             None
@@ -172,7 +174,7 @@ impl<A: Allocator> Arrivals<A> {
 
     /// How many frames of a class wait.
     pub fn len(&self, class: u8) -> usize
-        requires { class < 8 }
+        requires { class < CLASSES }
         ensures { result ≡ length (waiting_in self.now class) }
     {
         class_in(&self.classes, class).len()
@@ -180,7 +182,7 @@ impl<A: Allocator> Arrivals<A> {
 
     /// The frame at a place, from 0, of those of a class that wait.
     pub fn get(&self, class: u8, place: usize) -> Arrival
-        requires class { class < 8 }
+        requires class { class < CLASSES }
         requires place { place < length (waiting_in self.now class) }
         ensures { slice_get (waiting_in self.now class) place ≡ Some result }
     {

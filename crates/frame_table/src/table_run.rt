@@ -14,7 +14,7 @@ use script::{BadLine, Failure, RunFault, RunningPort, Said, Settings, Watch, rea
 use separation::settling;
 use std::alloc::Allocator;
 use std::io::{Read, Write};
-use wire_time::{Frame, MAX_MOMENT};
+use wire_time::{CLASSES, Frame, MAX_MOMENT};
 
 /// Takes a frame that comes: it waits from now on, or it is dropped, and its row is written.
 fn take_frame<A: Allocator + Clone, B: Allocator, W: Write>(
@@ -182,7 +182,7 @@ fn put_left_in<A: Allocator, B: Allocator, W: Write>(
     streams: &Option<Streams<B>>,
     writer: &mut W,
 ) -> Result<(), WriteFault>
-    requires { class < 8 }
+    requires { class < CLASSES }
     ensures { Writes result (W.contents writer.old) (W.contents writer.new) (rows_text streams.now (map (left_row class) (waiting_in arrivals.now class))) }
 {
     for place in 0..arrivals.len(class) {
@@ -208,7 +208,7 @@ fn put_all_left<A: Allocator, B: Allocator, W: Write>(
 ) -> Result<(), WriteFault>
     ensures { Writes result (W.contents writer.old) (W.contents writer.new) (rows_text streams.now (left_rows arrivals.now)) }
 {
-    for class in 0..8u8 {
+    for class in 0..CLASSES as u8 {
         put_left_in(arrivals, class, streams, writer)?;
     }
     Ok(())

@@ -128,7 +128,7 @@ fn windows_are_what_the_reference_shows(rt: HostRuntime) {
         let schedule = Schedule::new(&list, 0, cycle, 0, rate).expect(&rt, "a schedule");
         let cycle = u128::from(schedule.cycle_ns()).saturating_mul(1000);
         let seen = seen_of::<Plain>(schedule);
-        for class in 0..8u8 {
+        for class in 0..CLASSES as u8 {
             assert_eq!(rt;
                 windows.window(rate, class),
                 seen[class as usize].window(cycle),

@@ -3,7 +3,7 @@
 use gate_list::{Entry, GateList, Stay};
 use schedule_check::{Longest, Window, Windows};
 use std::process::Abort;
-use wire_time::Rate;
+use wire_time::{CLASSES, Rate};
 
 /// An entry of this mask for so many nanoseconds.
 fn entry(mask: u8, interval: u32) -> Entry {
@@ -15,7 +15,7 @@ fn window_of(rt: &impl Abort, entries: &[Entry], cycle_ns: u64, class: u8) -> Wi
     let list = GateList::new(entries).expect(rt, "a list");
     let rate = Rate::from_mbps(1000).expect(rt, "a rate");
     let windows = Windows::new(&list, 0, cycle_ns, 0, rate).expect(rt, "a schedule");
-    assert!(rt; class < 8);
+    assert!(rt; class < CLASSES as u8);
     windows.window(rate, class)
 }
 

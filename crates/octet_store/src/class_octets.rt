@@ -53,6 +53,8 @@ impl<A: Allocator> Model for ClassOctets<A> {
 }
 
 impl<A: Allocator + Clone> PerClass<A> for ClassOctets<A> {
+    type Fault = AllocError;
+
     ghost made = { empty_class };
 
     /// No frame yet, and room for so many. The room for their lengths is taken here; for their octets there is none yet.

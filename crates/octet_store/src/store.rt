@@ -14,7 +14,7 @@ use wire_time::CLASSES;
 
 /// How many frames of a class are kept.
 fn len_in<A: Allocator>(classes: &[ClassOctets<A>; CLASSES], class: u8) -> usize
-    requires { class < 8 }
+    requires { class < CLASSES }
     ensures { result ≡ length (class_at classes.now class).frames }
 {
     classes[class as usize].len()
@@ -22,7 +22,7 @@ fn len_in<A: Allocator>(classes: &[ClassOctets<A>; CLASSES], class: u8) -> usize
 
 /// Whether there is room for one frame more in a class.
 fn has_room_in<A: Allocator>(classes: &[ClassOctets<A>; CLASSES], class: u8) -> bool
-    requires { class < 8 }
+    requires { class < CLASSES }
     ensures { IsTrue result ↔ (length (class_at classes.now class).frames < (class_at classes.now class).room) }
 {
     classes[class as usize].has_room()
@@ -35,7 +35,7 @@ fn put_in<A: Allocator + Clone>(
     original: u32,
     octets: &[u8],
 ) -> Result<(), AllocError>
-    requires class { class < 8 }
+    requires class { class < CLASSES }
     requires room { length (class_at classes.old class).frames < (class_at classes.old class).room }
     requires size { length octets.now ≤ MAX_OCTETS }
     ensures ok { OnOk result (classes.new ≡ slice_set classes.old class (with_frames (class_at classes.old class) ((class_at classes.old class).frames ++ kept original octets.now ∷ []))) }
@@ -46,7 +46,7 @@ fn put_in<A: Allocator + Clone>(
 
 /// The first frame of a class.
 fn first_in<A: Allocator>(classes: &[ClassOctets<A>; CLASSES], class: u8) -> First<'_>
-    requires class { class < 8 }
+    requires class { class < CLASSES }
     requires waits { 0 < length (class_at classes.now class).frames }
     ensures first { slice_get (class_at classes.now class).frames 0 ≡ Some (kept result.original result.octets.now) }
     ensures within { length result.octets.now ≤ MAX_OCTETS }
@@ -56,7 +56,7 @@ fn first_in<A: Allocator>(classes: &[ClassOctets<A>; CLASSES], class: u8) -> Fir
 
 /// Gives up the first frame of a class.
 fn give_up_in<A: Allocator>(classes: &mut [ClassOctets<A>; CLASSES], class: u8)
-    requires class { class < 8 }
+    requires class { class < CLASSES }
     requires waits { 0 < length (class_at classes.old class).frames }
     ensures { classes.new ≡ slice_set classes.old class (with_frames (class_at classes.old class) (drop 1 (class_at classes.old class).frames)) }
 {
@@ -99,7 +99,7 @@ impl<A: Allocator> OctetStore<A> {
 
     /// How many frames of a class, 0 to 7, are kept.
     pub fn len(&self, class: u8) -> usize
-        requires { class < 8 }
+        requires { class < CLASSES }
         ensures { result ≡ length (kept_at self.now.kept class) }
     {
         len_in(&self.classes, class)
@@ -107,7 +107,7 @@ impl<A: Allocator> OctetStore<A> {
 
     /// Whether there is room for one frame more in a class, 0 to 7.
     pub fn has_room(&self, class: u8) -> bool
-        requires { class < 8 }
+        requires { class < CLASSES }
         ensures { IsTrue result ↔ (length (kept_at self.now.kept class) < self.now.room) }
     {
         has_room_in(&self.classes, class)
@@ -118,7 +118,7 @@ impl<A: Allocator> OctetStore<A> {
     pub fn put(&mut self, class: u8, original: u32, octets: &[u8]) -> Result<(), AllocError>
     where
         A: Clone,
-        requires class { class < 8 }
+        requires class { class < CLASSES }
         requires room { length (kept_at self.old.kept class) < self.old.room }
         requires size { length octets.now ≤ MAX_OCTETS }
         ensures ok { OnOk result (self.new ≡ record self.old { kept = slice_set self.old.kept class (kept_at self.old.kept class ++ kept original octets.now ∷ []) }) }
@@ -130,7 +130,7 @@ impl<A: Allocator> OctetStore<A> {
 
     /// The first frame of a class, 0 to 7, in which one is kept.
     pub fn first(&self, class: u8) -> First<'_>
-        requires class { class < 8 }
+        requires class { class < CLASSES }
         requires waits { 0 < length (kept_at self.now.kept class) }
         ensures first { slice_get (kept_at self.now.kept class) 0 ≡ Some (kept result.original result.octets.now) }
         ensures within { length result.octets.now ≤ MAX_OCTETS }
@@ -140,7 +140,7 @@ impl<A: Allocator> OctetStore<A> {
 
     /// Gives up the first frame of a class, 0 to 7, in which one is kept. It wants no memory.
     pub fn give_up(&mut self, class: u8)
-        requires class { class < 8 }
+        requires class { class < CLASSES }
         requires waits { 0 < length (kept_at self.old.kept class) }
         ensures { self.new ≡ record self.old { kept = slice_set self.old.kept class (drop 1 (kept_at self.old.kept class)) } }
     {

@@ -33,6 +33,8 @@ impl<A: Allocator> Model for ClassBands<A> {
 }
 
 impl<A: Allocator + Clone> PerClass<A> for ClassBands<A> {
+    type Fault = AllocError;
+
     ghost made = { λ _. no_bands };
 
     /// No bands yet, and the room for all that a lane ever has: `MOST_SHAPES`.

@@ -5,7 +5,7 @@ use gate_list::{Entry, GateList};
 use picture::{Bands, Shape, Span};
 use std::process::Abort;
 use std::test::Fail;
-use wire_time::Rate;
+use wire_time::{CLASSES, Rate};
 
 /// How long before a command comes into force it is given: the longest frame at 1 Gb/s, in picoseconds.
 const LEAD: u128 = 12_336_000;
@@ -37,7 +37,7 @@ fn first(rt: &impl Abort) -> Command {
 
 /// The bands of a class, each with its first moment and the first after it.
 fn assert_bands(rt: &impl Abort, bands: &Bands, class: u8, expected: &[(u128, u128)]) {
-    assert!(rt; class < 8);
+    assert!(rt; class < CLASSES as u8);
     let lane = bands.lane(class);
     assert_eq!(rt; lane.len(), expected.len());
     for (shape, (from, to)) in lane.iter().zip(expected) {

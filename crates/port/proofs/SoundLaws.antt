@@ -1,7 +1,7 @@
 -- What the fields of a port keep true is what holds of the port.
 use Rattle.std.proofs.Common.{◌≡◌, ◌<◌, ◌≤◌, ℕ, zero, suc, ◌+◌, List, [], ◌∷◌, ◌++◌, length, get_or, drop, Some, refl, sym, ap, ◌∙◌, subst, arith}
 use Rattle.std.specs.Prelude.{All, slice_index_or, slice_get, slice_set}
-use Rattle.port.specs.Words.{Frame, lead_of, occupancy_of, IsRoom, Queue, IsCurrent, AbstractPort, AreCapped, AreCounted, count_dropped, FitsLead, IsMtu, IsSoundPort, frames_of, queue_at, no_queue, with_frames, HaveRoom, IsKept}
+use Rattle.port.specs.Words.{Frame, lead_of, occupancy_of, IsRoom, Queue, IsCurrent, AbstractPort, AreCapped, AreCounted, count_dropped, FitsLead, IsMtu, IsSoundPort, frames_of, queue_at, no_queue, with_frames, empty_queue, eight, IsKept}
 use Rattle.abstract_port.specs.FrameCounts.{add_capped}
 use Rattle.abstract_port.specs.declared.Counts.{Counts}
 use Rattle.abstract_port.specs.declared.Dropped.{Dropped}
@@ -78,34 +78,25 @@ kept_started ps mtu room now free class queues f k less e =
     (All-drop (FitsLead ps mtu) 1 (queue_at queues class).frames fits)
     (omega (arith, fits_first))
 
-empty_at : (k : ℕ) → get_or {A = List Frame} ([] ∷ [] ∷ [] ∷ [] ∷ [] ∷ [] ∷ [] ∷ [] ∷ []) k [] ≡ []
-empty_at zero = refl
-empty_at (suc zero) = refl
-empty_at (suc (suc zero)) = refl
-empty_at (suc (suc (suc zero))) = refl
-empty_at (suc (suc (suc (suc zero)))) = refl
-empty_at (suc (suc (suc (suc (suc zero))))) = refl
-empty_at (suc (suc (suc (suc (suc (suc zero)))))) = refl
-empty_at (suc (suc (suc (suc (suc (suc (suc zero))))))) = refl
-empty_at (suc (suc (suc (suc (suc (suc (suc (suc k)))))))) = refl
+-- a new port: each class has the same queue
+kept_eight : (ps mtu room now : ℕ) → 80 ≤ ps → IsMtu mtu → IsRoom room → IsKept ps mtu room now 0 (eight (empty_queue room))
+kept_eight ps mtu room now rate mtu_within room_within =
+    let queues : List Queue = eight (empty_queue room) in
+    let none : All (FitsLead ps mtu) [] = λ k f l. absurd (omega arith) in
+    let rooms : AllByRecursion (λ q. q.room ≡ room) queues = (refl, (refl, (refl, (refl, (refl, (refl, (refl, (refl, tt)))))))) in
+    let fits : AllByRecursion (λ q. All (FitsLead ps mtu) q.frames) queues = (none, (none, (none, (none, (none, (none, (none, (none, tt)))))))) in
+    record {
+      eight = refl;
+      rooms = All-from_recursion (λ q. q.room ≡ room) queues rooms;
+      rate = rate;
+      mtu_within = mtu_within;
+      room_within = room_within;
+      fits = All-from_recursion (λ q. All (FitsLead ps mtu) q.frames) queues fits;
+      wire = omega arith;
+    }
 
-none_at : (queues : List Queue) → frames_of queues ≡ [] ∷ [] ∷ [] ∷ [] ∷ [] ∷ [] ∷ [] ∷ [] ∷ [] → (k : ℕ) (d : Queue) → k < length queues → (slice_index_or queues k d).frames ≡ []
-none_at queues empty k d l = sym (frames_of-at queues k d l) ∙ (ap (λ qs. get_or qs k []) empty ∙ empty_at k)
-
--- a new port
-pub kept_new : (ps mtu room now : ℕ) (queues : List Queue) → 80 ≤ ps → IsMtu mtu → IsRoom room → HaveRoom room queues
-    → frames_of queues ≡ [] ∷ [] ∷ [] ∷ [] ∷ [] ∷ [] ∷ [] ∷ [] ∷ [] → IsKept ps mtu room now 0 queues
-kept_new ps mtu room now queues rate mtu_within room_within have empty = record {
-  eight = have.eight;
-  rooms = have.rooms;
-  rate = rate;
-  mtu_within = mtu_within;
-  room_within = room_within;
-  fits = λ k d l.
-      let none = none_at queues empty k d l in
-      subst (All (FitsLead ps mtu)) (sym none) (λ j e m. absurd (omega arith));
-  wire = omega arith;
-}
+pub kept_new : (ps mtu room now : ℕ) (queues : List Queue) → 80 ≤ ps → IsMtu mtu → IsRoom room → queues ≡ eight (empty_queue room) → IsKept ps mtu room now 0 queues
+kept_new ps mtu room now queues rate mtu_within room_within are = subst (IsKept ps mtu room now 0) (sym are) (kept_eight ps mtu room now rate mtu_within room_within)
 
 -- ---- what is counted
 

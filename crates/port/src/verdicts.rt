@@ -6,7 +6,7 @@ ghost use Rattle.port.specs.Words.{sdu_of, changes_map, changes_queues, default_
 use abstract_port::{Counts, Dropped, Refused};
 use class_map::{ClassMap, Queues};
 use list_config::NotNow;
-use wire_time::{CLASSES, Frame, sdu};
+use wire_time::{CLASSES, Frame, PRIORITIES, sdu};
 
 /// The counts with one more dropped frame.
 pub(crate) fn count_dropped(why: Dropped, mut counts: Counts) -> Counts
@@ -25,11 +25,11 @@ pub(crate) fn count_dropped(why: Dropped, mut counts: Counts) -> Counts
 /// The class of a priority before there is a map: its own up to 7, and class 0 up to 15.
 pub(crate) fn default_class(priority: u8) -> Option<u8>
     ensures class { result ≡ default_class priority }
-    ensures within { IfSome result (λ c. c < 8) }
+    ensures within { IfSome result (λ c. c < CLASSES) }
 {
-    if priority < 8 {
+    if priority < CLASSES as u8 {
         Some(priority)
-    } else if priority < 16 {
+    } else if priority < PRIORITIES as u8 {
         Some(0)
     } else {
         None
@@ -96,7 +96,7 @@ pub(crate) fn changes_queues(given: Option<Queues>, installed: Queues) -> bool
 pub(crate) fn first_over(mtu: u32, limits: &[u32; CLASSES]) -> Option<Refused>
     ensures { result ≡ first_over mtu 0 limits.now }
 {
-    for class in 0..8u8 {
+    for class in 0..CLASSES as u8 {
         if limits[class as usize] > mtu {
             return Some(Refused::SduTooLarge(class));
         }

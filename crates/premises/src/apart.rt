@@ -14,11 +14,11 @@ use port::{Port, PortFault};
 use separation::separation;
 use std::alloc::{Allocator, Global};
 use stepped::Stepped;
-use wire_time::Rate;
+use wire_time::{CLASSES, Rate};
 
 /// Whether every entry of a list that opens the class opens none of the other seven.
 fn keeps_apart(list: &GateList, class: u8) -> bool
-    requires { class < 8 }
+    requires { class < CLASSES }
     ensures { result ≡ keeps_apart list.now class }
 {
     for entry in list.entries() {
@@ -31,7 +31,7 @@ fn keeps_apart(list: &GateList, class: u8) -> bool
 
 /// Whether a command gives a schedule that keeps the class apart.
 pub fn is_apart(command: &Command, class: u8) -> bool
-    requires { class < 8 }
+    requires { class < CLASSES }
     ensures { IsTrue result ↔ IsApart class command.now }
 {
     match command {
@@ -62,7 +62,7 @@ fn install_apart<G: Gates, A: Allocator>(
     class: u8,
     command: &Command,
 ) -> bool
-    requires { class < 8 }
+    requires { class < CLASSES }
     ensures apart { IsTrue result ↔ (refusal port.old.port command.now ≡ None → IsApart class command.now) }
     ensures port { port.new.port ≡ (installs port.old.port command.now).1 }
     ensures sound { IsSoundPort port.new.port }
@@ -86,7 +86,7 @@ pub fn take<G: Gates, A: Allocator>(port: &mut Port<G, A>, event: &Event<'_>)
 
 /// Takes an event, and answers whether it is as the law of separation asks of the class.
 fn take_apart<G: Gates, A: Allocator>(port: &mut Port<G, A>, class: u8, event: &Event<'_>) -> bool
-    requires { class < 8 }
+    requires { class < CLASSES }
     ensures apart { IsTrue result ↔ IsApartAt class event.now port.old.port }
     ensures port { port.new.port ≡ settled (answers_to event.now port.old.port).1 }
     ensures sound { IsSoundPort port.new.port }
@@ -112,7 +112,7 @@ pub fn is_kept_apart<G: Gates, A: Allocator>(
     class: u8,
     events: &[Event<'_>],
 ) -> bool
-    requires { class < 8 }
+    requires { class < CLASSES }
     ensures apart { IsTrue result ↔ IsKeptApart class events.now port.old.port }
     ensures port { port.new.port ≡ settled (port_after events.now port.old.port) }
 {
@@ -134,7 +134,7 @@ pub fn separated(
     class: u8,
     events: &[Event<'_>],
 ) -> Result<bool, PortFault>
-    requires { class < 8 }
+    requires { class < CLASSES }
     ensures premise { IfOk result (λ yes. IsTrue yes ↔ IsKeptApart class events.now (new_port rate 1500 128)) }
     ensures law { IfOk result (λ yes. IsTrue yes →
         concerning class (noted events.now (new_port rate 1500 128))

@@ -23,7 +23,7 @@ use list_config::Gates;
 use port::{Port, PortFault};
 use std::alloc::{Allocator, Global};
 use stepped::Stepped;
-use wire_time::{Frame, Rate, occupancy};
+use wire_time::{CLASSES, Frame, Rate, occupancy};
 
 /// Whether a class that is found is this one.
 fn is_class(class: u8, found: Option<u8>) -> bool
@@ -150,7 +150,7 @@ fn is_apart_in<G: Gates, A: Allocator>(
     command: &Command,
     events: &[Event<'_>],
 ) -> bool
-    requires { class < 8 }
+    requires { class < CLASSES }
     ensures { IsTrue result → IsKeptApart class (Events.Install command.entry ∷ events.now) port.old.port }
 {
     match port.install(command) {
@@ -170,7 +170,7 @@ pub fn is_run(
     flow: Flow,
     events: &[Event<'_>],
 ) -> Result<bool, PortFault>
-    requires { class < 8 }
+    requires { class < CLASSES }
     ensures premise { IfOk result (λ yes. IsTrue yes → (c : Change) → command.now ≡ Commands.Replace c → (n : ℕ) × IsRun rate 1500 128 class (plan_asked c) (flow ∷ []) n (Events.Install command.entry ∷ events.now)) }
     ensures refused { IfErr result (λ fault. fault ≡ PortFault.Memory) }
 {
@@ -200,7 +200,7 @@ pub fn answered<A: Allocator>(
 ) -> Result<Bounded<A>, Unbound>
 where
     A: Clone,
-    requires class { class < 8 }
+    requires class { class < CLASSES }
     requires some { 0 < length flows.now }
     requires flows { All IsFlow flows.now }
     ensures { MatchResult result (λ b. IsWorth schedule.now class room flows.now (Ok b.bounds.items)) (λ why. IsWorth schedule.now class room flows.now (Err why)) }

@@ -29,7 +29,7 @@ use port::{Port, PortFault};
 use separation::{hindsight, settling};
 use std::alloc::{Allocator, Global};
 use stepped::Stepped;
-use wire_time::{Rate, lead_law};
+use wire_time::{CLASSES, Rate, lead_law};
 
 pub mod apart;
 pub mod bounds;
@@ -47,7 +47,7 @@ fn masks_of(schedule: &Schedule)
 
 /// What a schedule shows, when it comes into force, how long its gates stay open, and whether it keeps a class apart.
 pub fn schedules(schedule: &Schedule, class: u8)
-    requires { class < 8 }
+    requires { class < CLASSES }
     ensures phase { PhaseLaw schedule.now.entries }
     ensures change { (e : ℕ) → ChangeLaw schedule.now e }
     ensures stay { StayLaw schedule.now }
@@ -114,7 +114,7 @@ pub fn runs<G: Gates, A: Allocator>(port: &Port<G, A>)
 pub fn counted(alloc: Global, rate: Rate) -> Result<Port<Stepped>, PortFault>
     ensures port { IfOk result (λ p. p.port ≡ new_port rate 1500 128) }
     ensures refused { IfErr result (λ fault. fault ≡ PortFault.Memory) }
-    ensures counts { (counter : Counter) (class : ℕ) (events : List Event) → class < 8 →
+    ensures counts { (counter : Counter) (class : ℕ) (events : List Event) → class < CLASSES →
         value_of counter (counts_at (port_after events (new_port rate 1500 128)) class)
         ≡ add_capped 0 (sum_by (growth counter class) (happenings events (new_port rate 1500 128))) }
 {

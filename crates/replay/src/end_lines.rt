@@ -15,6 +15,7 @@ use script::{RunningPort, put_all_left};
 use std::alloc::Allocator;
 use std::io::Write;
 use summary::Summary;
+use wire_time::CLASSES;
 
 /// The moment up to which a summary counts, in picoseconds: that of the port now, where a moment to run to is given, and else the end of the
 /// last frame.
@@ -36,7 +37,7 @@ fn put_class<A: Allocator, V: Write>(
     class: u8,
     report: &mut V,
 ) -> Result<(), WriteFault>
-    requires { class < 8 }
+    requires { class < CLASSES }
     ensures { Writes result (V.contents report.old) (V.contents report.new) (class_text class (counters_of port.now.port class) (class_at summary.now.classes class)) }
 {
     let counters = port.counters(class);
@@ -53,7 +54,7 @@ fn put_summary<A: Allocator, V: Write>(
     requires { moment ≤ greatest_moment }
     ensures { Writes result (V.contents report.old) (V.contents report.new) (summary_lines (record port.now.port { now = moment }) summary.now) }
 {
-    for class in 0..8u8 {
+    for class in 0..CLASSES as u8 {
         put_class(port, summary, class, report)?;
     }
     summary.put_wire(moment, report)

@@ -18,7 +18,7 @@ use script::RunningPort;
 use std::alloc::{Allocator, Global};
 use std::io::Write;
 use summary::{Summary, note, note_start, note_verdict};
-use wire_time::Frame;
+use wire_time::{CLASSES, Frame};
 
 /// The capture that frames leave for.
 #[derive(Drop)]
@@ -98,7 +98,7 @@ fn put_record<A: Allocator, W: Write>(
     start: Start,
     departures: &mut W,
 ) -> Result<(), Stop>
-    requires class { start.class < 8 }
+    requires class { start.class < CLASSES }
     requires waits { 0 < length (kept_at sending.old.store.kept start.class) }
     requires early { start.at < CAPTURE_END }
     ensures port { sending.new.port ≡ sending.old.port }
@@ -131,7 +131,7 @@ fn put_start<A: Allocator, W: Write, V: PutFront>(
     departures: &mut W,
     report: &mut V,
 ) -> Result<(), Stop>
-    requires class { start.class < 8 }
+    requires class { start.class < CLASSES }
     requires waits { 0 < length (kept_at sending.old.store.kept start.class) }
     requires early { start.at < CAPTURE_END }
     ensures port { sending.new.port ≡ sending.old.port }

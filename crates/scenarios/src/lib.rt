@@ -5,7 +5,7 @@ ghost use Rattle.std.specs.Prelude.{◌≡◌, ◌≤◌, ◌<◌};
 
 use gate_list::{Entry, GateList, Schedule, Visits};
 use list_config::{Gates, NotNow};
-use wire_time::Rate;
+use wire_time::{CLASSES, Rate};
 
 /// The lead at 1 Gb/s and an mtu of 1500 octets, in picoseconds.
 pub const LEAD: u128 = 12_336_000;
@@ -70,7 +70,7 @@ fn holds<G: Gates>(gates: &mut G, step: &Step<'_>) -> bool
         }
         Step::Open(class, for_ps, want) => {
             let mut visits = Visits::zero();
-            *class < 8
+            *class < CLASSES as u8
                 && *for_ps <= LATEST
                 && gates.stays_open(*class, *for_ps, &mut visits) == *want
         }

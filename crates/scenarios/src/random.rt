@@ -9,7 +9,7 @@ use list_config::Gates;
 use port::Port;
 use random_lists::Numbers;
 use std::alloc::{AllocError, Global};
-use wire_time::{Frame, Rate};
+use wire_time::{CLASSES, Frame, Rate};
 
 /// A base time, a cycle and an extension, in nanoseconds.
 fn times(numbers: &mut Numbers) -> (u64, u64, u64) {
@@ -45,7 +45,7 @@ fn schedule(numbers: &mut Numbers) -> Option<Schedule> {
 /// Whether a class is open from now on for just so long.
 fn stays_for<G: Gates>(gates: &G, class: u8, stay: Stay) -> bool
     requires sound { G.is_sound gates.now }
-    requires class { class < 8 }
+    requires class { class < CLASSES }
 {
     let mut visits = Visits::zero();
     match stay {
@@ -63,7 +63,7 @@ fn stays_for<G: Gates>(gates: &G, class: u8, stay: Stay) -> bool
 fn tells_open_time<G: Gates>(gates: &G, row: &Row) -> bool
     requires { G.is_sound gates.now }
 {
-    for class in 0..8u8 {
+    for class in 0..CLASSES as u8 {
         if !stays_for(gates, class, row.stay[class as usize]) {
             return false;
         }

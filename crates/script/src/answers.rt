@@ -17,7 +17,7 @@ use std::alloc::Allocator;
 use std::io::Write;
 use summary::{Summary, note, note_start, note_verdict};
 use tc_reader::{CommandPlace, TcFault};
-use wire_time::{Frame, MAX_MOMENT};
+use wire_time::{CLASSES, Frame, MAX_MOMENT};
 
 /// The port that runs. Another implementation of the gates takes the place of this one here.
 pub type RunningPort<A> = Port<Jumping, A>;
@@ -227,7 +227,7 @@ fn put_left_in<A: Allocator, W: Write>(
     class: u8,
     writer: &mut W,
 ) -> Result<(), WriteFault>
-    requires { class < 8 }
+    requires { class < CLASSES }
     ensures { Writes result (W.contents writer.old) (W.contents writer.new) (left_text class (length (queue_of port.now.port class))) }
 {
     let waiting = port.counters(class).waiting;
@@ -245,7 +245,7 @@ pub fn put_all_left<A: Allocator, W: Write>(
 ) -> Result<(), WriteFault>
     ensures { Writes result (W.contents writer.old) (W.contents writer.new) (left_lines port.now.port) }
 {
-    for class in 0..8u8 {
+    for class in 0..CLASSES as u8 {
         put_left_in(port, class, writer)?;
     }
     Ok(())

@@ -8,6 +8,7 @@ use answer_text::WriteFault;
 use std::alloc::Allocator;
 use std::io::Write;
 use summary::Summary;
+use wire_time::CLASSES;
 
 /// Writes the line of a class, where it had frames.
 fn put_class<A: Allocator, W: Write>(
@@ -16,7 +17,7 @@ fn put_class<A: Allocator, W: Write>(
     class: u8,
     writer: &mut W,
 ) -> Result<(), WriteFault>
-    requires { class < 8 }
+    requires { class < CLASSES }
     ensures { Writes result (W.contents writer.old) (W.contents writer.new) (class_text class (counters_of port.now.port class) (class_at summary.now.classes class)) }
 {
     let counters = port.counters(class);
@@ -32,7 +33,7 @@ fn put_summary<A: Allocator, W: Write>(
     ensures { Writes result (W.contents writer.old) (W.contents writer.new) (summary_lines port.now.port summary.now) }
 {
     let now = port.now();
-    for class in 0..8u8 {
+    for class in 0..CLASSES as u8 {
         put_class(port, summary, class, writer)?;
     }
     summary.put_wire(now, writer)

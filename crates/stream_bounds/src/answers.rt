@@ -176,7 +176,7 @@ fn all_answers(
 
 /// The verdict about a class.
 fn verdict_at(classes: &[ClassAnswer; CLASSES], class: u8) -> Verdict
-    requires { class < 8 }
+    requires { class < CLASSES }
     ensures { result ≡ (answer_at classes.now class).verdict }
 {
     classes[class as usize].verdict()
@@ -184,7 +184,7 @@ fn verdict_at(classes: &[ClassAnswer; CLASSES], class: u8) -> Verdict
 
 /// The next bounds of a class that are still to be told; they then are.
 fn next_of(classes: &mut [ClassAnswer; CLASSES], class: u8) -> Option<Bound>
-    requires { class < 8 }
+    requires { class < CLASSES }
     ensures first { result ≡ slice_get (answer_at classes.old class).left 0 }
     ensures left { classes.new ≡ one_told classes.old class }
 {

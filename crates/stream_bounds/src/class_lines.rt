@@ -8,6 +8,7 @@ use crate::answers::Answers;
 use crate::verdicts::{Place, Verdict};
 use answer_text::{Part, WriteFault, put_parts};
 use std::io::Write;
+use wire_time::CLASSES;
 
 /// Writes the line of a class about which one word is said.
 fn put_word<W: Write>(writer: &mut W, class: u8, word: &[u8]) -> Result<(), WriteFault>
@@ -108,7 +109,7 @@ fn put_class<W: Write>(
 pub fn put_classes<W: Write>(writer: &mut W, room: u32, answers: &Answers) -> Result<(), WriteFault>
     ensures { Writes result (W.contents writer.old) (W.contents writer.new) (class_lines room answers.now CLASSES 0) }
 {
-    for class in 0..8u8 {
+    for class in 0..CLASSES as u8 {
         put_class(writer, class, room, answers.verdict(class))?;
     }
     Ok(())

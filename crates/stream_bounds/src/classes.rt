@@ -14,7 +14,7 @@ use delay_bounds::Flow;
 use script::Settings;
 use std::alloc::Allocator;
 use traffic::Stream;
-use wire_time::{CLASSES, Frame, Rate, occupancy, sdu};
+use wire_time::{CLASSES, Frame, PRIORITIES, Rate, occupancy, sdu};
 
 /// The first frame of a stream.
 fn frame_of(stream: &Stream) -> Frame
@@ -36,9 +36,9 @@ fn class_for(settings: &Settings, change: &Change, priority: u8) -> Option<u8>
     match change.map {
         Some(map) => map.class_of(priority),
         None => {
-            if priority < 8 {
+            if priority < CLASSES as u8 {
                 Some(priority)
-            } else if priority < 16 {
+            } else if priority < PRIORITIES as u8 {
                 Some(0)
             } else {
                 None

@@ -29,6 +29,8 @@ impl<A: Allocator> Model for ClassSummary<A> {
 }
 
 impl<A: Allocator + Clone> PerClass<A> for ClassSummary<A> {
+    type Fault = AllocError;
+
     ghost made = { no_frames };
 
     /// A class without frames, with room for so many. All memory that it ever wants is taken here.

@@ -18,7 +18,7 @@ use wire_time::CLASSES;
 
 /// A frame of a class is queued at a moment.
 fn arrives_in<A: Allocator>(classes: &mut [ClassSummary<A>; CLASSES], class: u8, now: u128)
-    requires { class < 8 }
+    requires { class < CLASSES }
     ensures { classes.new ≡ slice_set classes.old class (with_arrival now (class_at classes.old class)) }
 {
     classes[class as usize].arrives(now);
@@ -26,7 +26,7 @@ fn arrives_in<A: Allocator>(classes: &mut [ClassSummary<A>; CLASSES], class: u8,
 
 /// The first frame of a class starts at a moment.
 fn starts_in<A: Allocator>(classes: &mut [ClassSummary<A>; CLASSES], class: u8, at: u128)
-    requires { class < 8 }
+    requires { class < CLASSES }
     ensures { classes.new ≡ slice_set classes.old class (with_start at (class_at classes.old class)) }
 {
     classes[class as usize].starts(at);
@@ -34,7 +34,7 @@ fn starts_in<A: Allocator>(classes: &mut [ClassSummary<A>; CLASSES], class: u8, 
 
 /// What is seen of a class.
 fn class_in<A: Allocator>(classes: &[ClassSummary<A>; CLASSES], class: u8) -> &ClassSummary<A>
-    requires { class < 8 }
+    requires { class < CLASSES }
     ensures { result.now ≡ class_at classes.now class }
 {
     &classes[class as usize]
@@ -94,7 +94,7 @@ impl<A: Allocator> Summary<A> {
     fn see_queued(&mut self, class: u8, now: u128)
         ensures { self.new ≡ in_class class (with_arrival now) self.old }
     {
-        if class < 8 {
+        if class < CLASSES as u8 {
             arrives_in(&mut self.classes, class, now);
         }
     }
@@ -110,7 +110,7 @@ impl<A: Allocator> Summary<A> {
     fn see_started(&mut self, class: u8, at: u128)
         ensures { self.new ≡ in_class class (with_start at) self.old }
     {
-        if class < 8 {
+        if class < CLASSES as u8 {
             starts_in(&mut self.classes, class, at);
         }
     }
@@ -158,7 +158,7 @@ impl<A: Allocator> Summary<A> {
         counters: &Counters,
         writer: &mut W,
     ) -> Result<(), WriteFault>
-        requires { class < 8 }
+        requires { class < CLASSES }
         ensures { Writes result (W.contents writer.old) (W.contents writer.new) (class_text class counters.now (class_at self.now.classes class)) }
     {
         let seen = class_in(&self.classes, class);

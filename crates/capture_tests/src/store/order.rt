@@ -4,6 +4,7 @@ use super::{octets_of, put, takes};
 use linked_list_allocator::LocalHeap;
 use octet_store::{MAX_OCTETS, OctetStore};
 use std::test::Fail;
+use wire_time::CLASSES;
 
 /// The kept octets of the frames that each class gets in turn: none, one, and the most.
 const LENGTHS: [usize; 3] = [0, 1, MAX_OCTETS];
@@ -12,16 +13,16 @@ const LENGTHS: [usize; 3] = [0, 1, MAX_OCTETS];
 fn first_in_first_out_in_each_class(rt: HostRuntime) -> Result<(), Fail> {
     let mut store = OctetStore::new(&rt.alloc(), 3)?;
     for number in 0..3u32 {
-        for class in 0..8u8 {
-            let seed = number * 8 + class as u32;
+        for class in 0..CLASSES as u8 {
+            let seed = number * CLASSES as u32 + class as u32;
             let octets = octets_of(rt.alloc(), seed, LENGTHS[number as usize])?;
             assert!(rt; put(&mut store, class, seed, &octets));
         }
     }
-    for class in 0..8u8 {
+    for class in 0..CLASSES as u8 {
         assert!(rt; !store.has_room(class));
         for number in 0..3u32 {
-            let seed = number * 8 + class as u32;
+            let seed = number * CLASSES as u32 + class as u32;
             let octets = octets_of(rt.alloc(), seed, LENGTHS[number as usize])?;
             assert!(rt; takes(&mut store, class, seed, &octets));
         }

@@ -1,6 +1,6 @@
 use Rattle.std.proofs.Common.{◌≤◌, map, refl, sym, ap, ◌∙◌, arith}
 use Rattle.std.proofs.lemmas.Bool.{iff_false}
-use Rattle.port.specs.Words.{AreCapped, head_need, IsMtu, IsRoom}
+use Rattle.port.specs.Words.{AreCapped, head_need, frames_of, IsMtu, IsRoom}
 use Rattle.port.proofs.SoundLaws.{kept_new, counted_new}
 use Rattle.port.proofs.Port.new.Goals as goal
 
@@ -12,16 +12,16 @@ invariant_of-result g c =
     let n = c.default.ensures in
     let capped : AreCapped c.default.result = record { accepted = omega arith; sent = omega arith; sent_octets = omega arith; runt = omega arith; too_long = omega arith; over_sdu = omega arith; full = omega arith } in (
       c.new.ensures.current,
-      kept_new c.args.rate c.args.mtu c.args.room _ c.in-Ok.queues rate mtu room c.in-Ok.ensures.1 c.in-Ok.ensures.0,
+      kept_new c.args.rate c.args.mtu c.args.room _ c.in-Ok.queues rate mtu room c.in-Ok.ensures,
       counted_new c.default.result capped,
-      ap (λ w. w.needs) c.new.ensures.value ∙ sym (ap (map (head_need c.args.rate)) c.in-Ok.ensures.0),
+      ap (λ w. w.needs) c.new.ensures.value ∙ sym (ap (λ queues. map (head_need c.args.rate) (frames_of queues)) c.in-Ok.ensures),
     )
 
 pub returns-in-Ok-clause-within : goal.returns-in-Ok-clause-within
 returns-in-Ok-clause-within g c = (c.is_mtu.ensures.within.0 c.if-not-is_mtu.false, c.is_room.ensures.within.0 c.if-not-is_room.false)
 
-pub returns-in-Err-clause-memory : goal.returns-in-Err-clause-memory
-returns-in-Err-clause-memory g c = λ _. (c.is_mtu.ensures.within.0 c.if-not-is_mtu.false, c.is_room.ensures.within.0 c.if-not-is_room.false)
+pub returns-clause-memory : goal.returns-clause-memory
+returns-clause-memory g c = λ _. (c.is_mtu.ensures.within.0 c.if-not-is_mtu.false, c.is_room.ensures.within.0 c.if-not-is_room.false)
 
 pub returns-then-not-is_mtu-clause-bad_mtu : goal.returns-then-not-is_mtu-clause-bad_mtu
 returns-then-not-is_mtu-clause-bad_mtu g c = (λ _ mtu. iff_false c.is_mtu.ensures.within c.if-not-is_mtu.true mtu, λ _. refl)
@@ -50,8 +50,8 @@ returns-in-Ok-clause-bad_room g c = (λ e. cc, λ w. absurd (w.1 (c.is_room.ensu
 pub returns-in-Ok-clause-memory : goal.returns-in-Ok-clause-memory
 returns-in-Ok-clause-memory g c = λ e. cc
 
-pub returns-in-Err-clause-bad_mtu : goal.returns-in-Err-clause-bad_mtu
-returns-in-Err-clause-bad_mtu g c = (λ e. cc, λ no. absurd (no (c.is_mtu.ensures.within.0 c.if-not-is_mtu.false)))
+pub returns-clause-bad_mtu : goal.returns-clause-bad_mtu
+returns-clause-bad_mtu g c = (λ e. cc, λ no. absurd (no (c.is_mtu.ensures.within.0 c.if-not-is_mtu.false)))
 
-pub returns-in-Err-clause-bad_room : goal.returns-in-Err-clause-bad_room
-returns-in-Err-clause-bad_room g c = (λ e. cc, λ w. absurd (w.1 (c.is_room.ensures.within.0 c.if-not-is_room.false)))
+pub returns-clause-bad_room : goal.returns-clause-bad_room
+returns-clause-bad_room g c = (λ e. cc, λ w. absurd (w.1 (c.is_room.ensures.within.0 c.if-not-is_room.false)))
