@@ -4,7 +4,7 @@ ghost use Rattle.std.specs.Prelude.{◌≡◌, ◌≢◌, ◌≤◌, ◌<◌, �
 ghost use Rattle.std.specs.Io.KnownBytes.{Keeps, IsAtEnd, prepend_known};
 ghost use Rattle.std.specs.Io.BufRead.{Rests};
 ghost use Rattle.std.specs.Borrow.{sem};
-ghost use Rattle.capture.specs.Words.{MAX_RECORDS, MAX_RECORD_OCTETS, ROOM, held, Step, is_record_fault, fault_at, fractions_of, holds_record};
+ghost use Rattle.capture.specs.Words.{MAX_RECORDS, MAX_RECORD_OCTETS, ROOM, entry, held, Step, is_record_fault, fault_at, fractions_of, holds_record};
 
 use crate::fault::CapFault;
 use crate::format::{Format, RecordHeader, check_header, moment, read_header};
@@ -134,7 +134,7 @@ fn read_record<R: Read, A: Allocator>(
 impl<R: Read, A: Allocator> CaptureReader<R, A> {
     ghost use Rattle.capture.specs.contracts.reader.CaptureReader.{the_row};
     ghost use Rattle.capture.specs.FileHeader.{IsHeaderFault};
-    ghost use Rattle.capture.specs.CaptureReader.{IsNewReader, IsWanting, left, answer, shown, Next};
+    ghost use Rattle.capture.specs.CaptureReader.{HasGiven, IsNewReader, IsWanting, left, answer, record_shown, shown, Next};
 
     /// Reads the file header and no octet more, and then takes the room for one record. No later call wants memory.
     pub fn new(alloc: A, reader: R) -> Result<CaptureReader<R, A>, CapFault>
@@ -181,20 +181,30 @@ impl<R: Read, A: Allocator> CaptureReader<R, A> {
         match self.advance() {
             Ok(None) => Ok(None),
             Err(fault) => Err(fault),
-            Ok(Some(header)) => Ok(Some(Record {
-                moment: moment(self.format, header),
-                captured: header.captured,
-                original: header.original,
-                octets: self.ahead.given(header.captured as usize),
-            })),
+            Ok(Some(header)) => Ok(Some(self.lend(header))),
         }
     }
 
+    /// The record of a header that `advance` answered last.
     #[inline(always)]
-    fn advance(&mut self) -> Result<Option<RecordHeader>, CapFault>
+    pub fn lend(&self, header: RecordHeader) -> Record<'_>
+        requires { HasGiven self.now header }
+        ensures { entry result ≡ record_shown self.now header }
+    {
+        Record {
+            moment: moment(self.format, header),
+            captured: header.captured,
+            original: header.original,
+            octets: self.ahead.given(header.captured as usize),
+        }
+    }
+
+    /// Goes on to the next record, and answers its header: `next` without the loan of the octets, which `lend` gives.
+    #[inline(always)]
+    pub fn advance(&mut self) -> Result<Option<RecordHeader>, CapFault>
         ensures next { Next R.remaining (left self.old) (shown self.new result) (left self.new) }
-        ensures few { IfOk result (λ o. IsSome o → self.old.number < MAX_RECORDS) }
-        ensures start { IfOk result (λ o. IfSome o (λ header. header.captured ≤ self.new.ahead.start)) }
+        ensures few { IfOk result (λ o. IsSome o → (left self.old).number < MAX_RECORDS) }
+        ensures given { IfOk result (λ o. IfSome o (HasGiven self.new)) }
     {
         match self.ended {
             Some(End::Whole) => return Ok(None),
