@@ -1,3 +1,1 @@
 mod Places
-mod Decimal
-mod Parts

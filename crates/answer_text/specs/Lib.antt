@@ -1,4 +1,3 @@
-pub mod Digits
 pub mod Part
 pub mod Names
 pub mod Reports

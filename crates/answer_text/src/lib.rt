@@ -4,8 +4,7 @@
 //! it.
 #![tactic(auto)]
 
-mod digits;
-mod line_buffer;
+mod event_lines;
 mod lines;
 mod names;
 mod reports;

@@ -1,92 +1,33 @@
 //! The lines of answers.
 
-ghost use Rattle.std.specs.Prelude.{◌≤◌, ◌+◌, ◌*◌, length, slice_range};
 ghost use Rattle.abstract_port.specs.Answers.{arrival_answer, command_answer};
 ghost use Rattle.answer_text.specs.Lines.{queued_line, dropped_line, installed_line, refused_line, start_line, count_line, left_line, answer_lines, tc_fault_line};
 ghost use Rattle.octet_writer.specs.Writes.{Writes};
-ghost use Rattle.octet_writer.specs.declared.put_front.TheConstants.{CHUNK};
 
-use crate::digits::{octet_before, short_before};
-use crate::line_buffer::{LINE_CAPACITY, LINE_END, SHORT_LINE, SHORT_LINE_END, text_before};
-use crate::names::{
-    dropped_before, refused_name, refused_number, tc_fault_name, tc_fault_place, tc_fault_word,
-};
+use crate::event_lines::{DroppedLine, QueuedLine, StartLine};
+use crate::names::{refused_name, refused_number, tc_fault_name, tc_fault_place, tc_fault_word};
 use crate::reports::put_report;
-use crate::span::span_before;
 use crate::text_writer::{Part, put_parts};
 use abstract_port::{Answer, Counters, Dropped, Refused, Start};
-use octet_writer::{CHUNK, PutFront, WriteFault, put};
+use octet_writer::{PutLine, WriteFault, put};
 use std::io::Write;
 use tc_reader::TcFault;
 use wire_time::Frame;
 
-/// Writes a line of up to 64 octets: those from `start` up to `end`, behind which is room for a chunk.
-#[inline(always)]
-fn put_short<W: PutFront>(
-    writer: &mut W,
-    line: &[u8],
-    start: usize,
-    end: usize,
-) -> Result<(), WriteFault>
-    requires ordered { start ≤ end }
-    requires short { end ≤ start + CHUNK }
-    requires room { end + CHUNK ≤ length line.now }
-    ensures { Writes result (W.contents writer.old) (W.contents writer.new) (slice_range line.now start end) }
-{
-    let Some(chunk) = line[start..].first_chunk::<CHUNK>() else {
-        unreachable!()
-    };
-    writer.put_front(chunk, end - start)
-}
-
-/// Writes a line of up to 128 octets, as two chunks where it has more than one: those from `start` up to `end`, behind which is
-/// room for a chunk.
-#[inline(always)]
-fn put_line<W: PutFront>(
-    writer: &mut W,
-    line: &[u8],
-    start: usize,
-    end: usize,
-) -> Result<(), WriteFault>
-    requires ordered { start ≤ end }
-    requires short { end ≤ start + 2 * CHUNK }
-    requires room { end + CHUNK ≤ length line.now }
-    ensures { Writes result (W.contents writer.old) (W.contents writer.new) (slice_range line.now start end) }
-{
-    if end - start <= CHUNK {
-        return put_short(writer, line, start, end);
-    }
-    let next = start + CHUNK;
-    put_short(writer, line, start, next)?;
-    put_short(writer, line, next, end)
-}
-
-fn put_queued<W: PutFront>(writer: &mut W, id: u64, class: u8) -> Result<(), WriteFault>
+fn put_queued<W: PutLine>(writer: &mut W, id: u64, class: u8) -> Result<(), WriteFault>
     ensures { Writes result (W.contents writer.old) (W.contents writer.new) (queued_line id class) }
 {
-    let mut line = [0; SHORT_LINE];
-    let end = text_before(b"\n", &mut line, SHORT_LINE_END);
-    let end = octet_before(class, &mut line, end);
-    let end = text_before(b" class ", &mut line, end);
-    let end = short_before(id, &mut line, end);
-    let start = text_before(b"queued ", &mut line, end);
-    put_short(writer, &line, start, SHORT_LINE_END)
+    writer.put_line(&QueuedLine { id, class })
 }
 
-fn put_dropped<W: PutFront>(writer: &mut W, id: u64, why: Dropped) -> Result<(), WriteFault>
+fn put_dropped<W: PutLine>(writer: &mut W, id: u64, why: Dropped) -> Result<(), WriteFault>
     ensures { Writes result (W.contents writer.old) (W.contents writer.new) (dropped_line id why) }
 {
-    let mut line = [0; SHORT_LINE];
-    let end = text_before(b"\n", &mut line, SHORT_LINE_END);
-    let end = dropped_before(why, &mut line, end);
-    let end = text_before(b" ", &mut line, end);
-    let end = short_before(id, &mut line, end);
-    let start = text_before(b"dropped ", &mut line, end);
-    put_short(writer, &line, start, SHORT_LINE_END)
+    writer.put_line(&DroppedLine { id, why })
 }
 
 /// Writes the line of a frame that arrived: its class, or why it was dropped. At a fault a prefix of it is written.
-pub fn put_arrival<W: PutFront>(
+pub fn put_arrival<W: PutLine>(
     writer: &mut W,
     frame: &Frame,
     verdict: Result<u8, Dropped>,
@@ -150,18 +91,10 @@ pub fn put_installation<W: Write>(
 
 /// Writes the line of a frame that starts. At a fault a prefix of it is written.
 #[inline(always)]
-pub fn put_start<W: PutFront>(writer: &mut W, start: &Start) -> Result<(), WriteFault>
+pub fn put_start<W: PutLine>(writer: &mut W, start: &Start) -> Result<(), WriteFault>
     ensures { Writes result (W.contents writer.old) (W.contents writer.new) (start_line start.now) }
 {
-    let mut line = [0; LINE_CAPACITY];
-    let end = text_before(b"\n", &mut line, LINE_END);
-    let end = span_before(start.at, start.end, &mut line, end);
-    let end = text_before(b" at ", &mut line, end);
-    let end = octet_before(start.class, &mut line, end);
-    let end = text_before(b" class ", &mut line, end);
-    let end = short_before(start.id, &mut line, end);
-    let first = text_before(b"start ", &mut line, end);
-    put_line(writer, &line, first, LINE_END)
+    writer.put_line(&StartLine { start })
 }
 
 fn put_counters<W: Write>(writer: &mut W, class: u8, counters: &Counters) -> Result<(), WriteFault>
@@ -195,7 +128,7 @@ fn put_counters<W: Write>(writer: &mut W, class: u8, counters: &Counters) -> Res
 }
 
 /// Writes the lines of an answer. At a fault a prefix of them is written.
-pub fn put_answer<W: PutFront>(writer: &mut W, answer: &Answer) -> Result<(), WriteFault>
+pub fn put_answer<W: PutLine>(writer: &mut W, answer: &Answer) -> Result<(), WriteFault>
     ensures { Writes result (W.contents writer.old) (W.contents writer.new) (answer_lines answer.now) }
 {
     match answer {

@@ -1,34 +1,12 @@
 //! The names in answer lines.
 
-ghost use Rattle.std.specs.Prelude.{◌≡◌, ◌≤◌, ◌+◌, ◌++◌, length, drop, option_map};
-ghost use Rattle.answer_text.specs.declared.names.TheConstants.{DROPPED_CAPACITY};
-ghost use Rattle.answer_text.specs.Names.{dropped_name, plan_fault_name, plan_fault_number, refused_name, refused_number, map_fault_name, queue_fault_name, gate_fault_name, tc_fault_name, tc_fault_word, tc_fault_place};
+ghost use Rattle.std.specs.Prelude.{◌≡◌, option_map};
+ghost use Rattle.answer_text.specs.Names.{plan_fault_name, plan_fault_number, refused_name, refused_number, map_fault_name, queue_fault_name, gate_fault_name, tc_fault_name, tc_fault_word, tc_fault_place};
 
-use crate::line_buffer::text_before;
-use abstract_port::{Dropped, Refused};
+use abstract_port::Refused;
 use class_map::{MapFault, QueueFault};
 use gate_list::{GateFault, PlanFault};
 use tc_reader::TcFault;
-
-/// The most octets of the name of a reason why a frame was dropped.
-const DROPPED_CAPACITY: usize = 7;
-
-/// Puts the name of the reason why a frame was dropped before what ends a line from `end` on, and answers where the line begins then.
-pub(crate) fn dropped_before(why: Dropped, line: &mut [u8], end: usize) -> usize
-    requires room { DROPPED_CAPACITY ≤ end }
-    requires within { end ≤ length line.old }
-    ensures start { end ≤ result + DROPPED_CAPACITY }
-    ensures before { result ≤ end }
-    ensures line { drop result line.new ≡ dropped_name why ++ drop end line.old }
-{
-    match why {
-        Dropped::NoClass => text_before(b"NoClass", line, end),
-        Dropped::Runt => text_before(b"Runt", line, end),
-        Dropped::TooLong => text_before(b"TooLong", line, end),
-        Dropped::OverSdu => text_before(b"OverSdu", line, end),
-        Dropped::Full => text_before(b"Full", line, end),
-    }
-}
 
 fn plan_fault_name(fault: PlanFault) -> &'static [u8]
     ensures { result.now ≡ plan_fault_name fault }

@@ -1,7 +1,7 @@
 //! What is fed: jobs over lines, replays, and settings.
 
 use capture::{CAPTURE_END, CaptureWriter};
-use octet_writer::PutFront;
+use octet_writer::PutLine;
 use replay::{ReplayFault, Stamp, replay};
 use schedule_check::{CheckSettings, check};
 use script::{RunFault, Settings, Unwatched, run_script};
@@ -71,7 +71,7 @@ impl Job {
     }
 
     /// Does it, from any reader to any writer.
-    pub fn run<A: Allocator, R: Read + Drop, W: PutFront>(
+    pub fn run<A: Allocator, R: Read + Drop, W: PutLine>(
         self,
         given: &Given,
         alloc: A,
@@ -196,7 +196,7 @@ impl Replaying {
     }
 
     /// Does it without script lines, from any reader to any writers.
-    pub fn run<A: Allocator, R: Read + Drop, W: Write, V: PutFront>(
+    pub fn run<A: Allocator, R: Read + Drop, W: Write, V: PutLine>(
         given: &Given,
         alloc: A,
         capture: R,

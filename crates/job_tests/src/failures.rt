@@ -4,7 +4,7 @@ use crate::replays::{
     END, REPORT, Replayed, TWO_CAPTURED, is_front_and, replay_of, settings, three_captured,
 };
 use linked_list_allocator::LocalHeap;
-use octet_writer::PutFront;
+use octet_writer::PutLine;
 use refusing_heap::RefusingHeap;
 use replay::{ReplayFault, Stamp, replay};
 use script::{Settings, Unwatched};
@@ -145,7 +145,7 @@ fn narrow(alloc: Global, room: usize, fails: bool, recovers: bool) -> Narrow {
 }
 
 /// What a replay of the two frames ends with, whose output capture and report go to these writers.
-fn replay_to<W: Write, V: PutFront>(
+fn replay_to<W: Write, V: PutLine>(
     alloc: Global,
     written: &mut W,
     report: &mut V,

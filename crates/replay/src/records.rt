@@ -13,14 +13,14 @@ use crate::kept_script::KeptScript;
 use crate::lines::run_lines;
 use crate::sender::{Sending, put_arrival, put_clock};
 use capture::{CapFault, CaptureReader, Record, frame_of};
-use octet_writer::PutFront;
+use octet_writer::PutLine;
 use script::Watch;
 use std::alloc::Allocator;
 use std::io::{Read, Write};
 
 /// Takes a record: a clock event at this moment, and the arrival of its frame.
 #[inline(always)]
-fn take_record<A: Allocator + Clone, W: Write, V: PutFront>(
+fn take_record<A: Allocator + Clone, W: Write, V: PutLine>(
     sending: &mut Sending<A>,
     moment: u128,
     number: u32,
@@ -82,7 +82,7 @@ pub(crate) fn run_records<
     C: Allocator,
     R: Read,
     W: Write,
-    V: PutFront,
+    V: PutLine,
     P: Watch,
 >(
     sending: &mut Sending<A>,

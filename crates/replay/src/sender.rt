@@ -13,7 +13,7 @@ use abstract_port::{Answer, Dropped, Start};
 use answer_text::{WriteFault, put_answer};
 use capture::CaptureWriter;
 use octet_store::OctetStore;
-use octet_writer::PutFront;
+use octet_writer::PutLine;
 use script::RunningPort;
 use std::alloc::{Allocator, Global};
 use std::io::Write;
@@ -47,7 +47,7 @@ pub(crate) struct Sending<A: Allocator = Global> {
 /// Reports a clock event of a moment that has passed, noted where a summary is wanted. At a fault a prefix of it is written.
 /// Apart, since an answer is large.
 #[inline(never)]
-fn put_backward<A: Allocator, V: PutFront>(
+fn put_backward<A: Allocator, V: PutLine>(
     summary: &mut Option<Summary<A>>,
     now: u128,
     report: &mut V,
@@ -63,7 +63,7 @@ fn put_backward<A: Allocator, V: PutFront>(
 /// Writes the start of a frame, noted where a summary is wanted. At a fault a prefix of it is written. Apart, since its
 /// locals are large.
 #[inline(never)]
-fn put_noted_start<A: Allocator, V: PutFront>(
+fn put_noted_start<A: Allocator, V: PutLine>(
     summary: &mut Option<Summary<A>>,
     now: u128,
     start: &Start,
@@ -77,7 +77,7 @@ fn put_noted_start<A: Allocator, V: PutFront>(
 }
 
 /// Writes what becomes of a frame that arrives, noted where a summary is wanted. At a fault a prefix of it is written.
-fn put_noted_arrival<A: Allocator, V: PutFront>(
+fn put_noted_arrival<A: Allocator, V: PutLine>(
     summary: &mut Option<Summary<A>>,
     now: u128,
     frame: &Frame,
@@ -124,7 +124,7 @@ fn put_record<A: Allocator, W: Write>(
 
 /// Reports a start, as an answer to an event that is taken at this moment, writes the first record that is kept of its class, and gives it up.
 #[inline(always)]
-fn put_start<A: Allocator, W: Write, V: PutFront>(
+fn put_start<A: Allocator, W: Write, V: PutLine>(
     sending: &mut Sending<A>,
     now: u128,
     start: Start,
@@ -149,7 +149,7 @@ fn put_start<A: Allocator, W: Write, V: PutFront>(
 }
 
 /// Writes the starts before `until`, as they come.
-fn put_starts<A: Allocator, W: Write, V: PutFront>(
+fn put_starts<A: Allocator, W: Write, V: PutLine>(
     sending: &mut Sending<A>,
     until: u128,
     departures: &mut W,
@@ -174,7 +174,7 @@ fn put_starts<A: Allocator, W: Write, V: PutFront>(
 }
 
 /// Takes a clock event, and writes what is reported of it.
-pub(crate) fn put_clock<A: Allocator, W: Write, V: PutFront>(
+pub(crate) fn put_clock<A: Allocator, W: Write, V: PutLine>(
     sending: &mut Sending<A>,
     moment: u128,
     departures: &mut W,
@@ -198,7 +198,7 @@ pub(crate) fn put_clock<A: Allocator, W: Write, V: PutFront>(
 
 /// A frame arrives, and where it is queued its octets are kept.
 #[inline(always)]
-pub(crate) fn put_arrival<A: Allocator + Clone, V: PutFront>(
+pub(crate) fn put_arrival<A: Allocator + Clone, V: PutLine>(
     sending: &mut Sending<A>,
     frame: Frame,
     original: u32,

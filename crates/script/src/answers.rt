@@ -11,7 +11,7 @@ use answer_text::{
     WriteFault, put_answer, put_arrival, put_installation, put_left, put_start, put_tc_fault,
 };
 use jumping::Jumping;
-use octet_writer::PutFront;
+use octet_writer::PutLine;
 use port::Port;
 use std::alloc::Allocator;
 use std::io::Write;
@@ -24,7 +24,7 @@ pub type RunningPort<A> = Port<Jumping, A>;
 
 /// Takes a frame that arrives, and writes the answer.
 #[inline(always)]
-fn put_frame<A: Allocator, W: PutFront>(
+fn put_frame<A: Allocator, W: PutLine>(
     port: &mut RunningPort<A>,
     summary: &mut Option<Summary<A>>,
     frame: &Frame,
@@ -39,7 +39,7 @@ fn put_frame<A: Allocator, W: PutFront>(
 }
 
 /// Runs to a moment that is not refused, in picoseconds, and writes the starts before it as the port finds them.
-fn put_each_start<A: Allocator, W: PutFront>(
+fn put_each_start<A: Allocator, W: PutLine>(
     port: &mut RunningPort<A>,
     summary: &mut Option<Summary<A>>,
     until: u128,
@@ -59,7 +59,7 @@ fn put_each_start<A: Allocator, W: PutFront>(
 
 /// Runs to a moment and writes the starts before it, where it may be known that there are none.
 #[inline(always)]
-fn put_starts<A: Allocator, W: PutFront>(
+fn put_starts<A: Allocator, W: PutLine>(
     port: &mut RunningPort<A>,
     summary: &mut Option<Summary<A>>,
     until: u128,
@@ -79,7 +79,7 @@ fn put_starts<A: Allocator, W: PutFront>(
 
 /// Takes an event of any kind, and writes the answers to it as the port gives them. Apart, since its locals are large.
 #[inline(never)]
-fn put_each<A: Allocator, W: PutFront>(
+fn put_each<A: Allocator, W: PutLine>(
     port: &mut RunningPort<A>,
     summary: &mut Option<Summary<A>>,
     event: &Event<'_>,
@@ -124,7 +124,7 @@ fn put_install<A: Allocator, W: Write, H: Watch>(
 
 /// Takes a clock event, with its moment in picoseconds, and writes the answers to it.
 #[inline(always)]
-fn put_clock<A: Allocator, W: PutFront>(
+fn put_clock<A: Allocator, W: PutLine>(
     port: &mut RunningPort<A>,
     summary: &mut Option<Summary<A>>,
     until: u128,
@@ -142,7 +142,7 @@ fn put_clock<A: Allocator, W: PutFront>(
 /// Takes an event, and writes the answers to it as they come, each noted where a summary is wanted. At a fault a prefix of them is
 /// written.
 #[inline(always)]
-pub fn put_answers<A: Allocator, W: PutFront>(
+pub fn put_answers<A: Allocator, W: PutLine>(
     port: &mut RunningPort<A>,
     summary: &mut Option<Summary<A>>,
     event: &Event<'_>,

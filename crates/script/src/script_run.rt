@@ -16,7 +16,7 @@ use abstract_port::Event;
 use answer_text::WriteFault;
 use job::next_line;
 use line_reader::LineReader;
-use octet_writer::PutFront;
+use octet_writer::PutLine;
 use separation::settling;
 use std::alloc::Allocator;
 use std::io::Read;
@@ -25,7 +25,7 @@ use tc_reader::CommandPlace;
 
 /// Runs to the moment after the input, if there is one, and writes the answers, then how many frames are left, and the summary where
 /// one is wanted.
-fn end<A: Allocator, W: PutFront>(
+fn end<A: Allocator, W: PutLine>(
     port: &mut RunningPort<A>,
     summary: &mut Option<Summary<A>>,
     until: Option<u128>,
@@ -44,7 +44,7 @@ fn end<A: Allocator, W: PutFront>(
 }
 
 /// Runs the lines that are to come, and the end.
-fn run_lines<A: Allocator, B: Allocator, R: Read + Drop, W: PutFront, H: Watch>(
+fn run_lines<A: Allocator, B: Allocator, R: Read + Drop, W: PutLine, H: Watch>(
     port: &mut RunningPort<A>,
     summary: &mut Option<Summary<A>>,
     lines: &mut LineReader<R, B>,
@@ -103,7 +103,7 @@ fn run_lines<A: Allocator, B: Allocator, R: Read + Drop, W: PutFront, H: Watch>(
 ///
 /// What is written are the lines of the abstract port's answers to the events of the script, with the faults of `tc` lines at
 /// their places; so what holds of those answers holds of the output (`faithful`).
-pub fn run_script<A: Allocator, R: Read + Drop, W: PutFront, H: Watch>(
+pub fn run_script<A: Allocator, R: Read + Drop, W: PutLine, H: Watch>(
     alloc: A,
     reader: R,
     writer: &mut W,

@@ -8,7 +8,7 @@ mod captures;
 mod turns;
 
 pub use captures::{BOTH_LEFT, BOTH_TOLD, FIRST_LEFT, FIRST_TOLD, TWO_RECORDS};
-use octet_writer::PutFront;
+use octet_writer::PutLine;
 use std::io::{self, Read, Write};
 pub use turns::{Tally, Turn, TurningReader, TurningWriter, nth_turn};
 
@@ -77,7 +77,7 @@ pub struct Narrow {
     pub recovers: bool,
 }
 
-impl PutFront for Narrow {}
+impl PutLine for Narrow {}
 
 impl Write for Narrow {
     fn write(&mut self, buf: &[u8]) -> io::Result<usize> {

@@ -3,7 +3,7 @@
 ghost use Rattle.std.specs.Prelude.{◌≡◌, ◌/◌, ◌%◌, []};
 ghost use Rattle.test_streams.specs.Turns.{turn_of};
 
-use octet_writer::PutFront;
+use octet_writer::PutLine;
 use std::alloc::Global;
 use std::cell::Cell;
 use std::io::{self, Read, Write};
@@ -135,7 +135,7 @@ impl TurningWriter {
     }
 }
 
-impl PutFront for TurningWriter {}
+impl PutLine for TurningWriter {}
 
 impl Write for TurningWriter {
     fn write(&mut self, buf: &[u8]) -> io::Result<usize> {

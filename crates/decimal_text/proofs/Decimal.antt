@@ -2,7 +2,7 @@
 use Rattle.std.proofs.Common.{◌≡◌, ℕ, ◌+◌, ◌*◌, ◌/◌, ◌%◌, ◌^◌, ◌<◌, List, [], ◌∷◌, ◌++◌, ap, ◌∙◌, arith, append_assoc}
 use Rattle.std.proofs.lemmas.Fmt.{decimal_step_wide}
 use Rattle.std.specs.Fmt.{decimal}
-use Rattle.answer_text.specs.Digits.{eight_octets}
+use Rattle.decimal_text.specs.Digits.{eight_octets}
 
 abbrev pair : ℕ → List ℕ
 pair p = (48 + p / 10) ∷ (48 + p % 10) ∷ []

@@ -1,0 +1,163 @@
+//! The lines of frames, which are made where they are written.
+
+ghost use Rattle.std.specs.Prelude.{◌≡◌, ◌<◌, ◌≤◌, ◌+◌, ◌*◌, length, take};
+ghost use Rattle.octet_writer.specs.declared.put_line.TheConstants.{LINE_ROOM};
+ghost use Rattle.decimal_text.specs.declared.digits.TheConstants.{EIGHT_DIGITS};
+ghost use Rattle.decimal_text.specs.declared.numbers.TheConstants.{KEPT_END};
+ghost use Rattle.decimal_text.specs.Placed.{Placed};
+ghost use Rattle.answer_text.specs.Lines.{dropped_line, queued_line, start_line, start_text};
+ghost use Rattle.answer_text.specs.Names.{dropped_name};
+ghost use Rattle.answer_text.specs.declared.event_lines.TheConstants.{DROPPED_ROOM};
+
+use crate::span::{near, put_near, put_span};
+use abstract_port::{Dropped, Start};
+use decimal_text::{EIGHT_DIGITS, put_digit, put_few, put_octet, put_short, put_text};
+use octet_writer::{LINE_ROOM, Line};
+
+/// The line of a frame of any number and class.
+#[cold]
+#[inline(never)]
+fn put_any_queued(id: u64, class: u8, room: &mut [u8; LINE_ROOM]) -> usize
+    ensures short { result ≤ LINE_ROOM }
+    ensures text { take result room.new ≡ queued_line id class }
+{
+    let at = put_text(b"queued ", room, 0);
+    let at = put_short(id, room, at);
+    let at = put_text(b" class ", room, at);
+    let at = put_octet(class, room, at);
+    put_text(b"\n", room, at)
+}
+
+/// A frame was queued for a class.
+#[derive(Clone, Copy)]
+pub(crate) struct QueuedLine {
+    pub(crate) id: u64,
+    pub(crate) class: u8,
+}
+
+impl Line for QueuedLine {
+    ghost text = { λ line. queued_line line.id line.class };
+
+    // Most numbers and classes have few digits: their line takes no call.
+    #[inline(always)]
+    fn put_into(&self, room: &mut [u8; LINE_ROOM]) -> usize {
+        if self.id >= EIGHT_DIGITS || self.class >= 10 {
+            return put_any_queued(self.id, self.class, room);
+        }
+        let at = put_text(b"queued ", room, 0);
+        let at = put_few(self.id, room, at);
+        let at = put_text(b" class ", room, at);
+        let at = put_digit(self.class, room, at);
+        put_text(b"\n", room, at)
+    }
+}
+
+/// The octets that the name of a reason has to have room for.
+const DROPPED_ROOM: usize = 7;
+
+/// Puts the name of the reason why a frame was dropped at a place, and answers where it ends.
+fn put_dropped(why: Dropped, line: &mut [u8], at: usize) -> usize
+    requires { at + DROPPED_ROOM ≤ length line.old }
+    ensures text { Placed line.old line.new at (dropped_name why) result }
+    ensures end { result ≤ at + DROPPED_ROOM }
+{
+    match why {
+        Dropped::NoClass => put_text(b"NoClass", line, at),
+        Dropped::Runt => put_text(b"Runt", line, at),
+        Dropped::TooLong => put_text(b"TooLong", line, at),
+        Dropped::OverSdu => put_text(b"OverSdu", line, at),
+        Dropped::Full => put_text(b"Full", line, at),
+    }
+}
+
+/// A frame was dropped, and why.
+#[derive(Clone, Copy)]
+pub(crate) struct DroppedLine {
+    pub(crate) id: u64,
+    pub(crate) why: Dropped,
+}
+
+impl Line for DroppedLine {
+    ghost text = { λ line. dropped_line line.id line.why };
+
+    #[inline(always)]
+    fn put_into(&self, room: &mut [u8; LINE_ROOM]) -> usize {
+        let at = put_text(b"dropped ", room, 0);
+        let at = put_short(self.id, room, at);
+        let at = put_text(b" ", room, at);
+        let at = put_dropped(self.why, room, at);
+        put_text(b"\n", room, at)
+    }
+}
+
+/// The line of any frame that starts.
+#[cold]
+#[inline(never)]
+fn put_any_start(start: &Start, room: &mut [u8; LINE_ROOM]) -> usize
+    ensures short { result ≤ LINE_ROOM }
+    ensures text { take result room.new ≡ start_line start.now }
+{
+    let at = put_text(b"start ", room, 0);
+    let at = put_short(start.id, room, at);
+    let at = put_text(b" class ", room, at);
+    let at = put_octet(start.class, room, at);
+    let at = put_text(b" at ", room, at);
+    let at = put_span(start.at, start.end, room, at);
+    put_text(b"\n", room, at)
+}
+
+/// The line of a frame whose number and class have few digits, and whose moments differ in their last eight digits alone.
+#[inline(always)]
+fn put_usual_start(
+    id: u64,
+    class: u8,
+    front: u64,
+    eight: u64,
+    other: u64,
+    room: &mut [u8; LINE_ROOM],
+) -> usize
+    requires id { id < EIGHT_DIGITS }
+    requires class { class < 10 }
+    requires front { (0 < front) × (front < KEPT_END) }
+    requires eight { eight < EIGHT_DIGITS }
+    requires other { other < EIGHT_DIGITS }
+    ensures short { result ≤ LINE_ROOM }
+    ensures text { take result room.new ≡ start_text id class (front * EIGHT_DIGITS + eight) (front * EIGHT_DIGITS + other) }
+{
+    let at = put_text(b"start ", room, 0);
+    let at = put_few(id, room, at);
+    let at = put_text(b" class ", room, at);
+    let at = put_digit(class, room, at);
+    let at = put_text(b" at ", room, at);
+    let at = put_near(front, eight, other, room, at);
+    put_text(b"\n", room, at)
+}
+
+/// A frame starts.
+#[derive(Clone, Copy)]
+pub(crate) struct StartLine<'a> {
+    pub(crate) start: &'a Start,
+}
+
+impl Line for StartLine<'_> {
+    ghost text = { λ line. start_line line.start.now };
+
+    #[inline(always)]
+    fn put_into(&self, room: &mut [u8; LINE_ROOM]) -> usize {
+        let start = self.start;
+        if start.id >= EIGHT_DIGITS || start.class >= 10 {
+            return put_any_start(start, room);
+        }
+        match near(start.at, start.end) {
+            Some((front, eight, other)) => put_usual_start(
+                start.id,
+                start.class,
+                front,
+                eight,
+                other,
+                room,
+            ),
+            None => put_any_start(start, room),
+        }
+    }
+}

@@ -1,0 +1,3 @@
+mod Decimal
+mod FrontDigits
+pub mod PlacedLaws
