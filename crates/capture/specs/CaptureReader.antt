@@ -1,5 +1,5 @@
 -- What a reader of a capture has left, and what its next answer is.
-use Rattle.std.specs.Prelude.{◌≡◌, ◌≢◌, ℕ, ◌+◌, List, [], drop, Option, Some, None, IsTrue, Result, Ok, Err, IfSome, MatchOption, option_map}
+use Rattle.std.specs.Prelude.{◌≡◌, ◌≢◌, ◌≤◌, ℕ, ◌+◌, List, [], drop, Option, Some, None, IsTrue, Result, Ok, Err, IfSome, MatchOption, option_map}
 use Rattle.std.specs.Io.KnownBytes.{prepend_known}
 use Rattle.capture.specs.declared.fault.CapFault.{CapFault}
 use Rattle.capture.specs.declared.fault.CapFault.TheVariants.{ShortRecord, Read}
@@ -45,14 +45,22 @@ abbrev pub answer : Result (Option Record) CapFault → Result (Option Entry) Ca
 answer (Ok o) = Ok (option_map entry o)
 answer (Err f) = Err f
 
--- what a header stands for, whose octets were given last
-abbrev pub shown : {R A : Type 0} → CaptureReader R A → Result (Option RecordHeader) CapFault → Result (Option Entry) CapFault
-shown r (Ok o) = Ok (option_map (λ header. record {
+-- the octets after this header were given last
+abbrev pub HasGiven : {R A : Type 0} → CaptureReader R A → RecordHeader → Type 0
+HasGiven r header = header.captured ≤ r.ahead.start
+
+-- the record of a header whose octets were given last
+abbrev pub record_shown : {R A : Type 0} → CaptureReader R A → RecordHeader → Entry
+record_shown r header = record {
   moment = moment_of r.format header;
   captured = header.captured;
   original = header.original;
   octets = last_given r.ahead header.captured;
-}) o)
+}
+
+-- an answer of `advance`, with the record in place of the header
+abbrev pub shown : {R A : Type 0} → CaptureReader R A → Result (Option RecordHeader) CapFault → Result (Option Entry) CapFault
+shown r (Ok o) = Ok (option_map (record_shown r) o)
 shown r (Err f) = Err f
 
 -- what is answered once the end was met

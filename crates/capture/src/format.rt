@@ -41,7 +41,7 @@ pub struct Format {
 
 /// The 16 octets before the octets of a record.
 #[derive(Clone, Copy, Debug, PartialEq, Eq)]
-pub(crate) struct RecordHeader {
+pub struct RecordHeader {
     /// Whole seconds of the time stamp.
     pub seconds: u32,
     /// The rest of the time stamp, in the capture's resolution.

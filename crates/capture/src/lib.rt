@@ -14,7 +14,7 @@ mod record;
 mod writer;
 
 pub use fault::CapFault;
-pub use format::{Endian, Format, MAX_RECORD_OCTETS, MAX_RECORDS, Resolution};
+pub use format::{Endian, Format, MAX_RECORD_OCTETS, MAX_RECORDS, RecordHeader, Resolution};
 pub use reader::{CaptureReader, End};
 pub use record::{Record, frame_of};
 pub use writer::{CAPTURE_END, CaptureWriter};

@@ -4,7 +4,7 @@ ghost use Rattle.std.specs.Prelude.{◌≡◌, ◌≢◌, ◌≤◌, ◌<◌, �
 ghost use Rattle.std.specs.Io.KnownBytes.{Keeps, IsAtEnd, prepend_known};
 ghost use Rattle.std.specs.Io.BufRead.{Rests};
 ghost use Rattle.std.specs.Borrow.{sem};
-ghost use Rattle.capture.specs.Words.{MAX_RECORDS, MAX_RECORD_OCTETS, ROOM, held, Step, is_record_fault, fault_at, fractions_of, holds_record};
+ghost use Rattle.capture.specs.Words.{MAX_RECORDS, MAX_RECORD_OCTETS, ROOM, entry, held, Step, is_record_fault, fault_at, fractions_of, holds_record};
 
 use crate::fault::CapFault;
 use crate::format::{Format, RecordHeader, check_header, moment, read_header};
@@ -60,8 +60,9 @@ fn fetch<R: Read, A: Allocator>(
     Ok(true)
 }
 
-/// The next record, which has then been given, or None at the end of the input.
-fn read_record<R: Read, A: Allocator>(
+/// The next record, which has then been given, or None at the end of the input. Apart, since a record mostly stands whole in hand.
+#[inline(never)]
+fn read_record_apart<R: Read, A: Allocator>(
     ahead: &mut ReadAhead<A>,
     source: &mut R,
     format: Format,
@@ -95,10 +96,45 @@ fn read_record<R: Read, A: Allocator>(
     Ok(Some(header))
 }
 
+/// The next record, which has then been given, or None at the end of the input. Of a record that stands whole in hand the header is read once.
+#[inline(always)]
+fn read_record<R: Read, A: Allocator>(
+    ahead: &mut ReadAhead<A>,
+    source: &mut R,
+    format: Format,
+    number: u32,
+) -> Result<Option<RecordHeader>, CapFault>
+    ensures step { IfSome (prepend_known (held ahead.old) (R.remaining source.old)) (λ octets.
+        Step format number octets result ahead.new (prepend_known (held ahead.new) (R.remaining source.new))) }
+    ensures start { IfOk result (λ o. IfSome o (λ header. header.captured ≤ ahead.new.start)) }
+    ensures short { IfOk result (λ o. IfSome o (λ header. header.captured ≤ MAX_RECORD_OCTETS)) }
+    ensures fraction { IfOk result (λ o. IfSome o (λ header. header.fraction < fractions_of format.resolution)) }
+    ensures few { IfOk result (λ o. IsSome o → number < MAX_RECORDS) }
+    ensures fault { IfErr result (λ f. IsTrue (is_record_fault f)) }
+    ensures read { result ≡ Err CapFault.Read → fault_at format number (held ahead.old) ≡ Some CapFault.ShortRecord }
+    ensures unread { fault_at format number (held ahead.old) ≢ Some CapFault.ShortRecord → source.new ≡ source.old }
+{
+    let octets = ahead.octets();
+    if octets.len() < RECORD_HEADER {
+        return read_record_apart(ahead, source, format, number);
+    }
+    let header = read_header(format, octets);
+    let captured = header.captured as usize;
+    if octets.len() < RECORD_HEADER + captured {
+        return read_record_apart(ahead, source, format, number);
+    }
+    let Ok(()) = check_header(format, number, header) else {
+        return read_record_apart(ahead, source, format, number);
+    };
+    ahead.give(RECORD_HEADER);
+    ahead.give(captured);
+    Ok(Some(header))
+}
+
 impl<R: Read, A: Allocator> CaptureReader<R, A> {
     ghost use Rattle.capture.specs.contracts.reader.CaptureReader.{the_row};
     ghost use Rattle.capture.specs.FileHeader.{IsHeaderFault};
-    ghost use Rattle.capture.specs.CaptureReader.{IsNewReader, IsWanting, left, answer, shown, Next};
+    ghost use Rattle.capture.specs.CaptureReader.{HasGiven, IsNewReader, IsWanting, left, answer, record_shown, shown, Next};
 
     /// Reads the file header and no octet more, and then takes the room for one record. No later call wants memory.
     pub fn new(alloc: A, reader: R) -> Result<CaptureReader<R, A>, CapFault>
@@ -137,6 +173,7 @@ impl<R: Read, A: Allocator> CaptureReader<R, A> {
     }
 
     /// The next record, or None at the end. After None it answers None, after a fault that fault.
+    #[inline(always)]
     pub fn next(&mut self) -> Result<Option<Record<'_>>, CapFault>
         ensures few { IfOk result (λ o. IsSome o → (left self.old).number < MAX_RECORDS) }
         ensures* next { sem 𝓛 (Rests (the_row R.row A.row A.Allocator) self.entry (λ new. Next R.remaining (left self.old) (answer result) (left new))) }
@@ -144,19 +181,30 @@ impl<R: Read, A: Allocator> CaptureReader<R, A> {
         match self.advance() {
             Ok(None) => Ok(None),
             Err(fault) => Err(fault),
-            Ok(Some(header)) => Ok(Some(Record {
-                moment: moment(self.format, header),
-                captured: header.captured,
-                original: header.original,
-                octets: self.ahead.given(header.captured as usize),
-            })),
+            Ok(Some(header)) => Ok(Some(self.lend(header))),
         }
     }
 
-    fn advance(&mut self) -> Result<Option<RecordHeader>, CapFault>
+    /// The record of a header that `advance` answered last.
+    #[inline(always)]
+    pub fn lend(&self, header: RecordHeader) -> Record<'_>
+        requires { HasGiven self.now header }
+        ensures { entry result ≡ record_shown self.now header }
+    {
+        Record {
+            moment: moment(self.format, header),
+            captured: header.captured,
+            original: header.original,
+            octets: self.ahead.given(header.captured as usize),
+        }
+    }
+
+    /// Goes on to the next record, and answers its header: `next` without the loan of the octets, which `lend` gives.
+    #[inline(always)]
+    pub fn advance(&mut self) -> Result<Option<RecordHeader>, CapFault>
         ensures next { Next R.remaining (left self.old) (shown self.new result) (left self.new) }
-        ensures few { IfOk result (λ o. IsSome o → self.old.number < MAX_RECORDS) }
-        ensures start { IfOk result (λ o. IfSome o (λ header. header.captured ≤ self.new.ahead.start)) }
+        ensures few { IfOk result (λ o. IsSome o → (left self.old).number < MAX_RECORDS) }
+        ensures given { IfOk result (λ o. IfSome o (HasGiven self.new)) }
     {
         match self.ended {
             Some(End::Whole) => return Ok(None),

@@ -9,7 +9,7 @@ use crate::format::MAX_RECORD_OCTETS;
 use crate::header::{ETHERNET, FILE_HEADER, MAJOR_VERSION, MINOR_VERSION, NANOS_MAGIC};
 use crate::read_ahead::RECORD_HEADER;
 use byteorder::{ByteOrder, LittleEndian};
-use octet_writer::put;
+use octet_writer::{PutLine, put};
 use std::io::Write;
 
 /// The first moment that a time stamp can't say, in picoseconds: its seconds have 32 bits.
@@ -89,7 +89,7 @@ impl CaptureWriter {
 
     /// Writes one record: the moment in picoseconds, rounded down to a nanosecond, the octets that the frame had, and those
     /// captured. Once a write has failed, this call and each later one fails, and they write nothing more.
-    pub fn put<W: Write>(
+    pub fn put<W: PutLine>(
         &mut self,
         writer: &mut W,
         moment: u128,
@@ -112,8 +112,9 @@ impl CaptureWriter {
         }
         self.failed = true;
         let header = record_header(moment, octets.len() as u32, original);
-        put_whole(writer, &header)?;
-        put_whole(writer, octets)?;
+        let Ok(()) = writer.put_headed(&header, octets) else {
+            return Err(CapFault::Write);
+        };
         self.failed = false;
         Ok(())
     }

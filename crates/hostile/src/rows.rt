@@ -196,7 +196,7 @@ impl Replaying {
     }
 
     /// Does it without script lines, from any reader to any writers.
-    pub fn run<A: Allocator, R: Read + Drop, W: Write, V: PutLine>(
+    pub fn run<A: Allocator, R: Read + Drop, W: PutLine, V: PutLine>(
         given: &Given,
         alloc: A,
         capture: R,

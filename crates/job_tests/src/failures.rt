@@ -9,7 +9,6 @@ use refusing_heap::RefusingHeap;
 use replay::{ReplayFault, Stamp, replay};
 use script::{Settings, Unwatched};
 use std::alloc::Global;
-use std::io::Write;
 use std::test::Fail;
 use test_streams::{BOTH_LEFT, Narrow, Pieces};
 
@@ -145,7 +144,7 @@ fn narrow(alloc: Global, room: usize, fails: bool, recovers: bool) -> Narrow {
 }
 
 /// What a replay of the two frames ends with, whose output capture and report go to these writers.
-fn replay_to<W: Write, V: PutLine>(
+fn replay_to<W: PutLine, V: PutLine>(
     alloc: Global,
     written: &mut W,
     report: &mut V,

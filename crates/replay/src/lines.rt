@@ -11,12 +11,11 @@ use abstract_port::Event;
 use octet_writer::PutLine;
 use script::{Watch, put_answers, put_tc};
 use std::alloc::Allocator;
-use std::io::Write;
 use tc_reader::laws::one_reader;
 
 /// Answers a line of the script. Who watches is called where it begins with `tc` and changes nothing.
 #[inline(never)]
-fn put_line<A: Allocator, B: Allocator, W: Write, V: PutLine, P: Watch>(
+fn put_line<A: Allocator, B: Allocator, W: PutLine, V: PutLine, P: Watch>(
     sending: &mut Sending<A>,
     script: &KeptScript<B>,
     line: KeptLine,
@@ -97,7 +96,7 @@ pub fn line_by<A: Allocator>(
 
 /// Answers the lines up to a moment that are to come. Who watches is called for each that begins with `tc` and changes nothing.
 #[inline(always)]
-pub(crate) fn run_lines<A: Allocator, B: Allocator, W: Write, V: PutLine, P: Watch>(
+pub(crate) fn run_lines<A: Allocator, B: Allocator, W: PutLine, V: PutLine, P: Watch>(
     sending: &mut Sending<A>,
     script: &KeptScript<B>,
     cursor: &mut Cursor,

@@ -20,7 +20,7 @@ use std::io::{Read, Write};
 
 /// Takes a record: a clock event at this moment, and the arrival of its frame.
 #[inline(always)]
-fn take_record<A: Allocator + Clone, W: Write, V: PutLine>(
+fn take_record<A: Allocator + Clone, W: PutLine, V: PutLine>(
     sending: &mut Sending<A>,
     moment: u128,
     number: u32,
@@ -81,7 +81,7 @@ pub(crate) fn run_records<
     B: Allocator,
     C: Allocator,
     R: Read,
-    W: Write,
+    W: PutLine,
     V: PutLine,
     P: Watch,
 >(

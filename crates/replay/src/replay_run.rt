@@ -45,7 +45,7 @@ pub fn run_end(until: Option<u128>) -> u128
 }
 
 /// Runs on from where both inputs have ended, and writes how many frames are left, and the summary where one is wanted.
-fn run_on<A: Allocator, W: Write, V: PutLine>(
+fn run_on<A: Allocator, W: PutLine, V: PutLine>(
     sending: &mut Sending<A>,
     until: Option<u128>,
     departures: &mut W,
@@ -66,7 +66,7 @@ fn run_on<A: Allocator, W: Write, V: PutLine>(
 }
 
 /// Answers the lines that are left, and runs on. Who watches is called for each line that begins with `tc` and changes nothing.
-fn finish<A: Allocator, B: Allocator, W: Write, V: PutLine, P: Watch>(
+fn finish<A: Allocator, B: Allocator, W: PutLine, V: PutLine, P: Watch>(
     sending: &mut Sending<A>,
     script: &KeptScript<B>,
     cursor: &mut Cursor,
@@ -105,7 +105,7 @@ pub fn ended_by(broken: Option<(u32, CapFault)>) -> Result<(), ReplayFault>
 }
 
 /// Runs the records and the lines, to the end of both.
-fn run<A: Allocator + Clone, B: Allocator, C: Allocator, R: Read, W: Write, V: PutLine, P: Watch>(
+fn run<A: Allocator + Clone, B: Allocator, C: Allocator, R: Read, W: PutLine, V: PutLine, P: Watch>(
     sending: &mut Sending<A>,
     script: &KeptScript<B>,
     until: Option<u128>,
@@ -227,7 +227,7 @@ fn begin<A: Allocator + Clone, W: Write>(
 /// tried again. Nothing that is kept grows with the capture: of a script its
 /// lines are kept, and of a capture the octets of the frames that wait, and where a summary is wanted when they came. Who watches is called for
 /// each record once it is taken, for a malformed line of the script, and for each line that begins with `tc` and changes nothing.
-pub fn replay<A: Allocator, R: Read + Drop, S: Read + Drop, W: Write, V: PutLine, P: Watch>(
+pub fn replay<A: Allocator, R: Read + Drop, S: Read + Drop, W: PutLine, V: PutLine, P: Watch>(
     alloc: A,
     script: R,
     capture: S,

@@ -16,7 +16,6 @@ use octet_store::OctetStore;
 use octet_writer::PutLine;
 use script::RunningPort;
 use std::alloc::{Allocator, Global};
-use std::io::Write;
 use summary::{Summary, note, note_start, note_verdict};
 use wire_time::{CLASSES, Frame};
 
@@ -93,7 +92,7 @@ fn put_noted_arrival<A: Allocator, V: PutLine>(
 
 /// Writes the first record that is kept of the class of a start, and gives it up.
 #[inline(always)]
-fn put_record<A: Allocator, W: Write>(
+fn put_record<A: Allocator, W: PutLine>(
     sending: &mut Sending<A>,
     start: Start,
     departures: &mut W,
@@ -124,7 +123,7 @@ fn put_record<A: Allocator, W: Write>(
 
 /// Reports a start, as an answer to an event that is taken at this moment, writes the first record that is kept of its class, and gives it up.
 #[inline(always)]
-fn put_start<A: Allocator, W: Write, V: PutLine>(
+fn put_start<A: Allocator, W: PutLine, V: PutLine>(
     sending: &mut Sending<A>,
     now: u128,
     start: Start,
@@ -149,7 +148,7 @@ fn put_start<A: Allocator, W: Write, V: PutLine>(
 }
 
 /// Writes the starts before `until`, as they come.
-fn put_starts<A: Allocator, W: Write, V: PutLine>(
+fn put_starts<A: Allocator, W: PutLine, V: PutLine>(
     sending: &mut Sending<A>,
     until: u128,
     departures: &mut W,
@@ -174,7 +173,7 @@ fn put_starts<A: Allocator, W: Write, V: PutLine>(
 }
 
 /// Takes a clock event, and writes what is reported of it.
-pub(crate) fn put_clock<A: Allocator, W: Write, V: PutLine>(
+pub(crate) fn put_clock<A: Allocator, W: PutLine, V: PutLine>(
     sending: &mut Sending<A>,
     moment: u128,
     departures: &mut W,

@@ -2,12 +2,12 @@
 
 use super::{Narrow, WRITTEN};
 use capture::{CAPTURE_END, CapFault, CaptureReader, CaptureWriter, MAX_RECORD_OCTETS, Record};
+use octet_writer::PutLine;
 use std::alloc::Global;
-use std::io::Write;
 use std::test::Fail;
 
 /// Writes the capture `WRITTEN`, and goes on after a fault; the first fault.
-fn write_both<W: Write>(writer: &mut W) -> Result<(), CapFault> {
+fn write_both<W: PutLine>(writer: &mut W) -> Result<(), CapFault> {
     let mut capture = CaptureWriter::begin(writer)?;
     let first = capture.put(writer, 2_000_500_000_999, 60, &WRITTEN[40..58]);
     let second = capture.put(writer, 2_000_500_672_000, 60, &WRITTEN[74..]);
