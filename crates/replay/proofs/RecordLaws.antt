@@ -5,10 +5,11 @@ use Rattle.std.specs.Io.KnownBytes.{Keeps as Holds}
 use Rattle.std.proofs.Math.ListN.{get_or}
 use Rattle.std.proofs.Math.Seq.{get_or-append_seam}
 use Rattle.std.proofs.lemmas.List.{length-append}
-use Rattle.replay.specs.Words.{Left, Next, AreRecords, frame_of, Entry, CapFault, Format, End, Whole, Broken, Arrive, kept, Origin, Request, Asks, Came, Timed, before_end, came_from, lines_after, lines_by, lines_past, requests_of, Got, kept_in, Comes, EndsSo, found, RunsRecords, Answers, Keeps, State, IsSoundPort, Stop}
-use Rattle.capture.specs.CaptureReader.{IsWanting, ReadsNext, again, answer, octets_left}
+use Rattle.replay.specs.Words.{Left, Next, left, AreRecords, frame_of, Entry, CapFault, Format, End, Whole, Broken, Arrive, kept, Origin, Request, Asks, Came, Timed, before_end, came_from, lines_after, lines_by, lines_past, requests_of, Got, kept_in, Comes, EndsSo, found, RunsRecords, Answers, Keeps, State, IsSoundPort, Stop}
+use Rattle.capture.specs.CaptureReader.{IsWanting, ReadsNext, again, octets_left, record_shown, shown}
 use Rattle.capture.specs.Records.{entry_at, fault_at, rest_after}
-use Rattle.capture.specs.declared.record.Record.{Record}
+use Rattle.capture.specs.declared.format.RecordHeader.{RecordHeader}
+use Rattle.capture.specs.declared.reader.CaptureReader.{CaptureReader}
 use Rattle.capture.specs.declared.fault.CapFault.TheVariants.{ShortHeader, BadMagic, BadVersion, BadLink, ShortRecord, LongRecord, BadFraction, TooManyRecords, Read, Write, Memory}
 use Rattle.abstract_port.specs.declared.Event.TheVariants.{Clock}
 use Rattle.replay.specs.Outputs.{no_entry}
@@ -55,8 +56,12 @@ found_by number Write = inr (λ e. cc, refl)
 found_by number Memory = inr (λ e. cc, refl)
 
 -- what was answered is known
-pub answered : {R : Type 0} (remaining : R → Option (List ℕ)) (l after : Left R) {a b : Result (Option Record) CapFault} → a ≡ b → Next remaining l (answer a) after → Next remaining l (answer b) after
-answered remaining l after is p = subst (λ (x : Result (Option Record) CapFault). Next remaining l (answer x) after) is p
+pub answered : {R A : Type 0} (remaining : R → Option (List ℕ)) (l : Left R) (reader : CaptureReader R A) {a b : Result (Option RecordHeader) CapFault} → a ≡ b → Next remaining l (shown reader a) (left reader) → Next remaining l (shown reader b) (left reader)
+answered remaining l reader is p = subst (λ (x : Result (Option RecordHeader) CapFault). Next remaining l (shown reader x) (left reader)) is p
+
+-- and a record was lent
+pub lent : {R A : Type 0} (remaining : R → Option (List ℕ)) (l : Left R) (reader : CaptureReader R A) {a : Result (Option RecordHeader) CapFault} {header : RecordHeader} {e : Entry} → a ≡ Ok (Some header) → e ≡ record_shown reader header → Next remaining l (shown reader a) (left reader) → Next remaining l (Ok (Some e)) (left reader)
+lent remaining l reader is shows p = subst (λ (x : Entry). Next remaining l (Ok (Some x)) (left reader)) (sym shows) (answered remaining l reader is p)
 
 module _ {R : Type 0} (remaining : R → Option (List ℕ)) (l after : Left R) (es : List Entry) (last : End) (begun : l.ended ≡ None) (comes : Comes remaining l es last) where
   -- a record was answered

@@ -1,10 +1,11 @@
 //! The records of a capture, each after the lines up to its moment.
 
-ghost use Rattle.std.specs.Prelude.{◌≡◌, ◌≤◌, ◌∷◌, [], ℕ, List, Option, None, Result, Ok, OnOk, IfErr, length, max, true};
+ghost use Rattle.std.specs.Prelude.{◌≡◌, ◌≤◌, ◌<◌, ◌∷◌, [], ℕ, List, Option, None, Result, Ok, OnOk, IfErr, IfOk, IfSome, IsSome, length, max, true};
 ghost use Rattle.std.specs.Io.KnownBytes.{Keeps as Holds};
+ghost use Rattle.capture.specs.CaptureReader.{HasGiven, shown};
 ghost use Rattle.capture.specs.Records.{holds_record};
 ghost use Rattle.replay.specs.declared.faults.Stop.TheVariants as Stops;
-ghost use Rattle.replay.specs.Words.{Command, left, entry, frame_of, End, Origin, CAPTURE_END, MAX_RECORD_OCTETS, kept, Asks, IsReader, TcFault, lines_left, kept_in, Comes, found, RunsRecords, Answers, IsTogether, Keeps, state};
+ghost use Rattle.replay.specs.Words.{Command, Next, left, entry, frame_of, End, Origin, CAPTURE_END, MAX_RECORDS, MAX_RECORD_OCTETS, kept, Asks, IsReader, TcFault, lines_left, kept_in, Comes, found, RunsRecords, Answers, IsTogether, Keeps, state};
 ghost use Rattle.abstract_port.specs.declared.Event.TheVariants as Events;
 
 use crate::cursor::Cursor;
@@ -12,7 +13,7 @@ use crate::faults::Stop;
 use crate::kept_script::KeptScript;
 use crate::lines::run_lines;
 use crate::sender::{Sending, put_arrival, put_clock};
-use capture::{CapFault, CaptureReader, Record, frame_of};
+use capture::{CapFault, CaptureReader, Record, RecordHeader, frame_of};
 use octet_writer::PutLine;
 use script::Watch;
 use std::alloc::Allocator;
@@ -73,6 +74,29 @@ fn let_out_before<C: Allocator, R: Read, W: Write, V: Write>(
     Ok(())
 }
 
+/// Goes on to the next record, once what was written is let out where none stands whole in hand; its header.
+#[inline(always)]
+fn advance<C: Allocator, R: Read, W: Write, V: Write>(
+    records: &mut CaptureReader<R, C>,
+    departures: &mut W,
+    report: &mut V,
+) -> Result<Result<Option<RecordHeader>, CapFault>, Stop>
+    ensures report { Holds (V.contents report.old) (V.contents report.new) }
+    ensures departures { Holds (W.contents departures.old) (W.contents departures.new) }
+    ensures fault { IfErr result (λ fault. fault ≡ Stops.Write) }
+    ensures in_hand { holds_record (left records.old).format (left records.old).in_hand ≡ true → (report.new ≡ report.old) × (departures.new ≡ departures.old) }
+    ensures next { IfOk result (λ answer. Next R.remaining (left records.old) (shown records.new answer) (left records.new)) }
+    ensures few { IfOk result (λ answer. IfOk answer (λ o. IsSome o → (left records.old).number < MAX_RECORDS)) }
+    ensures given { IfOk result (λ answer. IfOk answer (λ o. IfSome o (HasGiven records.new))) }
+{
+    // The call stands twice, so that the compiler knows in the first place that the record stands whole in hand.
+    if records.has_record() {
+        return Ok(records.advance());
+    }
+    let_out_before(records, departures, report)?;
+    Ok(records.advance())
+}
+
 /// Runs the records that are to come, each after the lines up to its moment, and calls who watches for each; later lines are left. What was
 /// answered is let out before more of the capture is waited for. The number of the record at which the capture ends with a fault, and the
 /// fault.
@@ -104,12 +128,12 @@ pub(crate) fn run_records<
     let mut latest = 0u128;
     let mut number = 0u32;
     'records: loop {
-        let_out_before(records, departures, report)?;
-        let record = match records.next() {
+        let header = match advance(records, departures, report)? {
             Ok(None) => return Ok(None),
             Err(fault) => return found(number, fault),
-            Ok(Some(record)) => record,
+            Ok(Some(header)) => header,
         };
+        let record = records.lend(header);
         latest = latest.max(record.moment);
         run_lines(sending, script, cursor, latest, departures, report, watch)?;
         take_record(sending, latest, number, &record, departures, report)?;
