@@ -62,9 +62,9 @@ fn run_lines<A: Allocator, B: Allocator, R: Read + Drop, W: PutLine, H: Watch>(
     let _now = port.now();
     let mut place = CommandPlace::new();
     'lines: loop {
-        if let Some(event) = pass_plain(lines) {
+        // A loop by itself, in which the place among the octets in hand stays in registers.
+        'plain: while let Some(event) = pass_plain(lines) {
             put_answers(port, summary, &event, writer)?;
-            continue;
         }
         if !next_line::<BadLine, _, _, _>(lines, writer)? {
             break;
