@@ -2,13 +2,18 @@
 use Rattle.std.specs.Prelude.{max}
 use Rattle.std.proofs.Common.{◌≡◌, ◌+◌, ◌++◌, ℕ, List, Option, None, Some, Result, Ok, Err, refl, sym, subst, append_assoc}
 use Rattle.std.specs.Io.KnownBytes.{Keeps}
-use Rattle.capture.specs.CaptureReader.{Left, Next}
+use Rattle.capture.specs.CaptureReader.{Left, Next, answer}
+use Rattle.capture.specs.declared.record.Record.{Record}
 use Rattle.job.specs.declared.fault.Fault.TheVariants as Faults
 use Rattle.replay.specs.declared.faults.Stop.{Stop}
 use Rattle.replay.proofs.RecordLaws.{AreOver, Taken, asked_now, behind, its, over_found, over_whole, taken_map, taken_next}
 use Rattle.frame_table.specs.OfCapture.{read_stopped}
 use Rattle.frame_table.specs.Words.{BadLine, CapFault, Carries, End, Entry, Fault, Place, Request, Stands, Stream, TakesRecords, Timed, before_end, came_from, lines_by, lines_past, requests_of, stopped_at}
 use Rattle.frame_table.proofs.WalkLaws.{let_out, stops_read, stops_write}
+
+-- what was answered is known
+pub answered : {R : Type 0} (remaining : R → Option (List ℕ)) (l after : Left R) {a b : Result (Option Record) CapFault} → a ≡ b → Next remaining l (answer a) after → Next remaining l (answer b) after
+answered remaining l after is p = subst (λ (x : Result (Option Record) CapFault). Next remaining l (answer x) after) is p
 
 module _ (streams : Option (List Stream)) where
   -- A run that stood before all of them goes on before this.

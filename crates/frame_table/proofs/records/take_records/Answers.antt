@@ -1,8 +1,8 @@
 use Rattle.std.proofs.Common.{◌+◌, Ok, Err, Some, ℕ, Option, Result, sym, ap, ◌∙◌, subst}
 use Rattle.std.proofs.lemmas.Result.{err_from_is_err_and}
-use Rattle.replay.proofs.RecordLaws.{answered, going, taken_none}
+use Rattle.replay.proofs.RecordLaws.{going, taken_none}
 use Rattle.frame_table.specs.Words.{BadLine, CapFault, Fault, TakesRecords, entry, left, lines_left, place}
-use Rattle.frame_table.proofs.RecordWalk.{at_kept, at_next, lines_fail, over, over_well, record_fails, stopped}
+use Rattle.frame_table.proofs.RecordWalk.{answered, at_kept, at_next, lines_fail, over, over_well, record_fails, stopped}
 use Rattle.frame_table.proofs.records.take_records.Goals as goal
 
 pub records-init : goal.records-init
