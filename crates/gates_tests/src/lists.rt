@@ -20,7 +20,7 @@ fn schedule_of(rt: &impl Abort, entries: &[Entry], cycle_ns: u64) -> Schedule {
 /// The stay that a row says.
 fn stay_in(rt: &impl Abort, schedule: &Schedule, i: usize, class: usize) -> Stay {
     assert!(rt; i < schedule.len());
-    assert!(rt; class < CLASSES as u8);
+    assert!(rt; class < CLASSES);
     schedule.row(i, &mut Visits::zero()).stay[class]
 }
 
