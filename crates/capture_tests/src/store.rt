@@ -5,6 +5,7 @@ mod order;
 
 use octet_store::{MAX_OCTETS, OctetStore};
 use std::alloc::{AllocError, Allocator, Global};
+use wire_time::CLASSES;
 
 /// So many octets, others for each seed.
 pub fn octets_of(alloc: Global, seed: u32, length: usize) -> Result<Vec<u8>, AllocError> {
@@ -28,7 +29,7 @@ pub fn put<A: Allocator + Clone>(
     seed: u32,
     octets: &[u8],
 ) -> bool {
-    if class >= 8 || octets.len() > MAX_OCTETS || !store.has_room(class) {
+    if class >= CLASSES as u8 || octets.len() > MAX_OCTETS || !store.has_room(class) {
         return false;
     }
     store.put(class, original_of(seed), octets).is_ok()
@@ -36,7 +37,7 @@ pub fn put<A: Allocator + Clone>(
 
 /// Looks at the first frame of a class, and gives it up. Whether there was one, and it is that of the seed, with these octets.
 pub fn takes<A: Allocator>(store: &mut OctetStore<A>, class: u8, seed: u32, octets: &[u8]) -> bool {
-    if class >= 8 || store.len(class) == 0 {
+    if class >= CLASSES as u8 || store.len(class) == 0 {
         return false;
     }
     let first = store.first(class);

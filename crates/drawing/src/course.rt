@@ -54,7 +54,7 @@ fn wait_on<A: Allocator>(arrivals: &Arrivals<A>, shapes: &mut Shapes<A>, class: 
 /// The frames that wait wait on to this moment, in picoseconds.
 fn all_wait_on<A: Allocator>(arrivals: &Arrivals<A>, shapes: &mut Shapes<A>, upto: u128)
     requires { upto ≤ greatest_moment }
-    ensures { shapes.new ≡ all_wait_on upto 8 arrivals.now shapes.old }
+    ensures { shapes.new ≡ all_wait_on upto CLASSES arrivals.now shapes.old }
 {
     for class in 0..CLASSES as u8 {
         wait_on(arrivals, shapes, class, upto);

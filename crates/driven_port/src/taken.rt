@@ -63,7 +63,7 @@ fn queues_of_classes(schedule: &CSchedule) -> Result<Option<Queues>, ScheduleFau
         return Ok(None);
     }
     let ranges = schedule.queues.map(|range| (range.count, range.offset));
-    let used = usize::from(schedule.num_tc).min(8);
+    let used = usize::from(schedule.num_tc).min(CLASSES);
     match Queues::new(schedule.num_tc, &ranges[..used]) {
         Ok(queues) => Ok(Some(queues)),
         Err(fault) => Err(ScheduleFault::Ranges(fault)),

@@ -106,7 +106,11 @@ fn put_row(slot: usize, mask: u8, bits: &[u8; CLASSES], rows: &mut [u8; PLACES])
 {
     for class in 0..CLASSES {
         let is_open = mask & bits[class] != 0;
-        rows[8 * slot + class] = one_of(is_open, rows[8 * slot + 8 + class], slot as u8);
+        rows[CLASSES * slot + class] = one_of(
+            is_open,
+            rows[CLASSES * slot + CLASSES + class],
+            slot as u8,
+        );
     }
 }
 
@@ -149,7 +153,7 @@ fn put_first(slot: usize, rows: &mut [u8; PLACES])
     ensures { (class : ℕ) → class < CLASSES → closing_at rows.new slot class ≡ closing_at rows.old 0 class }
 {
     for class in 0..CLASSES {
-        rows[8 * slot + class] = rows[class];
+        rows[CLASSES * slot + class] = rows[class];
     }
 }
 
@@ -209,7 +213,7 @@ pub(crate) fn copy_table(from: &Table, table: &mut Table)
     table.cycle = from.cycle;
     table.always = from.always;
     copy_starts(&from.starts, from.shown, &mut table.starts);
-    copy_places(&from.closing, 8 * from.shown, &mut table.closing);
+    copy_places(&from.closing, CLASSES * from.shown, &mut table.closing);
 }
 
 /// For how long a class is open from the start of a slot to that of the one that closes it, in picoseconds.
@@ -238,7 +242,7 @@ pub(crate) fn stay_at(table: &Table, class: usize, i: usize) -> Stay
     } else if is_open(table.always, class as u8) {
         Stay::Always
     } else {
-        Stay::Lasts(time_to(table, i, usize::from(table.closing[8 * i + class])))
+        Stay::Lasts(time_to(table, i, usize::from(table.closing[CLASSES * i + class])))
     }
 }
 

@@ -79,7 +79,7 @@ fn refused_commands_change_nothing(rt: HostRuntime) -> Result<(), Fail> {
     bands.install(&first(&rt), rate, LEAD);
     bands.go_to(20_000_000);
     bands.end();
-    for class in 0..8 {
+    for class in 0..CLASSES as u8 {
         assert_bands(&rt, &bands, class, &[(0, 20_000_000)]);
     }
     Ok(())

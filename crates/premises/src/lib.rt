@@ -37,7 +37,7 @@ pub mod scripts;
 
 /// The masks of a schedule have eight bits.
 fn masks_of(schedule: &Schedule)
-    ensures { All (λ e. e.mask < 2 ^ 8) schedule.now.entries }
+    ensures { All (λ e. e.mask < 2 ^ CLASSES) schedule.now.entries }
 {
     let mut visits = Visits::zero();
     for i in 0..schedule.len() {

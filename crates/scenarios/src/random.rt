@@ -150,7 +150,7 @@ fn open_alike<G: Gates, H: Gates>(first: &G, second: &H, numbers: &mut Numbers, 
     requires some { 0 < many }
     requires few { many ≤ 1000000 }
 {
-    let class = numbers.between(0, 8) as u8;
+    let class = numbers.between(0, CLASSES as u32) as u8;
     let for_ps = u128::from(numbers.between(0, many));
     let mut visits = Visits::zero();
     let mut others = Visits::zero();
