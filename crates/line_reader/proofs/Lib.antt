@@ -1,3 +1,3 @@
 mod FeedLaws
 mod PhysicalLineLaws
-mod RunLaws
+pub mod RunLaws

@@ -1,11 +1,14 @@
 -- A run of octets that are no line feed.
-use Rattle.std.proofs.Common.{◌≡◌, ◌≤◌, ◌<◌, ◌+◌, ◌++◌, ℕ, zero, suc, Bool, true, false, eqb, List, [], ◌∷◌, Option, Some, None, length, take, refl, sym, ap, ◌∙◌, append_assoc, append-nil, drop, Ok, arith, if◌then◌else◌}
-use Rattle.std.proofs.lemmas.List.{at_drop_more, length-take-le, take-append-drop}
+use Rattle.std.proofs.Common.{◌≡◌, ◌≤◌, ◌<◌, ◌+◌, ◌++◌, ℕ, zero, suc, Bool, true, false, eqb, List, [], ◌∷◌, Option, Some, None, Result, cond, length, take, refl, sym, ap, subst, add-zero, ◌∙◌, append_assoc, append-nil, drop, Ok, arith, if◌then◌else◌}
+use Rattle.std.proofs.lemmas.List.{at_drop_more, length-drop, length-take-le, take-append-drop}
 use Rattle.std.specs.Prelude.{not, ◌&&◌, ◌==◌, get_or, option_map}
 use Rattle.std.specs.List.{list_all}
 use Rattle.memchr.specs.Find.{Nowhere, Passes, is_byte}
+use Rattle.line_reader.specs.Source.{octets_left}
 use Rattle.line_reader.specs.Script.{ends_in, fresh, joins, script_from}
-use Rattle.line_reader.specs.LineReader.{Advances, EndsLine}
+use Rattle.line_reader.specs.LineReader.{Advances, EndsLine, hand, hand_by, in_hand, lines_left, script_from_hand, script_left, script_past}
+use Rattle.line_reader.specs.declared.lines.LineFault.{LineFault}
+use Rattle.line_reader.specs.declared.lines.LineReader.{LineReader}
 use Rattle.line_reader.specs.declared.lines.TheConstants.{MAX_LINE_OCTETS, MAX_LINES}
 use Rattle.line_reader.proofs.PhysicalLineLaws.{line_end, run_within}
 
@@ -89,3 +92,28 @@ whole_line (Some xs) tail n breaks octets is short few =
           ∙ run_within [] line (10 ∷ rest) (breaks + 1) breaks is.unbroken (omega arith) few
           ∙ line_end line rest (breaks + 1) breaks is.unjoined few,
     )
+
+-- lines that are passed in hand: none yet
+pub none_passed : {R A : Type 0} (remaining : R → Option (List ℕ)) (r : LineReader R A) → script_past remaining r (hand r) 0 ≡ script_left remaining r
+none_passed remaining r = by r.ended refl
+  where
+    by : (ended : Option (Result (Unit {0}) LineFault)) → r.ended ≡ ended → script_past remaining r (hand r) 0 ≡ script_left remaining r
+    by None is = rw is (ap (λ n. option_map (script_from (fresh n)) (octets_left remaining r.source)) (add-zero r.breaks))
+    by (Some ended) is = rw is refl
+
+-- one more, which stands whole in front of what is left
+pub one_passed : {R A : Type 0} (remaining : R → Option (List ℕ)) (r : LineReader R A) (octets : List ℕ) (lines n : ℕ) → r.ended ≡ None → EndsLine octets n → n ≤ MAX_LINE_OCTETS → lines < lines_left r
+    → Advances (script_past remaining r octets lines) (Ok true) (r.breaks + lines + 1) (take n octets) (script_past remaining r (drop (n + 1) octets) (lines + 1))
+one_passed remaining r octets lines n unended is short few =
+    let law = whole_line (remaining r.source.reader) (λ (xs : List ℕ). cond r.source.ended [] xs) n (r.breaks + lines) octets is short (omega (arith, few)) in
+    rw unended (subst (λ b. Advances (script_from_hand remaining r octets lines) (Ok true) (r.breaks + lines + 1) (take n octets) (option_map (script_from (fresh b)) (option_map (λ xs. drop (n + 1) octets ++ cond r.source.ended [] xs) (remaining r.source.reader)))) (omega arith) law)
+
+-- where octets are left in hand, the lines haven't ended
+pub unended : {R A : Type 0} (r : LineReader R A) (k : ℕ) → 0 < length (drop k (hand r)) → r.ended ≡ None
+unended r k there = by r.ended refl
+  where
+    by : (ended : Option (Result (Unit {0}) LineFault)) → r.ended ≡ ended → r.ended ≡ None
+    by None is = is
+    by (Some ended) is =
+        let none : hand r ≡ [] = ap (λ e. hand_by e (in_hand r)) is in
+        absurd (omega (arith, there, ap (λ octets. length (drop k octets)) none, length-drop {A = ℕ} k []))

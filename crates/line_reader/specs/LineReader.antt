@@ -1,5 +1,5 @@
 -- What a line reader has left.
-use Rattle.std.specs.Prelude.{◌≡◌, ◌<◌, ◌+◌, ◌-◌, List, ℕ, [], Option, Some, None, Result, Ok, Err, ⊤, Bool, true, false, option_map, length, get_or, take, if◌then◌else◌}
+use Rattle.std.specs.Prelude.{◌≡◌, ◌<◌, ◌+◌, ◌-◌, ◌++◌, List, ℕ, [], Option, Some, None, Result, Ok, Err, ⊤, Bool, true, false, option_map, length, get_or, take, if◌then◌else◌}
 use Rattle.line_reader.specs.Source.{octets_left, ahead}
 use Rattle.line_reader.specs.Script.{Script, Progress, End, Broken, Line, fresh, joins, script_from}
 use Rattle.line_reader.specs.PhysicalLines.{is_unbroken}
@@ -24,10 +24,6 @@ how_ended r = r.ended
 -- what was read and is in no line yet
 abbrev pub in_hand : {R A : Type 0} → LineReader R A → List ℕ
 in_hand r = ahead r.source
-
--- the number of the first physical line of the next line
-abbrev pub next_number : {R A : Type 0} → LineReader R A → ℕ
-next_number r = r.breaks + 1
 
 -- so many octets are a whole line, and the line feed after them ends it
 pub record EndsLine (octets : List ℕ) (n : ℕ) : Type 0 where
@@ -67,6 +63,32 @@ script_after remaining (Some ended) r = script_behind remaining (answer_of ended
 -- the lines to come, where the reader says
 abbrev pub script_left : {R A : Type 0} → (R → Option (List ℕ)) → LineReader R A → Option Script
 script_left remaining r = script_after remaining r.ended r
+
+-- the octets in hand in which lines may be passed, by how the lines ended, if they did
+abbrev pub hand_by : Option (Result (Unit {0}) LineFault) → List ℕ → List ℕ
+hand_by None octets = octets
+hand_by (Some ended) octets = []
+
+-- those octets: none once the lines have ended
+abbrev pub hand : {R A : Type 0} → LineReader R A → List ℕ
+hand r = hand_by r.ended (in_hand r)
+
+-- how many more physical lines there may be
+abbrev pub lines_left : {R A : Type 0} → LineReader R A → ℕ
+lines_left r = MAX_LINES - r.breaks
+
+-- the lines to come once so many more are passed and these octets are left in hand, where the lines haven't ended
+abbrev pub script_from_hand : {R A : Type 0} → (R → Option (List ℕ)) → LineReader R A → List ℕ → ℕ → Option Script
+script_from_hand remaining r octets lines = option_map (script_from (fresh (r.breaks + lines))) (option_map (λ xs. octets ++ (if r.source.ended then [] else xs)) (remaining r.source.reader))
+
+-- the same, by how they ended, if they did: then nothing is passed
+abbrev pub past_by : {R A : Type 0} → Option (Result (Unit {0}) LineFault) → (R → Option (List ℕ)) → LineReader R A → List ℕ → ℕ → Option Script
+past_by None remaining r octets lines = script_from_hand remaining r octets lines
+past_by (Some ended) remaining r octets lines = script_left remaining r
+
+-- the lines to come once so many lines are passed and these octets are left in hand
+abbrev pub script_past : {R A : Type 0} → (R → Option (List ℕ)) → LineReader R A → List ℕ → ℕ → Option Script
+script_past remaining r octets lines = past_by r.ended remaining r octets lines
 
 -- a call that goes on to the next line, and then the reader's line and its number; a failed read loses nothing
 abbrev pub Advances : Option Script → Result Bool LineFault → ℕ → List ℕ → Option Script → Type 0

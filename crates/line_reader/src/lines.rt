@@ -1,7 +1,7 @@
 //! The lines of a script.
 
 ghost use Rattle.std.specs.List.{list_all};
-ghost use Rattle.std.specs.Prelude.{take, drop, not, ◌≡◌, ◌≤◌, ◌<◌, ◌+◌, ◌==◌, [], IfSome, IfOk, length, None, Ok, Err, true, false, vec_len, vec_capacity, option_map};
+ghost use Rattle.std.specs.Prelude.{take, drop, not, ◌≡◌, ◌≤◌, ◌<◌, ◌-◌, ◌==◌, [], IfSome, IfOk, length, None, Ok, Err, true, false, vec_len, vec_capacity, option_map};
 ghost use Rattle.line_reader.specs.Script.{ends_in, script_of};
 ghost use Rattle.line_reader.specs.LineEnds.{answer_of, ended_by};
 ghost use Rattle.line_reader.specs.declared.lines.TheConstants.{MAX_LINE_OCTETS, MAX_LINES};
@@ -102,7 +102,7 @@ pub struct LineReader<R, A: Allocator = Global> {
 }
 
 impl<R: Read + Drop, A: Allocator> LineReader<R, A> {
-    ghost use Rattle.line_reader.specs.LineReader.{script_ahead, script_behind, script_within, script_left, Advances, most_lines, current_line, current_number, in_hand, how_ended, next_number, EndsLine, IsAtEnd};
+    ghost use Rattle.line_reader.specs.LineReader.{script_ahead, script_behind, script_within, script_left, Advances, most_lines, current_line, current_number, in_hand, hand, how_ended, IsAtEnd, lines_left, script_past};
 
     /// Makes both buffers, and reads nothing.
     pub fn new(alloc: A, reader: R) -> Result<LineReader<R, A>, AllocError>
@@ -136,12 +136,38 @@ impl<R: Read + Drop, A: Allocator> LineReader<R, A> {
         self.first
     }
 
-    /// The octets in hand: what was read and is in no line yet.
-    #[inline(always)]
-    pub fn in_hand(&self) -> &[u8]
-        ensures { result.now ≡ in_hand self.now }
+    /// The octets in hand, in which lines may be passed: what was read and is in no line yet. There are none once the lines have ended.
+    pub fn hand(&self) -> &[u8]
+        ensures { result.now ≡ hand self.now }
     {
-        self.source.buffer()
+        match self.ended {
+            None => self.source.buffer(),
+            Some(_) => &[],
+        }
+    }
+
+    /// How many more physical lines there may be.
+    pub fn lines_left(&self) -> u32
+        ensures { result ≡ lines_left self.now }
+    {
+        MAX_LINES - self.breaks
+    }
+
+    /// Goes past so many octets in hand, which are so many physical lines with the LF of each, without taking them: the line that the
+    /// reader stands at stays.
+    pub fn go_past(&mut self, octets: usize, lines: u32)
+        requires hand { octets ≤ length (hand self.old) }
+        requires few { lines ≤ lines_left self.old }
+        requires ended { lines ≤ octets }
+        ensures script { script_left R.remaining self.new ≡ script_past R.remaining self.old (drop octets (hand self.old)) lines }
+        ensures hand { hand self.new ≡ drop octets (hand self.old) }
+        ensures fewer { most_lines self.new ≤ most_lines self.old }
+        ensures left { lines_left self.new ≡ lines_left self.old - lines }
+        ensures stays { (current_line self.new ≡ current_line self.old) × (current_number self.new ≡ current_number self.old) }
+        ensures over { how_ended self.new ≡ how_ended self.old }
+    {
+        self.breaks += lines;
+        self.source.consume(octets);
     }
 
     /// Whether a line stands whole in hand, with the LF that ends it. Where none does, `advance` may have to read.
@@ -160,28 +186,6 @@ impl<R: Read + Drop, A: Allocator> LineReader<R, A> {
             rest = behind;
         }
         false
-    }
-
-    /// Goes past a line of so many octets that stands whole in hand, with the LF after it, without taking it: what the reader stands
-    /// at stays. Where the lines have ended or the line passes a limit, it is refused, and nothing changes.
-    #[inline(always)]
-    pub fn pass_line(&mut self, length: usize) -> bool
-        requires { EndsLine (in_hand self.old) length }
-        ensures line { result ≡ true → Advances (script_left R.remaining self.old) (Ok true)
-            (next_number self.old) (take length (in_hand self.old)) (script_left R.remaining self.new) }
-        ensures fewer { result ≡ true → most_lines self.new < most_lines self.old }
-        ensures hand { result ≡ true → in_hand self.new ≡ drop (length + 1) (in_hand self.old) }
-        ensures stays { (current_line self.new ≡ current_line self.old) × (current_number self.new ≡ current_number self.old) }
-        ensures over { how_ended self.new ≡ how_ended self.old }
-        ensures refused { result ≡ false → self.new ≡ self.old }
-        ensures taken { how_ended self.old ≡ None → length ≤ MAX_LINE_OCTETS → 1 < most_lines self.old → result ≡ true }
-    {
-        if self.ended.is_some() || length > MAX_LINE_OCTETS || self.breaks == MAX_LINES {
-            return false;
-        }
-        self.breaks += 1;
-        self.source.consume(length + 1);
-        true
     }
 
     /// Takes the octets in hand up to a line feed or to the longest line. One by one they would do the same.

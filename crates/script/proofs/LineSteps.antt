@@ -1,12 +1,15 @@
 -- One line more of a script, and the ends.
-use Rattle.std.proofs.Common.{◌≡◌, ◌≤◌, ℕ, List, [], ◌∷◌, ◌++◌, map, Option, Some, None, Result, Ok, Err, true, false, refl, sym, ap, ◌∙◌, subst, arith}
+use Rattle.std.proofs.Common.{◌≡◌, ◌≤◌, ℕ, List, [], ◌∷◌, ◌++◌, map, drop, take, length, ◌<◌, ◌+◌, ◌-◌, Option, Some, None, Result, Ok, Err, true, false, refl, sym, ap, ◌∙◌, subst, arith}
 use Rattle.std.specs.Prelude.{IfSome, ⊤}
-use Rattle.std.proofs.lemmas.List.{append-nil}
+use Rattle.std.proofs.lemmas.List.{append-nil, drop-drop, length-drop}
 use Rattle.std.specs.Io.KnownBytes.{Appends, Keeps}
-use Rattle.script.specs.Words.{AbstractPort, settled, answers_to, IsSoundPort, Event, Clock, Command, TcFault, Script, Advances, Fault, HasFewVisits, IsAnswered, PortState, Request, Asks, NoCommand, request_of, Gave, end_lines, lines_of, noted_by, responses_to, bad_line, ending_text, long_line, outcome_after, outcome_from, reading_of, ScriptFault, BadLine, Observed, seen_all, noted_after, noted_at}
+use Rattle.script.specs.Words.{AbstractPort, settled, answers_to, IsSoundPort, Event, Clock, Command, TcFault, Script, Advances, Fault, HasLine, script_left, HasFewVisits, IsAnswered, PortState, Request, Asks, NoCommand, request_of, Gave, end_lines, lines_of, noted_by, responses_to, bad_line, ending_text, long_line, outcome_after, outcome_from, reading_of, ScriptFault, BadLine, Observed, seen_all, noted_after, noted_at}
 use Rattle.separation.specs.Settled.{IsPossible, IsSettling}
 use Rattle.octet_writer.specs.Writes.{FallsShort}
+use Rattle.line_reader.specs.LineReader.{hand, lines_left, script_past}
 use Rattle.line_reader.specs.Script.{Line}
+use Rattle.line_reader.specs.declared.lines.LineReader.{LineReader}
+use Rattle.line_reader.proofs.RunLaws.{none_passed, one_passed, unended}
 use Rattle.job.specs.Lines.{Steps}
 use Rattle.job.specs.Outcome.{Outcome, RunsOut}
 use Rattle.job.specs.declared.fault.Fault.TheVariants as Faults
@@ -21,6 +24,33 @@ use Rattle.script.proofs.OutputLaws.{outcome-more}
 use Rattle.script.proofs.StartsLaws.{settled-sound}
 use Rattle.script.proofs.LeftLaws.{end-settled}
 use Rattle.summary.proofs.WantedLaws.{noted_after-one}
+
+-- a line that stands whole in front of what is left in hand is the next one
+pub next_in_hand : {R A : Type 0} (remaining : R → Option (List ℕ)) (lines : LineReader R A) (octets rest : List ℕ) (k n most left : ℕ) (event : Event) → rest ≡ drop k octets → octets ≡ hand lines → most ≡ lines_left lines
+    → left ≤ most → 0 < left → HasLine rest n event → n < 64
+    → Advances (script_past remaining lines rest (most - left)) (Ok true) (lines.breaks + (most - left) + 1) (take n rest) (script_past remaining lines (drop (n + 1) rest) (most - (left - 1)))
+next_in_hand remaining lines octets rest k n most left event front all count few some line short =
+    let there : 0 < length (drop k (hand lines)) = omega (arith, line.ends.within, ap length (front ∙ ap (drop k) all)) in
+    let law = one_passed remaining lines rest (most - left) n (unended lines k there) line.ends (omega arith) (omega (arith, count)) in
+    subst (λ m. Advances (script_past remaining lines rest (most - left)) (Ok true) (lines.breaks + (most - left) + 1) (take n rest) (script_past remaining lines (drop (n + 1) rest) m)) (omega arith) law
+
+-- octets end themselves
+pub end_whole : (octets : List ℕ) → octets ≡ drop (length octets - length octets) octets
+end_whole octets =
+    let none : length octets - length octets ≡ 0 = omega arith in
+    sym (ap (λ n. drop n octets) none)
+
+-- octets that end others are no longer than they
+pub end_within : (octets rest : List ℕ) → rest ≡ drop (length octets - length rest) octets → length rest ≤ length octets
+end_within octets rest front = omega (arith, ap length front, length-drop (length octets - length rest) octets)
+
+-- what comes behind the first of them ends these too
+pub end_behind : (octets rest : List ℕ) (n : ℕ) → n ≤ length rest → rest ≡ drop (length octets - length rest) octets → drop n rest ≡ drop (length octets - length (drop n rest)) octets
+end_behind octets rest n short front =
+    let k = length octets - length rest in
+    let within = end_within octets rest front in
+    let at : k + n ≡ length octets - length (drop n rest) = omega (arith, length-drop n rest, within, short) in
+    ap (drop n) front ∙ drop-drop n k octets ∙ ap (λ j. drop j octets) at
 
 -- A port that runs in the place of an abstract one: it keeps of the history what counts.
 pub record StandsFor (q p : AbstractPort) : Type 0 where
@@ -141,6 +171,28 @@ module _ (read : List (List ℕ) → Result Command TcFault) (until : Option ℕ
   pub kept : (first : PortState) (seen : Option Observed) (all : Option Script) (old now new : Option (List ℕ)) (s : Option Script) (q : PortState) (o : Option Observed) → IsRunning first seen all old now s q o → Keeps now new → IsRunning first seen all old new s q o
   kept first seen all old now new s q o i k =
       record { ideal = i.ideal; stands = i.stands; goes = Lines.goes_kept long_line told (record { port = first.port; seen = seen }) (record { port = i.ideal; seen = o }) old now new all s i.goes k; comes = i.comes; few = i.few }
+
+  -- a run that stands before the lines in hand of a reader, whichever has these octets in hand and so many lines left, has come to
+  -- these octets by so many lines
+  abbrev pub ComesInHand : {R A : Type 0} → (R → Option (List ℕ)) → LineReader R A → PortState → Option Observed → Option Script → Option (List ℕ) → List ℕ → ℕ → Option (List ℕ) → PortState → Option Observed
+      → Option (List ℕ) → List ℕ → ℕ → PortState → Option Observed → Type 0
+  ComesInHand {R} {A} remaining like first seen all old octets most from q0 o0 now rest passed q o =
+      (lines : LineReader R A) → octets ≡ hand lines → most ≡ lines_left lines → IsRunning first seen all old from (script_left remaining lines) q0 o0
+      → IsRunning first seen all old now (script_past remaining lines rest passed) q o
+
+  pub begins_in_hand : {R A : Type 0} (remaining : R → Option (List ℕ)) (lines : LineReader R A) (octets : List ℕ) (most : ℕ) (first : PortState) (seen : Option Observed) (all : Option Script) (old now : Option (List ℕ)) (q : PortState) (o : Option Observed)
+      → octets ≡ hand lines → IsRunning first seen all old now (script_left remaining lines) q o → IsRunning first seen all old now (script_past remaining lines octets (most - most)) q o
+  begins_in_hand remaining lines octets most first seen all old now q o all_hand =
+      let none : most - most ≡ 0 = omega arith in
+      subst (λ s. IsRunning first seen all old now s q o) (sym (ap (script_past remaining lines octets) none ∙ ap (λ rest. script_past remaining lines rest 0) all_hand ∙ none_passed remaining lines))
+
+  -- the reader goes past the lines in hand that were answered, and what was written is let out
+  pub past_hand : {R A : Type 0} (remaining : R → Option (List ℕ)) (lines behind : LineReader R A) (octets rest : List ℕ) (n passed : ℕ) (first : PortState) (seen : Option Observed) (all : Option Script) (old now new : Option (List ℕ)) (q : PortState) (o : Option Observed)
+      → IsRunning first seen all old now (script_past remaining lines rest passed) q o → rest ≡ drop n octets → octets ≡ hand lines
+      → script_left remaining behind ≡ script_past remaining lines (drop n (hand lines)) passed → Keeps now new → IsRunning first seen all old new (script_left remaining behind) q o
+  past_hand remaining lines behind octets rest n passed first seen all old now new q o i front all_hand past k =
+      let same : script_past remaining lines rest passed ≡ script_left remaining behind = ap (λ left. script_past remaining lines left passed) (front ∙ ap (drop n) all_hand) ∙ sym past in
+      kept first seen all old now new _ q o (subst (λ s. IsRunning first seen all old now s q o) same i) k
 
   -- a line before the rest, and what it asks
   after_line : (number : ℕ) (is : Result (Option Request) ScriptFault) (q r : AbstractPort) → ((rest : Reading) → port_after (events_of (with_line number is rest).requests) q ≡ port_after (events_of rest.requests) r)

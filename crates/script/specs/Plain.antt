@@ -2,10 +2,9 @@
 use Rattle.std.specs.Prelude.{◌≡◌, ◌∷◌, ◌++◌, [], ℕ, List, Bool, true, false, Option, Some, Ok, Result, codes, not, take, ◌&&◌, ◌==◌}
 use Rattle.std.specs.List.{list_all}
 use Rattle.abstract_port.specs.declared.Event.{Event}
-use Rattle.line_reader.specs.LineReader.{Advances, EndsLine, next_number, script_left}
+use Rattle.line_reader.specs.LineReader.{EndsLine}
 use Rattle.line_reader.specs.Script.{joins}
 use Rattle.line_reader.specs.PhysicalLines.{is_unbroken}
-use Rattle.line_reader.specs.declared.lines.LineReader.{LineReader}
 use Rattle.words.specs.Words.{words_of}
 use Rattle.script.specs.Requests.{said_in}
 use Rattle.script.specs.declared.faults.ScriptFault.{ScriptFault}
@@ -39,9 +38,3 @@ pub record BeginsWithLine (octets : List ℕ) (event : Event) (rest : List ℕ) 
 pub record HasLine (octets : List ℕ) (length : ℕ) (event : Event) : Type 0 where
   pub ends : EndsLine octets length
   pub says : said_in (take length octets) ≡ Ok (Some (Says.Asked event))
-
--- a reader that goes past a line which asks an event
-pub record GoesPast {R A : Type 0} (remaining : R → Option (List ℕ)) (old : LineReader R A) (event : Event) (new : LineReader R A) : Type 0 where
-  pub line : List ℕ
-  pub says : said_in line ≡ Ok (Some (Says.Asked event))
-  pub past : Advances (script_left remaining old) (Ok true) (next_number old) line (script_left remaining new)

@@ -1,13 +1,11 @@
 //! Lines as most are written, read where they stand in hand.
 
-ghost use Rattle.std.specs.Prelude.{◌≡◌, ◌<◌, ◌∷◌, IfSome, MatchOption};
-ghost use Rattle.script.specs.Words.{Arrive, Clock, most_lines, BeginsWithEvent, BeginsWithLine, GoesPast, HasLine, clock_event, frame_event};
+ghost use Rattle.std.specs.Prelude.{◌≡◌, ◌<◌, ◌∷◌, IfSome};
+ghost use Rattle.script.specs.declared.plain.TheConstants.{WINDOW};
+ghost use Rattle.script.specs.Words.{Arrive, Clock, BeginsWithEvent, BeginsWithLine, HasLine, clock_event, frame_event};
 
 use crate::fronts::{behind_clock, behind_frame, behind_tag};
 use abstract_port::Event;
-use line_reader::LineReader;
-use std::alloc::Allocator;
-use std::io::Read;
 use wire_time::{Frame, MAX_MOMENT};
 use words::{front_digit, front_number, front_short};
 
@@ -85,30 +83,18 @@ fn front_event(octets: &[u8]) -> Option<(Event<'static>, &[u8])>
     Some((Event::Clock(moment), rest))
 }
 
-/// The event that the first line asks, where it is as most are written, and how many octets the line has. It is looked for in a window,
-/// so that its numbers are known to be within the octets in hand.
+/// The event that the first line asks, where one is left that is as most are written and stands whole among the octets, and how many
+/// octets it has. It is looked for in a window, so that its numbers are known to be within the octets.
 #[inline(always)]
-fn front_line(octets: &[u8]) -> Option<(Event<'static>, usize)>
-    ensures { IfSome result (λ x. HasLine octets.now x.1 x.0) }
+pub(crate) fn front_line(octets: &[u8], left: u32) -> Option<(Event<'static>, usize)>
+    ensures some { IfSome result (λ x. 0 < left) }
+    ensures line { IfSome result (λ x. HasLine octets.now x.1 x.0) }
+    ensures short { IfSome result (λ x. x.1 < WINDOW) }
 {
+    if left == 0 {
+        return None;
+    }
     let window = octets.first_chunk::<WINDOW>()?;
     let (event, rest) = front_event(window)?;
     Some((event, WINDOW - rest.len() - 1))
-}
-
-/// Goes past the next line, where it is a frame or a moment as most are written and stands whole in hand, and answers the event
-/// that it asks. Else nothing changes.
-#[inline(always)]
-pub(crate) fn pass_plain<R: Read + Drop, B: Allocator>(
-    lines: &mut LineReader<R, B>,
-) -> Option<Event<'static>>
-    ensures event { MatchOption result (lines.new ≡ lines.old) (λ event. GoesPast R.remaining lines.old event lines.new) }
-    ensures fewer { IfSome result (λ _. most_lines lines.new < most_lines lines.old) }
-{
-    let (event, length) = front_line(lines.in_hand())?;
-    if lines.pass_line(length) {
-        Some(event)
-    } else {
-        None
-    }
 }

@@ -7,7 +7,7 @@ ghost use Rattle.abstract_port.specs.Answers.{port_after};
 use crate::answers::{RunningPort, put_answers, put_tc_by};
 use crate::faults::{BadLine, RunFault};
 use crate::laws::faithful;
-use crate::plain::pass_plain;
+use crate::plain::front_line;
 use crate::script_line::{Said, read_line};
 use crate::settings::Settings;
 use crate::summary_lines::put_end;
@@ -62,10 +62,19 @@ fn run_lines<A: Allocator, B: Allocator, R: Read + Drop, W: PutLine, H: Watch>(
     let _now = port.now();
     let mut place = CommandPlace::new();
     'lines: loop {
-        // A loop by itself, in which the place among the octets in hand stays in registers.
-        'plain: while let Some(event) = pass_plain(lines) {
+        // Lines as most are written are answered where they stand in hand, and passed together.
+        let most = lines.lines_left();
+        let hand = lines.hand();
+        let mut rest = hand;
+        let mut left = most;
+        'plain: while let Some((event, length)) = front_line(rest, left) {
             put_answers(port, summary, &event, writer)?;
+            let (_, behind) = rest.split_at(length + 1);
+            rest = behind;
+            left -= 1;
         }
+        let octets = hand.len() - rest.len();
+        lines.go_past(octets, most - left);
         if !next_line::<BadLine, _, _, _>(lines, writer)? {
             break;
         }
