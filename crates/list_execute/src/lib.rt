@@ -5,7 +5,7 @@
 
 ghost use Rattle.std.specs.Prelude.{◌≡◌, ◌+◌, ◌-◌, ◌*◌, ◌<◌, ◌≤◌, ◌^◌, None, Some, IsSome, length, slice_get};
 ghost use Rattle.wire_time.specs.Moment.{greatest_moment};
-ghost use Rattle.gate_list.specs.Gate.{IsShownAt, prefix, mask_at, has_come};
+ghost use Rattle.gate_list.specs.Gate.{IsShownAt, prefix, mask_at};
 ghost use Rattle.gate_list.specs.Visits.{one_more};
 ghost use Rattle.list_execute.specs.Walk.{in_hold, ShowsEntry, ShowsHold, IsOf, walk_mask, end_of, more};
 
