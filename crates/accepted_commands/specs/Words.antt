@@ -3,12 +3,12 @@ pub use Rattle.wire_time.specs.Moment.{greatest_lead, greatest_moment}
 pub use Rattle.gate_list.specs.Gate.{IsSchedule, Plan, boundary_from, in_ps, last_mask, mask_since, opens}
 unfoldable pub use Rattle.gate_list.specs.Open.{open_while}
 pub use Rattle.gate_list.specs.Visits.{one_more}
-pub use Rattle.list_execute.specs.Walk.{more}
+pub use Rattle.list_execute.specs.Walk.{more, walk_mask}
 pub use Rattle.list_config.specs.Current.{accepted_at, deletion_at, entry_count, installed_of}
 pub use Rattle.list_config.specs.Event.{IsGateEvent}
 pub use Rattle.list_config.specs.History.{Accepted, cons_some, gates, is_in_time, plan_of, start_of}
 pub use Rattle.list_config.specs.Stretch.{hold_of, mask_in, mask_of, stretches_from}
-pub use Rattle.list_position.specs.Position.{BeginsAtMost, IsFlat, IsPlaced, StoodBy}
+pub use Rattle.list_position.specs.Position.{BeginsAtMost, IsFlat, IsPlaced, StoodBy, boundary_of}
 pub use Rattle.list_position.specs.declared.Position.{Position}
 pub use Rattle.accepted_commands.specs.Commands.{AreCommands, Commands, IsUsable, NoneBy, accepted_in, command_of, history_of, mask_ahead, no_commands, settled_at, stretches_of}
 pub use Rattle.accepted_commands.specs.Leg.{AreReady, DoFollow, IsReady, IsStanding, from_of, stretch_in, stretch_of, stretch_under, stretches_ahead, until_of}

@@ -1,8 +1,8 @@
 //! A slot for a command, whose place is used again.
-ghost use Rattle.std.specs.Prelude.{◌≡◌, ℕ, ◌*◌, ◌+◌, ◌≤◌, None, Some, option_map};
+ghost use Rattle.std.specs.Prelude.{◌≡◌, ℕ, ◌*◌, ◌+◌, ◌<◌, ◌≤◌, None, Some, option_map};
 ghost use Rattle.std.specs.Option.{ForSome};
 ghost use denote.Bor.{Bor};
-ghost use Rattle.accepted_commands.specs.Words.{greatest_lead, greatest_moment, IsSchedule, accepted_at, deletion_at, entry_count, plan_of, start_of, BeginsAtMost, more, IsUsable, accepted_in, command_of, AcceptedCommand, EndsSo, IsFirst, Stands, option_position, position_lent};
+ghost use Rattle.accepted_commands.specs.Words.{greatest_lead, greatest_moment, IsSchedule, accepted_at, deletion_at, entry_count, plan_of, start_of, BeginsAtMost, more, IsUsable, accepted_in, command_of, AcceptedCommand, EndsSo, IsFirst, Stands, boundary_in_force, option_position, position_lent, shown_by};
 
 use crate::command::AcceptedCommand;
 use gate_list::{Schedule, Visits};
@@ -95,6 +95,29 @@ impl CommandSlot {
     {
         if self.is_used {
             self.kept.go_on(pending, t, visits);
+        }
+    }
+
+    /// Lets the list of the command, if it is one, go on to a later moment `t` where no other command is to come; the moment up to
+    /// which it shows one mask then, both in picoseconds, if it shows it not for ever; and that mask.
+    #[inline(always)]
+    pub(crate) fn go_alone(&mut self, t: u128, visits: &mut Visits) -> (Option<u128>, u8)
+        requires usable { ForSome (option_map accepted_in self.old) IsUsable }
+        requires within { t ≤ 2 * greatest_moment }
+        requires stood { (n : ℕ) × (n ≤ t) × Stands (option_map accepted_in self.old) None n (option_position self.old) }
+        ensures same { option_map accepted_in self.new ≡ option_map accepted_in self.old }
+        ensures stands { Stands (option_map accepted_in self.old) None t (option_position self.new) }
+        ensures until { result.0 ≡ boundary_in_force (option_map accepted_in self.old) None (option_position self.new) }
+        ensures later { ForSome result.0 (λ u. t < u) }
+        ensures mask { result.1 ≡ shown_by (option_position self.new) }
+        ensures counted { visits.old ≤ visits.new }
+        ensures visits { visits.new ≤ visits.old + (entry_count (plan_of (option_map accepted_in self.old)) + 1) }
+        ensures next { (n e : ℕ) → Stands (option_map accepted_in self.old) None n (option_position self.old) → BeginsAtMost (plan_of (option_map accepted_in self.old)) (start_of (option_map accepted_in self.old)) n t e → visits.new ≤ visits.old + 2 }
+    {
+        if self.is_used {
+            self.kept.go_alone(t, visits)
+        } else {
+            (None, u8::MAX)
         }
     }
 

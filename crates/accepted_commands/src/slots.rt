@@ -1,7 +1,7 @@
 //! The commands that count, in three slots.
-ghost use Rattle.std.specs.Prelude.{◌≡◌, ℕ, ◌+◌, ◌<◌, ◌≤◌, ◌↔◌, IsTrue, None, Some};
+ghost use Rattle.std.specs.Prelude.{◌≡◌, ℕ, ◌+◌, ◌<◌, ◌≤◌, ◌↔◌, IsTrue, None, Some, true};
 ghost use Rattle.std.specs.Option.{ForSome};
-ghost use Rattle.accepted_commands.specs.Words.{greatest_lead, greatest_moment, plan_of, start_of, accepted_at, deletion_at, entry_count, more, BeginsAtMost, AreCommands, IsUsable, NoneBy, command_of, no_commands, settled_at, EndsSo, IsFirst, Stands, position_lent};
+ghost use Rattle.accepted_commands.specs.Words.{greatest_lead, greatest_moment, plan_of, start_of, accepted_at, deletion_at, entry_count, more, BeginsAtMost, AreCommands, IsUsable, NoneBy, command_of, no_commands, settled_at, EndsSo, IsFirst, Stands, boundary_in_force, position_lent, shown_by};
 
 use crate::command::AcceptedCommand;
 use crate::slot::CommandSlot;
@@ -155,6 +155,36 @@ impl CommandSlots {
     {
         self.in_force
             .go_on(self.pending.lent(), self.moment, visits);
+    }
+
+    /// Whether no command is to come.
+    pub fn is_alone(&self) -> bool
+        ensures { result ≡ true → (self.now.commands.pending ≡ None) × (self.now.commands.announced ≡ None) }
+    {
+        self.pending().is_none() && self.announced().is_none()
+    }
+
+    /// Goes on to a moment, in picoseconds, where no command is to come: the list in force goes on from where it stood. Answers the
+    /// next moment at which a boundary comes, in picoseconds, if one does, and the mask that shows up to there.
+    #[inline(always)]
+    pub fn move_alone(&mut self, t: u128, visits: &mut Visits) -> (Option<u128>, u8)
+        requires later { self.old.commands.moment ≤ t }
+        requires within { t ≤ greatest_moment }
+        requires unpending { self.old.commands.pending ≡ None }
+        requires unannounced { self.old.commands.announced ≡ None }
+        requires stands { Stands self.old.commands.in_force None self.old.commands.moment self.old.position }
+        ensures value { self.new.commands ≡ record self.old.commands { moment = t } }
+        ensures stands { Stands self.old.commands.in_force None t self.new.position }
+        ensures sound { AreCommands self.new.commands }
+        ensures until { result.0 ≡ boundary_in_force self.old.commands.in_force None self.new.position }
+        ensures later { ForSome result.0 (λ u. t < u) }
+        ensures mask { result.1 ≡ shown_by self.new.position }
+        ensures counted { visits.old ≤ visits.new }
+        ensures visits { visits.new ≤ visits.old + (entry_count (plan_of self.old.commands.in_force) + 1) }
+        ensures next { (n e : ℕ) → Stands self.old.commands.in_force None n self.old.position → BeginsAtMost (plan_of self.old.commands.in_force) (start_of self.old.commands.in_force) n t e → visits.new ≤ visits.old + 2 }
+    {
+        self.moment = t;
+        self.in_force.go_alone(t, visits)
     }
 
     /// Lets the list in force stand where it stands now, wherever it stood.

@@ -1,7 +1,7 @@
 //! What the command in force shows: its list, or else all classes open.
 ghost use Rattle.std.specs.Prelude.{◌≡◌, ℕ, ◌*◌, ◌<◌, ◌≤◌, ◌+◌, Some, None, length};
 ghost use Rattle.std.specs.Option.{ForSome};
-ghost use Rattle.accepted_commands.specs.Words.{greatest_moment, IsSchedule, last_mask, entry_count, BeginsAtMost, IsFlat, IsPlaced, StoodBy, IsUsable, accepted_in, command_of, EndsSo, IsListOf, Stands, accepted_list, boundary_in_force, hold_for, position_in, position_lent, shown_by, shows_under};
+ghost use Rattle.accepted_commands.specs.Words.{greatest_moment, IsSchedule, last_mask, entry_count, BeginsAtMost, IsFlat, IsPlaced, StoodBy, IsUsable, accepted_in, command_of, EndsSo, IsListOf, Stands, accepted_list, boundary_in_force, boundary_of, hold_for, position_in, position_lent, shown_by, shows_under, walk_mask};
 
 use crate::command::{AcceptedCommand, AcceptedList};
 use gate_list::Visits;
@@ -65,6 +65,27 @@ impl AcceptedList {
         self.position
             .go_on(&self.schedule, self.change, held_from, t, visits);
     }
+
+    /// Lets the list go on to a later moment `t` where no other command is to come; the moment up to which it shows one mask then,
+    /// and that mask: bit c is class c. The moments are in picoseconds.
+    #[inline(always)]
+    fn go_alone(&mut self, t: u128, visits: &mut Visits) -> (Option<u128>, u8)
+        requires usable { IsUsable (accepted_list self.old) }
+        requires within { t ≤ 2 * greatest_moment }
+        requires stood { StoodBy self.old.schedule self.old.change None t self.old.position }
+        ensures same { self.new ≡ record self.old { position = self.new.position } }
+        ensures placed { IsPlaced self.old.schedule self.old.change None t self.new.position }
+        ensures until { result.0 ≡ boundary_of None self.new.position }
+        ensures later { ForSome result.0 (λ u. t < u) }
+        ensures mask { result.1 ≡ walk_mask self.new.position.walk }
+        ensures counted { visits.old ≤ visits.new }
+        ensures visits { visits.new ≤ visits.old + (length self.old.schedule.entries + 1) }
+        ensures next { (n e : ℕ) → IsPlaced self.old.schedule self.old.change None n self.old.position → BeginsAtMost (Some self.old.schedule) self.old.change n t e → visits.new ≤ visits.old + 2 }
+    {
+        self.position
+            .go_on(&self.schedule, self.change, None, t, visits);
+        (self.position.until(None), self.position.walk.mask())
+    }
 }
 
 impl AcceptedCommand {
@@ -83,6 +104,28 @@ impl AcceptedCommand {
         match self {
             AcceptedCommand::Install(list) => list.go_on(pending, t, visits),
             AcceptedCommand::Delete(_) => {}
+        }
+    }
+
+    /// Lets the list of the command, if it is one, go on to a later moment `t` where no other command is to come; the moment up to
+    /// which it shows one mask then, both in picoseconds, if it shows it not for ever; and that mask.
+    #[inline(always)]
+    pub(crate) fn go_alone(&mut self, t: u128, visits: &mut Visits) -> (Option<u128>, u8)
+        requires usable { IsUsable (accepted_in self.old) }
+        requires within { t ≤ 2 * greatest_moment }
+        requires stood { (n : ℕ) × (n ≤ t) × Stands (Some (accepted_in self.old)) None n (position_in self.old) }
+        ensures same { accepted_in self.new ≡ accepted_in self.old }
+        ensures stands { Stands (Some (accepted_in self.old)) None t (position_in self.new) }
+        ensures until { result.0 ≡ boundary_in_force (Some (accepted_in self.old)) None (position_in self.new) }
+        ensures later { ForSome result.0 (λ u. t < u) }
+        ensures mask { result.1 ≡ shown_by (position_in self.new) }
+        ensures counted { visits.old ≤ visits.new }
+        ensures visits { visits.new ≤ visits.old + (entry_count (accepted_in self.old).plan + 1) }
+        ensures next { (n e : ℕ) → Stands (Some (accepted_in self.old)) None n (position_in self.old) → BeginsAtMost (accepted_in self.old).plan (accepted_in self.old).change n t e → visits.new ≤ visits.old + 2 }
+    {
+        match self {
+            AcceptedCommand::Install(list) => list.go_alone(t, visits),
+            AcceptedCommand::Delete(_) => (None, u8::MAX),
         }
     }
 

@@ -13,7 +13,7 @@ use Rattle.list_position.proofs.PositionLaws.{placed_later}
 use Rattle.accepted_commands.specs.Commands.{IsUsable, announced_by, pending_by}
 use Rattle.accepted_commands.specs.InForce.{StandsUnder, boundary_in_force, boundary_under, earlier, hold_for}
 use Rattle.accepted_commands.specs.Resume.{ResumesBy}
-use Rattle.accepted_commands.proofs.CommandLaws.{force_still, gates_ahead, none_now, same_commands, shows_at}
+use Rattle.accepted_commands.proofs.CommandLaws.{edge_events, force_still, gates_ahead, none_now, same_commands, shows_at}
 
 -- what is before the earlier of two moments is before both
 parts : (m : ℕ) (a b : Option ℕ) → ForSome (earlier a b) (λ u. m < u) → ForSome a (λ u. m < u) × ForSome b (λ u. m < u)
@@ -145,3 +145,27 @@ module _ (c : Commands) (s : AreCommands c) (t e : ℕ) (one : OneEntryComes (hi
       let before : NoneBy c.pending c.announced m = (λ a is. (let far : t < a.change = alone_by.0 a is in omega arith), λ a is. (let far : t < a.lead = alone_by.1 a is in omega arith)) in
       let same = three_force c.moment c.in_force c.pending c.announced s.settled m (omega arith) ∙ force_still c s m (omega arith) before in
       (one m after upto (inr (subst (λ f. BeginsEntry (plan_of f) (start_of f) m) (sym same) begins))).0
+
+-- ---- where no command is to come
+
+earlier_none : (b : Option ℕ) → earlier b None ≡ b
+earlier_none None = refl
+earlier_none (Some t) = refl
+
+module _ (c new : Commands) (t : ℕ) (unpending : c.pending ≡ None) (unannounced : c.announced ≡ None) (is : new ≡ record c { moment = t }) (position : Option Position) (sound : AreCommands new) (stands : Stands c.in_force None t position) where
+  stands_alone : Stands new.in_force new.pending new.moment position
+  stands_alone = subst (λ (k : Commands). Stands k.in_force k.pending k.moment position) (sym is) (subst (λ q. Stands c.in_force q t position) (sym unpending) stands)
+
+  -- the next edge is the next boundary of the list in force
+  edge_alone : edge_at new position ≡ boundary_in_force c.in_force None position
+  edge_alone =
+      ap (λ k. edge_at k position) is
+      ∙ (ap (λ q. earlier (boundary_in_force c.in_force q position) (earlier (option_map (λ a. a.change) q) (option_map (λ a. a.lead) c.announced))) unpending
+      ∙ (ap (λ x. earlier (boundary_in_force c.in_force None position) (option_map (λ (a : Accepted). a.lead) x)) unannounced
+      ∙ earlier_none (boundary_in_force c.in_force None position)))
+
+  pub alone_edge : (edge : Option ℕ) → edge ≡ boundary_in_force c.in_force None position → ForSome edge (λ u. t < u) → IsEdge new position edge
+  alone_edge edge at later =
+      let here = at ∙ sym edge_alone in
+      let ahead = subst (λ (k : Commands). ForSome edge (λ u. k.moment < u)) (sym is) later in
+      record { is = here; later = ahead; event = edge_events new sound position stands_alone edge here ahead }

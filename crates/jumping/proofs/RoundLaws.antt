@@ -9,7 +9,6 @@ use Rattle.gate_list.specs.declared.Entry.{Entry}
 use Rattle.gate_list.specs.Gate.{mask_at}
 use Rattle.gate_list.proofs.OpenLaws.{shift_while}
 use Rattle.gate_list.proofs.PhaseLaws.{phase_is}
-use Rattle.gate_list.proofs.RowLaws.{prefix_next}
 use Rattle.gate_list.proofs.TableLaws.{opens_both, opens_none}
 use Rattle.list_position.proofs.PositionLaws.{prefix_grows, shut_now}
 use Rattle.jumping.specs.Words.{IsSchedule, IsShownAt, Plan, in_ps, mask_since, opens, open_while, prefix, Position, IsPlaced, NoneFits, Fits, Searched, AreAsked, IsPlace, repeated}
@@ -172,30 +171,21 @@ open_place plan place here class d past a is stays =
 
 -- ---- one entry after another
 
--- where the first entry begins
-pub place_first : (plan : Plan) → IsSchedule plan → (place : Place) → place.index ≡ 0 → place.start ≡ 0 → place.at ≡ 0 → IsPlace plan place
-place_first plan ok place index start at = record {
-  shown = subst (λ i. IsShownAt plan.entries place.at i) (sym index) (subst (λ p. IsShownAt plan.entries p 0) (sym at) (record {
-    within = (ok.plan_is).entries;
-    begun = le_refl 0;
-    before_next = λ next. prefix_grows plan.entries (ok.plan_is).intervals 0 (ok.plan_is).entries;
-  }));
-  start_is = start ∙ ap (prefix plan.entries) (sym index);
+-- where an entry begins
+pub place_begins : (plan : Plan) → IsSchedule plan → (place : Place) → place.index < length plan.entries → place.start ≡ prefix plan.entries place.index → place.at ≡ place.start → IsPlace plan place
+place_begins plan ok place listed start at = record {
+  shown = record {
+    within = listed;
+    begun = omega (arith, start, at);
+    before_next = λ more. let grows = prefix_grows plan.entries (ok.plan_is).intervals place.index listed in omega (arith, start, at, grows);
+  };
+  start_is = start;
 }
 
--- where the next one does
-pub place_next : (plan : Plan) → IsSchedule plan → (place next : Place) → IsPlace plan place → (e : Entry) → slice_get plan.entries place.index ≡ Some e → next.index ≡ place.index + 1 → next.start ≡ place.start + 1000 * e.interval → next.at ≡ next.start
-    → next.index < length plan.entries → IsPlace plan next
-place_next plan ok place next here e entry index start at listed =
-    let begins : next.start ≡ prefix plan.entries next.index = (let ends = prefix_next plan.entries place.index e entry in let old = here.start_is in start ∙ omega (arith, ends, old)) ∙ ap (prefix plan.entries) (sym index) in
-    record {
-      shown = record {
-        within = listed;
-        begun = omega (arith, begins, at);
-        before_next = λ more. let grows = prefix_grows plan.entries (ok.plan_is).intervals next.index listed in omega (arith, begins, at, grows);
-      };
-      start_is = begins;
-    }
+-- a search that begins past its end finds nothing, so that none before it is none at all
+pub searched_late : (mask : ℕ → ℕ) (needs : List (Option ℕ)) (from at stop : ℕ) (result : Option ℕ) → stop < at → NoneFits mask needs from stop → Searched mask needs at stop result → Searched mask needs from stop result
+searched_late mask needs from at stop None past none found = none
+searched_late mask needs from at stop (Some u) past none found = absurd (let after = found.0 in let below = found.1 in omega (arith, past, after, below))
 
 -- ---- the cycle after, and the moments of a list
 

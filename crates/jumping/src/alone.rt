@@ -1,6 +1,6 @@
 //! The search in a list that no other command follows: what it shows repeats for ever, so that one cycle decides all.
 ghost use Rattle.std.specs.Prelude.{◌≡◌, ℕ, ◌+◌, ◌*◌, ◌<◌, ◌≤◌, Some, None, true, false, length, slice_get};
-ghost use Rattle.jumping.specs.Words.{greatest_moment, IsSchedule, in_ps, open_while, IsPlaced, Fits, Searched, AreAsked, IsPlace, IsShown, repeated, shows_alone};
+ghost use Rattle.jumping.specs.Words.{greatest_moment, IsSchedule, in_ps, open_while, IsPlaced, Fits, Searched, AreAsked, IsPlace, IsShown, prefix, repeated, shows_alone};
 
 use accepted_commands::AcceptedList;
 use gate_list::{Schedule, Stay, Visits, is_open};
@@ -86,6 +86,48 @@ fn some_fits(schedule: &Schedule, heads: &Heads, asked: u8, place: Place) -> boo
     false
 }
 
+/// The first place at which an entry begins, from the start of an entry on and before another place of the same cycle, at which some
+/// class may start that stays open for as long as its head needs. Places are in picoseconds. Each entry is a visit.
+fn search_entries(
+    schedule: &Schedule,
+    heads: &Heads,
+    first: usize,
+    from: u64,
+    stop: u64,
+    visits: &mut Visits,
+) -> Option<u64>
+    requires schedule { IsSchedule schedule.now }
+    requires listed { first < length schedule.now.entries }
+    requires begins { from ≡ prefix schedule.now.entries first }
+    requires within { stop ≤ in_ps schedule.now.cycle }
+    ensures searched { Searched (repeated schedule.now) heads.now from stop result }
+    ensures counted { visits.old ≤ visits.new }
+    ensures visits { visits.new + first ≤ visits.old + length schedule.now.entries }
+{
+    let waits = heads.waits();
+    let mut index = first;
+    let mut at = from;
+    while at < stop {
+        // The count fits a u64, which makes it no less after one more.
+        let _ = visits.count();
+        let entry = schedule.entry(index, visits);
+        let place = Place {
+            index,
+            start: at,
+            at,
+        };
+        if some_fits(schedule, heads, entry.mask & waits, place) {
+            return Some(at);
+        }
+        index += 1;
+        if index == schedule.len() {
+            return None;
+        }
+        at += 1000 * u64::from(entry.interval);
+    }
+    None
+}
+
 /// The first place from one on and before another of the same cycle, in picoseconds, at which some class may start that stays open
 /// for as long as its head needs. Each entry is a visit.
 fn search_cycle(
@@ -102,23 +144,21 @@ fn search_cycle(
     ensures counted { visits.old ≤ visits.new }
     ensures visits { visits.new + from.index ≤ visits.old + length schedule.now.entries }
 {
-    let waits = heads.waits();
-    let mut place = from;
-    while place.at < stop {
-        // The count fits a u64, which makes it no less after one more.
-        let _ = visits.count();
-        let entry = schedule.entry(place.index, visits);
-        if some_fits(schedule, heads, entry.mask & waits, place) {
-            return Some(place.at);
-        }
-        place.index += 1;
-        if place.index == schedule.len() {
-            return None;
-        }
-        place.start += 1000 * u64::from(entry.interval);
-        place.at = place.start;
+    if stop <= from.at {
+        return None;
     }
-    None
+    // The count fits a u64, which makes it no less after one more.
+    let _ = visits.count();
+    let entry = schedule.entry(from.index, visits);
+    if some_fits(schedule, heads, entry.mask & heads.waits(), from) {
+        return Some(from.at);
+    }
+    let next = from.index + 1;
+    if next == schedule.len() {
+        return None;
+    }
+    let at = from.start + 1000 * u64::from(entry.interval);
+    search_entries(schedule, heads, next, at, stop, visits)
 }
 
 /// The first such place from one on, and before another in the same cycle or in the next one, which goes on counting: in picoseconds
@@ -145,12 +185,7 @@ fn search_two(
     if stop <= cycle {
         return None;
     }
-    let first = Place {
-        index: 0,
-        start: 0,
-        at: 0,
-    };
-    match search_cycle(schedule, heads, first, stop - cycle, visits) {
+    match search_entries(schedule, heads, 0, 0, stop - cycle, visits) {
         Some(place) => Some(cycle + place),
         None => None,
     }

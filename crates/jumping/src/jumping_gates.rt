@@ -1,7 +1,7 @@
 //! The gates, which pass whole cycles by division.
 ghost use Rattle.std.specs.Prelude.{All, ◌≡◌, ℕ, ◌+◌, ◌*◌, ◌<◌, ◌≤◌, ◌↔◌, IfSome, IsTrue, Some, None, true, false};
 ghost use Rattle.std.specs.Option.{ForSome};
-ghost use Rattle.jumping.specs.Words.{greatest_moment, opens, open_while, gates, kept, plan_of, start_of, BeginsAtMost, IsCurrent, entry_count, longest, AreCommands, NoneBy, mask_ahead, settled_at, stretches_of, Stands, Resumes, IsEdge, NothingComes, OneEntryComes, Searched, most_in, IsLoneList};
+ghost use Rattle.jumping.specs.Words.{greatest_moment, opens, open_while, gates, kept, plan_of, start_of, BeginsAtMost, IsCurrent, entry_count, longest, AreCommands, NoneBy, mask_ahead, settled_at, stretches_of, Stands, Resumes, IsEdge, NothingComes, OneEntryComes, Searched, most_in, IsLoneList, shown_by};
 
 use crate::alone::{search_alone, stays_open_alone};
 use crate::search::search;
@@ -99,25 +99,43 @@ fn lone_list(slots: &CommandSlots) -> Option<&AcceptedList>
 /// in force decides. Apart, so that the loop over the classes stays small: mostly a class is shut now, or needs less than what is left
 /// up to the next edge.
 #[inline(never)]
-fn stays_open_from_now(slots: &CommandSlots, resumed: &Option<Position>, need: Need) -> bool
+fn stays_open_from_now(
+    slots: &CommandSlots,
+    resumed: &Option<Position>,
+    class: u8,
+    for_ps: u128,
+) -> bool
     requires sound { AreCommands slots.now.commands }
     requires stands { Stands slots.now.commands.in_force slots.now.commands.pending slots.now.commands.moment slots.now.position }
     requires resumes { Resumes slots.now.commands resumed.now }
-    requires at { need.from ≡ slots.now.commands.moment }
-    requires class { need.class < CLASSES }
-    requires within { need.length ≤ greatest_moment }
-    ensures { result ≡ open_while (mask_ahead slots.now.commands) need.class need.from need.length }
+    requires class { class < CLASSES }
+    requires within { for_ps ≤ greatest_moment }
+    ensures { result ≡ open_while (mask_ahead slots.now.commands) class slots.now.commands.moment for_ps }
 {
+    let from = slots.moment();
     match lone_list(slots) {
-        Some(list) => stays_open_alone(list, need.from, need.class, need.length),
-        None => stays_open(slots, resumed, need),
+        Some(list) => stays_open_alone(list, from, class, for_ps),
+        None => {
+            let need = Need {
+                class,
+                from,
+                length: for_ps,
+            };
+            stays_open(slots, resumed, need)
+        }
     }
 }
 
-/// Lets the commands and the list in force go on to a moment, in picoseconds, and looks for the next edge. It stays apart: the compiler
-/// would make room for two commands at each call of a body that it is taken into, and most moves come to no edge.
+/// Lets the commands and the list in force go on to a moment, in picoseconds, and looks for the next edge and what shows up to it. It
+/// stays apart: the compiler would make room for two commands at each call of a body that it is taken into.
 #[inline(never)]
-fn move_on(slots: &mut CommandSlots, edge: &mut Option<u128>, t: u128, visits: &mut Visits)
+fn move_commands(
+    slots: &mut CommandSlots,
+    edge: &mut Option<u128>,
+    mask: &mut u8,
+    t: u128,
+    visits: &mut Visits,
+)
     requires later { slots.old.commands.moment ≤ t }
     requires within { t ≤ greatest_moment }
     requires sound { AreCommands slots.old.commands }
@@ -126,12 +144,46 @@ fn move_on(slots: &mut CommandSlots, edge: &mut Option<u128>, t: u128, visits: &
     ensures stands { Stands slots.new.commands.in_force slots.new.commands.pending slots.new.commands.moment slots.new.position }
     ensures sound { AreCommands slots.new.commands }
     ensures edge { IsEdge slots.new.commands slots.new.position edge.new }
+    ensures mask { mask.new ≡ shown_by slots.new.position }
     ensures counted { visits.old ≤ visits.new }
     ensures visits { visits.new ≤ visits.old + (entry_count (plan_of slots.new.commands.in_force) + 1) }
     ensures next { (e : ℕ) → NoneBy slots.old.commands.pending slots.old.commands.announced t → BeginsAtMost (plan_of slots.old.commands.in_force) (start_of slots.old.commands.in_force) slots.old.commands.moment t e → visits.new ≤ visits.old + 2 }
 {
     slots.move_on(t, visits);
     *edge = next_edge(slots);
+    *mask = mask_under(slots.in_force());
+}
+
+/// What `move_commands` does, for less where no command is to come: the list in force goes on alone. It stays apart, since most moves
+/// come to no edge.
+#[inline(never)]
+fn move_on(
+    slots: &mut CommandSlots,
+    edge: &mut Option<u128>,
+    mask: &mut u8,
+    t: u128,
+    visits: &mut Visits,
+)
+    requires later { slots.old.commands.moment ≤ t }
+    requires within { t ≤ greatest_moment }
+    requires sound { AreCommands slots.old.commands }
+    requires stands { Stands slots.old.commands.in_force slots.old.commands.pending slots.old.commands.moment slots.old.position }
+    ensures value { slots.new.commands ≡ settled_at slots.old.commands t }
+    ensures stands { Stands slots.new.commands.in_force slots.new.commands.pending slots.new.commands.moment slots.new.position }
+    ensures sound { AreCommands slots.new.commands }
+    ensures edge { IsEdge slots.new.commands slots.new.position edge.new }
+    ensures mask { mask.new ≡ shown_by slots.new.position }
+    ensures counted { visits.old ≤ visits.new }
+    ensures visits { visits.new ≤ visits.old + (entry_count (plan_of slots.new.commands.in_force) + 1) }
+    ensures next { (e : ℕ) → NoneBy slots.old.commands.pending slots.old.commands.announced t → BeginsAtMost (plan_of slots.old.commands.in_force) (start_of slots.old.commands.in_force) slots.old.commands.moment t e → visits.new ≤ visits.old + 2 }
+{
+    if slots.is_alone() {
+        let (until, shown) = slots.move_alone(t, visits);
+        *edge = until;
+        *mask = shown;
+    } else {
+        move_commands(slots, edge, mask, t, visits);
+    }
 }
 
 /// The first moment from now on and before `before`, in picoseconds, at which some class with a need stays open through it. It
@@ -218,12 +270,7 @@ impl Gates for Jumping {
         if is_over_by(self.edge, from, for_ps) {
             return true;
         }
-        let need = Need {
-            class,
-            from,
-            length: for_ps,
-        };
-        stays_open_from_now(&self.slots, &self.resumed, need)
+        stays_open_from_now(&self.slots, &self.resumed, class, for_ps)
     }
 
     fn next_boundary(&self, before: u128) -> Option<u128> {
@@ -259,8 +306,7 @@ impl Gates for Jumping {
         if is_before(t, self.edge) {
             self.slots.pass(t);
         } else {
-            move_on(&mut self.slots, &mut self.edge, t, visits);
-            self.mask = mask_under(self.slots.in_force());
+            move_on(&mut self.slots, &mut self.edge, &mut self.mask, t, visits);
         }
     }
 

@@ -5,7 +5,7 @@
 
 ghost use Rattle.std.specs.Prelude.{◌≡◌, ◌+◌, ◌-◌, ◌*◌, ◌<◌, ◌≤◌, ◌^◌, None, Some, IsSome, length, slice_get};
 ghost use Rattle.wire_time.specs.Moment.{greatest_moment};
-ghost use Rattle.gate_list.specs.Gate.{IsShownAt, prefix, mask_at, has_come};
+ghost use Rattle.gate_list.specs.Gate.{IsShownAt, prefix, mask_at};
 ghost use Rattle.gate_list.specs.Visits.{one_more};
 ghost use Rattle.list_execute.specs.Walk.{in_hold, ShowsEntry, ShowsHold, IsOf, walk_mask, end_of, more};
 
@@ -51,6 +51,16 @@ fn entry_of(schedule: &Schedule, index: usize, visits: &mut Visits) -> Entry
     schedule.entry(index, visits)
 }
 
+/// When an entry ends that starts at a moment, in picoseconds.
+#[inline(always)]
+fn end_after(start: u128, entry: Entry) -> u128
+    requires { start ≤ 5 * greatest_moment }
+    ensures value { result ≡ start + 1000 * entry.interval }
+    ensures bound { result ≤ start + 2 ^ 42 }
+{
+    start + 1000 * u128::from(entry.interval)
+}
+
 /// The walk at an entry of a cycle from a moment on. `last` is the index of the last entry.
 #[tactic(auto, using(crate::proofs::WalkLaws::until_of_start, crate::proofs::WalkLaws::until_of_last))]
 fn walk_at(
@@ -73,7 +83,7 @@ fn walk_at(
 {
     let entry = entry_of(schedule, index, visits);
     let until = if index < last {
-        Some(start + 1000 * u128::from(entry.interval))
+        Some(end_after(start, entry))
     } else {
         None
     };
@@ -159,17 +169,6 @@ impl ListExecute {
         self.held = Some(last.mask);
     }
 
-    /// Whether the entry has ended by a moment.
-    fn has_ended_by(&self, moment: u128) -> bool
-        requires { self.now.held ≡ None }
-        ensures { result ≡ has_come (end_of self.now) moment }
-    {
-        match self.until {
-            Some(end) => end <= moment,
-            None => false,
-        }
-    }
-
     /// Goes on to the entry of a later phase of the same cycle: each entry that begins up to then is a visit.
     #[tactic(auto, using(crate::proofs::WalkLaws::until_come, crate::proofs::WalkLaws::until_ahead, crate::proofs::WalkLaws::mask_of_shown))]
     pub fn go_on(&mut self, schedule: &Schedule, phase: u128, visits: &mut Visits)
@@ -185,10 +184,27 @@ impl ListExecute {
     {
         // The count fits a u64, which makes it no less after none.
         let _ = visits.count();
-        let mut walk = *self;
-        while walk.has_ended_by(self.began + phase) {
-            walk.next(schedule, visits);
+        let moment = self.began + phase;
+        let Some(end) = self.until else { return };
+        if moment < end {
+            return;
         }
-        *self = walk;
+        let last = schedule.len() - 1;
+        let mut index = self.index + 1;
+        let mut start = end;
+        let mut entry = entry_of(schedule, index, visits);
+        while index < last && end_after(start, entry) <= moment {
+            start = end_after(start, entry);
+            index += 1;
+            entry = entry_of(schedule, index, visits);
+        }
+        self.index = index;
+        self.start = start;
+        self.entry = entry;
+        self.until = if index < last {
+            Some(end_after(start, entry))
+        } else {
+            None
+        };
     }
 }

@@ -71,8 +71,8 @@ fn catch_up<G: Gates>(gates: &mut G, still: bool, t: u128, visits: &mut Visits) 
 }
 
 /// The gates of a port, a moment, and what the head of each class needs. The gates stand at that moment or before it: they are moved
-/// when they are asked, or while a command is to come. Up to `idle` no class may start, so that a move to a moment before it costs a
-/// comparison.
+/// when they are asked, or while a command is to come. Up to `idle`, which is not before that moment, no class may start, so that a
+/// move to a moment before it costs a comparison.
 #[derive(Drop)]
 pub struct Lookout<G: Gates> {
     gates: G,
@@ -100,6 +100,7 @@ impl<G: Gates> Model for Lookout<G> {
         × (G.moment w.gates ≤ w.moment)
         × IsCurrent (G.history w.gates) w.moment
         × IsIdle (G.history w.gates) w.heads w.moment w.idle
+        × (w.moment ≤ w.idle)
         × (w.still ≡ true → IsStill (G.history w.gates) (G.moment w.gates))
         × (w.still ≡ false → G.moment w.gates ≡ w.moment) };
 }
@@ -171,8 +172,14 @@ impl<G: Gates> Lookout<G> {
         ensures idle { result ≡ true → (m : ℕ) → self.old.moment ≤ m → free ≤ m → m < self.new.moment → first_choice self.old.history m self.old.needs ≡ None }
         ensures kept { result ≡ false → self.new ≡ self.old }
     {
-        if !self.still || (self.idle < until && free < until) {
+        if !self.still {
             return false;
+        }
+        if self.idle < until {
+            if free < until {
+                return false;
+            }
+            self.idle = until;
         }
         stay_till(&self.gates, until);
         self.moment = until;
@@ -198,13 +205,13 @@ impl<G: Gates> Lookout<G> {
         ensures visits { IsTrue G.JUMPS → visits.new ≤ visits.old + 16 * (longest self.old.history + 1) }
     {
         self.gates.move_to(from, visits);
-        match find_choice(&self.heads, &mut self.gates, until, visits) {
-            Ok(class) => {
+        match find_choice(&self.heads, &mut self.gates, until, &mut self.idle, visits) {
+            Some(class) => {
                 self.moment = self.gates.now();
+                self.idle = self.moment;
                 Some(class)
             }
-            Err(idle) => {
-                self.idle = idle;
+            None => {
                 self.still = catch_up(&mut self.gates, self.still, until, visits);
                 self.moment = until;
                 None
@@ -229,10 +236,11 @@ impl<G: Gates> Lookout<G> {
         ensures counted { visits.old ≤ visits.new }
         ensures visits { IsTrue G.JUMPS → visits.new ≤ visits.old + 16 * (longest self.old.history + 1) }
     {
-        let from = free.max(self.moment).max(self.idle);
+        let from = free.max(self.idle);
         if until <= from {
             self.still = catch_up(&mut self.gates, self.still, until, visits);
             self.moment = until;
+            self.idle = self.idle.max(until);
             return None;
         }
         self.find_from(from, until, visits)
@@ -276,7 +284,7 @@ impl<G: Gates> Lookout<G> {
         ensures visits { IsTrue G.JUMPS → visits.new ≤ visits.old + 2 * (longest self.old.history + 1) }
     {
         self.gates.move_to(self.moment, visits);
-        self.idle = 0;
+        self.idle = self.moment;
         self.still = false;
         self.gates.install(schedule, lead)
     }
@@ -296,7 +304,7 @@ impl<G: Gates> Lookout<G> {
         ensures visits { IsTrue G.JUMPS → visits.new ≤ visits.old + 2 * (longest self.old.history + 1) }
     {
         self.gates.move_to(self.moment, visits);
-        self.idle = 0;
+        self.idle = self.moment;
         self.still = false;
         self.gates.delete(lead)
     }

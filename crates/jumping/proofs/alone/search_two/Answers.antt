@@ -1,14 +1,11 @@
-use Rattle.std.proofs.Common.{◌*◌, refl, subst, arith}
+use Rattle.std.proofs.Common.{◌*◌, subst, arith}
 use Rattle.jumping.specs.Words.{repeated, NoneFits, Searched}
 use Rattle.jumping.proofs.SearchLaws.{searched_none}
-use Rattle.jumping.proofs.RoundLaws.{place_first, two_found, two_none}
+use Rattle.jumping.proofs.RoundLaws.{two_found, two_none}
 use Rattle.jumping.proofs.alone.search_two.Goals as goal
 
-pub search_cycle-requires-2-clause-place : goal.search_cycle-requires-2-clause-place
-search_cycle-requires-2-clause-place c = place_first c.args.schedule.now c.requires.schedule _ refl refl refl
-
-pub returns-in-Some-search_cycle-clause-searched : goal.returns-in-Some-search_cycle-clause-searched
-returns-in-Some-search_cycle-clause-searched c =
+pub returns-in-Some-search_entries-clause-searched : goal.returns-in-Some-search_entries-clause-searched
+returns-in-Some-search_entries-clause-searched c =
     let plan = c.args.schedule.now in
     let needs = c.args.heads.now in
     let from = c.args.from.at in
@@ -18,8 +15,8 @@ returns-in-Some-search_cycle-clause-searched c =
     let past = c.if-stop-cycle.false in
     let none = searched_none (repeated plan) needs from c.min.result c.search_cycle.result c.in_default.not-Some c.search_cycle.ensures.searched in
     two_found plan needs from (1000 * c.cycle_ns-cycle.result) c.args.stop (omega (arith, cycle)) (omega (arith, cycle, inside)) (omega (arith, past))
-    (subst (NoneFits (repeated plan) needs from) (omega (arith, past, least)) none) c.in-Some-search_cycle.place
-    (subst (Searched (repeated plan) needs 0 _) c.in-Some-search_cycle.is c.search_cycle-2.ensures.searched)
+    (subst (NoneFits (repeated plan) needs from) (omega (arith, past, least)) none) c.in-Some-search_entries.place
+    (subst (Searched (repeated plan) needs 0 _) c.in-Some-search_entries.is c.search_entries.ensures.searched)
 
 pub returns-in-None-clause-searched : goal.returns-in-None-clause-searched
 returns-in-None-clause-searched c =
@@ -33,4 +30,4 @@ returns-in-None-clause-searched c =
     let none = searched_none (repeated plan) needs from c.min.result c.search_cycle.result c.in_default.not-Some c.search_cycle.ensures.searched in
     two_none plan needs from (1000 * c.cycle_ns-cycle.result) c.args.stop (omega (arith, cycle)) (omega (arith, cycle, inside)) (omega (arith, past))
     (subst (NoneFits (repeated plan) needs from) (omega (arith, past, least)) none)
-    (subst (Searched (repeated plan) needs 0 _) c.in-None.is c.search_cycle-2.ensures.searched)
+    (subst (Searched (repeated plan) needs 0 _) c.in-None.is c.search_entries.ensures.searched)

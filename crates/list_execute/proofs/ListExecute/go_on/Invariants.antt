@@ -1,16 +1,19 @@
-use Rattle.std.proofs.Common.{◌≡◌, ◌-◌, ◌≤◌, length}
+use Rattle.std.proofs.Common.{◌≡◌, ◌+◌, ◌-◌, ◌*◌, ◌≤◌, ◌<◌, ◌^◌, Some, length, slice_get}
 use Rattle.gate_list.specs.Gate.{prefix}
-use Rattle.list_execute.specs.Walk.{ShowsEntry, more}
+use Rattle.list_execute.specs.Walk.{more}
 use Rattle.list_execute.proofs.ListExecute.go_on.Given as goal
 
-abbrev pub invariant-loop-walk : goal.invariant-loop-walk
-invariant-loop-walk l = record {
-  shown : ShowsEntry l.schedule l.self-inside.began l.walk.index l.walk;
-  begun : prefix l.schedule.entries l.walk.index ≤ l.phase;
-  after : l.self-inside.index ≤ l.walk.index;
-  counted : l.visits ≡ more l.fn.visits (l.walk.index - l.self-inside.index);
+abbrev pub invariant-loop-index : goal.invariant-loop-index
+invariant-loop-index l = record {
+  listed : l.index ≤ l.last;
+  start : l.start ≡ l.self-inside.began + prefix l.schedule.entries l.index;
+  within : l.start ≤ l.self-inside.began + 2 ^ 42 * l.index;
+  entry : slice_get l.schedule.entries l.index ≡ Some l.entry;
+  begun : prefix l.schedule.entries l.index ≤ l.phase;
+  after : l.self-inside.index < l.index;
+  counted : l.visits ≡ more l.fn.visits (l.index - l.self-inside.index);
   onward : l.fn.visits ≤ l.visits;
 }
 
-abbrev pub decreases-loop-walk : goal.decreases-loop-walk
-decreases-loop-walk l = length l.schedule.entries - l.walk.index
+abbrev pub decreases-loop-index : goal.decreases-loop-index
+decreases-loop-index l = length l.schedule.entries - l.index

@@ -34,7 +34,7 @@ invariant_of-self-else-is_before c =
       c.move_on.ensures.stands,
       subst (λ k. Resumes k resumed) (sym c.move_on.ensures.value) (resumes_settled slots c.self.invariant.0 resumed c.args.t later c.self.invariant.2),
       c.move_on.ensures.edge,
-      c.mask_under-self-inside.ensures ∙ ap shown_by c.in_force.ensures.position,
+      c.move_on.ensures.mask,
     )
 
 pub invariant_of-self : goal.invariant_of-self
