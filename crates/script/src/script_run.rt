@@ -4,7 +4,7 @@ ghost use Rattle.std.specs.Prelude.{ℕ, List, Result, IfSome};
 ghost use Rattle.script.specs.Words.{Command, Writes, script_left, TcFault, RunsOut, HasFewVisits, IsFaithfulTo, events_of, reading_of, ending_text, outcome_from, outcome_of, IsReader};
 ghost use Rattle.abstract_port.specs.Answers.{port_after};
 
-use crate::answers::{RunningPort, put_answers, put_tc_by};
+use crate::answers::{RunningPort, put_answers, put_answers_by, put_tc_by};
 use crate::faults::{BadLine, RunFault};
 use crate::laws::faithful;
 use crate::plain::pass_plain;
@@ -13,7 +13,7 @@ use crate::settings::Settings;
 use crate::summary_lines::put_end;
 use crate::watch::Watch;
 use abstract_port::Event;
-use answer_text::WriteFault;
+use answer_text::{NearNumbers, WriteFault};
 use job::next_line;
 use line_reader::LineReader;
 use octet_writer::PutLine;
@@ -61,10 +61,11 @@ fn run_lines<A: Allocator, B: Allocator, R: Read + Drop, W: PutLine, H: Watch>(
     // For the prover: a call on a port says what holds of every port.
     let _now = port.now();
     let mut place = CommandPlace::new();
+    let mut moments = NearNumbers::new();
     'lines: loop {
         // A loop by itself, in which the place among the octets in hand stays in registers.
         'plain: while let Some(event) = pass_plain(lines) {
-            put_answers(port, summary, &event, writer)?;
+            put_answers_by(&mut moments, port, summary, &event, writer)?;
         }
         if !next_line::<BadLine, _, _, _>(lines, writer)? {
             break;
@@ -72,7 +73,13 @@ fn run_lines<A: Allocator, B: Allocator, R: Read + Drop, W: PutLine, H: Watch>(
         let line = lines.line();
         match read_line(line) {
             Ok(None) => watch.line_passed(lines.line_number(), line),
-            Ok(Some(Said::Asked(event))) => put_answers(port, summary, &event, writer)?,
+            Ok(Some(Said::Asked(event))) => put_answers_by(
+                &mut moments,
+                port,
+                summary,
+                &event,
+                writer,
+            )?,
             Ok(Some(Said::Tc)) => {
                 put_tc_by(
                     &mut place,

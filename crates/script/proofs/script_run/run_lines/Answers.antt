@@ -32,19 +32,19 @@ plain-preserved g c =
     record {
       running = λ read is.
           let e : request_of read past.line ≡ Ok (Some (Asks c.in-Some.event)) = ap (request_said (read (words_of past.line))) past.says in
-          goes_on read _ _ _ _ _ _ _ _ _ _ _ _ (c.plain.invariant.running read is) c.settling.ensures _ _ _ (Asks c.in-Some.event) past.past e c.in_ok-put_answers.ensures;
+          goes_on read _ _ _ _ _ _ _ _ _ _ _ _ (c.plain.invariant.running read is) c.settling.ensures _ _ _ (Asks c.in-Some.event) past.past e c.in_ok-put_answers_by.ensures;
       fewer = omega (arith, c.plain.invariant.fewer, c.in-Some.ensures.fewer);
     }
 
-pub returns-in_err-put_answers-clause-script : goal.returns-in_err-put_answers-clause-script
-returns-in_err-put_answers-clause-script g c = λ read is.
+pub returns-in_err-put_answers_by-clause-script : goal.returns-in_err-put_answers_by-clause-script
+returns-in_err-put_answers_by-clause-script g c = λ read is.
     let p = err_from_is_err_and c.from_residual.result c.from_residual.ensures.1 in
     let past = c.in-Some.ensures.event in
     let e : request_of read past.line ≡ Ok (Some (Asks c.in-Some.event)) = ap (request_said (read (words_of past.line))) past.says in
-    goes_no_further read _ _ _ _ _ _ _ _ _ _ _ _ (c.plain.invariant.running read is) c.settling.ensures _ (Asks c.in-Some.event) past.past e c.in_err-put_answers.ensures.text (p.1 ∙ ap Err p.2)
+    goes_no_further read _ _ _ _ _ _ _ _ _ _ _ _ (c.plain.invariant.running read is) c.settling.ensures _ (Asks c.in-Some.event) past.past e c.in_err-put_answers_by.ensures.text (p.1 ∙ ap Err p.2)
 
-pub put_answers-requires-in-Ok-Some-Asked : goal.put_answers-requires-in-Ok-Some-Asked
-put_answers-requires-in-Ok-Some-Asked g c = (search c.requires-raw, search c.requires-raw)
+pub put_answers_by-requires-in-Ok-Some-Asked : goal.put_answers_by-requires-in-Ok-Some-Asked
+put_answers_by-requires-in-Ok-Some-Asked g c = (search c.requires-raw, search c.requires-raw)
 
 pub put_tc_by-requires : goal.put_tc_by-requires
 put_tc_by-requires g c = (search c.requires-raw, search c.requires-raw)
@@ -58,14 +58,14 @@ lines-preserved-in-Ok-None g c = λ read is.
     let a = advanced g.R.Read.remaining _ _ _ same c.if-not-branch.false c.in_ok-next_line.ensures.step in
     goes_past read _ _ _ _ _ _ _ _ _ _ _ _ i a e
 
-pub lines-preserved-in_ok-put_answers-in-Ok-Some-Asked : goal.lines-preserved-in_ok-put_answers-in-Ok-Some-Asked
-lines-preserved-in_ok-put_answers-in-Ok-Some-Asked g c = λ read is.
+pub lines-preserved-in_ok-put_answers_by-in-Ok-Some-Asked : goal.lines-preserved-in_ok-put_answers_by-in-Ok-Some-Asked
+lines-preserved-in_ok-put_answers_by-in-Ok-Some-Asked g c = λ read is.
     let said : said_in c.next_line.new.lines.line.items ≡ Ok (Some (Says.Asked c.in-Ok-Some-Asked.event)) = ap said_in (sym c.line-line.ensures) ∙ sym c.read_line.ensures ∙ c.in-Ok-Some-Asked.is ∙ ap Ok (c.in-Ok-Some-Asked.field-0-is ∙ ap Some c.in-Ok-Some-Asked.field-0-0-is) in
     let e : request_of read c.next_line.new.lines.line.items ≡ Ok (Some (Asks c.in-Ok-Some-Asked.event)) = ap (request_said (read (words_of c.next_line.new.lines.line.items))) said in
     let i = kept read _ _ _ _ _ _ _ _ _ _ (c.plain.invariant.running read is) c.in_ok-next_line.ensures.kept in
     let same : c.pass_plain.new.lines ≡ c.plain.lines = c.in_default.ensures.event in
     let a = advanced g.R.Read.remaining _ _ _ same c.if-not-branch.false c.in_ok-next_line.ensures.step in
-    goes_on read _ _ _ _ _ _ _ _ _ _ _ _ i c.settling.ensures _ _ _ (Asks c.in-Ok-Some-Asked.event) a e c.in_ok-put_answers-in-Ok-Some-Asked.ensures
+    goes_on read _ _ _ _ _ _ _ _ _ _ _ _ i c.settling.ensures _ _ _ (Asks c.in-Ok-Some-Asked.event) a e c.in_ok-put_answers_by-in-Ok-Some-Asked.ensures
 
 pub lines-preserved : goal.lines-preserved
 lines-preserved g c = λ read is.
@@ -84,15 +84,15 @@ returns-in_err-next_line-clause-script g c = λ read is.
     let i = kept read _ _ _ _ _ _ _ _ _ _ (c.plain.invariant.running read is) c.in_err-next_line.ensures.kept in
     stops read _ _ _ _ _ _ _ _ _ _ _ _ i _ (stepped g.R.Read.remaining _ _ _ _ same c.in_err-next_line.ensures.step) (p.1 ∙ ap Err p.2)
 
-pub returns-in_err-put_answers-in-Ok-Some-Asked-clause-script : goal.returns-in_err-put_answers-in-Ok-Some-Asked-clause-script
-returns-in_err-put_answers-in-Ok-Some-Asked-clause-script g c = λ read is.
-    let p = err_from_is_err_and c.from_residual-in_err-put_answers-in-Ok-Some-Asked.result c.from_residual-in_err-put_answers-in-Ok-Some-Asked.ensures.1 in
+pub returns-in_err-put_answers_by-in-Ok-Some-Asked-clause-script : goal.returns-in_err-put_answers_by-in-Ok-Some-Asked-clause-script
+returns-in_err-put_answers_by-in-Ok-Some-Asked-clause-script g c = λ read is.
+    let p = err_from_is_err_and c.from_residual-in_err-put_answers_by-in-Ok-Some-Asked.result c.from_residual-in_err-put_answers_by-in-Ok-Some-Asked.ensures.1 in
     let said : said_in c.next_line.new.lines.line.items ≡ Ok (Some (Says.Asked c.in-Ok-Some-Asked.event)) = ap said_in (sym c.line-line.ensures) ∙ sym c.read_line.ensures ∙ c.in-Ok-Some-Asked.is ∙ ap Ok (c.in-Ok-Some-Asked.field-0-is ∙ ap Some c.in-Ok-Some-Asked.field-0-0-is) in
     let e : request_of read c.next_line.new.lines.line.items ≡ Ok (Some (Asks c.in-Ok-Some-Asked.event)) = ap (request_said (read (words_of c.next_line.new.lines.line.items))) said in
     let i = kept read _ _ _ _ _ _ _ _ _ _ (c.plain.invariant.running read is) c.in_ok-next_line.ensures.kept in
     let same : c.pass_plain.new.lines ≡ c.plain.lines = c.in_default.ensures.event in
     let a = advanced g.R.Read.remaining _ _ _ same c.if-not-branch.false c.in_ok-next_line.ensures.step in
-    goes_no_further read _ _ _ _ _ _ _ _ _ _ _ _ i c.settling.ensures _ (Asks c.in-Ok-Some-Asked.event) a e c.in_err-put_answers-in-Ok-Some-Asked.ensures.text (p.1 ∙ ap Err p.2)
+    goes_no_further read _ _ _ _ _ _ _ _ _ _ _ _ i c.settling.ensures _ (Asks c.in-Ok-Some-Asked.event) a e c.in_err-put_answers_by-in-Ok-Some-Asked.ensures.text (p.1 ∙ ap Err p.2)
 
 pub returns-in_err-put_tc_by-in-Ok-Some-Tc-clause-script : goal.returns-in_err-put_tc_by-in-Ok-Some-Tc-clause-script
 returns-in_err-put_tc_by-in-Ok-Some-Tc-clause-script g c = λ read is.
@@ -129,14 +129,14 @@ returns-clause-script g c = λ read is.
     let a = advanced g.R.Read.remaining _ _ _ same c.if-not-branch.true c.in_ok-next_line.ensures.step in
     ends_well read _ _ _ _ _ _ _ _ _ _ _ _ i {T = Unit {0}} c.settling.ensures tt _ a c.in_ok-end.ensures.text refl
 
-pub returns-in_err-put_answers-clause-few : goal.returns-in_err-put_answers-clause-few
-returns-in_err-put_answers-clause-few g c = λ read is. few_further read c.args.until _ _ _ _ _ _ _ _ (c.plain.invariant.running read is) c.put_answers.new.port c.in_err-put_answers.ensures.few
+pub returns-in_err-put_answers_by-clause-few : goal.returns-in_err-put_answers_by-clause-few
+returns-in_err-put_answers_by-clause-few g c = λ read is. few_further read c.args.until _ _ _ _ _ _ _ _ (c.plain.invariant.running read is) c.put_answers_by.new.port c.in_err-put_answers_by.ensures.few
 
 pub returns-in_err-next_line-clause-few : goal.returns-in_err-next_line-clause-few
 returns-in_err-next_line-clause-few g c = λ read is. (c.plain.invariant.running read is).few
 
-pub returns-in_err-put_answers-in-Ok-Some-Asked-clause-few : goal.returns-in_err-put_answers-in-Ok-Some-Asked-clause-few
-returns-in_err-put_answers-in-Ok-Some-Asked-clause-few g c = λ read is. few_further read c.args.until _ _ _ _ _ _ _ _ (c.plain.invariant.running read is) c.put_answers-in-Ok-Some-Asked.new.port c.in_err-put_answers-in-Ok-Some-Asked.ensures.few
+pub returns-in_err-put_answers_by-in-Ok-Some-Asked-clause-few : goal.returns-in_err-put_answers_by-in-Ok-Some-Asked-clause-few
+returns-in_err-put_answers_by-in-Ok-Some-Asked-clause-few g c = λ read is. few_further read c.args.until _ _ _ _ _ _ _ _ (c.plain.invariant.running read is) c.put_answers_by-in-Ok-Some-Asked.new.port c.in_err-put_answers_by-in-Ok-Some-Asked.ensures.few
 
 pub returns-in_err-put_tc_by-in-Ok-Some-Tc-clause-few : goal.returns-in_err-put_tc_by-in-Ok-Some-Tc-clause-few
 returns-in_err-put_tc_by-in-Ok-Some-Tc-clause-few g c = λ read is. few_further read c.args.until _ _ _ _ _ _ _ _ (c.plain.invariant.running read is) c.put_tc_by.new.port c.put_tc_by.ensures.few
