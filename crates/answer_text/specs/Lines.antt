@@ -32,18 +32,18 @@ number_text (Some n) = codes " " ++ decimal n
 abbrev pub refused_line : Refused → List ℕ
 refused_line why = concat (codes "refused " ∷ refused_name why ∷ number_text (refused_number why) ∷ codes "\n" ∷ [])
 
--- the line of a frame that starts, by its number, its class, its start and its end
-abbrev pub start_text : ℕ → ℕ → ℕ → ℕ → List ℕ
+-- the line of a frame that starts, by its number, its class and the texts of its start and its end
+abbrev pub start_text : ℕ → ℕ → List ℕ → List ℕ → List ℕ
 start_text id class at «end» = concat (
     codes "start " ∷ decimal id
     ∷ codes " class " ∷ decimal class
-    ∷ codes " at " ∷ decimal at
-    ∷ codes " end " ∷ decimal «end»
+    ∷ codes " at " ∷ at
+    ∷ codes " end " ∷ «end»
     ∷ codes "\n" ∷ [])
 
 -- a frame starts: its class, its start and its end in picoseconds
 abbrev pub start_line : Start → List ℕ
-start_line s = start_text s.id s.class s.at s.«end»
+start_line s = start_text s.id s.class (decimal s.at) (decimal s.«end»)
 
 -- a class's counters
 abbrev pub count_line : ℕ → Counters → List ℕ

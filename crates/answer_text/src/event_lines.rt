@@ -1,17 +1,16 @@
 //! The lines of frames, which are made where they are written.
 
-ghost use Rattle.std.specs.Prelude.{◌≡◌, ◌<◌, ◌≤◌, ◌+◌, ◌*◌, length, take};
+ghost use Rattle.std.specs.Prelude.{◌≡◌, ◌<◌, ◌≤◌, ◌+◌, ◌++◌, length, take, decimal};
 ghost use Rattle.octet_writer.specs.declared.put_line.TheConstants.{LINE_ROOM};
 ghost use Rattle.decimal_text.specs.declared.digits.TheConstants.{EIGHT_DIGITS};
-ghost use Rattle.decimal_text.specs.declared.numbers.TheConstants.{KEPT_END};
 ghost use Rattle.decimal_text.specs.Placed.{Placed};
 ghost use Rattle.answer_text.specs.Lines.{dropped_line, queued_line, start_line, start_text};
 ghost use Rattle.answer_text.specs.Names.{dropped_name};
 ghost use Rattle.answer_text.specs.declared.event_lines.TheConstants.{DROPPED_ROOM};
 
-use crate::span::{near, put_near, put_span};
+use crate::span::put_span;
 use abstract_port::{Dropped, Start};
-use decimal_text::{EIGHT_DIGITS, put_digit, put_few, put_octet, put_short, put_text};
+use decimal_text::{EIGHT_DIGITS, NearNumbers, put_digit, put_few, put_octet, put_short, put_text};
 use octet_writer::{LINE_ROOM, Line};
 
 /// The line of a frame of any number and class.
@@ -90,49 +89,6 @@ impl Line for DroppedLine {
     }
 }
 
-/// The line of any frame that starts.
-#[cold]
-#[inline(never)]
-fn put_any_start(start: &Start, room: &mut [u8; LINE_ROOM]) -> usize
-    ensures short { result ≤ LINE_ROOM }
-    ensures text { take result room.new ≡ start_line start.now }
-{
-    let at = put_text(b"start ", room, 0);
-    let at = put_short(start.id, room, at);
-    let at = put_text(b" class ", room, at);
-    let at = put_octet(start.class, room, at);
-    let at = put_text(b" at ", room, at);
-    let at = put_span(start.at, start.end, room, at);
-    put_text(b"\n", room, at)
-}
-
-/// The line of a frame whose number and class have few digits, and whose moments differ in their last eight digits alone.
-#[inline(always)]
-fn put_usual_start(
-    id: u64,
-    class: u8,
-    front: u64,
-    eight: u64,
-    other: u64,
-    room: &mut [u8; LINE_ROOM],
-) -> usize
-    requires id { id < EIGHT_DIGITS }
-    requires class { class < 10 }
-    requires front { (0 < front) × (front < KEPT_END) }
-    requires eight { eight < EIGHT_DIGITS }
-    requires other { other < EIGHT_DIGITS }
-    ensures short { result ≤ LINE_ROOM }
-    ensures text { take result room.new ≡ start_text id class (front * EIGHT_DIGITS + eight) (front * EIGHT_DIGITS + other) }
-{
-    let at = put_text(b"start ", room, 0);
-    let at = put_few(id, room, at);
-    let at = put_text(b" class ", room, at);
-    let at = put_digit(class, room, at);
-    let at = put_text(b" at ", room, at);
-    let at = put_near(front, eight, other, room, at);
-    put_text(b"\n", room, at)
-}
-
 /// A frame starts.
 #[derive(Clone, Copy)]
 pub(crate) struct StartLine<'a> {
@@ -142,22 +98,43 @@ pub(crate) struct StartLine<'a> {
 impl Line for StartLine<'_> {
     ghost text = { λ line. start_line line.start.now };
 
-    #[inline(always)]
+    #[inline(never)]
     fn put_into(&self, room: &mut [u8; LINE_ROOM]) -> usize {
         let start = self.start;
-        if start.id >= EIGHT_DIGITS || start.class >= 10 {
-            return put_any_start(start, room);
-        }
-        match near(start.at, start.end) {
-            Some((front, eight, other)) => put_usual_start(
-                start.id,
-                start.class,
-                front,
-                eight,
-                other,
-                room,
-            ),
-            None => put_any_start(start, room),
-        }
+        let at = put_text(b"start ", room, 0);
+        let at = put_short(start.id, room, at);
+        let at = put_text(b" class ", room, at);
+        let at = put_octet(start.class, room, at);
+        let at = put_text(b" at ", room, at);
+        let at = put_span(start.at, start.end, room, at);
+        put_text(b"\n", room, at)
+    }
+}
+
+/// A frame starts, whose number and class have few digits, and whose moments are these.
+#[derive(Clone, Copy)]
+pub(crate) struct UsualStartLine<'a> {
+    pub(crate) start: &'a Start,
+    pub(crate) moments: &'a NearNumbers,
+    ghost few: { start.now.id < EIGHT_DIGITS },
+    ghost digit: { start.now.class < 10 },
+}
+
+impl Line for UsualStartLine<'_> {
+    ghost text = { λ line. start_text line.start.now.id line.start.now.class
+        (decimal line.moments.now.front ++ line.moments.now.first) (decimal line.moments.now.front ++ line.moments.now.second) };
+
+    // As for most lines, without a call.
+    #[inline(always)]
+    fn put_into(&self, room: &mut [u8; LINE_ROOM]) -> usize {
+        let at = put_text(b"start ", room, 0);
+        let at = put_few(self.start.id, room, at);
+        let at = put_text(b" class ", room, at);
+        let at = put_digit(self.start.class, room, at);
+        let at = put_text(b" at ", room, at);
+        let at = self.moments.put_first(room, at);
+        let at = put_text(b" end ", room, at);
+        let at = self.moments.put_second(room, at);
+        put_text(b"\n", room, at)
     }
 }

@@ -11,6 +11,7 @@ mod reports;
 mod span;
 mod text_writer;
 
+pub use decimal_text::NearNumbers;
 pub use lines::{put_answer, put_arrival, put_installation, put_left, put_start, put_tc_fault};
 pub use octet_writer::{WriteFault, put};
 pub use text_writer::{Part, put_parts};

@@ -4,11 +4,12 @@ ghost use Rattle.abstract_port.specs.Answers.{arrival_answer, command_answer};
 ghost use Rattle.answer_text.specs.Lines.{queued_line, dropped_line, installed_line, refused_line, start_line, count_line, left_line, answer_lines, tc_fault_line};
 ghost use Rattle.octet_writer.specs.Writes.{Writes};
 
-use crate::event_lines::{DroppedLine, QueuedLine, StartLine};
+use crate::event_lines::{DroppedLine, QueuedLine, StartLine, UsualStartLine};
 use crate::names::{refused_name, refused_number, tc_fault_name, tc_fault_place, tc_fault_word};
 use crate::reports::put_report;
 use crate::text_writer::{Part, put_parts};
 use abstract_port::{Answer, Counters, Dropped, Refused, Start};
+use decimal_text::{EIGHT_DIGITS, NearNumbers};
 use octet_writer::{PutLine, WriteFault, put};
 use std::io::Write;
 use tc_reader::TcFault;
@@ -89,12 +90,28 @@ pub fn put_installation<W: Write>(
     }
 }
 
-/// Writes the line of a frame that starts. At a fault a prefix of it is written.
-#[inline(always)]
-pub fn put_start<W: PutLine>(writer: &mut W, start: &Start) -> Result<(), WriteFault>
+/// The line of any frame that starts.
+#[cold]
+#[inline(never)]
+fn put_any_start<W: PutLine>(writer: &mut W, start: &Start) -> Result<(), WriteFault>
     ensures { Writes result (W.contents writer.old) (W.contents writer.new) (start_line start.now) }
 {
     writer.put_line(&StartLine { start })
+}
+
+/// Writes the line of a frame that starts. At a fault a prefix of it is written. The digits of its moments are kept for the next.
+#[inline(always)]
+pub fn put_start<W: PutLine>(
+    writer: &mut W,
+    moments: &mut NearNumbers,
+    start: &Start,
+) -> Result<(), WriteFault>
+    ensures { Writes result (W.contents writer.old) (W.contents writer.new) (start_line start.now) }
+{
+    if start.id >= EIGHT_DIGITS || start.class >= 10 || !moments.take(start.at, start.end) {
+        return put_any_start(writer, start);
+    }
+    writer.put_line(&UsualStartLine { start, moments })
 }
 
 fn put_counters<W: Write>(writer: &mut W, class: u8, counters: &Counters) -> Result<(), WriteFault>
@@ -136,7 +153,7 @@ pub fn put_answer<W: PutLine>(writer: &mut W, answer: &Answer) -> Result<(), Wri
         Answer::Dropped { id, why } => put_dropped(writer, *id, *why),
         Answer::Installed(change) => put_installed(writer, *change),
         Answer::Refused(why) => put_refused(writer, *why),
-        Answer::Start(start) => put_start(writer, start),
+        Answer::Start(start) => put_any_start(writer, start),
         Answer::Backward => put(writer, b"backward\n"),
         Answer::Report(report) => put_report(writer, *report),
         Answer::Counters { class, counters } => put_counters(writer, *class, counters),

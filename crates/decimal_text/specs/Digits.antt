@@ -1,5 +1,5 @@
 -- Decimal digits as octets, and numbers beside one another in a word.
-use Rattle.std.specs.Prelude.{Bool, true, false, List, ℕ, [], ◌∷◌, ◌+◌, ◌*◌, ◌/◌, ◌%◌, ◌++◌, take}
+use Rattle.std.specs.Prelude.{List, ℕ, [], ◌∷◌, ◌+◌, ◌*◌, ◌/◌, ◌%◌}
 
 -- four numbers in a word, each in 16 bits, the first in the lowest
 abbrev pub four_lanes : ℕ → ℕ → ℕ → ℕ → ℕ
@@ -17,8 +17,3 @@ digit_word n = eight_lanes (n / 10000000 % 10) (n / 1000000 % 10) (n / 100000 % 
 abbrev pub eight_octets : ℕ → List ℕ
 eight_octets n = (48 + n / 10000000 % 10) ∷ (48 + n / 1000000 % 10) ∷ (48 + n / 100000 % 10) ∷ (48 + n / 10000 % 10)
     ∷ (48 + n / 1000 % 10) ∷ (48 + n / 100 % 10) ∷ (48 + n / 10 % 10) ∷ (48 + n % 10) ∷ []
-
--- the first of eight octets, so many, and eight more behind them where there are more
-abbrev pub kept_text : List ℕ → ℕ → Bool → List ℕ → List ℕ
-kept_text octets count false behind = take count octets
-kept_text octets count true behind = take count octets ++ behind

@@ -4,12 +4,13 @@
 #![tactic(auto)]
 
 mod digits;
+mod near_numbers;
 mod numbers;
 mod places;
 
 pub use digits::EIGHT_DIGITS;
+pub use near_numbers::NearNumbers;
 pub use numbers::{
-    KEPT_END, KeptNumber, NUMBER_ROOM, OCTET_ROOM, SHORT_ROOM, front_of, put_digit, put_few,
-    put_number, put_octet, put_short,
+    NUMBER_ROOM, OCTET_ROOM, SHORT_ROOM, put_digit, put_few, put_number, put_octet, put_short,
 };
 pub use places::put_text;

@@ -1,7 +1,7 @@
 //! Numbers in decimal.
 
-ghost use Rattle.std.specs.Prelude.{◌≡◌, ◌<◌, ◌≤◌, ◌+◌, ◌*◌, ◌/◌, length, decimal, take};
-ghost use Rattle.decimal_text.specs.Digits.{eight_octets, kept_text};
+ghost use Rattle.std.specs.Prelude.{◌≡◌, ◌<◌, ◌≤◌, ◌+◌, ◌*◌, ◌/◌, length, decimal};
+ghost use Rattle.decimal_text.specs.Digits.{eight_octets};
 ghost use Rattle.decimal_text.specs.Placed.{Placed};
 ghost use Rattle.decimal_text.specs.declared.digits.TheConstants.{EIGHT_DIGITS};
 ghost use Rattle.decimal_text.specs.declared.numbers.TheConstants.{OCTET_ROOM, SHORT_ROOM, NUMBER_ROOM, KEPT_END, KEPT_ROOM};
@@ -20,10 +20,10 @@ pub const SHORT_ROOM: usize = 24;
 pub const NUMBER_ROOM: usize = 40;
 
 /// The octets that a number that is kept has to have room for.
-const KEPT_ROOM: usize = 16;
+pub(crate) const KEPT_ROOM: usize = 16;
 
 /// The first number that is not kept: that of 17 digits.
-pub const KEPT_END: u64 = 10_000_000_000_000_000;
+pub(crate) const KEPT_END: u64 = 10_000_000_000_000_000;
 
 /// Puts the last eight digits of a number at a place, and answers where they end.
 #[inline(always)]
@@ -33,75 +33,6 @@ fn put_eight(eight: u64, line: &mut [u8], at: usize) -> usize
     ensures { Placed line.old line.new at (eight_octets eight) result }
 {
     put_text(&all_digits(eight), line, at)
-}
-
-/// A number of up to 16 digits, which are worked out, to be put at one place or more.
-#[derive(Clone, Copy)]
-pub struct KeptNumber {
-    number: u64,
-    octets: [u8; 8],
-    count: usize,
-    wide: bool,
-    behind: [u8; 8],
-    ghost short: { count ≤ 8 },
-    ghost text: { kept_text octets count wide behind ≡ decimal number },
-}
-
-impl KeptNumber {
-    /// Works out the digits of a number.
-    #[inline(always)]
-    pub fn new(number: u64) -> KeptNumber
-        requires { number < KEPT_END }
-        ensures { result.number ≡ number }
-    {
-        if number < EIGHT_DIGITS {
-            let (octets, count) = front_digits(number);
-            return KeptNumber {
-                number,
-                octets,
-                count,
-                wide: false,
-                behind: [0; 8],
-            };
-        }
-        let (octets, count) = front_digits(number / EIGHT_DIGITS);
-        let behind = all_digits(number % EIGHT_DIGITS);
-        KeptNumber {
-            number,
-            octets,
-            count,
-            wide: true,
-            behind,
-        }
-    }
-
-    /// Puts the number at a place, and answers where it ends.
-    #[inline(always)]
-    fn put(&self, line: &mut [u8], at: usize) -> usize
-        requires { at + KEPT_ROOM ≤ length line.old }
-        ensures text { Placed line.old line.new at (decimal self.now.number) result }
-        ensures end { result ≤ at + KEPT_ROOM }
-    {
-        let end = put_front(&self.octets, self.count, line, at);
-        if self.wide {
-            return put_text(&self.behind, line, end);
-        }
-        end
-    }
-
-    /// Puts the number at a place with eight digits more behind its own, and answers where these end.
-    #[inline(always)]
-    pub fn put_before(&self, eight: u64, line: &mut [u8], at: usize) -> usize
-        requires some { 0 < self.now.number }
-        requires kept { self.now.number < KEPT_END }
-        requires eight { eight < EIGHT_DIGITS }
-        requires room { at + SHORT_ROOM ≤ length line.old }
-        ensures text { Placed line.old line.new at (decimal (self.now.number * EIGHT_DIGITS + eight)) result }
-        ensures end { result ≤ at + SHORT_ROOM }
-    {
-        let middle = self.put(line, at);
-        put_eight(eight, line, middle)
-    }
 }
 
 /// Puts a number below a hundred million at a place, and answers where it ends.
@@ -116,6 +47,21 @@ pub fn put_few(number: u64, line: &mut [u8], at: usize) -> usize
     put_front(&octets, count, line, at)
 }
 
+/// Puts a number of up to 16 digits at a place, and answers where it ends.
+#[inline(always)]
+pub(crate) fn put_kept(number: u64, line: &mut [u8], at: usize) -> usize
+    requires number { number < KEPT_END }
+    requires room { at + KEPT_ROOM ≤ length line.old }
+    ensures text { Placed line.old line.new at (decimal number) result }
+    ensures end { result ≤ at + KEPT_ROOM }
+{
+    if number < EIGHT_DIGITS {
+        return put_few(number, line, at);
+    }
+    let middle = put_few(number / EIGHT_DIGITS, line, at);
+    put_eight(number % EIGHT_DIGITS, line, middle)
+}
+
 /// Puts a number that goes on behind others, by eight digits, at a place, and answers where it ends.
 #[inline(never)]
 fn put_wide(front: u64, eight: u64, line: &mut [u8], at: usize) -> usize
@@ -126,7 +72,8 @@ fn put_wide(front: u64, eight: u64, line: &mut [u8], at: usize) -> usize
     ensures text { Placed line.old line.new at (decimal (front * EIGHT_DIGITS + eight)) result }
     ensures end { result ≤ at + SHORT_ROOM }
 {
-    KeptNumber::new(front).put_before(eight, line, at)
+    let middle = put_kept(front, line, at);
+    put_eight(eight, line, middle)
 }
 
 /// Puts a number of 64 bits at a place, and answers where it ends.
@@ -178,7 +125,7 @@ fn put_slice(text: &[u8], line: &mut [u8], at: usize) -> usize
 
 /// All but the last eight digits of a number. A hundred million is 256 times 390,625.
 #[inline]
-pub fn front_of(number: u128) -> u128
+pub(crate) fn front_of(number: u128) -> u128
     ensures { result ≡ number / EIGHT_DIGITS }
 {
     let high = number / 256;

@@ -26,13 +26,18 @@ pub fn put_text<const N: usize>(text: &[u8; N], line: &mut [u8], at: usize) -> u
     end
 }
 
-/// Puts the first of eight octets at a place where there is room for all of them, and answers where these end.
+/// Puts the first of so many octets at a place where there is room for all of them, and answers where these end.
 #[inline(always)]
-pub(crate) fn put_front(octets: &[u8; 8], count: usize, line: &mut [u8], at: usize) -> usize
-    requires count { count ≤ 8 }
-    requires room { at + 8 ≤ length line.old }
+pub(crate) fn put_front<const N: usize>(
+    octets: &[u8; N],
+    count: usize,
+    line: &mut [u8],
+    at: usize,
+) -> usize
+    requires count { count ≤ N }
+    requires room { at + N ≤ length line.old }
     ensures { Placed line.old line.new at (take count octets.now) result }
 {
-    put_over(&mut line[at..at + 8], octets);
+    put_over(&mut line[at..at + N], octets);
     at + count
 }

@@ -14,6 +14,7 @@ use crate::records::run_records;
 use crate::script_reader::read_script;
 use crate::sender::{Leaving, Sending, put_clock};
 use crate::stamps::{Stamp, stamping_at};
+use answer_text::NearNumbers;
 use capture::{CAPTURE_END, CapFault, CaptureReader, CaptureWriter};
 use octet_store::OctetStore;
 use octet_writer::PutLine;
@@ -207,6 +208,7 @@ fn begin<A: Allocator + Clone, W: Write>(
                 writer,
                 stamping,
                 last: 0,
+                moments: NearNumbers::new(),
             },
         }),
         Err(_) => Err(Stop::Write),

@@ -10,7 +10,7 @@ ghost use Rattle.replay.specs.declared.faults.Stop.TheVariants as Stops;
 use crate::faults::Stop;
 use crate::stamps::{Stamping, stamped};
 use abstract_port::{Answer, Dropped, Start};
-use answer_text::{WriteFault, put_answer};
+use answer_text::{NearNumbers, WriteFault, put_answer};
 use capture::CaptureWriter;
 use octet_store::OctetStore;
 use octet_writer::PutLine;
@@ -28,6 +28,8 @@ pub(crate) struct Leaving {
     pub stamping: Stamping,
     /// The end of the frame that has started last, or a moment after which none has, in picoseconds.
     pub last: u128,
+    /// The digits of the moments of the start that was reported last.
+    pub moments: NearNumbers,
 }
 
 /// A port that runs, with the octets of the frames that wait in it, and the capture that they leave for.
@@ -64,6 +66,7 @@ fn put_backward<A: Allocator, V: PutLine>(
 #[inline(never)]
 fn put_noted_start<A: Allocator, V: PutLine>(
     summary: &mut Option<Summary<A>>,
+    moments: &mut NearNumbers,
     now: u128,
     start: &Start,
     report: &mut V,
@@ -72,7 +75,7 @@ fn put_noted_start<A: Allocator, V: PutLine>(
     ensures seen { summary.new ≡ noted now (Answered.Start start.now) summary.old }
 {
     note_start(summary, now, start);
-    answer_text::put_start(report, start)
+    answer_text::put_start(report, moments, start)
 }
 
 /// Writes what becomes of a frame that arrives, noted where a summary is wanted. At a fault a prefix of it is written.
@@ -142,7 +145,13 @@ fn put_start<A: Allocator, W: PutLine, V: PutLine>(
         (record { report = answer_lines (Answered.Start start); departures = start_record (stamped sending.old.leaving.stamping start) (first_kept sending.old.store start.class) }) }
     ensures fault { IfErr result (λ fault. fault ≡ Stops.Write) }
 {
-    put_noted_start(&mut sending.summary, now, &start, report)?;
+    put_noted_start(
+        &mut sending.summary,
+        &mut sending.leaving.moments,
+        now,
+        &start,
+        report,
+    )?;
     sending.leaving.last = start.end;
     put_record(sending, start, departures)
 }

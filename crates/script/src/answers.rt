@@ -1,14 +1,15 @@
 //! What a port answers to the lines of a script, written as it comes.
 
-ghost use Rattle.std.specs.Prelude.{ℕ, List, Result, ◌<◌, ◌≤◌, length, OnOk};
-ghost use Rattle.script.specs.Words.{queue_of, IsSoundPort, Command, Writes, HasFewVisits, IsAnswered, Asks, tc_request, left_lines, left_text, IsReader, TcFault, greatest_moment, words_of};
+ghost use Rattle.std.specs.Prelude.{ℕ, List, Result, ◌≡◌, ◌<◌, ◌≤◌, length, OnOk, true, false};
+ghost use Rattle.script.specs.Words.{queue_of, IsSoundPort, Command, Writes, HasFewVisits, IsAnswered, IsSilent, Asks, tc_request, left_lines, left_text, IsReader, TcFault, greatest_moment, words_of};
 ghost use Rattle.abstract_port.specs.declared.Event.TheVariants as Events;
 
 use crate::script_line::read_tc_into;
 use crate::watch::{Failure, Watch};
 use abstract_port::{Command, Event, Refused};
 use answer_text::{
-    WriteFault, put_answer, put_arrival, put_installation, put_left, put_start, put_tc_fault,
+    NearNumbers, WriteFault, put_answer, put_arrival, put_installation, put_left, put_start,
+    put_tc_fault,
 };
 use jumping::Jumping;
 use octet_writer::PutLine;
@@ -38,11 +39,13 @@ fn put_frame<A: Allocator, W: PutLine>(
     put_arrival(writer, frame, verdict)
 }
 
-/// Runs to a moment that is not refused, in picoseconds, and writes the starts before it as the port finds them.
+/// Runs to a moment that is not refused, in picoseconds, and writes the starts before it as the port finds them. The digits of their
+/// moments are kept for the next.
 fn put_each_start<A: Allocator, W: PutLine>(
     port: &mut RunningPort<A>,
     summary: &mut Option<Summary<A>>,
     until: u128,
+    moments: &mut NearNumbers,
     writer: &mut W,
 ) -> Result<(), WriteFault>
     requires later { port.old.port.now ≤ until }
@@ -52,9 +55,38 @@ fn put_each_start<A: Allocator, W: PutLine>(
     let now = port.now();
     while let Some(start) = port.step(until) {
         note_start(summary, now, &start);
-        put_start(writer, &start)?;
+        put_start(writer, moments, &start)?;
     }
     Ok(())
+}
+
+/// Goes on to a moment where it is known at once that nothing starts before it, and answers whether. Nothing is reported then; else
+/// nothing changes.
+#[inline(always)]
+fn rest_until<A: Allocator>(port: &mut RunningPort<A>, until: u128) -> bool
+    requires later { port.old.port.now ≤ until }
+    requires within { until ≤ greatest_moment }
+    ensures rests { result ≡ true → IsSilent (Asks (Events.Clock until)) port.old port.new }
+    ensures kept { result ≡ false → port.new ≡ port.old }
+{
+    // For the prover: a call on a port says what holds of every port.
+    let _now = port.now();
+    port.rest_until(until)
+}
+
+/// Takes a clock event where it is known at once that nothing starts before its moment, and answers whether. Nothing is reported then;
+/// else nothing changes.
+#[inline(always)]
+pub(crate) fn rests<A: Allocator>(port: &mut RunningPort<A>, event: &Event<'_>) -> bool
+    ensures rests { result ≡ true → IsSilent (Asks event.now) port.old port.new }
+    ensures kept { result ≡ false → port.new ≡ port.old }
+{
+    match event {
+        Event::Clock(until) => {
+            port.now() <= *until && *until <= MAX_MOMENT && rest_until(port, *until)
+        }
+        _ => false,
+    }
 }
 
 /// Runs to a moment and writes the starts before it, where it may be known that there are none.
@@ -63,18 +95,17 @@ fn put_starts<A: Allocator, W: PutLine>(
     port: &mut RunningPort<A>,
     summary: &mut Option<Summary<A>>,
     until: u128,
+    moments: &mut NearNumbers,
     writer: &mut W,
 ) -> Result<(), WriteFault>
     requires later { port.old.port.now ≤ until }
     requires within { until ≤ greatest_moment }
     ensures { IsAnswered (Asks (Events.Clock until)) result (W.contents writer.old) (W.contents writer.new) port.old port.new summary.old summary.new }
 {
-    // For the prover: a call on a port says what holds of every port.
-    let _now = port.now();
-    if port.rest_until(until) {
+    if rest_until(port, until) {
         return Ok(());
     }
-    put_each_start(port, summary, until, writer)
+    put_each_start(port, summary, until, moments, writer)
 }
 
 /// Takes an event of any kind, and writes the answers to it as the port gives them. Apart, since its locals are large.
@@ -128,21 +159,23 @@ fn put_clock<A: Allocator, W: PutLine>(
     port: &mut RunningPort<A>,
     summary: &mut Option<Summary<A>>,
     until: u128,
+    moments: &mut NearNumbers,
     writer: &mut W,
 ) -> Result<(), WriteFault>
     ensures { IsAnswered (Asks (Events.Clock until)) result (W.contents writer.old) (W.contents writer.new) port.old port.new summary.old summary.new }
 {
     if port.now() <= until && until <= MAX_MOMENT {
-        put_starts(port, summary, until, writer)
+        put_starts(port, summary, until, moments, writer)
     } else {
         put_each(port, summary, &Event::Clock(until), writer)
     }
 }
 
-/// Takes an event, and writes the answers to it as they come, each noted where a summary is wanted. At a fault a prefix of them is
-/// written.
+/// Takes an event, and writes the answers to it, as `put_answers` does. The digits of the moments of the last start are kept from
+/// event to event.
 #[inline(always)]
-pub fn put_answers<A: Allocator, W: PutLine>(
+pub(crate) fn put_answers_by<A: Allocator, W: PutLine>(
+    moments: &mut NearNumbers,
     port: &mut RunningPort<A>,
     summary: &mut Option<Summary<A>>,
     event: &Event<'_>,
@@ -152,9 +185,23 @@ pub fn put_answers<A: Allocator, W: PutLine>(
 {
     match event {
         Event::Arrive(frame) => put_frame(port, summary, frame, writer),
-        Event::Clock(until) => put_clock(port, summary, *until, writer),
+        Event::Clock(until) => put_clock(port, summary, *until, moments, writer),
         _ => put_each(port, summary, event, writer),
     }
+}
+
+/// Takes an event, and writes the answers to it as they come, each noted where a summary is wanted. At a fault a prefix of them is
+/// written.
+pub fn put_answers<A: Allocator, W: PutLine>(
+    port: &mut RunningPort<A>,
+    summary: &mut Option<Summary<A>>,
+    event: &Event<'_>,
+    writer: &mut W,
+) -> Result<(), WriteFault>
+    ensures { IsAnswered (Asks event.now) result (W.contents writer.old) (W.contents writer.new) port.old port.new summary.old summary.new }
+{
+    let mut moments = NearNumbers::new();
+    put_answers_by(&mut moments, port, summary, event, writer)
 }
 
 /// Gives the command that the line of this number is to the port and writes its answer, or writes why there is none.

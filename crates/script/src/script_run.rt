@@ -4,7 +4,7 @@ ghost use Rattle.std.specs.Prelude.{ℕ, List, Result, IfSome};
 ghost use Rattle.script.specs.Words.{Command, Writes, script_left, TcFault, RunsOut, HasFewVisits, IsFaithfulTo, events_of, reading_of, ending_text, outcome_from, outcome_of, IsReader};
 ghost use Rattle.abstract_port.specs.Answers.{port_after};
 
-use crate::answers::{RunningPort, put_answers, put_tc_by};
+use crate::answers::{RunningPort, put_answers, put_answers_by, put_tc_by, rests};
 use crate::faults::{BadLine, RunFault};
 use crate::laws::faithful;
 use crate::plain::front_line;
@@ -13,7 +13,7 @@ use crate::settings::Settings;
 use crate::summary_lines::put_end;
 use crate::watch::Watch;
 use abstract_port::Event;
-use answer_text::WriteFault;
+use answer_text::{NearNumbers, WriteFault};
 use job::next_line;
 use line_reader::LineReader;
 use octet_writer::PutLine;
@@ -61,6 +61,7 @@ fn run_lines<A: Allocator, B: Allocator, R: Read + Drop, W: PutLine, H: Watch>(
     // For the prover: a call on a port says what holds of every port.
     let _now = port.now();
     let mut place = CommandPlace::new();
+    let mut moments = NearNumbers::new();
     'lines: loop {
         // Lines as most are written are answered where they stand in hand, and passed together.
         let most = lines.lines_left();
@@ -68,7 +69,9 @@ fn run_lines<A: Allocator, B: Allocator, R: Read + Drop, W: PutLine, H: Watch>(
         let mut rest = hand;
         let mut left = most;
         'plain: while let Some((event, length)) = front_line(rest, left) {
-            put_answers(port, summary, &event, writer)?;
+            if !rests(port, &event) {
+                put_answers_by(&mut moments, port, summary, &event, writer)?;
+            }
             let (_, behind) = rest.split_at(length + 1);
             rest = behind;
             left -= 1;
@@ -81,7 +84,13 @@ fn run_lines<A: Allocator, B: Allocator, R: Read + Drop, W: PutLine, H: Watch>(
         let line = lines.line();
         match read_line(line) {
             Ok(None) => watch.line_passed(lines.line_number(), line),
-            Ok(Some(Said::Asked(event))) => put_answers(port, summary, &event, writer)?,
+            Ok(Some(Said::Asked(event))) => put_answers_by(
+                &mut moments,
+                port,
+                summary,
+                &event,
+                writer,
+            )?,
             Ok(Some(Said::Tc)) => {
                 put_tc_by(
                     &mut place,

@@ -3,5 +3,5 @@ use Rattle.decimal_text.proofs.PlacedLaws.{Placed-is, Placed-put_mid}
 use Rattle.decimal_text.proofs.places.put_front.Goals as goal
 
 pub returns : goal.returns
-returns c =
-    Placed-is (ap (take c.args.count) c.put_over.ensures) (Placed-put_mid c.args.line.now c.put_over.new.room c.args.at (c.args.at + 8 - c.args.at) c.args.count (omega (arith, c.requires.room)) (search rules) (omega (arith, c.requires.count)))
+returns g c =
+    Placed-is (ap (take c.args.count) c.put_over.ensures) (Placed-put_mid c.args.line.now c.put_over.new.room c.args.at (c.args.at + g.row.N - c.args.at) c.args.count (omega (arith, c.requires.room)) (search rules) (omega (arith, c.requires.count)))

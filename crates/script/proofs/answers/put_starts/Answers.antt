@@ -1,24 +1,9 @@
-use Rattle.std.proofs.Common.{arith, ◌≤◌, None, refl, sym, ap, subst, rules, ◌∙◌}
-use Rattle.script.specs.Words.{PortState, Clock, IsAnswered, Asks, noted_all}
-use Rattle.octet_writer.proofs.Fronts.{sent_none, sent_all}
-use Rattle.script.proofs.OutputLaws.{lines_of_answers}
-use Rattle.script.proofs.ClockLaws.{start_none}
-use Rattle.summary.proofs.WantedLaws.{noted_all-event, noted_all-nil}
+use Rattle.std.proofs.Common.{◌≤◌, refl, sym, subst, rules}
+use Rattle.script.specs.Words.{PortState, Clock, IsAnswered, Asks}
 use Rattle.script.proofs.answers.put_starts.Goals as goal
 
 pub returns-then-rest_until : goal.returns-then-rest_until
-returns-then-rest_until g c =
-    let e = c.if-rest_until.ensures in
-    let none = start_none c.args.until c.args.port.now.port c.rest_until.new.self.port c.now-now.ensures.sound c.requires.later c.requires.within None (sym (e.start refl)) (e.port refl) e.sound refl in
-    let now = c.now-now.result in
-    let summary = c.args.summary.now in
-    record {
-      text = sent_all (sent_none _ _) (ap lines_of_answers none.0);
-      port = none.1;
-      seen = sym (noted_all-nil now summary) ∙ (ap (λ x. noted_all now x summary) (sym none.0) ∙ noted_all-event _ (Clock c.args.until) _ _ c.now-now.ensures.now);
-      sound = e.sound;
-      few = (let none_seen = e.visits refl in omega (arith, none_seen));
-    }
+returns-then-rest_until g c = c.if-rest_until.ensures.rests refl _ _
 
 pub put_each_start-requires : goal.put_each_start-requires
 put_each_start-requires g c =
