@@ -122,9 +122,9 @@ pub(crate) fn check_header(
 pub(crate) fn moment(format: Format, header: RecordHeader) -> u128
     ensures { result ≡ moment_of format header }
 {
-    let scale = match format.resolution {
+    let scale: u64 = match format.resolution {
         Resolution::Micros => 1_000_000,
         Resolution::Nanos => 1_000,
     };
-    header.seconds as u128 * 1_000_000_000_000 + header.fraction as u128 * scale
+    header.seconds as u128 * 1_000_000_000_000 + u128::from(u64::from(header.fraction) * scale)
 }

@@ -1,13 +1,13 @@
 //! Reading a capture record by record, out of one buffer.
 
-ghost use Rattle.std.specs.Prelude.{◌≡◌, ◌≢◌, ◌≤◌, ◌<◌, ◌+◌, length, Ok, Err, Some, true, false, IsTrue, IfOk, IfErr, IsSome, IfSome};
+ghost use Rattle.std.specs.Prelude.{◌≡◌, ◌≢◌, ◌≤◌, ◌<◌, ◌+◌, length, Ok, Err, Some, true, false, ℕ, List, Option, IsTrue, IfOk, IfErr, IsSome, IfSome, IfNone};
 ghost use Rattle.std.specs.Io.KnownBytes.{Keeps, IsAtEnd, prepend_known};
 ghost use Rattle.std.specs.Io.BufRead.{Rests};
 ghost use Rattle.std.specs.Borrow.{sem};
 ghost use Rattle.capture.specs.Words.{MAX_RECORDS, MAX_RECORD_OCTETS, ROOM, entry, held, Step, is_record_fault, fault_at, fractions_of, holds_record};
 
 use crate::fault::CapFault;
-use crate::format::{Format, RecordHeader, check_header, moment, read_header};
+use crate::format::{Endian, Format, RecordHeader, check_header, moment, read_header};
 use crate::header::read_file_header;
 use crate::read_ahead::{RECORD_HEADER, ReadAhead};
 use crate::record::Record;
@@ -60,9 +60,8 @@ fn fetch<R: Read, A: Allocator>(
     Ok(true)
 }
 
-/// The next record, which has then been given, or None at the end of the input. Apart, since a record mostly stands whole in hand.
-#[inline(never)]
-fn read_record_apart<R: Read, A: Allocator>(
+/// The next record, which has then been given, or None at the end of the input.
+fn read_record<R: Read, A: Allocator>(
     ahead: &mut ReadAhead<A>,
     source: &mut R,
     format: Format,
@@ -96,39 +95,37 @@ fn read_record_apart<R: Read, A: Allocator>(
     Ok(Some(header))
 }
 
-/// The next record, which has then been given, or None at the end of the input. Of a record that stands whole in hand the header is read once.
+/// The header of the next record, which has then been given, where it stands whole in hand, has no fault and is little-endian, as most are.
+/// Else nothing changes.
 #[inline(always)]
-fn read_record<R: Read, A: Allocator>(
+fn take_whole<A: Allocator>(
     ahead: &mut ReadAhead<A>,
-    source: &mut R,
     format: Format,
     number: u32,
-) -> Result<Option<RecordHeader>, CapFault>
-    ensures step { IfSome (prepend_known (held ahead.old) (R.remaining source.old)) (λ octets.
-        Step format number octets result ahead.new (prepend_known (held ahead.new) (R.remaining source.new))) }
-    ensures start { IfOk result (λ o. IfSome o (λ header. header.captured ≤ ahead.new.start)) }
-    ensures short { IfOk result (λ o. IfSome o (λ header. header.captured ≤ MAX_RECORD_OCTETS)) }
-    ensures fraction { IfOk result (λ o. IfSome o (λ header. header.fraction < fractions_of format.resolution)) }
-    ensures few { IfOk result (λ o. IsSome o → number < MAX_RECORDS) }
-    ensures fault { IfErr result (λ f. IsTrue (is_record_fault f)) }
-    ensures read { result ≡ Err CapFault.Read → fault_at format number (held ahead.old) ≡ Some CapFault.ShortRecord }
-    ensures unread { fault_at format number (held ahead.old) ≢ Some CapFault.ShortRecord → source.new ≡ source.old }
+) -> Option<RecordHeader>
+    ensures step { (after : Option (List ℕ)) → IfSome result (λ header. IfSome (prepend_known (held ahead.old) after) (λ octets.
+        Step format number octets (Ok (Some header)) ahead.new (prepend_known (held ahead.new) after))) }
+    ensures start { IfSome result (λ header. header.captured ≤ ahead.new.start) }
+    ensures short { IfSome result (λ header. header.captured ≤ MAX_RECORD_OCTETS) }
+    ensures fraction { IfSome result (λ header. header.fraction < fractions_of format.resolution) }
+    ensures few { IsSome result → number < MAX_RECORDS }
+    ensures kept { IfNone result (ahead.new ≡ ahead.old) }
 {
     let octets = ahead.octets();
-    if octets.len() < RECORD_HEADER {
-        return read_record_apart(ahead, source, format, number);
+    if octets.len() < RECORD_HEADER || format.endian != Endian::Little {
+        return None;
     }
     let header = read_header(format, octets);
     let captured = header.captured as usize;
     if octets.len() < RECORD_HEADER + captured {
-        return read_record_apart(ahead, source, format, number);
+        return None;
     }
     let Ok(()) = check_header(format, number, header) else {
-        return read_record_apart(ahead, source, format, number);
+        return None;
     };
     ahead.give(RECORD_HEADER);
     ahead.give(captured);
-    Ok(Some(header))
+    Some(header)
 }
 
 impl<R: Read, A: Allocator> CaptureReader<R, A> {
@@ -156,6 +153,26 @@ impl<R: Read, A: Allocator> CaptureReader<R, A> {
             number: 0,
             ended: None,
         })
+    }
+
+    /// The header of the next record, which has then been given, where that stands whole in hand and can be told at once. Else nothing
+    /// changes, and `advance` goes on.
+    #[inline(always)]
+    pub fn take_in_hand(&mut self) -> Option<RecordHeader>
+        ensures next { IfSome result (λ header. Next R.remaining (left self.old) (shown self.new (Ok (Some header))) (left self.new)) }
+        ensures few { IsSome result → (left self.old).number < MAX_RECORDS }
+        ensures given { IfSome result (HasGiven self.new) }
+        ensures kept { IfNone result (self.new ≡ self.old) }
+    {
+        match self.ended {
+            Some(_) => return None,
+            None => {}
+        }
+        let Some(header) = take_whole(&mut self.ahead, self.format, self.number) else {
+            return None;
+        };
+        self.number += 1;
+        Some(header)
     }
 
     /// Whether a record stands whole in hand. Where none does, `next` may have to read.
@@ -202,6 +219,19 @@ impl<R: Read, A: Allocator> CaptureReader<R, A> {
     /// Goes on to the next record, and answers its header: `next` without the loan of the octets, which `lend` gives.
     #[inline(always)]
     pub fn advance(&mut self) -> Result<Option<RecordHeader>, CapFault>
+        ensures next { Next R.remaining (left self.old) (shown self.new result) (left self.new) }
+        ensures few { IfOk result (λ o. IsSome o → (left self.old).number < MAX_RECORDS) }
+        ensures given { IfOk result (λ o. IfSome o (HasGiven self.new)) }
+    {
+        if let Some(header) = self.take_in_hand() {
+            return Ok(Some(header));
+        }
+        self.advance_apart()
+    }
+
+    /// Goes on to the next record of any kind. Apart, since a record mostly stands whole in hand.
+    #[inline(never)]
+    fn advance_apart(&mut self) -> Result<Option<RecordHeader>, CapFault>
         ensures next { Next R.remaining (left self.old) (shown self.new result) (left self.new) }
         ensures few { IfOk result (λ o. IsSome o → (left self.old).number < MAX_RECORDS) }
         ensures given { IfOk result (λ o. IfSome o (HasGiven self.new)) }

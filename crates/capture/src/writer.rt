@@ -110,12 +110,11 @@ impl CaptureWriter {
         if self.failed {
             return Err(CapFault::Write);
         }
-        self.failed = true;
         let header = record_header(moment, octets.len() as u32, original);
         let Ok(()) = writer.put_headed(&header, octets) else {
+            self.failed = true;
             return Err(CapFault::Write);
         };
-        self.failed = false;
         Ok(())
     }
 }

@@ -1,5 +1,5 @@
 -- What is kept of the frames of one class.
-use Rattle.std.specs.Prelude.{◌≡◌, ℕ, List, [], ◌∷◌, All, length, map, slice_index_or}
+use Rattle.std.specs.Prelude.{◌≡◌, ℕ, List, [], All, length, map, slice_index_or}
 use Rattle.per_class.specs.Eight.{eight}
 use Rattle.octet_store.specs.Stored.{Kept}
 

@@ -92,11 +92,12 @@ impl<A: Allocator> ClassOctets<A> {
         ensures ok { OnOk result (self.new ≡ with_frames self.old (self.old.frames ++ kept original octets.now ∷ [])) }
         ensures err { OnErr result (self.new ≡ self.old) }
     {
-        self.octets.put(octets)?;
+        self.octets.make_room(octets.len())?;
         let captured = octets.len() as u32;
         self.lengths
             .try_push_back(Lengths { captured, original })
             .unwrap();
+        self.octets.put(octets);
         Ok(())
     }
 

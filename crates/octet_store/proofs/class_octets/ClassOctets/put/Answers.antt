@@ -1,4 +1,4 @@
-use Rattle.std.proofs.Common.{◌<◌, length, refl, sym, ap, subst}
+use Rattle.std.proofs.Common.{◌<◌, ◌++◌, length, refl, sym, ap, ◌∙◌, subst}
 use Rattle.octet_store.specs.ClassOctets.{Waiting}
 use Rattle.octet_store.proofs.RingLaws.{length-kept_of, put_laid, put_kept, put_view}
 use Rattle.octet_store.proofs.class_octets.ClassOctets.put.Goals as goal
@@ -12,10 +12,12 @@ unwrap-requires g c =
 pub invariant_of-self-2 : goal.invariant_of-self-2
 invariant_of-self-2 g c =
     let pushed = rw c.unwrap.ensures at c.try_push_back.ensures.ok in
-    put_laid _ _ _ _ _ _ (ap (λ b. b.items) pushed) c.in_ok-put.ensures.ok c.self.invariant refl c.requires.size
+    let put = c.put.ensures ∙ ap (λ os. os ++ c.args.octets.now) c.make_room.ensures.held in
+    put_laid _ _ _ _ _ _ (ap (λ b. b.items) pushed) put c.self.invariant refl c.requires.size
 
 pub returns-clause-ok : goal.returns-clause-ok
 returns-clause-ok g c =
     let pushed = rw c.unwrap.ensures at c.try_push_back.ensures.ok in
-    let frames = put_kept _ _ _ _ _ _ (ap (λ b. b.items) pushed) c.in_ok-put.ensures.ok c.self.invariant refl in
+    let put = c.put.ensures ∙ ap (λ os. os ++ c.args.octets.now) c.make_room.ensures.held in
+    let frames = put_kept _ _ _ _ _ _ (ap (λ b. b.items) pushed) put c.self.invariant refl in
     put_view _ _ _ _ _ _ c.self.view_is frames (ap (λ b. b.capacity) pushed)
