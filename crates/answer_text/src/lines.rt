@@ -99,7 +99,8 @@ fn put_any_start<W: PutLine>(writer: &mut W, start: &Start) -> Result<(), WriteF
     writer.put_line(&StartLine { start })
 }
 
-/// Writes the line of a frame that starts. At a fault a prefix of it is written. The digits of its moments are kept for the next.
+/// Writes the line of a frame that starts, and keeps the digits of its moments for the next. At a fault a prefix of the line
+/// is written.
 #[inline(always)]
 pub fn put_start<W: PutLine>(
     writer: &mut W,

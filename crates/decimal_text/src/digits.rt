@@ -56,8 +56,12 @@ pub(crate) fn front_digits(number: u64) -> ([u8; 8], usize)
     ensures text { take result.1 result.0 ≡ decimal number }
 {
     let digits = eight_digits(number);
-    // The last digit counts even where it is 0.
-    let zeros = (digits + 0x0100_0000_0000_0000).trailing_zeros() / 8;
+    // The last digit counts even where it is 0. So this is never 0, which spares a case.
+    let marked = digits + 0x0100_0000_0000_0000;
+    if marked == 0 {
+        unreachable!()
+    }
+    let zeros = marked.trailing_zeros() / 8;
     let moved = digits >> (8 * zeros);
     let octets = (moved + 0x3030_3030_3030_3030).to_le_bytes();
     (octets, 8 - zeros as usize)

@@ -43,7 +43,8 @@ impl NearNumbers {
         }
     }
 
-    /// Takes a number for the second, and answers whether it can be.
+    /// Takes a number for the second, and answers whether it can be. Apart, since mostly its last eight digits alone are new.
+    #[cold]
     #[inline(never)]
     fn keep(&mut self, number: u128) -> bool
         ensures { result ≡ true → self.new.last ≡ number }
@@ -64,7 +65,7 @@ impl NearNumbers {
         true
     }
 
-    /// Takes a number for the second where all but its last eight digits are kept, and answers whether they are.
+    /// Takes a number for the second where only its last eight digits are new, and answers whether it is so.
     #[inline(always)]
     fn keep_near(&mut self, number: u128) -> bool
         ensures { result ≡ true → self.new.last ≡ number }
@@ -83,7 +84,7 @@ impl NearNumbers {
         true
     }
 
-    /// Takes the number that is kept for the first and another for the second where they are near, and answers whether they are.
+    /// Takes the number that is kept for the first, and for the second one that is near, and answers whether it is.
     #[inline(always)]
     fn go_on(&mut self, first: u128, second: u128) -> bool
         requires { first ≡ self.old.last }
@@ -105,9 +106,9 @@ impl NearNumbers {
         true
     }
 
-    /// Takes two numbers where they are near, and answers whether they are. Apart, since most begin where those before ended.
-    #[inline(never)]
-    fn take_anew(&mut self, first: u128, second: u128) -> bool
+    /// Takes two numbers where they are near, and answers whether they are.
+    #[inline(always)]
+    pub fn take(&mut self, first: u128, second: u128) -> bool
         ensures first { result ≡ true → decimal first ≡ decimal self.new.front ++ self.new.first }
         ensures second { result ≡ true → decimal second ≡ decimal self.new.front ++ self.new.second }
     {
@@ -117,20 +118,9 @@ impl NearNumbers {
         if self.go_on(first, second) {
             return true;
         }
+        // For the next, which mostly begins where this ends.
         let _kept = self.keep(second);
         false
-    }
-
-    /// Takes two numbers where they are near, and answers whether they are.
-    #[inline(always)]
-    pub fn take(&mut self, first: u128, second: u128) -> bool
-        ensures first { result ≡ true → decimal first ≡ decimal self.new.front ++ self.new.first }
-        ensures second { result ≡ true → decimal second ≡ decimal self.new.front ++ self.new.second }
-    {
-        if self.keep_near(first) && self.go_on(first, second) {
-            return true;
-        }
-        self.take_anew(first, second)
     }
 
     /// Puts the first at a place, and answers where it ends.

@@ -39,8 +39,8 @@ fn put_frame<A: Allocator, W: PutLine>(
     put_arrival(writer, frame, verdict)
 }
 
-/// Runs to a moment that is not refused, in picoseconds, and writes the starts before it as the port finds them. The digits of their
-/// moments are kept for the next.
+/// Runs to a moment that is not refused, in picoseconds, and writes the starts before it as the port finds them. The digits
+/// of their moments are kept for the next.
 fn put_each_start<A: Allocator, W: PutLine>(
     port: &mut RunningPort<A>,
     summary: &mut Option<Summary<A>>,
@@ -171,8 +171,8 @@ fn put_clock<A: Allocator, W: PutLine>(
     }
 }
 
-/// Takes an event, and writes the answers to it, as `put_answers` does. The digits of the moments of the last start are kept from
-/// event to event.
+/// Takes an event, and writes the answers to it, as `put_answers` does. The digits of the moments of the last start are kept
+/// from event to event.
 #[inline(always)]
 pub(crate) fn put_answers_by<A: Allocator, W: PutLine>(
     moments: &mut NearNumbers,
