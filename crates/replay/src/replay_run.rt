@@ -10,6 +10,7 @@ use crate::end_lines::put_end;
 use crate::faults::{ReplayFault, ReplayInput, Stop};
 use crate::kept_script::KeptScript;
 use crate::lines::run_lines;
+use crate::queued::QueuedLine;
 use crate::records::run_records;
 use crate::script_reader::read_script;
 use crate::sender::{Leaving, Sending, put_clock};
@@ -207,6 +208,7 @@ fn begin<A: Allocator + Clone, W: Write>(
                 writer,
                 stamping,
                 last: 0,
+                queued: QueuedLine::new(),
             },
         }),
         Err(_) => Err(Stop::Write),
