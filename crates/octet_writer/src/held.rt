@@ -49,13 +49,24 @@ fn head_over(room: &mut [u8], head: &[u8; HEAD])
     *room = *head;
 }
 
-/// Puts a head at a place.
+/// Puts a head and the rest over as many octets.
 #[inline(always)]
-fn head_at(octets: &mut [u8], at: usize, head: &[u8; HEAD])
-    requires { at + HEAD ≤ length octets.old }
-    ensures { take (at + HEAD) octets.new ≡ take at octets.old ++ head.now }
+fn headed_over(room: &mut [u8], head: &[u8; HEAD], rest: &[u8])
+    requires { length room.old ≡ HEAD + length rest.now }
+    ensures { room.new ≡ head.now ++ rest.now }
 {
-    head_over(&mut octets[at..at + HEAD], head);
+    let (front, behind) = room.split_at_mut(HEAD);
+    head_over(front, head);
+    behind.copy_from_slice(rest);
+}
+
+/// Puts a head and the rest at a place.
+#[inline(always)]
+fn headed_at(octets: &mut [u8], at: usize, head: &[u8; HEAD], rest: &[u8])
+    requires { at + HEAD + length rest.now ≤ length octets.old }
+    ensures { take (at + HEAD + length rest.now) octets.new ≡ take at octets.old ++ (head.now ++ rest.now) }
+{
+    headed_over(&mut octets[at..at + HEAD + rest.len()], head, rest);
 }
 
 impl<A: Allocator> Held<A> {
@@ -118,19 +129,6 @@ impl<A: Allocator> Held<A> {
         true
     }
 
-    /// Holds a head too.
-    #[inline(always)]
-    pub(crate) fn append_head(&mut self, head: &[u8; HEAD])
-        requires { self.old.filled + HEAD ≤ vec_len self.old.octets }
-        ensures held { take self.new.filled self.new.octets.items ≡ take self.old.filled self.old.octets.items ++ head.now }
-        ensures filled { self.new.filled ≡ self.old.filled + HEAD }
-        ensures capacity { vec_len self.new.octets ≡ vec_len self.old.octets }
-    {
-        let filled = self.filled;
-        head_at(self.octets.as_mut_slice(), filled, head);
-        self.filled = filled + HEAD;
-    }
-
     /// Holds a head and what follows it too, where there is room for both, and answers whether there is.
     #[inline(always)]
     pub(crate) fn append_headed(&mut self, head: &[u8; HEAD], rest: &[u8]) -> bool
@@ -141,8 +139,9 @@ impl<A: Allocator> Held<A> {
         if room < HEAD || room - HEAD < rest.len() {
             return false;
         }
-        self.append_head(head);
-        self.append(rest);
+        let filled = self.filled;
+        headed_at(self.octets.as_mut_slice(), filled, head, rest);
+        self.filled = filled + HEAD + rest.len();
         true
     }
 

@@ -9,6 +9,7 @@ pub mod KeepLaws
 pub mod MergeLaws
 pub mod EndLaws
 pub mod TellLaws
+mod QueuedLaws
 pub mod ReplayLaws
 mod ReplayEndLaws
 pub mod SeparatedLaws

@@ -7,6 +7,7 @@ pub mod Merge
 pub mod Sources
 pub mod Stamps
 pub mod Outputs
+pub mod Queued
 pub mod RunState
 pub mod LinesLeft
 pub mod RecordsLeft

@@ -11,6 +11,7 @@ mod kept_script;
 pub mod laws;
 mod line_beside;
 mod lines;
+mod queued;
 mod records;
 mod replay_job;
 mod replay_run;

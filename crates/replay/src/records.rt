@@ -74,6 +74,26 @@ fn let_out_before<C: Allocator, R: Read, W: Write, V: Write>(
     Ok(())
 }
 
+/// Goes on to the next record of any kind, once what was written is let out where none stands whole in hand; its header. Apart, since one
+/// mostly stands whole in hand.
+#[inline(never)]
+fn advance_apart<C: Allocator, R: Read, W: Write, V: Write>(
+    records: &mut CaptureReader<R, C>,
+    departures: &mut W,
+    report: &mut V,
+) -> Result<Result<Option<RecordHeader>, CapFault>, Stop>
+    ensures report { Holds (V.contents report.old) (V.contents report.new) }
+    ensures departures { Holds (W.contents departures.old) (W.contents departures.new) }
+    ensures fault { IfErr result (λ fault. fault ≡ Stops.Write) }
+    ensures in_hand { holds_record (left records.old).format (left records.old).in_hand ≡ true → (report.new ≡ report.old) × (departures.new ≡ departures.old) }
+    ensures next { IfOk result (λ answer. Next R.remaining (left records.old) (shown records.new answer) (left records.new)) }
+    ensures few { IfOk result (λ answer. IfOk answer (λ o. IsSome o → (left records.old).number < MAX_RECORDS)) }
+    ensures given { IfOk result (λ answer. IfOk answer (λ o. IfSome o (HasGiven records.new))) }
+{
+    let_out_before(records, departures, report)?;
+    Ok(records.advance())
+}
+
 /// Goes on to the next record, once what was written is let out where none stands whole in hand; its header.
 #[inline(always)]
 fn advance<C: Allocator, R: Read, W: Write, V: Write>(
@@ -89,12 +109,10 @@ fn advance<C: Allocator, R: Read, W: Write, V: Write>(
     ensures few { IfOk result (λ answer. IfOk answer (λ o. IsSome o → (left records.old).number < MAX_RECORDS)) }
     ensures given { IfOk result (λ answer. IfOk answer (λ o. IfSome o (HasGiven records.new))) }
 {
-    // The call stands twice, so that the compiler knows in the first place that the record stands whole in hand.
-    if records.has_record() {
-        return Ok(records.advance());
+    if let Some(header) = records.take_in_hand() {
+        return Ok(Ok(Some(header)));
     }
-    let_out_before(records, departures, report)?;
-    Ok(records.advance())
+    advance_apart(records, departures, report)
 }
 
 /// Runs the records that are to come, each after the lines up to its moment, and calls who watches for each; later lines are left. What was

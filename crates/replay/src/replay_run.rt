@@ -10,6 +10,7 @@ use crate::end_lines::put_end;
 use crate::faults::{ReplayFault, ReplayInput, Stop};
 use crate::kept_script::KeptScript;
 use crate::lines::run_lines;
+use crate::queued::QueuedLine;
 use crate::records::run_records;
 use crate::script_reader::read_script;
 use crate::sender::{Leaving, Sending, put_clock};
@@ -209,6 +210,7 @@ fn begin<A: Allocator + Clone, W: Write>(
                 stamping,
                 last: 0,
                 moments: NearNumbers::new(),
+                queued: QueuedLine::new(),
             },
         }),
         Err(_) => Err(Stop::Write),

@@ -1,13 +1,14 @@
 //! A port that runs, beside it the octets of the frames that wait, what is seen of it, and the capture of what leaves.
 
-ghost use Rattle.std.specs.Prelude.{◌≡◌, ◌≤◌, ◌<◌, ◌∷◌, ◌⊎◌, [], ℕ, List, None, Option, length, drop, IfErr, OnOk, slice_set};
-ghost use Rattle.abstract_port.specs.AbstractPort.{starts_until};
-ghost use Rattle.replay.specs.Words.{arrival_answer, answer_lines, CAPTURE_END, MAX_RECORD_OCTETS, kept, kept_at, last_end, Writes, Asks, Origin, PutsBoth, kept_in, stamped, start_record, Answers, AnswersStarts, IsTogether, Keeps, first_kept, state, noted};
+ghost use Rattle.std.specs.Prelude.{◌≡◌, ◌≤◌, ◌<◌, ◌∷◌, ◌⊎◌, [], ℕ, List, None, Ok, Option, length, drop, IfErr, OnOk, slice_set};
+ghost use Rattle.abstract_port.specs.AbstractPort.{next_start, settled, starts_until};
+ghost use Rattle.replay.specs.Words.{IsSoundPort, arrival_answer, answer_lines, CAPTURE_END, MAX_RECORD_OCTETS, kept, kept_at, last_end, Writes, Asks, Origin, PutsBoth, kept_in, stamped, start_record, Answers, AnswersStarts, IsTogether, Keeps, first_kept, state, noted};
 ghost use Rattle.abstract_port.specs.declared.Answer.TheVariants as Answered;
 ghost use Rattle.abstract_port.specs.declared.Event.TheVariants as Events;
 ghost use Rattle.replay.specs.declared.faults.Stop.TheVariants as Stops;
 
 use crate::faults::Stop;
+use crate::queued::{QueuedLine, put_queued};
 use crate::stamps::{Stamping, stamped};
 use abstract_port::{Answer, Dropped, Start};
 use answer_text::{NearNumbers, WriteFault, put_answer};
@@ -30,6 +31,8 @@ pub(crate) struct Leaving {
     pub last: u128,
     /// The digits of the moments of the start that was reported last.
     pub moments: NearNumbers,
+    /// The line of the frame that was queued last. It stands here, where the layout is fixed.
+    pub queued: QueuedLine,
 }
 
 /// A port that runs, with the octets of the frames that wait in it, and the capture that they leave for.
@@ -61,9 +64,8 @@ fn put_backward<A: Allocator, V: PutLine>(
     put_answer(report, &answer)
 }
 
-/// Writes the start of a frame, noted where a summary is wanted. At a fault a prefix of it is written. Apart, since its
-/// locals are large.
-#[inline(never)]
+/// Writes the start of a frame, noted where a summary is wanted. At a fault a prefix of it is written.
+#[inline(always)]
 fn put_noted_start<A: Allocator, V: PutLine>(
     summary: &mut Option<Summary<A>>,
     moments: &mut NearNumbers,
@@ -93,6 +95,39 @@ fn put_noted_arrival<A: Allocator, V: PutLine>(
     answer_text::put_arrival(report, frame, verdict)
 }
 
+/// Writes that a frame is queued, noted where a summary is wanted. At a fault a prefix of it is written.
+#[inline(always)]
+fn put_noted_queued<A: Allocator, V: PutLine>(
+    summary: &mut Option<Summary<A>>,
+    line: &mut QueuedLine,
+    now: u128,
+    frame: &Frame,
+    class: u8,
+    report: &mut V,
+) -> Result<(), WriteFault>
+    requires { class < CLASSES }
+    ensures text { Writes result (V.contents report.old) (V.contents report.new) (answer_lines (arrival_answer frame.now (Ok class))) }
+    ensures seen { summary.new ≡ noted now (arrival_answer frame.now (Ok class)) summary.old }
+{
+    note_verdict(summary, now, frame, Ok(class));
+    put_queued(line, frame, class, report)
+}
+
+/// Goes on to the first start before `until`, or to `until` where there is none, which mostly is known at once.
+#[inline(always)]
+fn next_start<A: Allocator>(port: &mut RunningPort<A>, until: u128) -> Option<Start>
+    requires later { port.old.port.now ≤ until }
+    requires within { until ≤ CAPTURE_END }
+    ensures start { result ≡ (next_start port.old.port until).0 }
+    ensures port { port.new.port ≡ settled (next_start port.old.port until).1 }
+    ensures sound { IsSoundPort port.new.port }
+{
+    if port.rest_until(until) {
+        return None;
+    }
+    port.step(until)
+}
+
 /// Writes the first record that is kept of the class of a start, and gives it up.
 #[inline(always)]
 fn put_record<A: Allocator, W: PutLine>(
@@ -107,7 +142,7 @@ fn put_record<A: Allocator, W: PutLine>(
     ensures seen { sending.new.summary ≡ sending.old.summary }
     ensures stamping { sending.new.leaving.stamping ≡ sending.old.leaving.stamping }
     ensures last { sending.new.leaving.last ≡ sending.old.leaving.last }
-    ensures store { sending.new.store ≡ record sending.old.store { kept = slice_set sending.old.store.kept start.class (drop 1 (kept_at sending.old.store.kept start.class)) } }
+    ensures store { OnOk result (sending.new.store ≡ record sending.old.store { kept = slice_set sending.old.store.kept start.class (drop 1 (kept_at sending.old.store.kept start.class)) }) }
     ensures out { Writes result (W.contents departures.old) (W.contents departures.new) (start_record (stamped sending.old.leaving.stamping start) (first_kept sending.old.store start.class)) }
     ensures fault { IfErr result (λ fault. fault ≡ Stops.Write) }
 {
@@ -117,11 +152,11 @@ fn put_record<A: Allocator, W: PutLine>(
         .leaving
         .writer
         .put(departures, moment, first.original, first.octets);
+    let Ok(()) = put else {
+        return Err(Stop::Write);
+    };
     sending.store.give_up(start.class);
-    match put {
-        Ok(()) => Ok(()),
-        Err(_) => Err(Stop::Write),
-    }
+    Ok(())
 }
 
 /// Reports a start, as an answer to an event that is taken at this moment, writes the first record that is kept of its class, and gives it up.
@@ -156,8 +191,9 @@ fn put_start<A: Allocator, W: PutLine, V: PutLine>(
     put_record(sending, start, departures)
 }
 
-/// Writes the starts before `until`, as they come.
-fn put_starts<A: Allocator, W: PutLine, V: PutLine>(
+/// Writes the starts before `until`, as they come, one after another. Apart, since mostly there are few.
+#[inline(never)]
+fn put_each_start<A: Allocator, W: PutLine, V: PutLine>(
     sending: &mut Sending<A>,
     until: u128,
     departures: &mut W,
@@ -174,14 +210,38 @@ fn put_starts<A: Allocator, W: PutLine, V: PutLine>(
 {
     let now = sending.port.now();
     loop {
-        match sending.port.step(until) {
+        match next_start(&mut sending.port, until) {
             Some(start) => put_start(sending, now, start, departures, report)?,
             None => return Ok(()),
         }
     }
 }
 
+/// Writes the starts before `until`, as they come, where it is not known that there are none.
+#[inline(always)]
+fn put_starts<A: Allocator, W: PutLine, V: PutLine>(
+    sending: &mut Sending<A>,
+    until: u128,
+    departures: &mut W,
+    report: &mut V,
+) -> Result<(), Stop>
+    requires later { sending.old.port.port.now ≤ until }
+    requires within { until ≤ CAPTURE_END }
+    requires together { IsTogether (state sending.old (V.contents report.old) (W.contents departures.old)) }
+    ensures together { OnOk result (IsTogether (state sending.new (V.contents report.new) (W.contents departures.new))) }
+    ensures starts { (origin : Origin) → Keeps origin (state sending.old (V.contents report.old) (W.contents departures.old)) →
+        AnswersStarts origin result until (state sending.old (V.contents report.old) (W.contents departures.old)) (state sending.new (V.contents report.new) (W.contents departures.new)) }
+    ensures last { OnOk result (sending.new.leaving.last ≡ last_end sending.old.leaving.last (starts_until sending.old.port.port until).0) }
+    ensures fault { IfErr result (λ fault. fault ≡ Stops.Write) }
+{
+    if sending.port.rest_until(until) {
+        return Ok(());
+    }
+    put_each_start(sending, until, departures, report)
+}
+
 /// Takes a clock event, and writes what is reported of it.
+#[inline(always)]
 pub(crate) fn put_clock<A: Allocator, W: PutLine, V: PutLine>(
     sending: &mut Sending<A>,
     moment: u128,
@@ -225,7 +285,14 @@ pub(crate) fn put_arrival<A: Allocator + Clone, V: PutLine>(
     match sending.port.arrive(frame) {
         Ok(class) => {
             sending.store.put(class, original, octets)?;
-            put_noted_arrival(&mut sending.summary, came, &frame, Ok(class), report)?;
+            put_noted_queued(
+                &mut sending.summary,
+                &mut sending.leaving.queued,
+                came,
+                &frame,
+                class,
+                report,
+            )?;
         }
         Err(why) => {
             put_noted_arrival(&mut sending.summary, came, &frame, Err(why), report)?;

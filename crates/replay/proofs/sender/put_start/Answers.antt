@@ -13,7 +13,7 @@ pub returns-clause-out : goal.returns-clause-out
 returns-clause-out g c = report_and_record c.put_record.result _ c.in_ok-put_noted_start.ensures.text c.put_record.ensures.out
 
 pub returns-clause-store : goal.returns-clause-store
-returns-clause-store g c = always c.put_record.result c.put_record.ensures.store
+returns-clause-store g c = c.put_record.ensures.store
 
 pub returns-in_err-put_noted_start-clause-fault : goal.returns-in_err-put_noted_start-clause-fault
 returns-in_err-put_noted_start-clause-fault g c =

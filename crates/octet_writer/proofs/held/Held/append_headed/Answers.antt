@@ -1,7 +1,11 @@
-use Rattle.std.proofs.Common.{◌++◌, take, ap, ◌∙◌, append_assoc}
+use Rattle.std.proofs.Common.{◌+◌, ◌++◌, length, take, ap, ◌∙◌, rules}
+use Rattle.std.proofs.lemmas.List.{places, with_items_is}
+use Rattle.octet_writer.specs.declared.put_line.TheConstants.{HEAD}
 use Rattle.octet_writer.proofs.held.Held.append_headed.Goals as goal
 
 pub returns-clause-held : goal.returns-clause-held
-returns-clause-held g c = λ is.
+returns-clause-held g c = λ yes.
     let held = c.args.self.now in
-    c.append.ensures.held ∙ ap (λ l. l ++ c.args.rest.now) c.append_head.ensures.held ∙ append_assoc (take held.filled held.octets.items) c.args.head.now c.args.rest.now
+    let rest = c.args.rest.now in
+    ap (take (held.filled + HEAD + length rest)) (with_items_is held.octets c.headed_at.new.octets (search (rules, places)))
+    ∙ c.headed_at.ensures ∙ ap (λ l. take held.filled l ++ (c.args.head.now ++ rest)) c.as_mut_slice.ensures.value

@@ -2,7 +2,7 @@
 use Rattle.std.proofs.Common.{◌≡◌, ◌≤◌, map}
 use Rattle.replay.specs.Words.{settled, starts_until, waiting, Gave, Origin, last_end, noted_all, SentBoth, got, output, IsTogether, Keeps, state}
 use Rattle.abstract_port.specs.declared.Answer.TheVariants as Answered
-use Rattle.replay.proofs.sender.put_starts.Given as goal
+use Rattle.replay.proofs.sender.put_each_start.Given as goal
 
 abbrev pub invariant-loop-start : goal.invariant-loop-start
 invariant-loop-start g l = record {
