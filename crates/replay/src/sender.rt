@@ -1,8 +1,8 @@
 //! A port that runs, beside it the octets of the frames that wait, what is seen of it, and the capture of what leaves.
 
 ghost use Rattle.std.specs.Prelude.{◌≡◌, ◌≤◌, ◌<◌, ◌∷◌, ◌⊎◌, [], ℕ, List, None, Ok, Option, length, drop, IfErr, OnOk, slice_set};
-ghost use Rattle.abstract_port.specs.AbstractPort.{next_start, settled, starts_until};
-ghost use Rattle.replay.specs.Words.{IsSoundPort, arrival_answer, answer_lines, CAPTURE_END, MAX_RECORD_OCTETS, kept, kept_at, last_end, Writes, Asks, Origin, PutsBoth, kept_in, stamped, start_record, Answers, AnswersStarts, IsTogether, Keeps, first_kept, state, noted};
+ghost use Rattle.abstract_port.specs.AbstractPort.{starts_until};
+ghost use Rattle.replay.specs.Words.{arrival_answer, answer_lines, CAPTURE_END, MAX_RECORD_OCTETS, kept, kept_at, last_end, Writes, Asks, Origin, PutsBoth, kept_in, stamped, start_record, Answers, AnswersStarts, IsTogether, Keeps, first_kept, state, noted};
 ghost use Rattle.abstract_port.specs.declared.Answer.TheVariants as Answered;
 ghost use Rattle.abstract_port.specs.declared.Event.TheVariants as Events;
 ghost use Rattle.replay.specs.declared.faults.Stop.TheVariants as Stops;
@@ -113,21 +113,6 @@ fn put_noted_queued<A: Allocator, V: PutLine>(
     put_queued(line, frame, class, report)
 }
 
-/// Goes on to the first start before `until`, or to `until` where there is none, which mostly is known at once.
-#[inline(always)]
-fn next_start<A: Allocator>(port: &mut RunningPort<A>, until: u128) -> Option<Start>
-    requires later { port.old.port.now ≤ until }
-    requires within { until ≤ CAPTURE_END }
-    ensures start { result ≡ (next_start port.old.port until).0 }
-    ensures port { port.new.port ≡ settled (next_start port.old.port until).1 }
-    ensures sound { IsSoundPort port.new.port }
-{
-    if port.rest_until(until) {
-        return None;
-    }
-    port.step(until)
-}
-
 /// Writes the first record that is kept of the class of a start, and gives it up.
 #[inline(always)]
 fn put_record<A: Allocator, W: PutLine>(
@@ -210,7 +195,7 @@ fn put_each_start<A: Allocator, W: PutLine, V: PutLine>(
 {
     let now = sending.port.now();
     loop {
-        match next_start(&mut sending.port, until) {
+        match sending.port.step(until) {
             Some(start) => put_start(sending, now, start, departures, report)?,
             None => return Ok(()),
         }

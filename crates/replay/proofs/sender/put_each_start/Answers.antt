@@ -14,11 +14,11 @@ pub put_start-requires : goal.put_start-requires
 put_start-requires g c =
     let i = c.loop-start.invariant in
     let s = state c.loop-start.sending (g.V.Write.contents c.loop-start.report) (g.W.Write.contents c.loop-start.departures) in
-    let q = c.next_start.new.port.port in
+    let q = c.step.new.self.port in
     let x = c.in-Some.start in
-    let e = sym c.next_start.ensures.start ∙ c.in-Some.is in
-    let is = leaves s.port q c.args.until i.later c.next_start.ensures.port i.together.sound x e in
-    let before = early s.port q c.args.until i.later c.next_start.ensures.port i.together.sound x e in
+    let e = sym c.step.ensures.start ∙ c.in-Some.is in
+    let is = leaves s.port q c.args.until i.later c.step.ensures.port i.together.sound x e in
+    let before = early s.port q c.args.until i.later c.step.ensures.port i.together.sound x e in
     (search, (is.class, (has_first s q x is i.together, search (rules, before, c.requires.within))))
 
 pub loop-start-smaller : goal.loop-start-smaller
@@ -26,8 +26,8 @@ loop-start-smaller g c =
     let i = c.loop-start.invariant in
     let p = c.loop-start.sending.port.port in
     let q = c.put_start.new.sending.port.port in
-    let after = ap (λ (x : PortState). x.port) c.in_ok-put_start-in-Some.ensures.port ∙ c.next_start.ensures.port in
-    fewer p q c.args.until i.later after i.together.sound c.in-Some.start (sym c.next_start.ensures.start ∙ c.in-Some.is)
+    let after = ap (λ (x : PortState). x.port) c.in_ok-put_start-in-Some.ensures.port ∙ c.step.ensures.port in
+    fewer p q c.args.until i.later after i.together.sound c.in-Some.start (sym c.step.ensures.start ∙ c.in-Some.is)
 
 pub loop-start-preserved : goal.loop-start-preserved
 loop-start-preserved g c =
@@ -36,12 +36,12 @@ loop-start-preserved g c =
     let t = state c.put_start.new.sending (g.V.Write.contents c.put_start.new.report) (g.W.Write.contents c.put_start.new.departures) in
     let x = c.in-Some.start in
     let upto = c.args.until in
-    let e = sym c.next_start.ensures.start ∙ c.in-Some.is in
+    let e = sym c.step.ensures.start ∙ c.in-Some.is in
     let done = c.in_ok-put_start-in-Some.ensures in
     let moved = ap (λ (x : PortState). x.port) done.port in
-    let after = moved ∙ c.next_start.ensures.port in
+    let after = moved ∙ c.step.ensures.port in
     let P : AbstractPort → Type 0 = λ p. IsSoundPort p in
-    let sound = subst P (sym moved) c.next_start.ensures.sound in
+    let sound = subst P (sym moved) c.step.ensures.sound in
     let is = leaves s.port t.port upto i.later after i.together.sound x e in
     record {
       later = onward s.port t.port upto i.later after i.together.sound;
@@ -64,34 +64,34 @@ returns-in_err-put_start-in-Some-clause-starts g c = λ es k.
     let s = state c.loop-start.sending (g.V.Write.contents c.loop-start.report) (g.W.Write.contents c.loop-start.departures) in
     let t = state c.put_start.new.sending (g.V.Write.contents c.put_start.new.report) (g.W.Write.contents c.put_start.new.departures) in
     let x = c.in-Some.start in
-    let e = sym c.next_start.ensures.start ∙ c.in-Some.is in
+    let e = sym c.step.ensures.start ∙ c.in-Some.is in
     record {
       port = never _ r.1;
       keeps = never _ r.1;
       seen = never _ r.1;
       out = both_exit c.from_residual.result _ _ _ (r.1 ∙ ap Err r.2) (i.sent es k)
-          (starts-kept s c.next_start.new.port.port c.args.until i.later c.next_start.ensures.port i.together.sound x e es (i.keeps es k)) c.in_err-put_start-in-Some.ensures.out;
+          (starts-kept s c.step.new.self.port c.args.until i.later c.step.ensures.port i.together.sound x e es (i.keeps es k)) c.in_err-put_start-in-Some.ensures.out;
     }
 
 pub returns-in-None-clause-together : goal.returns-in-None-clause-together
 returns-in-None-clause-together g c =
     let i = c.loop-start.invariant in
     let s = state c.loop-start.sending (g.V.Write.contents c.loop-start.report) (g.W.Write.contents c.loop-start.departures) in
-    let t : State = record { port = c.next_start.new.port.port; store = s.store; seen = s.seen; stamping = s.stamping; got = s.got } in
-    let e = sym c.next_start.ensures.start ∙ c.in-None.is in
-    still_together s t (idle_queues s.port t.port c.args.until i.later c.next_start.ensures.port i.together.sound e) (idle_room s.port t.port c.args.until i.later c.next_start.ensures.port i.together.sound e) refl c.next_start.ensures.sound i.together
+    let t : State = record { port = c.step.new.self.port; store = s.store; seen = s.seen; stamping = s.stamping; got = s.got } in
+    let e = sym c.step.ensures.start ∙ c.in-None.is in
+    still_together s t (idle_queues s.port t.port c.args.until i.later c.step.ensures.port i.together.sound e) (idle_room s.port t.port c.args.until i.later c.step.ensures.port i.together.sound e) refl c.step.ensures.sound i.together
 
 pub returns-in-None-clause-starts : goal.returns-in-None-clause-starts
 returns-in-None-clause-starts g c = λ es k.
     let i = c.loop-start.invariant in
     let s = state c.loop-start.sending (g.V.Write.contents c.loop-start.report) (g.W.Write.contents c.loop-start.departures) in
-    let t : State = record { port = c.next_start.new.port.port; store = s.store; seen = s.seen; stamping = s.stamping; got = s.got } in
-    let e = sym c.next_start.ensures.start ∙ c.in-None.is in
+    let t : State = record { port = c.step.new.self.port; store = s.store; seen = s.seen; stamping = s.stamping; got = s.got } in
+    let e = sym c.step.ensures.start ∙ c.in-None.is in
     record {
-      port = no-starts-end s.port t.port c.args.until i.later c.next_start.ensures.port i.together.sound e ∙ i.same_end;
-      keeps = still_keeps es s t (idle_queues s.port t.port c.args.until i.later c.next_start.ensures.port i.together.sound e) refl refl (i.keeps es k);
-      seen = sym (no-starts-seen s.port t.port c.args.until i.later c.next_start.ensures.port i.together.sound e c.now-now.result s.seen) ∙ i.same_seen;
-      out = both_all tt (i.sent es k) (no-starts-out s.port t.port c.args.until i.later c.next_start.ensures.port i.together.sound e es);
+      port = no-starts-end s.port t.port c.args.until i.later c.step.ensures.port i.together.sound e ∙ i.same_end;
+      keeps = still_keeps es s t (idle_queues s.port t.port c.args.until i.later c.step.ensures.port i.together.sound e) refl refl (i.keeps es k);
+      seen = sym (no-starts-seen s.port t.port c.args.until i.later c.step.ensures.port i.together.sound e c.now-now.result s.seen) ∙ i.same_seen;
+      out = both_all tt (i.sent es k) (no-starts-out s.port t.port c.args.until i.later c.step.ensures.port i.together.sound e es);
     }
 
 pub returns-in_err-put_start-in-Some-clause-together : goal.returns-in_err-put_start-in-Some-clause-together
@@ -105,8 +105,8 @@ returns-in_err-put_start-in-Some-clause-fault g c =
 pub returns-in-None-clause-fault : goal.returns-in-None-clause-fault
 returns-in-None-clause-fault g c = tt
 
-pub next_start-requires : goal.next_start-requires
-next_start-requires g c = (search rules, (c.loop-start.invariant.later, search (rules, c.requires.within)))
+pub step-requires : goal.step-requires
+step-requires g c = (search rules, (c.loop-start.invariant.later, search (rules, c.requires.within)))
 
 pub returns-in_err-put_start-in-Some-clause-last : goal.returns-in_err-put_start-in-Some-clause-last
 returns-in_err-put_start-in-Some-clause-last g c = never _ (err_from_is_err_and c.from_residual.result c.from_residual.ensures.1).1
@@ -114,5 +114,5 @@ returns-in_err-put_start-in-Some-clause-last g c = never _ (err_from_is_err_and 
 pub returns-in-None-clause-last : goal.returns-in-None-clause-last
 returns-in-None-clause-last g c =
     let i = c.loop-start.invariant in
-    let e = sym c.next_start.ensures.start ∙ c.in-None.is in
-    sym (no-starts-last c.loop-start.sending.port.port c.next_start.new.port.port c.args.until i.later c.next_start.ensures.port i.together.sound e c.loop-start.sending.leaving.last) ∙ i.same_last
+    let e = sym c.step.ensures.start ∙ c.in-None.is in
+    sym (no-starts-last c.loop-start.sending.port.port c.step.new.self.port c.args.until i.later c.step.ensures.port i.together.sound e c.loop-start.sending.leaving.last) ∙ i.same_last
