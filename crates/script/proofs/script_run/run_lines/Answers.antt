@@ -6,6 +6,7 @@ use Rattle.script.specs.Requests.{request_said}
 use Rattle.script.specs.declared.script_line.Said.TheVariants as Says
 use Rattle.job.specs.declared.fault.Fault.TheVariants as Faults
 use Rattle.script.proofs.LineSteps.{begins_in_hand, end_behind, end_whole, end_within, is_begun, goes_on, goes_past, goes_no_further, few_further, goes_wrong, ends_early, ends_well, next_in_hand, past_hand, stops}
+use Rattle.script.proofs.script_run.run_lines.Goals.{then-not-rests+in_ok-put_answers_by, else-not-rests}
 use Rattle.script.proofs.script_run.run_lines.Goals as goal
 
 -- the answer of a step
@@ -30,20 +31,11 @@ plain-preserved g c =
       running = λ read is lines all count i.
           let e = ap (request_said (read (words_of (take c.in-Some.length c.plain.rest.now)))) line.says in
           let a = next_in_hand g.R.Read.remaining lines _ _ _ _ _ _ _ c.plain.invariant.front all count c.plain.invariant.few c.in-Some.ensures.some line c.in-Some.ensures.short in
-          rw c.split_at.ensures.back (goes_on read _ _ _ _ _ _ _ _ _ _ _ _ (c.plain.invariant.running read is lines all count i) c.settling.ensures _ _ _ (Asks c.in-Some.event) a e c.in_ok-put_answers_by.ensures);
-      front = c.split_at.ensures.back ∙ end_behind _ _ _ (omega (arith, line.ends.within)) c.plain.invariant.front ∙ ap (λ octets. drop (length c.hand-hand.result.now - length octets) c.hand-hand.result.now) (sym c.split_at.ensures.back);
-      few = omega arith;
-      paid = omega (arith, c.plain.invariant.paid, c.plain.invariant.few, line.ends.within, end_within _ _ c.plain.invariant.front, ap length c.split_at.ensures.back, length-drop (c.in-Some.length + 1) c.plain.rest.now);
-    }
-
-pub plain-preserved-then-rests : goal.plain-preserved-then-rests
-plain-preserved-then-rests g c =
-    let line = c.in-Some.ensures.line in
-    record {
-      running = λ read is lines all count i.
-          let e = ap (request_said (read (words_of (take c.in-Some.length c.plain.rest.now)))) line.says in
-          let a = next_in_hand g.R.Read.remaining lines _ _ _ _ _ _ _ c.plain.invariant.front all count c.plain.invariant.few c.in-Some.ensures.some line c.in-Some.ensures.short in
-          rw c.split_at.ensures.back (goes_on read _ _ _ _ _ _ _ _ _ _ _ _ (c.plain.invariant.running read is lines all count i) c.settling.ensures _ _ _ (Asks c.in-Some.event) a e (c.if-rests.ensures.rests refl _ _));
+          let run = c.plain.invariant.running read is lines all count i in
+          rw c.split_at.ensures.back (elim c.if-not-rests.branch [
+            | then-not-rests+in_ok-put_answers_by w ↦ rw (w.port-is, w.summary-is, w.writer-is) (goes_on read _ _ _ _ _ _ _ _ _ _ _ _ run c.settling.ensures _ _ _ (Asks c.in-Some.event) a e (rw (c.rests.ensures.kept w.if-not-rests.true) at w.in_ok-put_answers_by.ensures))
+            | else-not-rests w ↦ rw (w.port-is, w.summary-is, w.writer-is) (goes_on read _ _ _ _ _ _ _ _ _ _ _ _ run c.settling.ensures _ _ _ (Asks c.in-Some.event) a e (c.rests.ensures.rests w.if-not-rests.false _ _))
+          ]);
       front = c.split_at.ensures.back ∙ end_behind _ _ _ (omega (arith, line.ends.within)) c.plain.invariant.front ∙ ap (λ octets. drop (length c.hand-hand.result.now - length octets) c.hand-hand.result.now) (sym c.split_at.ensures.back);
       few = omega arith;
       paid = omega (arith, c.plain.invariant.paid, c.plain.invariant.few, line.ends.within, end_within _ _ c.plain.invariant.front, ap length c.split_at.ensures.back, length-drop (c.in-Some.length + 1) c.plain.rest.now);
@@ -55,7 +47,8 @@ returns-in_err-put_answers_by-clause-script g c = λ read is.
     let line = c.in-Some.ensures.line in
     let e = ap (request_said (read (words_of (take c.in-Some.length c.plain.rest.now)))) line.says in
     let a = next_in_hand g.R.Read.remaining c.lines.lines _ _ _ _ _ _ _ c.plain.invariant.front c.hand-hand.ensures c.lines_left-most.ensures c.plain.invariant.few c.in-Some.ensures.some line c.in-Some.ensures.short in
-    goes_no_further read _ _ _ _ _ _ _ _ _ _ _ _ (c.plain.invariant.running read is c.lines.lines c.hand-hand.ensures c.lines_left-most.ensures (c.lines.invariant read is)) c.settling.ensures _ (Asks c.in-Some.event) a e c.in_err-put_answers_by.ensures.text (p.1 ∙ ap Err p.2)
+    let done = rw (c.rests.ensures.kept c.if-not-rests.true) at c.in_err-put_answers_by.ensures in
+    goes_no_further read _ _ _ _ _ _ _ _ _ _ _ _ (c.plain.invariant.running read is c.lines.lines c.hand-hand.ensures c.lines_left-most.ensures (c.lines.invariant read is)) c.settling.ensures _ (Asks c.in-Some.event) a e done.text (p.1 ∙ ap Err p.2)
 
 pub overflow_sub-octets : goal.overflow_sub-octets
 overflow_sub-octets g c = end_within _ _ c.plain.invariant.front
@@ -144,7 +137,7 @@ returns-clause-script g c = λ read is.
     ends_well read _ _ _ _ _ _ _ _ _ _ _ _ i {T = Unit {0}} c.settling.ensures tt _ a c.in_ok-end.ensures.text refl
 
 pub returns-in_err-put_answers_by-clause-few : goal.returns-in_err-put_answers_by-clause-few
-returns-in_err-put_answers_by-clause-few g c = λ read is. few_further read c.args.until _ _ _ _ _ _ _ _ (c.plain.invariant.running read is c.lines.lines c.hand-hand.ensures c.lines_left-most.ensures (c.lines.invariant read is)) c.put_answers_by.new.port c.in_err-put_answers_by.ensures.few
+returns-in_err-put_answers_by-clause-few g c = λ read is. few_further read c.args.until _ _ _ _ _ _ _ _ (c.plain.invariant.running read is c.lines.lines c.hand-hand.ensures c.lines_left-most.ensures (c.lines.invariant read is)) c.put_answers_by.new.port (rw (c.rests.ensures.kept c.if-not-rests.true) at c.in_err-put_answers_by.ensures.few)
 
 pub returns-in_err-next_line-clause-few : goal.returns-in_err-next_line-clause-few
 returns-in_err-next_line-clause-few g c = λ read is. (c.plain.invariant.running read is c.lines.lines c.hand-hand.ensures c.lines_left-most.ensures (c.lines.invariant read is)).few
