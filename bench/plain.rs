@@ -16,6 +16,10 @@ struct Output<W: Write> {
     to: W,
     octets: Vec<u8>,
     end: usize,
+    /// The end of the last start, and its digits: the next start is mostly then.
+    last: u128,
+    digits: [u8; 24],
+    count: usize,
 }
 
 const ZEROS: u64 = 0x3030_3030_3030_3030;
@@ -36,6 +40,9 @@ impl<W: Write> Output<W> {
             to,
             octets: vec![0; ROOM + 64],
             end: 0,
+            last: 0,
+            digits: *b"0                       ",
+            count: 1,
         }
     }
 
@@ -130,9 +137,18 @@ impl<W: Write> Output<W> {
         self.text(b" class ");
         self.text(&[b'0' + start.class as u8]);
         self.text(b" at ");
-        self.moment(start.at);
+        if start.at == self.last {
+            self.octets[self.end..self.end + 24].copy_from_slice(&self.digits);
+            self.end += self.count;
+        } else {
+            self.moment(start.at);
+        }
         self.text(b" end ");
+        let begun = self.end;
         self.moment(start.end);
+        self.last = start.end;
+        self.digits.copy_from_slice(&self.octets[begun..begun + 24]);
+        self.count = self.end - begun;
         self.text(b"\n");
     }
 }
