@@ -15,7 +15,7 @@ pub use Rattle.accepted_commands.specs.Leg.{AreReady, DoFollow, IsReady, IsStand
 pub use Rattle.accepted_commands.specs.Resume.{Resumes}
 pub use Rattle.accepted_commands.specs.InForce.{EndsSo, IsFirst, IsListOf, Standing, Stands, StandsUnder, accepted_list, boundary_in_force, earlier, edge_at, hold_for, lent_position, option_position, position_in, position_lent, shown_by, shows_under}
 pub use Rattle.accepted_commands.specs.declared.command.AcceptedCommand.{AcceptedCommand}
-pub use Rattle.accepted_commands.specs.declared.command.AcceptedCommand.TheVariants.{Install}
+pub use Rattle.accepted_commands.specs.declared.command.AcceptedCommand.TheVariants.{Delete, Install}
 pub use Rattle.accepted_commands.specs.declared.leg.Leg.TheVariants.{Listed}
 pub use Rattle.accepted_commands.specs.declared.leg.ListedLeg.{ListedLeg}
 pub use Rattle.accepted_commands.specs.declared.leg.Rest.{Rest}

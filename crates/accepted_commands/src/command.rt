@@ -1,6 +1,6 @@
 //! A command as it is kept.
 ghost use Rattle.std.specs.Prelude.{◌≡◌, ◌*◌, ◌≤◌, Some, None, option_map};
-ghost use Rattle.accepted_commands.specs.Words.{greatest_moment, IsSchedule, installed_of, hold_of, IsUsable, accepted_in, command_of, Install};
+ghost use Rattle.accepted_commands.specs.Words.{greatest_moment, IsSchedule, installed_of, hold_of, IsUsable, accepted_in, command_of, Install, Delete};
 
 use cycle_timer::CycleTimer;
 use gate_list::Schedule;
@@ -51,6 +51,17 @@ impl AcceptedCommand {
         }
     }
 
+    /// The deletion with this lead moment, in picoseconds, takes the place of the command.
+    pub(crate) fn put_deletion(&mut self, lead: u128)
+        ensures { self.new ≡ Delete lead }
+    {
+        match self {
+            AcceptedCommand::Install(_) => *self = AcceptedCommand::Delete(lead),
+            // The place of a command is large, and would be cleared.
+            AcceptedCommand::Delete(kept) => *kept = lead,
+        }
+    }
+
     /// Another command takes the place of this one.
     pub(crate) fn copy_from(&mut self, other: &AcceptedCommand)
         ensures { self.new ≡ other.now }
@@ -62,7 +73,7 @@ impl AcceptedCommand {
                 list.change,
                 list.position,
             ),
-            AcceptedCommand::Delete(lead) => *self = AcceptedCommand::Delete(*lead),
+            AcceptedCommand::Delete(lead) => self.put_deletion(*lead),
         }
     }
 

@@ -148,7 +148,7 @@ impl CommandSlot {
         ensures value { option_map accepted_in self.new ≡ Some (deletion_at lead) }
         ensures first { ForSome self.new IsFirst }
     {
-        self.kept = AcceptedCommand::Delete(lead);
+        self.kept.put_deletion(lead);
         self.is_used = true;
     }
 }

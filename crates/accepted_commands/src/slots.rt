@@ -1,5 +1,5 @@
 //! The commands that count, in three slots.
-ghost use Rattle.std.specs.Prelude.{◌≡◌, ℕ, ◌+◌, ◌<◌, ◌≤◌, ◌↔◌, IsTrue, None, Some, true};
+ghost use Rattle.std.specs.Prelude.{◌≡◌, ℕ, ◌+◌, ◌<◌, ◌≤◌, ◌↔◌, IsTrue, None, Some};
 ghost use Rattle.std.specs.Option.{ForSome};
 ghost use Rattle.accepted_commands.specs.Words.{greatest_lead, greatest_moment, plan_of, start_of, accepted_at, deletion_at, entry_count, more, BeginsAtMost, AreCommands, IsUsable, NoneBy, command_of, no_commands, settled_at, EndsSo, IsFirst, Stands, boundary_in_force, position_lent, shown_by};
 
@@ -159,7 +159,7 @@ impl CommandSlots {
 
     /// Whether no command is to come.
     pub fn is_alone(&self) -> bool
-        ensures { result ≡ true → (self.now.commands.pending ≡ None) × (self.now.commands.announced ≡ None) }
+        ensures { IsTrue result ↔ ((self.now.commands.pending ≡ None) × (self.now.commands.announced ≡ None)) }
     {
         self.pending().is_none() && self.announced().is_none()
     }
@@ -199,8 +199,10 @@ impl CommandSlots {
             .place_at(self.pending.lent(), self.moment, visits);
     }
 
-    /// Goes on to a moment, in picoseconds, and lets the list in force stand where it stands then. Where no command comes up to
-    /// that moment the list goes on from where it stood, and else it is placed anew.
+    /// Goes on to a moment, in picoseconds, and lets the list in force stand where it stands then. Where no command
+    /// comes up to that moment the list goes on from where it stood, and else it is placed anew. It stays apart: the
+    /// compiler would make room for two commands at each call of a body that it is taken into.
+    #[inline(never)]
     pub fn move_on(&mut self, t: u128, visits: &mut Visits)
         requires later { self.old.commands.moment ≤ t }
         requires within { t ≤ greatest_moment }
