@@ -1,16 +1,19 @@
 -- From a search of legs to the choice of the gates.
-use Rattle.std.proofs.Common.{◌≡◌, ◌<◌, ◌≤◌, ℕ, ◌+◌, ◌*◌, length, get_or, slice_get, Bool, true, false, cond, leb, List, [], Option, Some, None, IsSome, refl, ap, ◌∙◌, subst, arith, le_trans}
+use Rattle.std.proofs.Common.{◌≡◌, ◌<◌, ◌≤◌, ℕ, ◌+◌, ◌*◌, length, get_or, slice_get, false, List, [], Option, Some, None, IsSome, refl, sym, ap, ◌∙◌, subst, arith, le_trans}
 use Rattle.std.proofs.lemmas.Option.{slice_get-get_or, slice_get_within, get_or_from_slice_get}
 use Rattle.gate_list.proofs.OpenLaws.{same_while}
 use Rattle.gate_list.proofs.FirstLaws.{none_same}
 use Rattle.list_config.specs.Choice.{may_start, may_go, first_choice}
-use Rattle.jumping.specs.Words.{Clocked, entry_count, longest, Accepted, gates, cons_some, three, plan_of, Stretch, mask_in, stretches_from, Commands, AreCommands, history_of, settled_at, NoneFits, Fits, Searched, most_in}
+use Rattle.jumping.specs.Words.{Clocked, entry_count, longest, Accepted, gates, cons_some, three, plan_of, mask_in, stretches_from, Commands, AreCommands, history_of, mask_ahead, settled_at, NoneFits, Fits, Searched, IsLoneList, shows_alone}
 use Rattle.list_config.specs.History.{pending, announced}
 use Rattle.list_config.proofs.ChoiceLaws.{greatest_below-none, greatest_below-some}
 use Rattle.list_config.proofs.HistoryLaws.{settled_force, settled_pending, settled_announced, past_three}
 use Rattle.list_config.proofs.StretchLaws.{stretches_gates}
 use Rattle.list_config.proofs.LongestLaws.{longest-kept}
+use Rattle.accepted_commands.specs.declared.command.AcceptedList.{AcceptedList}
+use Rattle.accepted_commands.specs.InForce.{Standing}
 use Rattle.accepted_commands.proofs.CommandLaws.{settled_history}
+use Rattle.jumping.proofs.AloneLaws.{searched_lone}
 
 -- masks that agree from a moment on
 pub searched_same : (f g : ℕ → ℕ) (needs : List (Option ℕ)) (t stop : ℕ) (r : Option ℕ) → ((n : ℕ) → t ≤ n → f n ≡ g n) → Searched g needs t stop r → Searched f needs t stop r
@@ -57,56 +60,22 @@ pub most_in_force : (f p x : Option Accepted) → entry_count (plan_of f) ≤ lo
 most_in_force None p x = omega arith
 most_in_force (Some f) p x = omega arith
 
--- three stretches of lists that are at most so long
-pub most_ahead : (f p x : Option Accepted) → most_in (stretches_from f (cons_some p (cons_some x []))) ≤ 12 * (longest (three f p x) + 1)
-most_ahead f p x = by p x (most_in_force f p x) (in_pending f p x) (in_announced f p x)
-  where
-    in_announced : (f p x : Option Accepted) → entry_count (plan_of x) ≤ longest (three f p x)
-    in_announced None None None = omega arith
-    in_announced None None (Some x) = omega arith
-    in_announced None (Some p) None = omega arith
-    in_announced None (Some p) (Some x) = omega arith
-    in_announced (Some f) None None = omega arith
-    in_announced (Some f) None (Some x) = omega arith
-    in_announced (Some f) (Some p) None = omega arith
-    in_announced (Some f) (Some p) (Some x) = omega arith
+-- the commands seen as a history and a moment, with where the list in force stands
+module _ (slots : Standing) (s : AreCommands slots.commands) (v : Clocked) (view : record { history = history_of slots.commands; moment = slots.commands.moment } ≡ v) (needs : List (Option ℕ)) (before : ℕ) where
+  -- a search of what they show is one of the gates
+  pub searched_all : (found r : Option ℕ) → found ≡ r → Searched (mask_ahead slots.commands) needs slots.commands.moment before r → Searched (gates v.history) needs v.moment before found
+  searched_all found r is all =
+      let c = slots.commands in
+      subst (λ (w : Clocked). Searched (gates w.history) needs w.moment before found) view
+      (searched_same (gates (history_of c)) (mask_ahead c) needs c.moment before found (λ n l. gates_ahead c s n l)
+      (subst (Searched (mask_ahead c) needs c.moment before) (sym is) all))
 
-    in_pending : (f p x : Option Accepted) → entry_count (plan_of p) ≤ longest (three f p x)
-    in_pending None None x = omega arith
-    in_pending None (Some p) x = omega arith
-    in_pending (Some f) None x = omega arith
-    in_pending (Some f) (Some p) x = omega arith
-
-    by : (p x : Option Accepted) → entry_count (plan_of f) ≤ longest (three f p x) → entry_count (plan_of p) ≤ longest (three f p x) → entry_count (plan_of x) ≤ longest (three f p x) → most_in (stretches_from f (cons_some p (cons_some x []))) ≤ 12 * (longest (three f p x) + 1)
-    by None None a b d = omega arith
-    by None (Some x) a b d = omega arith
-    by (Some p) None a b d = omega arith
-    by (Some p) (Some x) a b d =
-        let second : entry_count (plan_of (cond (leb p.change x.lead) (Some p) f)) ≤ longest (three f (Some p) (Some x)) = either (leb p.change x.lead) in
-        omega arith
-      where
-        either : (t : Bool) → entry_count (plan_of (cond t (Some p) f)) ≤ longest (three f (Some p) (Some x))
-        either true = b
-        either false = a
-
--- the commands seen as a history and a moment, with the legs ahead
-module _ (c : Commands) (s : AreCommands c) (v : Clocked) (view : record { history = history_of c; moment = c.moment } ≡ v) (legs : List Stretch) (shows : legs ≡ stretches_from c.in_force (cons_some c.pending (cons_some c.announced []))) where
-  -- a search of the legs is one of the gates
-  pub searched_gates : (from : ℕ) → from ≡ c.moment → (needs : List (Option ℕ)) (before : ℕ) (r : Option ℕ) → Searched (mask_in legs) needs from before r → Searched (gates v.history) needs v.moment before r
-  searched_gates from at needs before r found =
-      let ahead : List Stretch = stretches_from c.in_force (cons_some c.pending (cons_some c.announced [])) in
-      subst (λ (w : Clocked). Searched (gates w.history) needs w.moment before r) view
-      (searched_same (gates (history_of c)) (mask_in ahead) needs c.moment before r (λ n l. gates_ahead c s n l)
-      (subst (λ n. Searched (mask_in ahead) needs n before r) at
-      (subst (λ (k : List Stretch). Searched (mask_in k) needs from before r) shows found)))
-
-  -- its visits are few
-  pub few_visits : (old new : ℕ) → new ≤ old + most_in legs → new ≤ old + 12 * (longest v.history + 1)
-  few_visits old new l =
-      let same = ap most_in shows in
-      let most = most_ahead c.in_force c.pending c.announced in
-      let seen = ap (λ (w : Clocked). longest w.history) view in
-      omega (arith, l, same, most, seen)
+  -- and so is one of the list in force, where no other command is to come
+  pub searched_one : (found r : Option ℕ) → found ≡ r → (list : AcceptedList) → IsLoneList slots list → (from : ℕ) → from ≡ slots.commands.moment → Searched (shows_alone list) needs from before r → Searched (gates v.history) needs v.moment before found
+  searched_one found r is list lone from now alone =
+      searched_all found r is
+      (searched_lone slots list lone needs slots.commands.moment before r
+      (subst (λ n. Searched (shows_alone list) needs n before r) now alone))
 
 -- the visits of placing the list that is in force later are few
 pub few_placed : (c : Commands) → AreCommands c → (v : Clocked) → record { history = history_of c; moment = c.moment } ≡ v → (t : ℕ) → c.moment ≤ t → (old new : ℕ) → new ≤ old + (entry_count (plan_of (settled_at c t).in_force) + 1) → new ≤ old + 2 * (longest v.history + 1)

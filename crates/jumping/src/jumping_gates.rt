@@ -126,36 +126,9 @@ fn stays_open_from_now(
     }
 }
 
-/// Lets the commands and the list in force go on to a moment, in picoseconds, and looks for the next edge and what shows up to it. It
-/// stays apart: the compiler would make room for two commands at each call of a body that it is taken into.
-#[inline(never)]
-fn move_commands(
-    slots: &mut CommandSlots,
-    edge: &mut Option<u128>,
-    mask: &mut u8,
-    t: u128,
-    visits: &mut Visits,
-)
-    requires later { slots.old.commands.moment ≤ t }
-    requires within { t ≤ greatest_moment }
-    requires sound { AreCommands slots.old.commands }
-    requires stands { Stands slots.old.commands.in_force slots.old.commands.pending slots.old.commands.moment slots.old.position }
-    ensures value { slots.new.commands ≡ settled_at slots.old.commands t }
-    ensures stands { Stands slots.new.commands.in_force slots.new.commands.pending slots.new.commands.moment slots.new.position }
-    ensures sound { AreCommands slots.new.commands }
-    ensures edge { IsEdge slots.new.commands slots.new.position edge.new }
-    ensures mask { mask.new ≡ shown_by slots.new.position }
-    ensures counted { visits.old ≤ visits.new }
-    ensures visits { visits.new ≤ visits.old + (entry_count (plan_of slots.new.commands.in_force) + 1) }
-    ensures next { (e : ℕ) → NoneBy slots.old.commands.pending slots.old.commands.announced t → BeginsAtMost (plan_of slots.old.commands.in_force) (start_of slots.old.commands.in_force) slots.old.commands.moment t e → visits.new ≤ visits.old + 2 }
-{
-    slots.move_on(t, visits);
-    *edge = next_edge(slots);
-    *mask = mask_under(slots.in_force());
-}
-
-/// What `move_commands` does, for less where no command is to come: the list in force goes on alone. It stays apart, since most moves
-/// come to no edge.
+/// Lets the commands and the list in force go on to a moment, in picoseconds, and looks for the next edge and what
+/// shows up to it. Where no command is to come, which is mostly so, the list in force goes on alone. It stays apart,
+/// since most moves come to no edge.
 #[inline(never)]
 fn move_on(
     slots: &mut CommandSlots,
@@ -182,7 +155,9 @@ fn move_on(
         *edge = until;
         *mask = shown;
     } else {
-        move_commands(slots, edge, mask, t, visits);
+        slots.move_on(t, visits);
+        *edge = next_edge(slots);
+        *mask = mask_under(slots.in_force());
     }
 }
 
@@ -207,29 +182,6 @@ fn search_legs(
 {
     let ahead = legs_ahead(slots, resumed);
     search(&ahead.leg, &ahead.rest, &heads.list(), before, visits)
-}
-
-/// The first moment from now on and before `before`, in picoseconds, at which some class with a need stays open through it. Where no
-/// other command is to come, which is mostly so, no legs are made.
-fn search_from_now(
-    slots: &CommandSlots,
-    resumed: &Option<Position>,
-    heads: &Heads,
-    before: u128,
-    visits: &mut Visits,
-) -> Option<u128>
-    requires sound { AreCommands slots.now.commands }
-    requires stands { Stands slots.now.commands.in_force slots.now.commands.pending slots.now.commands.moment slots.now.position }
-    requires resumes { Resumes slots.now.commands resumed.now }
-    requires within { before ≤ 2 * greatest_moment }
-    ensures searched { Searched (mask_ahead slots.now.commands) heads.now slots.now.commands.moment before result }
-    ensures counted { visits.old ≤ visits.new }
-    ensures visits { visits.new ≤ visits.old + most_in (stretches_of slots.now.commands) }
-{
-    match lone_list(slots) {
-        Some(list) => search_alone(list, slots.moment(), heads, before, visits),
-        None => search_legs(slots, resumed, heads, before, visits),
-    }
 }
 
 impl Gates for Jumping {
@@ -280,10 +232,16 @@ impl Gates for Jumping {
         }
     }
 
+    #[inline(never)]
     fn quiet(&self, heads: &Heads, before: u128, visits: &mut Visits) -> u128 {
         // The heads are of all classes.
         let _ = heads.waits();
-        match search_from_now(&self.slots, &self.resumed, heads, before, visits) {
+        // Where no other command is to come, which is mostly so, no legs are made.
+        let found = match lone_list(&self.slots) {
+            Some(list) => search_alone(list, self.slots.moment(), heads, before, visits),
+            None => search_legs(&self.slots, &self.resumed, heads, before, visits),
+        };
+        match found {
             Some(start) => start,
             None => before,
         }
