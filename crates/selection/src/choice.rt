@@ -42,50 +42,6 @@ fn search_end<G: Gates>(until: u128) -> u128
 
 /// Moves the gates to the first moment at which some class may start, where it is before `until`, and answers the class that may.
 /// Else `idle` becomes a moment, at or after `until`, before which no class may start, and the gates are not moved past `until`.
-/// Apart, since some class mostly may start where the gates stand (`find_choice`).
-#[inline(never)]
-pub fn move_to_choice<G: Gates>(
-    heads: &Heads,
-    gates: &mut G,
-    until: u128,
-    idle: &mut u128,
-    visits: &mut Visits,
-) -> Option<u8>
-    requires sound { G.is_sound gates.old }
-    requires later { G.moment gates.old ≤ until }
-    requires within { until ≤ greatest_moment }
-    ensures sound { G.is_sound gates.new }
-    ensures idle { MovesIdle heads.now (G.history gates.old) (G.moment gates.old) (G.history gates.new) (G.moment gates.new) }
-    ensures upto { G.moment gates.new ≤ until }
-    ensures before { OnSome result (G.moment gates.new < until) }
-    ensures choice { IfSome result (λ class. first_choice (G.history gates.old) (G.moment gates.new) heads.now ≡ Some class) }
-    ensures none { IfNone result ((until ≤ idle.new) × IsIdle (G.history gates.old) heads.now (G.moment gates.old) idle.new) }
-    ensures counted { visits.old ≤ visits.new }
-    ensures visits { IsTrue G.JUMPS → visits.new ≤ visits.old + 14 * (longest (G.history gates.old) + 1) }
-    ensures fewer { IfNone result (IsTrue G.JUMPS → visits.new ≤ visits.old + 12 * (longest (G.history gates.old) + 1)) }
-{
-    if heads.waits() == 0 {
-        *idle = MAX_MOMENT;
-        return None;
-    }
-    let end = search_end::<G>(until);
-    let mut now = gates.now();
-    while now < until {
-        now = gates.quiet(heads, end, visits);
-        if until <= now {
-            *idle = now;
-            return None;
-        }
-        gates.move_to(now, visits);
-        if let Some(class) = choose(heads, gates, visits) {
-            return Some(class);
-        }
-    }
-    *idle = until;
-    None
-}
-
-/// What `move_to_choice` answers, at once where some class may start where the gates stand.
 #[inline(always)]
 pub fn find_choice<G: Gates>(
     heads: &Heads,
@@ -107,8 +63,27 @@ pub fn find_choice<G: Gates>(
     ensures visits { IsTrue G.JUMPS → visits.new ≤ visits.old + 14 * (longest (G.history gates.old) + 1) }
     ensures fewer { IfNone result (IsTrue G.JUMPS → visits.new ≤ visits.old + 12 * (longest (G.history gates.old) + 1)) }
 {
-    match choose(heads, gates, visits) {
-        Some(class) => Some(class),
-        None => move_to_choice(heads, gates, until, idle, visits),
+    if heads.waits() == 0 {
+        *idle = MAX_MOMENT;
+        return None;
     }
+    // Mostly some class may start where the gates stand.
+    if let Some(class) = choose(heads, gates, visits) {
+        return Some(class);
+    }
+    let end = search_end::<G>(until);
+    let mut now = gates.now();
+    while now < until {
+        now = gates.quiet(heads, end, visits);
+        if until <= now {
+            *idle = now;
+            return None;
+        }
+        gates.move_to(now, visits);
+        if let Some(class) = choose(heads, gates, visits) {
+            return Some(class);
+        }
+    }
+    *idle = until;
+    None
 }

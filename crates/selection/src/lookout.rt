@@ -186,39 +186,6 @@ impl<G: Gates> Lookout<G> {
         true
     }
 
-    /// Moves on to the first moment from `from` on, which is not before now, and before `until` at which some class may start, and answers
-    /// the greatest that may; or to `until`, where there is none. All are in picoseconds.
-    #[inline(always)]
-    fn find_from(&mut self, from: u128, until: u128, visits: &mut Visits) -> Option<u8>
-        requires onward { self.old.moment ≤ from }
-        requires before { from < until }
-        requires within { until ≤ greatest_moment }
-        ensures needs { self.new.needs ≡ self.old.needs }
-        ensures onward { self.old.moment ≤ self.new.moment }
-        ensures history { self.new.history ≡ kept self.old.history self.new.moment }
-        ensures current { IsCurrent self.new.history self.new.moment }
-        ensures idle { (m : ℕ) → self.old.moment ≤ m → from ≤ m → m < self.new.moment → first_choice self.old.history m self.old.needs ≡ None }
-        ensures none { IfNone result (self.new.moment ≡ until) }
-        ensures before { OnSome result ((from ≤ self.new.moment) × (self.new.moment < until)) }
-        ensures choice { IfSome result (λ class. first_choice self.old.history self.new.moment self.old.needs ≡ Some class) }
-        ensures counted { visits.old ≤ visits.new }
-        ensures visits { IsTrue G.JUMPS → visits.new ≤ visits.old + 16 * (longest self.old.history + 1) }
-    {
-        self.gates.move_to(from, visits);
-        match find_choice(&self.heads, &mut self.gates, until, &mut self.idle, visits) {
-            Some(class) => {
-                self.moment = self.gates.now();
-                self.idle = self.moment;
-                Some(class)
-            }
-            None => {
-                self.still = catch_up(&mut self.gates, self.still, until, visits);
-                self.moment = until;
-                None
-            }
-        }
-    }
-
     /// Moves on to the first moment from `free` on and before `until` at which some class may start, and answers the greatest that
     /// may; or to `until`, where there is none. All are in picoseconds.
     #[inline(always)]
@@ -243,7 +210,19 @@ impl<G: Gates> Lookout<G> {
             self.idle = self.idle.max(until);
             return None;
         }
-        self.find_from(from, until, visits)
+        self.gates.move_to(from, visits);
+        match find_choice(&self.heads, &mut self.gates, until, &mut self.idle, visits) {
+            Some(class) => {
+                self.moment = self.gates.now();
+                self.idle = self.moment;
+                Some(class)
+            }
+            None => {
+                self.still = catch_up(&mut self.gates, self.still, until, visits);
+                self.moment = until;
+                None
+            }
+        }
     }
 
     /// What the gates show now. Counts the entries that they look at on the way there.

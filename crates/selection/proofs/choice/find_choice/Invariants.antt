@@ -1,6 +1,6 @@
 use Rattle.std.proofs.Common.{◌≡◌, ◌≤◌, ◌-◌, IsTrue}
 use Rattle.list_config.specs.Choice.{MovesIdle}
-use Rattle.selection.proofs.choice.move_to_choice.Given as goal
+use Rattle.selection.proofs.choice.find_choice.Given as goal
 
 abbrev pub invariant-loop-now : goal.invariant-loop-now
 invariant-loop-now g l =

@@ -4,7 +4,7 @@ use Rattle.gate_list.specs.Gate.{opens}
 use Rattle.gate_list.proofs.TableLaws.{opens_none}
 use Rattle.selection.proofs.ChooseLaws.{none_waits}
 use Rattle.selection.proofs.WatchLaws.{idle_before, not_chosen, chosen_at}
-use Rattle.selection.proofs.choice.move_to_choice.Goals as goal
+use Rattle.selection.proofs.choice.find_choice.Goals as goal
 
 pub returns-then-waits-eq0-clause-none : goal.returns-then-waits-eq0-clause-none
 returns-then-waits-eq0-clause-none g c =
@@ -28,24 +28,24 @@ returns-then-until-now-clause-fewer g c = λ jumps.
     let shorter = idle_longest _ _ _ current _ _ c.loop-now.invariant.3 in
     omega (arith, c.loop-now.invariant.5 jumps, c.quiet-now.ensures.visits jumps, shorter)
 
-pub returns-in-Some-clause-idle : goal.returns-in-Some-clause-idle
-returns-in-Some-clause-idle g c =
+pub returns-in-Some-choose-clause-idle : goal.returns-in-Some-choose-clause-idle
+returns-in-Some-choose-clause-idle g c =
     let current = g.met.G.Gates.is_current c.args.gates.now c.requires.sound in
     let quiet = c.quiet-now.ensures.quiet in
     idle_more _ _ _ current _ _ c.loop-now.invariant.3 _ _ c.quiet-now.result c.quiet-now.ensures.from quiet c.move_to.ensures.moment c.move_to.ensures.history
 
-pub returns-in-Some-clause-choice : goal.returns-in-Some-clause-choice
-returns-in-Some-clause-choice g c =
+pub returns-in-Some-choose-clause-choice : goal.returns-in-Some-choose-clause-choice
+returns-in-Some-choose-clause-choice g c =
     let current = g.met.G.Gates.is_current c.args.gates.now c.requires.sound in
     let quiet = c.quiet-now.ensures.quiet in
     let moved = idle_more _ _ _ current _ _ c.loop-now.invariant.3 _ _ c.quiet-now.result c.quiet-now.ensures.from quiet c.move_to.ensures.moment c.move_to.ensures.history in
-    sym (idle_choice _ _ _ current _ _ moved _ (le_refl _)) ∙ (sym c.choose.ensures.choice ∙ c.in-Some.is)
+    sym (idle_choice _ _ _ current _ _ moved _ (le_refl _)) ∙ (sym c.choose-in-loop-now.ensures.choice ∙ c.in-Some-choose.is)
 
-pub returns-in-Some-clause-visits : goal.returns-in-Some-clause-visits
-returns-in-Some-clause-visits g c = λ jumps.
+pub returns-in-Some-choose-clause-visits : goal.returns-in-Some-choose-clause-visits
+returns-in-Some-choose-clause-visits g c = λ jumps.
     let current = g.met.G.Gates.is_current c.args.gates.now c.requires.sound in
     let shorter = idle_longest _ _ _ current _ _ c.loop-now.invariant.3 in
-    omega (arith, c.loop-now.invariant.5 jumps, c.quiet-now.ensures.visits jumps, c.move_to.ensures.visits jumps, c.choose.ensures.visits jumps, shorter)
+    omega (arith, c.loop-now.invariant.5 jumps, c.quiet-now.ensures.visits jumps, c.move_to.ensures.visits jumps, c.choose-in-loop-now.ensures.visits jumps, shorter)
 
 pub loop-now-preserved : goal.loop-now-preserved
 loop-now-preserved g c =
@@ -59,8 +59,8 @@ loop-now-preserved g c =
       sym at,
       omega (arith, before),
       moved,
-      omega (arith, counted, c.quiet-now.ensures.counted, c.move_to.ensures.counted, c.choose.ensures.counted),
-      λ jumps. absurd (not_chosen _ _ c.choose.ensures.choice c.in_default.not-Some (
+      omega (arith, counted, c.quiet-now.ensures.counted, c.move_to.ensures.counted, c.choose-in-loop-now.ensures.counted),
+      λ jumps. absurd (not_chosen _ _ c.choose-in-loop-now.ensures.choice c.in_default-choose.not-Some (
           let first = c.quiet-now.ensures.first jumps (omega (arith, before, c.search_end-end.ensures.reach)) in
           chosen_at _ _ _ current _ _ _ _ c.loop-now.invariant.3 moved c.quiet-now.result c.quiet-now.ensures.from at
           first)),
