@@ -1,11 +1,11 @@
 -- What a port looks at in a step, by the longest list of its history, and how that grows.
-use Rattle.std.proofs.Common.{◌≡◌, ◌<◌, ◌≤◌, ◌+◌, ◌*◌, ℕ, zero, suc, max, List, [], ◌∷◌, ◌++◌, take, ltb, ◌||◌, true, false, Option, Some, None, IfSome, is_some, refl, sym, ap, ◌∙◌, subst, arith, le_refl, le_trans}
+use Rattle.std.proofs.Common.{◌≡◌, ◌≤◌, ◌+◌, ◌*◌, ℕ, zero, suc, max, List, [], ◌∷◌, ◌++◌, take, ltb, ◌||◌, true, false, Option, Some, None, IfSome, is_some, refl, sym, ap, ◌∙◌, subst, arith, le_refl, le_trans}
 use Rattle.port.specs.Words.{greatest_moment, Answer, Refused, AbstractPort, installs_by, refusal, longest}
 use Rattle.list_config.specs.History.{Accepted}
 use Rattle.list_config.proofs.LongestLaws.{longest-kept}
 use Rattle.abstract_port.specs.declared.Event.{Event}
 use Rattle.abstract_port.specs.declared.Event.TheVariants.{Arrive, Install, Clock, Query, Count}
-use Rattle.abstract_port.specs.AbstractPort.{PortState, settled, verdict, next_start, starts_until, new_command}
+use Rattle.abstract_port.specs.AbstractPort.{PortState, settled, verdict, next_start, new_command}
 use Rattle.abstract_port.specs.Answers.{answers_to, port_after}
 use Rattle.abstract_port.specs.Asked.{IsOneStart}
 use Rattle.abstract_port.proofs.RunLaws.{after_command-keeps, arrival-keeps}

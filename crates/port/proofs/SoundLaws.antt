@@ -1,5 +1,5 @@
 -- What the fields of a port keep true is what holds of the port.
-use Rattle.std.proofs.Common.{◌≡◌, ◌<◌, ◌≤◌, ℕ, zero, suc, ◌+◌, List, [], ◌∷◌, ◌++◌, length, get_or, drop, Some, refl, sym, ap, ◌∙◌, subst, arith}
+use Rattle.std.proofs.Common.{◌≡◌, ◌<◌, ◌≤◌, ℕ, zero, suc, ◌+◌, List, [], ◌∷◌, ◌++◌, length, drop, Some, refl, sym, ap, ◌∙◌, subst, arith}
 use Rattle.std.specs.Prelude.{All, slice_index_or, slice_get, slice_set}
 use Rattle.port.specs.Words.{Frame, lead_of, occupancy_of, IsRoom, Queue, IsCurrent, AbstractPort, AreCapped, AreCounted, count_dropped, FitsLead, IsMtu, IsSoundPort, frames_of, queue_at, no_queue, with_frames, empty_queue, eight, IsKept}
 use Rattle.abstract_port.specs.FrameCounts.{add_capped}
@@ -9,7 +9,6 @@ use Rattle.abstract_port.specs.declared.Dropped.TheVariants.{NoClass, Runt, TooL
 use Rattle.std.proofs.lemmas.List.{length-set, length-map}
 use Rattle.std.specs.List.{AllByRecursion}
 use Rattle.std.proofs.lemmas.List.Elements.{All-from_recursion, All-set, All-drop, All-append}
-use Rattle.port.proofs.HeadLaws.{frames_of-at}
 
 -- the waiting frames of a class fit
 pub fits_at : (ps mtu : ℕ) (queues : List Queue) → All (λ q. All (FitsLead ps mtu) q.frames) queues → (class : ℕ) → All (FitsLead ps mtu) (slice_index_or (frames_of queues) class [])
