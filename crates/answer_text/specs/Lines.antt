@@ -45,19 +45,33 @@ start_text id class at «end» = concat (
 abbrev pub start_line : Start → List ℕ
 start_line s = start_text s.id s.class (decimal s.at) (decimal s.«end»)
 
--- a class's counters
-abbrev pub count_line : ℕ → Counters → List ℕ
-count_line class c = concat (
+-- the front of a class's counters: the class, how many frames it took, and how many frames and octets it sent
+abbrev pub sent_text : ℕ → Counters → List ℕ
+sent_text class c = concat (
     codes "count class " ∷ decimal class
     ∷ codes " accepted " ∷ decimal c.accepted
     ∷ codes " sent " ∷ decimal c.sent
     ∷ codes " octets " ∷ decimal c.sent_octets
-    ∷ codes " runt " ∷ decimal (slice_index c.dropped 0)
+    ∷ [])
+
+-- how many frames a class dropped by their length
+abbrev pub dropped_text : Counters → List ℕ
+dropped_text c = concat (
+    codes " runt " ∷ decimal (slice_index c.dropped 0)
     ∷ codes " too-long " ∷ decimal (slice_index c.dropped 1)
     ∷ codes " over-sdu " ∷ decimal (slice_index c.dropped 2)
-    ∷ codes " full " ∷ decimal (slice_index c.dropped 3)
+    ∷ [])
+
+-- the end of a class's counters: how many frames found no room, and how many wait
+abbrev pub waiting_text : Counters → List ℕ
+waiting_text c = concat (
+    codes " full " ∷ decimal (slice_index c.dropped 3)
     ∷ codes " waiting " ∷ decimal c.waiting
     ∷ codes "\n" ∷ [])
+
+-- a class's counters
+abbrev pub count_line : ℕ → Counters → List ℕ
+count_line class c = sent_text class c ++ (dropped_text c ++ waiting_text c)
 
 -- the lines of an answer; a count of no class has none
 abbrev pub answer_lines : Answer → List ℕ

@@ -7,11 +7,15 @@
 mod event_lines;
 mod lines;
 mod names;
+mod report_lines;
 mod reports;
 mod span;
 mod text_writer;
 
 pub use decimal_text::NearNumbers;
-pub use lines::{put_answer, put_arrival, put_installation, put_left, put_start, put_tc_fault};
+pub use lines::{
+    put_answer, put_arrival, put_counters, put_installation, put_left, put_start, put_tc_fault,
+};
 pub use octet_writer::{WriteFault, put};
+pub use reports::put_report;
 pub use text_writer::{Part, put_parts};

@@ -6,6 +6,7 @@ ghost use Rattle.octet_writer.specs.Writes.{Writes};
 
 use crate::event_lines::{DroppedLine, QueuedLine, StartLine, UsualStartLine};
 use crate::names::{refused_name, refused_number, tc_fault_name, tc_fault_place, tc_fault_word};
+use crate::report_lines::{DroppedText, SentText, WaitingText};
 use crate::reports::put_report;
 use crate::text_writer::{Part, put_parts};
 use abstract_port::{Answer, Counters, Dropped, Refused, Start};
@@ -115,34 +116,18 @@ pub fn put_start<W: PutLine>(
     writer.put_line(&UsualStartLine { start, moments })
 }
 
-fn put_counters<W: Write>(writer: &mut W, class: u8, counters: &Counters) -> Result<(), WriteFault>
+/// Writes the line of what a class has counted: frames, and the octets of those that started. At a fault a prefix of
+/// it is written.
+pub fn put_counters<W: PutLine>(
+    writer: &mut W,
+    class: u8,
+    counters: &Counters,
+) -> Result<(), WriteFault>
     ensures { Writes result (W.contents writer.old) (W.contents writer.new) (count_line class counters.now) }
 {
-    let [runt, too_long, over_sdu, full] = counters.dropped;
-    put_parts(
-        writer,
-        &[
-            Part::Text(b"count class "),
-            Part::Number(u128::from(class)),
-            Part::Text(b" accepted "),
-            Part::Number(u128::from(counters.accepted)),
-            Part::Text(b" sent "),
-            Part::Number(u128::from(counters.sent)),
-            Part::Text(b" octets "),
-            Part::Number(u128::from(counters.sent_octets)),
-            Part::Text(b" runt "),
-            Part::Number(u128::from(runt)),
-            Part::Text(b" too-long "),
-            Part::Number(u128::from(too_long)),
-            Part::Text(b" over-sdu "),
-            Part::Number(u128::from(over_sdu)),
-            Part::Text(b" full "),
-            Part::Number(u128::from(full)),
-            Part::Text(b" waiting "),
-            Part::Number(u128::from(counters.waiting)),
-            Part::Text(b"\n"),
-        ],
-    )
+    writer.put_line(&SentText { class, counters })?;
+    writer.put_line(&DroppedText { counters })?;
+    writer.put_line(&WaitingText { counters })
 }
 
 /// Writes the lines of an answer. At a fault a prefix of them is written.
@@ -156,7 +141,7 @@ pub fn put_answer<W: PutLine>(writer: &mut W, answer: &Answer) -> Result<(), Wri
         Answer::Refused(why) => put_refused(writer, *why),
         Answer::Start(start) => put_any_start(writer, start),
         Answer::Backward => put(writer, b"backward\n"),
-        Answer::Report(report) => put_report(writer, *report),
+        Answer::Report(report) => put_report(writer, report),
         Answer::Counters { class, counters } => put_counters(writer, *class, counters),
         Answer::BadClass => Ok(()),
     }

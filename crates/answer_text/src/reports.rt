@@ -1,13 +1,14 @@
 //! The lines of a report.
 
-ghost use Rattle.answer_text.specs.Reports.{class_text, num_tc_text, now_line, map_text, range_text, ranges_text, map_and_ranges_line, classes_line, open_text, list_text, installed_text, schedule_line, report_lines};
+ghost use Rattle.answer_text.specs.Reports.{class_text, num_tc_text, map_text, range_text, ranges_text, map_and_ranges_line, classes_line, open_text, list_text, installed_text, schedule_line, report_lines};
 ghost use Rattle.octet_writer.specs.Writes.{Writes};
 
+use crate::report_lines::NowLine;
 use crate::text_writer::{Part, put_parts};
 use abstract_port::Report;
 use class_map::{ClassMap, Queues};
 use list_config::Installed;
-use octet_writer::{WriteFault, put};
+use octet_writer::{PutLine, WriteFault, put};
 use std::io::Write;
 use wire_time::PRIORITIES;
 
@@ -158,32 +159,19 @@ fn put_schedule<W: Write>(
 {
     match schedule {
         Some(installed) => put_installed(writer, place, installed),
-        None => put_parts(writer, &[Part::Text(place), Part::Text(b" none\n")]),
+        None => {
+            put(writer, place)?;
+            put(writer, b" none\n")
+        }
     }
 }
 
-fn put_now<W: Write>(writer: &mut W, report: Report) -> Result<(), WriteFault>
-    ensures { Writes result (W.contents writer.old) (W.contents writer.new) (now_line report) }
+/// Writes the five lines of a report: its moments in picoseconds, and the times of a list in nanoseconds. At a fault a
+/// prefix of them is written.
+pub fn put_report<W: PutLine>(writer: &mut W, report: &Report) -> Result<(), WriteFault>
+    ensures { Writes result (W.contents writer.old) (W.contents writer.new) (report_lines report.entry.now) }
 {
-    put_parts(
-        writer,
-        &[
-            Part::Text(b"report now "),
-            Part::Number(report.now),
-            Part::Text(b" mask "),
-            Part::Mask(report.mask),
-            Part::Text(b" no-class "),
-            Part::Number(u128::from(report.no_class)),
-            Part::Text(b"\n"),
-        ],
-    )
-}
-
-/// Writes the five lines of a report. At a fault a prefix of them is written.
-pub(crate) fn put_report<W: Write>(writer: &mut W, report: Report) -> Result<(), WriteFault>
-    ensures { Writes result (W.contents writer.old) (W.contents writer.new) (report_lines report) }
-{
-    put_now(writer, report)?;
+    writer.put_line(&NowLine { report })?;
     put_classes(writer, &report.classes)?;
     put_schedule(writer, b"in-force", &report.in_force)?;
     put_schedule(writer, b"pending", &report.pending)?;

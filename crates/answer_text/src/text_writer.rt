@@ -2,7 +2,7 @@
 
 ghost use Rattle.std.specs.Prelude.{◌≡◌, ◌<◌, ◌++◌, decimal, true};
 ghost use Rattle.std.specs.List.{flat_map};
-ghost use Rattle.answer_text.specs.Part.{hex_digit, text_of};
+ghost use Rattle.answer_text.specs.Part.{hex_digit, mask_text, text_of};
 ghost use Rattle.octet_writer.specs.Writes.{Writes};
 
 use arrayvec::ArrayVec;
@@ -29,6 +29,13 @@ fn hex_digit(value: u8) -> u8
     }
 }
 
+/// The two hexadecimal digits of a mask.
+pub(crate) fn mask_digits(mask: u8) -> [u8; 2]
+    ensures { result ≡ mask_text mask }
+{
+    [hex_digit(mask / 16), hex_digit(mask % 16)]
+}
+
 /// A part of a line.
 #[derive(Clone, Copy)]
 pub enum Part<'a> {
@@ -46,7 +53,7 @@ fn put_part<W: Write>(writer: &mut W, part: Part<'_>) -> Result<(), WriteFault>
     match part {
         Part::Text(text) => put(writer, text),
         Part::Number(number) => put_number(writer, number),
-        Part::Mask(mask) => put(writer, &[hex_digit(mask / 16), hex_digit(mask % 16)]),
+        Part::Mask(mask) => put(writer, &mask_digits(mask)),
     }
 }
 
@@ -77,10 +84,7 @@ fn add_part(line: &mut LineBuffer, part: Part<'_>) -> bool
             line.try_extend_from_slice(buffer.format(number).as_bytes())
                 .is_ok()
         }
-        Part::Mask(mask) => {
-            line.try_extend_from_slice(&[hex_digit(mask / 16), hex_digit(mask % 16)])
-                .is_ok()
-        }
+        Part::Mask(mask) => line.try_extend_from_slice(&mask_digits(mask)).is_ok(),
     }
 }
 
