@@ -1,8 +1,8 @@
 //! Why a capture can't be read or written.
 
-/// Why there is no capture, or no next record of it. Of a file header the first four are found in this order, of a record
-/// the next four: `ShortRecord` where the record header ends early, `LongRecord`, `BadFraction`, `TooManyRecords`, and
-/// `ShortRecord` where the octets end early.
+/// Why there is no capture, or no next record of it. Of a file header the first four are found in this order, of a
+/// record the next four: `ShortRecord` where the record header ends early, `LongRecord`, `BadFraction`,
+/// `TooManyRecords`, and `ShortRecord` where the octets end early.
 #[derive(Clone, Copy, Debug, PartialEq, Eq)]
 pub enum CapFault {
     /// The input ends before the 24 octets of the file header.

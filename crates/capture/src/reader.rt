@@ -25,8 +25,8 @@ pub enum End {
 
 /// A capture's records, one after another.
 ///
-/// What follows the header is read into one buffer, made once, with room for one record. A read is made only where the octets
-/// in hand don't hold the next record whole; it asks for as much as the buffer then has room for.
+/// What follows the header is read into one buffer, made once, with room for one record. A read is made only where the
+/// octets in hand don't hold the next record whole; it asks for as much as the buffer then has room for.
 #[derive(Drop)]
 pub struct CaptureReader<R, A: Allocator = Global> {
     source: R,
@@ -95,8 +95,8 @@ fn read_record<R: Read, A: Allocator>(
     Ok(Some(header))
 }
 
-/// The header of the next record, which has then been given, where it stands whole in hand, has no fault and is little-endian, as most are.
-/// Else nothing changes.
+/// The header of the next record, which has then been given, where it stands whole in hand, has no fault and is
+/// little-endian, as most are. Else nothing changes.
 #[inline(always)]
 fn take_whole<A: Allocator>(
     ahead: &mut ReadAhead<A>,
@@ -155,8 +155,8 @@ impl<R: Read, A: Allocator> CaptureReader<R, A> {
         })
     }
 
-    /// The header of the next record, which has then been given, where that stands whole in hand and can be told at once. Else nothing
-    /// changes, and `advance` goes on.
+    /// The header of the next record, which has then been given, where that stands whole in hand and can be told at
+    /// once. Else nothing changes, and `advance` goes on.
     #[inline(always)]
     pub fn take_in_hand(&mut self) -> Option<RecordHeader>
         ensures next { IfSome result (λ header. Next R.remaining (left self.old) (shown self.new (Ok (Some header))) (left self.new)) }

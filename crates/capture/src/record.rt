@@ -34,9 +34,9 @@ fn tag_priority(octets: &[u8]) -> Option<u8>
 
 /// The frame that a record is of.
 ///
-/// Its length is the longer of the two lengths. It is tagged where at least 16 octets are captured and 81 00 stands after the
-/// addresses; its priority is then the three high bits after that. Any other frame has priority 0, also one that was captured
-/// up to its tag alone and one with a service tag (88 a8).
+/// Its length is the longer of the two lengths. It is tagged where at least 16 octets are captured and 81 00 stands
+/// after the addresses; its priority is then the three high bits after that. Any other frame has priority 0, also one
+/// that was captured up to its tag alone and one with a service tag (88 a8).
 pub fn frame_of(record: &Record<'_>, id: u64) -> Frame
     ensures { result ≡ frame_of (entry record.now) id }
 {

@@ -87,8 +87,8 @@ impl CaptureWriter {
         Ok(CaptureWriter { failed: false })
     }
 
-    /// Writes one record: the moment in picoseconds, rounded down to a nanosecond, the octets that the frame had, and those
-    /// captured. Once a write has failed, this call and each later one fails, and they write nothing more.
+    /// Writes one record: the moment in picoseconds, rounded down to a nanosecond, the octets that the frame had, and
+    /// those captured. Once a write has failed, this call and each later one fails, and they write nothing more.
     pub fn put<W: PutLine>(
         &mut self,
         writer: &mut W,

@@ -17,8 +17,8 @@ use std::io::Write;
 use summary::Summary;
 use wire_time::CLASSES;
 
-/// The moment up to which a summary counts, in picoseconds: that of the port now, where a moment to run to is given, and else the end of the
-/// last frame.
+/// The moment up to which a summary counts, in picoseconds: that of the port now, where a moment to run to is given,
+/// and else the end of the last frame.
 fn counted_to(until: Option<u128>, last: u128, now: u128) -> u128
     requires { now ≤ greatest_moment }
     ensures moment { result ≡ counted_to until last now }
@@ -60,8 +60,8 @@ fn put_summary<A: Allocator, V: Write>(
     summary.put_wire(moment, report)
 }
 
-/// Writes how many frames each class still has, where it has some, and then the summary, where one is wanted, up to the moment of the port where
-/// a moment to run to is given, and else to the end of the last frame.
+/// Writes how many frames each class still has, where it has some, and then the summary, where one is wanted, up to
+/// the moment of the port where a moment to run to is given, and else to the end of the last frame.
 pub(crate) fn put_end<A: Allocator, V: Write>(
     sending: &Sending<A>,
     until: Option<u128>,

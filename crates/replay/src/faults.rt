@@ -21,8 +21,9 @@ pub enum ReplayInput {
     /// A line of the script has a fault. Nothing was written.
     #[error("{0}")]
     Script(BadLine),
-    /// The file header of the capture (with number 0), or its record of this number from 0, has this fault. At a fault of the header
-    /// nothing was written, at one of a record all of what the records before it, the whole script and its end give.
+    /// The file header of the capture (with number 0), or its record of this number from 0, has this fault. At a fault
+    /// of the header nothing was written, at one of a record all of what the records before it, the whole script and
+    /// its end give.
     #[error("record {0} of the capture: {1:?}")]
     Capture(u32, CapFault),
 }

@@ -94,7 +94,8 @@ pub fn line_by<A: Allocator>(
     Some(line)
 }
 
-/// Answers the lines up to a moment that are to come. Who watches is called for each that begins with `tc` and changes nothing.
+/// Answers the lines up to a moment that are to come. Who watches is called for each that begins with `tc` and changes
+/// nothing.
 #[inline(always)]
 pub(crate) fn run_lines<A: Allocator, B: Allocator, W: PutLine, V: PutLine, P: Watch>(
     sending: &mut Sending<A>,

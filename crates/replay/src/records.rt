@@ -52,9 +52,10 @@ pub fn found(number: u32, fault: CapFault) -> Result<Option<(u32, CapFault)>, St
     }
 }
 
-/// Lets out what was written where no record stands whole in hand, so that whoever waits for it has it before more of the capture is waited
-/// for: the departures first, so that the record of a start that is reported can be read.
-#[inline(always)]
+/// Lets out what was written where no record stands whole in hand, so that whoever waits for it has it before more of
+/// the capture is waited for: the departures first, so that the record of a start that is reported can be read. Apart,
+/// since one mostly stands whole in hand.
+#[inline(never)]
 fn let_out_before<C: Allocator, R: Read, W: Write, V: Write>(
     records: &CaptureReader<R, C>,
     departures: &mut W,
@@ -72,26 +73,6 @@ fn let_out_before<C: Allocator, R: Read, W: Write, V: Write>(
         return Err(Stop::Write);
     }
     Ok(())
-}
-
-/// Goes on to the next record of any kind, once what was written is let out where none stands whole in hand; its header. Apart, since one
-/// mostly stands whole in hand.
-#[inline(never)]
-fn advance_apart<C: Allocator, R: Read, W: Write, V: Write>(
-    records: &mut CaptureReader<R, C>,
-    departures: &mut W,
-    report: &mut V,
-) -> Result<Result<Option<RecordHeader>, CapFault>, Stop>
-    ensures report { Holds (V.contents report.old) (V.contents report.new) }
-    ensures departures { Holds (W.contents departures.old) (W.contents departures.new) }
-    ensures fault { IfErr result (λ fault. fault ≡ Stops.Write) }
-    ensures in_hand { holds_record (left records.old).format (left records.old).in_hand ≡ true → (report.new ≡ report.old) × (departures.new ≡ departures.old) }
-    ensures next { IfOk result (λ answer. Next R.remaining (left records.old) (shown records.new answer) (left records.new)) }
-    ensures few { IfOk result (λ answer. IfOk answer (λ o. IsSome o → (left records.old).number < MAX_RECORDS)) }
-    ensures given { IfOk result (λ answer. IfOk answer (λ o. IfSome o (HasGiven records.new))) }
-{
-    let_out_before(records, departures, report)?;
-    Ok(records.advance())
 }
 
 /// Goes on to the next record, once what was written is let out where none stands whole in hand; its header.
@@ -112,12 +93,13 @@ fn advance<C: Allocator, R: Read, W: Write, V: Write>(
     if let Some(header) = records.take_in_hand() {
         return Ok(Ok(Some(header)));
     }
-    advance_apart(records, departures, report)
+    let_out_before(records, departures, report)?;
+    Ok(records.advance())
 }
 
-/// Runs the records that are to come, each after the lines up to its moment, and calls who watches for each; later lines are left. What was
-/// answered is let out before more of the capture is waited for. The number of the record at which the capture ends with a fault, and the
-/// fault.
+/// Runs the records that are to come, each after the lines up to its moment, and calls who watches for each; later
+/// lines are left. What was answered is let out before more of the capture is waited for. The number of the record at
+/// which the capture ends with a fault, and the fault.
 pub(crate) fn run_records<
     A: Allocator + Clone,
     B: Allocator,

@@ -15,7 +15,8 @@ use script::{Settings, Watch};
 use std::alloc::Allocator;
 use std::io::{Read, Write};
 
-/// Lets out what was written, the report first, also before a fault, unless a write failed already: no write is tried again.
+/// Lets out what was written, the report first, also before a fault, unless a write failed already: no write is tried
+/// again.
 fn let_out<W: Write + Drop, V: Write + Drop, A: Allocator, B: Allocator>(
     run: Result<(), ReplayFault>,
     report: &mut BufWriter<W, A>,
@@ -57,8 +58,9 @@ pub struct Outputs<W: Write + Drop, V: Write + Drop, A: Allocator, B: Allocator>
     pub departures: BufWriter<V, B>,
 }
 
-/// Runs a script and a capture with settings, the text of a fault on `errors`; and gives the writers of the report and of the
-/// output capture back. What was written is let out before a fault is reported, the report first; after a failed write no other is tried.
+/// Runs a script and a capture with settings, the text of a fault on `errors`; and gives the writers of the report and
+/// of the output capture back. What was written is let out before a fault is reported, the report first; after a
+/// failed write no other is tried.
 pub fn answer_replay<
     A: Allocator,
     B: Allocator,

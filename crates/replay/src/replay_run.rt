@@ -34,7 +34,8 @@ pub fn is_too_late(until: Option<u128>) -> bool
     }
 }
 
-/// The moment to run to after both inputs, in picoseconds: the one that is given, or else the last that a capture can say.
+/// The moment to run to after both inputs, in picoseconds: the one that is given, or else the last that a capture can
+/// say.
 pub fn run_end(until: Option<u128>) -> u128
     requires { is_too_late until ≡ false }
     ensures moment { result ≡ run_end until }
@@ -67,7 +68,8 @@ fn run_on<A: Allocator, W: PutLine, V: PutLine>(
     Ok(())
 }
 
-/// Answers the lines that are left, and runs on. Who watches is called for each line that begins with `tc` and changes nothing.
+/// Answers the lines that are left, and runs on. Who watches is called for each line that begins with `tc` and changes
+/// nothing.
 fn finish<A: Allocator, B: Allocator, W: PutLine, V: PutLine, P: Watch>(
     sending: &mut Sending<A>,
     script: &KeptScript<B>,
@@ -173,7 +175,8 @@ pub fn open_capture<A: Allocator, R: Read + Drop>(
     }
 }
 
-/// Makes a new port with its store, beside what is to be seen of it, and then writes the file header of the output capture.
+/// Makes a new port with its store, beside what is to be seen of it, and then writes the file header of the output
+/// capture.
 fn begin<A: Allocator + Clone, W: Write>(
     alloc: &A,
     settings: Settings,
@@ -217,20 +220,22 @@ fn begin<A: Allocator + Clone, W: Write>(
     }
 }
 
-/// Runs a script and a capture through a new port, by moment: the answers to both go to the report, and the frames that start into
-/// the output capture.
+/// Runs a script and a capture through a new port, by moment: the answers to both go to the report, and the frames
+/// that start into the output capture.
 ///
-/// The memory of a summary is taken first. Then the script is read whole, and nothing is written where it has a fault; then the file header of the capture, and nothing is
-/// written where that has one. Then come its records, each taken when its turn comes, after the lines up to its moment, which is the
-/// greater of its own and that of the record before. After the last record, also one after which the capture ends with a fault, come
-/// the other lines. Then the port runs on, to the moment of the settings, or where they have none until no frame can start any more; how many
-/// frames each class still has comes last, and a summary where the settings want one. The records of the frames that start carry the moment
-/// that `stamp` says.
+/// The memory of a summary is taken first. Then the script is read whole, and nothing is written where it has a fault;
+/// then the file header of the capture, and nothing is written where that has one. Then come its records, each taken
+/// when its turn comes, after the lines up to its moment, which is the greater of its own and that of the record
+/// before. After the last record, also one after which the capture ends with a fault, come the other lines. Then the
+/// port runs on, to the moment of the settings, or where they have none until no frame can start any more; how many
+/// frames each class still has comes last, and a summary where the settings want one. The records of the frames that
+/// start carry the moment that `stamp` says.
 ///
-/// What was answered is let out, the departures first, before more of the capture is waited for. A read or a write that fails, or takes nothing, isn't
-/// tried again. Nothing that is kept grows with the capture: of a script its
-/// lines are kept, and of a capture the octets of the frames that wait, and where a summary is wanted when they came. Who watches is called for
-/// each record once it is taken, for a malformed line of the script, and for each line that begins with `tc` and changes nothing.
+/// What was answered is let out, the departures first, before more of the capture is waited for. A read or a write
+/// that fails, or takes nothing, isn't tried again. Nothing that is kept grows with the capture: of a script its lines
+/// are kept, and of a capture the octets of the frames that wait, and where a summary is wanted when they came. Who
+/// watches is called for each record once it is taken, for a malformed line of the script, and for each line that
+/// begins with `tc` and changes nothing.
 pub fn replay<A: Allocator, R: Read + Drop, S: Read + Drop, W: PutLine, V: PutLine, P: Watch>(
     alloc: A,
     script: R,

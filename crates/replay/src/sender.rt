@@ -48,8 +48,8 @@ pub(crate) struct Sending<A: Allocator = Global> {
     pub leaving: Leaving,
 }
 
-/// Reports a clock event of a moment that has passed, noted where a summary is wanted. At a fault a prefix of it is written.
-/// Apart, since an answer is large.
+/// Reports a clock event of a moment that has passed, noted where a summary is wanted. At a fault a prefix of it is
+/// written. Apart, since an answer is large.
 #[inline(never)]
 fn put_backward<A: Allocator, V: PutLine>(
     summary: &mut Option<Summary<A>>,
@@ -144,7 +144,8 @@ fn put_record<A: Allocator, W: PutLine>(
     Ok(())
 }
 
-/// Reports a start, as an answer to an event that is taken at this moment, writes the first record that is kept of its class, and gives it up.
+/// Reports a start, as an answer to an event that is taken at this moment, writes the first record that is kept of its
+/// class, and gives it up.
 #[inline(always)]
 fn put_start<A: Allocator, W: PutLine, V: PutLine>(
     sending: &mut Sending<A>,
@@ -202,29 +203,6 @@ fn put_each_start<A: Allocator, W: PutLine, V: PutLine>(
     }
 }
 
-/// Writes the starts before `until`, as they come, where it is not known that there are none.
-#[inline(always)]
-fn put_starts<A: Allocator, W: PutLine, V: PutLine>(
-    sending: &mut Sending<A>,
-    until: u128,
-    departures: &mut W,
-    report: &mut V,
-) -> Result<(), Stop>
-    requires later { sending.old.port.port.now ≤ until }
-    requires within { until ≤ CAPTURE_END }
-    requires together { IsTogether (state sending.old (V.contents report.old) (W.contents departures.old)) }
-    ensures together { OnOk result (IsTogether (state sending.new (V.contents report.new) (W.contents departures.new))) }
-    ensures starts { (origin : Origin) → Keeps origin (state sending.old (V.contents report.old) (W.contents departures.old)) →
-        AnswersStarts origin result until (state sending.old (V.contents report.old) (W.contents departures.old)) (state sending.new (V.contents report.new) (W.contents departures.new)) }
-    ensures last { OnOk result (sending.new.leaving.last ≡ last_end sending.old.leaving.last (starts_until sending.old.port.port until).0) }
-    ensures fault { IfErr result (λ fault. fault ≡ Stops.Write) }
-{
-    if sending.port.rest_until(until) {
-        return Ok(());
-    }
-    put_each_start(sending, until, departures, report)
-}
-
 /// Takes a clock event, and writes what is reported of it.
 #[inline(always)]
 pub(crate) fn put_clock<A: Allocator, W: PutLine, V: PutLine>(
@@ -246,7 +224,10 @@ pub(crate) fn put_clock<A: Allocator, W: PutLine, V: PutLine>(
         put_backward(&mut sending.summary, now, report)?;
         return Ok(());
     }
-    put_starts(sending, moment, departures, report)
+    if sending.port.rest_until(moment) {
+        return Ok(());
+    }
+    put_each_start(sending, moment, departures, report)
 }
 
 /// A frame arrives, and where it is queued its octets are kept.

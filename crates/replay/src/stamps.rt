@@ -16,7 +16,8 @@ use wire_time::Rate;
 pub enum Stamp {
     /// That at which the frame starts.
     Start,
-    /// That at which its last octet has been sent: its end without the gap after it. A moment that no capture can say is the last that one can.
+    /// That at which its last octet has been sent: its end without the gap after it. A moment that no capture can say
+    /// is the last that one can.
     End,
 }
 
@@ -40,7 +41,8 @@ pub(crate) fn stamping_at(stamp: Stamp, rate: Rate) -> Stamping
     Stamping { stamp, gap }
 }
 
-/// The moment at which the last octet of a frame has been sent, in picoseconds. Apart, since mostly the start is asked for.
+/// The moment at which the last octet of a frame has been sent, in picoseconds. Apart, since mostly the start is asked
+/// for.
 #[inline(never)]
 fn last_octet(gap: u128, end: u128) -> u128
     ensures { result ≡ min (end - gap) (CAPTURE_END - 1) }
