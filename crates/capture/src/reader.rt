@@ -216,22 +216,10 @@ impl<R: Read, A: Allocator> CaptureReader<R, A> {
         }
     }
 
-    /// Goes on to the next record, and answers its header: `next` without the loan of the octets, which `lend` gives.
-    #[inline(always)]
-    pub fn advance(&mut self) -> Result<Option<RecordHeader>, CapFault>
-        ensures next { Next R.remaining (left self.old) (shown self.new result) (left self.new) }
-        ensures few { IfOk result (λ o. IsSome o → (left self.old).number < MAX_RECORDS) }
-        ensures given { IfOk result (λ o. IfSome o (HasGiven self.new)) }
-    {
-        if let Some(header) = self.take_in_hand() {
-            return Ok(Some(header));
-        }
-        self.advance_apart()
-    }
-
-    /// Goes on to the next record of any kind. Apart, since a record mostly stands whole in hand.
+    /// Goes on to the next record, and answers its header: `next` without the loan of the octets, which `lend` gives. Apart, since
+    /// a record mostly stands whole in hand, and is taken there (`take_in_hand`).
     #[inline(never)]
-    fn advance_apart(&mut self) -> Result<Option<RecordHeader>, CapFault>
+    pub fn advance(&mut self) -> Result<Option<RecordHeader>, CapFault>
         ensures next { Next R.remaining (left self.old) (shown self.new result) (left self.new) }
         ensures few { IfOk result (λ o. IsSome o → (left self.old).number < MAX_RECORDS) }
         ensures given { IfOk result (λ o. IfSome o (HasGiven self.new)) }

@@ -2,7 +2,7 @@ use Rattle.std.proofs.Common.{◌<◌, ◌^◌, refl, ap, rules, Err}
 use Rattle.std.specs.Io.KnownBytes.{prepend_known}
 use Rattle.capture.specs.Words.{held}
 use Rattle.capture.proofs.NextLemmas.{entry_shown, length-given, early_moment}
-use Rattle.capture.proofs.reader.CaptureReader.advance_apart.Goals as goal
+use Rattle.capture.proofs.reader.CaptureReader.advance.Goals as goal
 
 pub returns-in-Err-clause-next : goal.returns-in-Err-clause-next
 returns-in-Err-clause-next g c =
