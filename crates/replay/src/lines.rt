@@ -11,6 +11,7 @@ use abstract_port::Event;
 use octet_writer::PutLine;
 use script::{Watch, put_answers, put_tc};
 use std::alloc::Allocator;
+use tc_reader::CommandPlace;
 use tc_reader::laws::one_reader;
 
 /// Answers a line of the script. Who watches is called where it begins with `tc` and changes nothing.
@@ -34,12 +35,14 @@ fn put_line<A: Allocator, B: Allocator, W: PutLine, V: PutLine, P: Watch>(
     match line {
         KeptLine::Clock(moment) => return put_clock(sending, moment, departures, report),
         KeptLine::Query => put_answers(
+            &mut sending.leaving.moments,
             &mut sending.port,
             &mut sending.summary,
             &Event::Query,
             report,
         )?,
         KeptLine::Count(class) => put_answers(
+            &mut sending.leaving.moments,
             &mut sending.port,
             &mut sending.summary,
             &Event::Count(class),
@@ -47,6 +50,7 @@ fn put_line<A: Allocator, B: Allocator, W: PutLine, V: PutLine, P: Watch>(
         )?,
         KeptLine::Tc { start, end, number } => {
             put_tc(
+                &mut CommandPlace::new(),
                 &mut sending.port,
                 &mut sending.summary,
                 number,

@@ -1,12 +1,15 @@
 -- What is written and seen of one answer.
-use Rattle.std.proofs.Common.{◌≡◌, ℕ, List, [], ◌∷◌, Option, Some, None, Result, Ok, Err, OnOk, refl, sym, ap, ◌∙◌, subst, append-nil}
+use Rattle.std.proofs.Common.{◌≡◌, ◌≤◌, ◌<◌, ◌⊎◌, inl, inr, ℕ, arith, List, [], ◌∷◌, Option, Some, None, Result, Ok, Err, OnOk, refl, sym, ap, ◌∙◌, subst, append-nil}
+use Rattle.std.proofs.lemmas.Bool.{lt-ltb, le-ltb}
 use denote.Bor.{Bor}
-use Rattle.script.specs.Words.{AbstractPort, answers_to, command_answer, Answer, Command, Event, answer_lines, Writes, HasFewVisits, IsAnswered, PortState, Request, NoCommand, lines_of, responses_to, TcFault, Observed, seen_all, noted_at}
+use Rattle.script.specs.Words.{greatest_moment, AbstractPort, settled, answers_to, IsSoundPort, Clock, Asks, command_answer, Answer, Command, Event, answer_lines, Writes, HasFewVisits, IsAnswered, PortState, Request, NoCommand, lines_of, responses_to, TcFault, Observed, seen_all, noted_at}
 use Rattle.abstract_port.specs.AbstractPort.{installs}
 use Rattle.abstract_port.specs.declared.Event.TheVariants.{Install}
 use Rattle.abstract_port.specs.declared.Refused.{Refused}
 use Rattle.answer_text.specs.Lines.{tc_fault_line}
+use Rattle.abstract_port.specs.declared.Answer.TheVariants as Answered
 use Rattle.script.proofs.OutputLaws.{lines_of_answers}
+use Rattle.script.proofs.StartsLaws.{settled-sound}
 use Rattle.summary.specs.Observed.{seen}
 use Rattle.summary.specs.Wanted.{noted}
 
@@ -42,3 +45,23 @@ command_unseen command p None = refl
 -- a fault's line is all that is written of it
 pub fault_written : {T E : Type 0} (r : Result T E) (old new : Option (List ℕ)) (fault : TcFault) (p : AbstractPort) → Writes r old new (tc_fault_line fault) → Writes r old new (lines_of (responses_to (NoCommand fault) p).0)
 fault_written r old new fault p w = subst (λ text. Writes r old new text) (sym (append-nil (tc_fault_line fault))) w
+
+-- one answer that leaves the port as it is, and of which nothing is seen
+pub one_unseen : {T E : Type 0} (r : Result T E) (old new : Option (List ℕ)) (event : Event) (p : PortState) (answer : Answer) → answers_to event p.port ≡ (answer ∷ [], p.port) → ((o : Observed) → o ≡ seen p.port.now answer o)
+    → IsSoundPort p.port → Writes r old new (answer_lines answer) → (o : Option Observed) → IsAnswered (Asks event) r old new p p o o
+one_unseen r old new event p answer is passed sound w o = record {
+  text = subst (λ (x : List Answer × AbstractPort). Writes r old new (lines_of_answers x.0)) (sym is) (one_written r old new answer answer refl w);
+  port = always r (sym (settled-sound p.port sound) ∙ ap (λ (x : List Answer × AbstractPort). settled x.1) (sym is));
+  seen = always r (by o);
+  sound = always r sound;
+  few = omega arith;
+}
+  where
+    by : (o : Option Observed) → o ≡ noted_at event p.port o
+    by None = refl
+    by (Some s) = ap Some (passed s ∙ ap (λ (x : List Answer × AbstractPort). seen_all p.port.now x.0 s) (sym is))
+
+-- a clock event that goes back, or over the greatest moment
+pub clock_refused : (m : ℕ) (p : AbstractPort) → ((p.now ≤ m) × (greatest_moment < m)) ⊎ (m < p.now) → answers_to (Clock m) p ≡ (Answered.Backward ∷ [], p)
+clock_refused m p (inl late) = rw (le-ltb m p.now late.0, lt-ltb greatest_moment m late.1) refl
+clock_refused m p (inr back) = rw (lt-ltb m p.now back) refl

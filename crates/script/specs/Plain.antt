@@ -1,5 +1,5 @@
 -- Lines as most are written, at the front of octets.
-use Rattle.std.specs.Prelude.{◌≡◌, ◌∷◌, ◌++◌, [], ℕ, List, Bool, true, false, Option, Some, Ok, Result, codes, not, take, ◌&&◌, ◌==◌}
+use Rattle.std.specs.Prelude.{◌≡◌, ◌∷◌, ◌++◌, [], ℕ, List, Bool, true, false, Some, Ok, Result, codes, not, take, ◌&&◌, ◌==◌}
 use Rattle.std.specs.List.{list_all}
 use Rattle.abstract_port.specs.declared.Event.{Event}
 use Rattle.line_reader.specs.LineReader.{EndsLine}

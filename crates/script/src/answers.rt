@@ -1,14 +1,14 @@
 //! What a port answers to the lines of a script, written as it comes.
 
-ghost use Rattle.std.specs.Prelude.{ℕ, List, Result, ◌≡◌, ◌<◌, ◌≤◌, length, OnOk, true, false};
-ghost use Rattle.script.specs.Words.{queue_of, IsSoundPort, Command, Writes, HasFewVisits, IsAnswered, IsSilent, Asks, tc_request, left_lines, left_text, IsReader, TcFault, greatest_moment, words_of};
+ghost use Rattle.std.specs.Prelude.{ℕ, List, Option, Result, ◌≡◌, ◌<◌, ◌≤◌, length, OnOk, true, false};
+ghost use Rattle.script.specs.Words.{queue_of, IsSoundPort, Command, Writes, HasFewVisits, IsAnswered, IsSilent, Asks, tc_request, left_lines, left_text, IsReader, TcFault, greatest_moment, words_of, Observed};
 ghost use Rattle.abstract_port.specs.declared.Event.TheVariants as Events;
 
 use crate::script_line::read_tc_into;
-use crate::watch::{Failure, Watch};
+use crate::watch::{Failure, Unwatched, Watch};
 use abstract_port::{Command, Event, Refused};
 use answer_text::{
-    NearNumbers, WriteFault, put_answer, put_arrival, put_installation, put_left, put_start,
+    NearNumbers, WriteFault, put, put_arrival, put_counters, put_report, put_installation, put_left, put_start,
     put_tc_fault,
 };
 use jumping::Jumping;
@@ -16,7 +16,7 @@ use octet_writer::PutLine;
 use port::Port;
 use std::alloc::Allocator;
 use std::io::Write;
-use summary::{Summary, note, note_start, note_verdict};
+use summary::{Summary, note_start, note_verdict};
 use tc_reader::{CommandPlace, TcFault};
 use wire_time::{CLASSES, Frame, MAX_MOMENT};
 
@@ -60,20 +60,6 @@ fn put_each_start<A: Allocator, W: PutLine>(
     Ok(())
 }
 
-/// Goes on to a moment where it is known at once that nothing starts before it, and answers whether. Nothing is reported then; else
-/// nothing changes.
-#[inline(always)]
-fn rest_until<A: Allocator>(port: &mut RunningPort<A>, until: u128) -> bool
-    requires later { port.old.port.now ≤ until }
-    requires within { until ≤ greatest_moment }
-    ensures rests { result ≡ true → IsSilent (Asks (Events.Clock until)) port.old port.new }
-    ensures kept { result ≡ false → port.new ≡ port.old }
-{
-    // For the prover: a call on a port says what holds of every port.
-    let _now = port.now();
-    port.rest_until(until)
-}
-
 /// Takes a clock event where it is known at once that nothing starts before its moment, and answers whether. Nothing is reported then;
 /// else nothing changes.
 #[inline(always)]
@@ -81,50 +67,13 @@ pub(crate) fn rests<A: Allocator>(port: &mut RunningPort<A>, event: &Event<'_>) 
     ensures rests { result ≡ true → IsSilent (Asks event.now) port.old port.new }
     ensures kept { result ≡ false → port.new ≡ port.old }
 {
-    match event {
-        Event::Clock(until) => {
-            port.now() <= *until && *until <= MAX_MOMENT && rest_until(port, *until)
-        }
-        _ => false,
+    let Event::Clock(until) = event else {
+        return false;
+    };
+    if *until < port.now() || *until > MAX_MOMENT {
+        return false;
     }
-}
-
-/// Runs to a moment and writes the starts before it, where it may be known that there are none.
-#[inline(always)]
-fn put_starts<A: Allocator, W: PutLine>(
-    port: &mut RunningPort<A>,
-    summary: &mut Option<Summary<A>>,
-    until: u128,
-    moments: &mut NearNumbers,
-    writer: &mut W,
-) -> Result<(), WriteFault>
-    requires later { port.old.port.now ≤ until }
-    requires within { until ≤ greatest_moment }
-    ensures { IsAnswered (Asks (Events.Clock until)) result (W.contents writer.old) (W.contents writer.new) port.old port.new summary.old summary.new }
-{
-    if rest_until(port, until) {
-        return Ok(());
-    }
-    put_each_start(port, summary, until, moments, writer)
-}
-
-/// Takes an event of any kind, and writes the answers to it as the port gives them. Apart, since its locals are large.
-#[inline(never)]
-fn put_each<A: Allocator, W: PutLine>(
-    port: &mut RunningPort<A>,
-    summary: &mut Option<Summary<A>>,
-    event: &Event<'_>,
-    writer: &mut W,
-) -> Result<(), WriteFault>
-    ensures { IsAnswered (Asks event.now) result (W.contents writer.old) (W.contents writer.new) port.old port.new summary.old summary.new }
-{
-    let now = port.now();
-    let mut asked = Some(*event);
-    while let Some(answer) = port.next_answer(&mut asked) {
-        note(summary, now, &answer);
-        put_answer(writer, &answer)?;
-    }
-    Ok(())
+    port.rest_until(*until)
 }
 
 /// Calls who watches where the command of the line of this number is refused.
@@ -165,16 +114,46 @@ fn put_clock<A: Allocator, W: PutLine>(
     ensures { IsAnswered (Asks (Events.Clock until)) result (W.contents writer.old) (W.contents writer.new) port.old port.new summary.old summary.new }
 {
     if port.now() <= until && until <= MAX_MOMENT {
-        put_starts(port, summary, until, moments, writer)
+        put_each_start(port, summary, until, moments, writer)
     } else {
-        put_each(port, summary, &Event::Clock(until), writer)
+        put(writer, b"backward\n")
     }
 }
 
-/// Takes an event, and writes the answers to it, as `put_answers` does. The digits of the moments of the last start are kept
-/// from event to event.
+/// Writes what the port shows and has. Nothing is seen of that.
+#[inline(never)]
+fn put_query<A: Allocator, W: PutLine>(
+    port: &mut RunningPort<A>,
+    writer: &mut W,
+) -> Result<(), WriteFault>
+    ensures { (seen : Option Observed) → IsAnswered (Asks Events.Query) result (W.contents writer.old) (W.contents writer.new) port.old port.new seen seen }
+{
+    // For the prover: a call on a port says what holds of every port.
+    let _now = port.now();
+    put_report(writer, &port.report())
+}
+
+/// Writes what a class has counted, if it is one. Nothing is seen of that.
+#[inline(never)]
+fn put_count<A: Allocator, W: PutLine>(
+    port: &RunningPort<A>,
+    class: u8,
+    writer: &mut W,
+) -> Result<(), WriteFault>
+    ensures { (seen : Option Observed) → IsAnswered (Asks (Events.Count class)) result (W.contents writer.old) (W.contents writer.new) port.now port.now seen seen }
+{
+    // For the prover: a call on a port says what holds of every port.
+    let _now = port.now();
+    if class >= CLASSES as u8 {
+        return Ok(());
+    }
+    put_counters(writer, class, &port.counters(class))
+}
+
+/// Takes an event, and writes the answers to it as they come, each noted where a summary is wanted. At a fault a prefix of them is
+/// written. The digits of the moments of the last start are kept from event to event.
 #[inline(always)]
-pub(crate) fn put_answers_by<A: Allocator, W: PutLine>(
+pub fn put_answers<A: Allocator, W: PutLine>(
     moments: &mut NearNumbers,
     port: &mut RunningPort<A>,
     summary: &mut Option<Summary<A>>,
@@ -186,22 +165,18 @@ pub(crate) fn put_answers_by<A: Allocator, W: PutLine>(
     match event {
         Event::Arrive(frame) => put_frame(port, summary, frame, writer),
         Event::Clock(until) => put_clock(port, summary, *until, moments, writer),
-        _ => put_each(port, summary, event, writer),
+        Event::Query => put_query(port, writer),
+        Event::Count(class) => put_count(port, *class, writer),
+        Event::Install(command) => put_install(
+            port,
+            summary,
+            0,
+            b"",
+            command,
+            writer,
+            &mut Unwatched,
+        ),
     }
-}
-
-/// Takes an event, and writes the answers to it as they come, each noted where a summary is wanted. At a fault a prefix of them is
-/// written.
-pub fn put_answers<A: Allocator, W: PutLine>(
-    port: &mut RunningPort<A>,
-    summary: &mut Option<Summary<A>>,
-    event: &Event<'_>,
-    writer: &mut W,
-) -> Result<(), WriteFault>
-    ensures { IsAnswered (Asks event.now) result (W.contents writer.old) (W.contents writer.new) port.old port.new summary.old summary.new }
-{
-    let mut moments = NearNumbers::new();
-    put_answers_by(&mut moments, port, summary, event, writer)
 }
 
 /// Gives the command that the line of this number is to the port and writes its answer, or writes why there is none.
@@ -227,10 +202,10 @@ fn put_command<A: Allocator, W: Write, H: Watch>(
     }
 }
 
-/// Takes a line that begins with `tc`, with its number, and writes what is reported of it, as `put_tc` does. The command is read into
-/// a place that is kept from line to line.
+/// Takes a line that begins with `tc`, with its number, and writes what is reported of it. At a fault a prefix of that is written.
+/// Who watches is called where the line changes nothing. The command is read into a place that is kept from line to line.
 #[inline(never)]
-pub(crate) fn put_tc_by<A: Allocator, W: Write, H: Watch>(
+pub fn put_tc<A: Allocator, W: Write, H: Watch>(
     place: &mut CommandPlace,
     port: &mut RunningPort<A>,
     summary: &mut Option<Summary<A>>,
@@ -246,26 +221,6 @@ pub(crate) fn put_tc_by<A: Allocator, W: Write, H: Watch>(
 {
     read_tc_into(line, place);
     put_command(port, summary, number, line, &place.answer, writer, watch)
-}
-
-/// Takes a line that begins with `tc`, with its number, and writes what is reported of it. At a fault a prefix of that is written.
-/// Who watches is called where the line changes nothing. Apart, since its locals are large.
-#[inline(never)]
-pub fn put_tc<A: Allocator, W: Write, H: Watch>(
-    port: &mut RunningPort<A>,
-    summary: &mut Option<Summary<A>>,
-    number: u32,
-    line: &[u8],
-    writer: &mut W,
-    watch: &mut H,
-) -> Result<(), WriteFault>
-    ensures answered { (read : List (List ℕ) → Result Command TcFault) → IsReader read →
-        IsAnswered (tc_request (read (words_of line.now))) result (W.contents writer.old) (W.contents writer.new) port.old port.new summary.old summary.new }
-    ensures sound { OnOk result (IsSoundPort port.new.port) }
-    ensures few { HasFewVisits port.old.port port.old port.new }
-{
-    let mut place = CommandPlace::new();
-    put_tc_by(&mut place, port, summary, number, line, writer, watch)
 }
 
 /// Writes how many frames a class still has, where it has some.

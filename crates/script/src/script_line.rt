@@ -236,6 +236,10 @@ pub fn read_line(line: &[u8]) -> Result<Option<Said>, ScriptFault>
     }
     match line {
         [b't', b'c', b' ', ..] => Ok(Some(Said::Tc)),
+        [b'q', b'u', b'e', b'r', b'y'] => Ok(Some(Said::Asked(Event::Query))),
+        [b'c', b'o', b'u', b'n', b't', b' ', rest @ ..] => {
+            Ok(Some(Said::Asked(read_count(Words::new(rest))?)))
+        }
         _ => read_any_line(line),
     }
 }

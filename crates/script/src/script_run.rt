@@ -4,7 +4,7 @@ ghost use Rattle.std.specs.Prelude.{ℕ, List, Result, IfSome};
 ghost use Rattle.script.specs.Words.{Command, Writes, script_left, TcFault, RunsOut, HasFewVisits, IsFaithfulTo, events_of, reading_of, ending_text, outcome_from, outcome_of, IsReader};
 ghost use Rattle.abstract_port.specs.Answers.{port_after};
 
-use crate::answers::{RunningPort, put_answers, put_answers_by, put_tc_by, rests};
+use crate::answers::{RunningPort, put_answers, put_tc, rests};
 use crate::faults::{BadLine, RunFault};
 use crate::laws::faithful;
 use crate::plain::front_line;
@@ -29,6 +29,7 @@ fn end<A: Allocator, W: PutLine>(
     port: &mut RunningPort<A>,
     summary: &mut Option<Summary<A>>,
     until: Option<u128>,
+    moments: &mut NearNumbers,
     writer: &mut W,
 ) -> Result<(), WriteFault>
     ensures text { Writes result (W.contents writer.old) (W.contents writer.new) (ending_text until port.old.port summary.old) }
@@ -37,7 +38,7 @@ fn end<A: Allocator, W: PutLine>(
     match until {
         None => put_end(port, summary, writer),
         Some(moment) => {
-            put_answers(port, summary, &Event::Clock(moment), writer)?;
+            put_answers(moments, port, summary, &Event::Clock(moment), writer)?;
             put_end(port, summary, writer)
         }
     }
@@ -70,7 +71,7 @@ fn run_lines<A: Allocator, B: Allocator, R: Read + Drop, W: PutLine, H: Watch>(
         let mut left = most;
         'plain: while let Some((event, length)) = front_line(rest, left) {
             if !rests(port, &event) {
-                put_answers_by(&mut moments, port, summary, &event, writer)?;
+                put_answers(&mut moments, port, summary, &event, writer)?;
             }
             let (_, behind) = rest.split_at(length + 1);
             rest = behind;
@@ -84,7 +85,7 @@ fn run_lines<A: Allocator, B: Allocator, R: Read + Drop, W: PutLine, H: Watch>(
         let line = lines.line();
         match read_line(line) {
             Ok(None) => watch.line_passed(lines.line_number(), line),
-            Ok(Some(Said::Asked(event))) => put_answers_by(
+            Ok(Some(Said::Asked(event))) => put_answers(
                 &mut moments,
                 port,
                 summary,
@@ -92,7 +93,7 @@ fn run_lines<A: Allocator, B: Allocator, R: Read + Drop, W: PutLine, H: Watch>(
                 writer,
             )?,
             Ok(Some(Said::Tc)) => {
-                put_tc_by(
+                put_tc(
                     &mut place,
                     port,
                     summary,
@@ -108,7 +109,7 @@ fn run_lines<A: Allocator, B: Allocator, R: Read + Drop, W: PutLine, H: Watch>(
             }
         }
     }
-    end(port, summary, until, writer)?;
+    end(port, summary, until, &mut moments, writer)?;
     Ok(())
 }
 

@@ -1,4 +1,4 @@
-use Rattle.script.proofs.answers.put_tc_by.Goals as goal
+use Rattle.script.proofs.answers.put_tc.Goals as goal
 
 pub returns-clause-answered : goal.returns-clause-answered
 returns-clause-answered g c = λ read is. rw (c.read_tc_into.ensures read is) at c.put_command.ensures
