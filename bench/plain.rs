@@ -17,9 +17,13 @@ struct Output<W: Write> {
     octets: Vec<u8>,
     end: usize,
     /// The end of the last start, and its digits: the next start is mostly then.
-    last: u128,
-    digits: [u8; 24],
-    count: usize,
+    /// The last eight digits of that moment, as a number and as octets.
+    last: u32,
+    digits: u64,
+    /// The last moment with its last eight digits as zeros, and the digits before them.
+    near: u128,
+    front: [u8; 16],
+    front_count: usize,
 }
 
 const ZEROS: u64 = 0x3030_3030_3030_3030;
@@ -40,9 +44,11 @@ impl<W: Write> Output<W> {
             to,
             octets: vec![0; ROOM + 64],
             end: 0,
-            last: 0,
-            digits: *b"0                       ",
-            count: 1,
+            last: u32::MAX,
+            digits: 0,
+            near: 1 << 127,
+            front: [0; 16],
+            front_count: 0,
         }
     }
 
@@ -98,7 +104,6 @@ impl<W: Write> Output<W> {
         self.word((digits_of(number) | ZEROS).to_le_bytes(), 8);
     }
 
-    #[inline(always)]
     fn moment(&mut self, moment: u128) {
         match u64::try_from(moment) {
             Ok(short) => self.number(short),
@@ -115,42 +120,107 @@ impl<W: Write> Output<W> {
         self.eight((rest % 100_000_000) as u32);
     }
 
+    /// A line that is made in a window of the buffer.
+    #[inline(always)]
+    fn line(&mut self, make: impl FnOnce(&mut Window) -> usize) {
+        self.room_for(WINDOW);
+        if let Some(window) = self.octets[self.end..].first_chunk_mut() {
+            self.end += make(window);
+        }
+    }
+
     fn queued(&mut self, id: u64, class: usize) {
-        self.room_for(128);
-        self.text(b"queued ");
-        self.number(id);
-        self.text(b" class ");
-        self.text(&[b'0' + class as u8, b'\n']);
+        self.line(|window| {
+            let at = put(window, 0, b"queued ");
+            let at = put_number(window, at, id);
+            let at = put(window, at, b" class ");
+            put(window, at, &[b'0' + class as u8, b'\n'])
+        });
     }
 
     fn dropped(&mut self, id: u64) {
-        self.room_for(128);
-        self.text(b"dropped ");
-        self.number(id);
-        self.text(b" Full\n");
+        self.line(|window| {
+            let at = put(window, 0, b"dropped ");
+            let at = put_number(window, at, id);
+            put(window, at, b" Full\n")
+        });
     }
 
     fn start(&mut self, start: &Start) {
-        self.room_for(128);
+        if start.at.wrapping_sub(self.near) >= EIGHT_DIGITS || start.end.wrapping_sub(self.near) >= EIGHT_DIGITS {
+            return self.far_start(start);
+        }
+        let (first, second) = ((start.at - self.near) as u32, (start.end - self.near) as u32);
+        let (front, count, last, digits) = (self.front, self.front_count, self.last, self.digits);
+        let first = if first == last { digits } else { digits_of(first) | ZEROS };
+        let end = digits_of(second) | ZEROS;
+        (self.last, self.digits) = (second, end);
+        self.line(|window| {
+            let at = put(window, 0, b"start ");
+            let at = put_number(window, at, start.id);
+            let at = put(window, at, b" class ");
+            let at = put(window, at, &[b'0' + start.class as u8]);
+            let at = put(window, at, b" at ");
+            put(window, at, &front);
+            let at = put(window, at + count, &first.to_le_bytes());
+            let at = put(window, at, b" end ");
+            put(window, at, &front);
+            let at = put(window, at + count, &end.to_le_bytes());
+            put(window, at, b"\n")
+        });
+    }
+
+    /// A start whose moments are not near those of the last.
+    #[inline(never)]
+    fn far_start(&mut self, start: &Start) {
+        self.room_for(WINDOW);
         self.text(b"start ");
         self.number(start.id);
         self.text(b" class ");
         self.text(&[b'0' + start.class as u8]);
         self.text(b" at ");
-        if start.at == self.last {
-            self.octets[self.end..self.end + 24].copy_from_slice(&self.digits);
-            self.end += self.count;
-        } else {
-            self.moment(start.at);
-        }
+        self.moment(start.at);
         self.text(b" end ");
         let begun = self.end;
         self.moment(start.end);
-        self.last = start.end;
-        self.digits.copy_from_slice(&self.octets[begun..begun + 24]);
-        self.count = self.end - begun;
+        let count = self.end - begun;
+        if (9..=24).contains(&count) {
+            self.front.copy_from_slice(&self.octets[begun..begun + 16]);
+            self.front_count = count - 8;
+            self.near = start.end / EIGHT_DIGITS * EIGHT_DIGITS;
+            self.last = u32::MAX;
+        }
         self.text(b"\n");
     }
+}
+
+/// Room for a line.
+const WINDOW: usize = 144;
+type Window = [u8; WINDOW];
+const EIGHT_DIGITS: u128 = 100_000_000;
+
+#[inline(always)]
+fn put<const N: usize>(window: &mut Window, at: usize, text: &[u8; N]) -> usize {
+    window[at..at + N].copy_from_slice(text);
+    at + N
+}
+
+#[inline(always)]
+fn put_number(window: &mut Window, at: usize, number: u64) -> usize {
+    if number < 100_000_000 {
+        let digits = digits_of(number as u32);
+        let zeros = (digits | 1 << 56).trailing_zeros() & 0x38;
+        put(window, at, &((digits | ZEROS) >> zeros).to_le_bytes());
+        at + 8 - zeros as usize / 8
+    } else {
+        put_long_number(window, at, number)
+    }
+}
+
+#[inline(never)]
+fn put_long_number(window: &mut Window, at: usize, number: u64) -> usize {
+    let at = put_number(window, at, number / 100_000_000);
+    put(window, at, &(digits_of((number % 100_000_000) as u32) | ZEROS).to_le_bytes())
 }
 
 struct Start {
@@ -424,26 +494,30 @@ fn number(octets: &[u8], at: usize) -> (u64, usize) {
     (value, end)
 }
 
-/// The moment at a place, and where it ends.
+fn word_of(octets: &[u8; 24], at: usize) -> u64 {
+    u64::from_le_bytes(*octets[at..].first_chunk().expect("a word"))
+}
+
+/// The moment that octets begin with, and how many digits it has.
 #[inline(always)]
-fn moment(octets: &[u8], at: usize) -> (u128, usize) {
-    let word = word_at(octets, at);
-    let count = count_of(word);
-    let first = value_of(word, count);
+fn moment(octets: &[u8; 24]) -> (u128, usize) {
+    let first = word_of(octets, 0);
+    let count = count_of(first);
+    let front = value_of(first, count);
     if count < 8 {
-        return (u128::from(first), at + count as usize);
+        return (u128::from(front), count as usize);
     }
-    let word = word_at(octets, at + 8);
-    let count = count_of(word);
-    let both = first * TENS[count as usize] + value_of(word, count);
+    let second = word_of(octets, 8);
+    let count = count_of(second);
+    let both = front * TENS[count as usize] + value_of(second, count);
     if count < 8 {
-        return (u128::from(both), at + 8 + count as usize);
+        return (u128::from(both), 8 + count as usize);
     }
-    let word = word_at(octets, at + 16);
-    let count = count_of(word);
+    let third = word_of(octets, 16);
+    let count = count_of(third);
     (
-        u128::from(both) * u128::from(TENS[count as usize]) + u128::from(value_of(word, count)),
-        at + 16 + count as usize,
+        u128::from(both) * u128::from(TENS[count as usize]) + u128::from(value_of(third, count)),
+        16 + count as usize,
     )
 }
 
@@ -509,7 +583,8 @@ fn take_line<W: Write>(port: &mut Port, octets: &[u8], at: usize, out: &mut Outp
         return end + 1;
     }
     if rest.starts_with(b"clock ") {
-        let (until, end) = moment(octets, at + 6);
+        let (until, count) = moment(rest[6..].first_chunk().expect("there is room behind the lines"));
+        let end = at + 6 + count;
         if until <= port.free || until <= port.idle {
             port.now = until;
         } else {
