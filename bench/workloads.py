@@ -1,5 +1,5 @@
-"""The inputs of bench/instructions: six workloads, and those that show how the work grows, each determined by its name and a seed. All
-moments are in picoseconds."""
+"""The inputs of bench/instructions: six workloads, those that show how the work grows, and lines that are seldom, each determined by its
+name and a seed. All moments are in picoseconds."""
 import random
 import struct
 from functools import partial
@@ -157,6 +157,40 @@ def clocks_apart(cycles, _chance, count):
         yield f"clock {now}"
 
 
+def moments_back(_chance, count):
+    """Clock events that would go back."""
+    yield "clock 1000000"
+    yield from ["clock 5"] * count
+
+
+def queries(_chance, count):
+    """Queries of a port that has no schedule."""
+    return iter(["query"] * count)
+
+
+def counts(_chance, count):
+    """What each class has counted, again and again."""
+    return (f"count {number % 8}" for number in range(count))
+
+
+def deletions(_chance, count):
+    """Deletions, each of which has come into force before the next: so many lines as are asked for."""
+    for number in range(count // 2):
+        yield f"clock {number * SECOND}"
+        yield "tc qdisc del dev eth0 root"
+
+
+def written(change, chance, count):
+    """The lines of the first workload, written otherwise."""
+    return (change(line) for line in open_gates(chance, count))
+
+
+def with_long_id(line):
+    """A frame with an id of 16 digits."""
+    word, _, rest = line.partition(" ")
+    return line if word == "clock" else f"{word} 10{int(rest.split()[0]):014} " + rest.partition(" ")[2]
+
+
 WORKLOADS = {
     "open": open_gates,
     "sched16": sixteen_entries,
@@ -170,12 +204,22 @@ GROWTH = {f"entries: {many}": partial(frames_over, many) for many in (1, 16, 64,
     f"cycles apart: {cycles}": partial(clocks_apart, cycles) for cycles in (1, 1000, 10**6, 10**8)
 }
 
+SELDOM = {
+    "moments that go back": moments_back,
+    "query": queries,
+    "count": counts,
+    "clock and del": deletions,
+    "tabs": partial(written, lambda line: line.replace(" ", "\t")),
+    "CR LF": partial(written, lambda line: line + "\r"),
+    "ids of 16 digits": partial(written, with_long_id),
+}
+
 
 def write_script(name, seed, count, path):
     """Writes the script of a workload, and answers how many lines it has."""
     lines = 0
     with open(path, "w") as file:
-        for line in (WORKLOADS | GROWTH)[name](random.Random(f"{seed} {name}"), count):
+        for line in (WORKLOADS | GROWTH | SELDOM)[name](random.Random(f"{seed} {name}"), count):
             file.write(line + "\n")
             lines += 1
     return lines
