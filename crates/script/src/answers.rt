@@ -8,8 +8,8 @@ use crate::script_line::read_tc_into;
 use crate::watch::{Failure, Unwatched, Watch};
 use abstract_port::{Command, Event, Refused};
 use answer_text::{
-    NearNumbers, WriteFault, put, put_arrival, put_counters, put_report, put_installation, put_left, put_start,
-    put_tc_fault,
+    NearNumbers, WriteFault, put, put_arrival, put_counters, put_installation, put_left,
+    put_report, put_start, put_tc_fault,
 };
 use jumping::Jumping;
 use octet_writer::PutLine;

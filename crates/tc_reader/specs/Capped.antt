@@ -1,12 +1,16 @@
 -- The options that the code has read.
-use Rattle.std.specs.Prelude.{◌≡◌, ℕ, List, [], ◌∷◌, ◌++◌, take, Some, Result, Ok, Err, option_map}
+use Rattle.std.specs.Prelude.{◌≡◌, ◌<◌, ◌+◌, ◌-◌, ◌^◌, ℕ, List, [], ◌∷◌, ◌++◌, take, Some, Result, Ok, Err, option_map}
 use Rattle.tc_reader.specs.declared.fault.TcFault.{TcFault}
 use Rattle.tc_reader.specs.declared.capped.CappedOptions.{CappedOptions}
 use Rattle.tc_reader.specs.declared.capped.TheConstants.{KEPT_PRIORITIES, KEPT_RANGES, KEPT_ENTRIES}
 use Rattle.wire_time.specs.declared.TheConstants.{CLASSES}
 use Rattle.gate_list.specs.declared.Entry.{Entry}
-use Rattle.tc_reader.specs.Cursor.{Word}
-use Rattle.tc_reader.specs.Options.{◌>>=◌, Options, Item, priorities, ranges, sched_entry, limits, with_item, item_at}
+use Rattle.words.specs.Numbers.{number_in}
+use Rattle.words.specs.WordsLeft.{words_left, words_taken}
+use Rattle.words.specs.declared.words.Words.{Words}
+use Rattle.tc_reader.specs.Cursor.{Moves, Word}
+use Rattle.tc_reader.specs.Options.{◌>>=◌, Options, Item, priorities, ranges, sched_entry, limits, with_item, item_at, value_at}
+use Rattle.tc_reader.specs.declared.fault.Opt.TheVariants as Opts
 
 -- the options that are kept, as lists
 abbrev pub view : CappedOptions → Options
@@ -53,6 +57,18 @@ Takes old read (Err f) new rest = read ≡ Err f
 -- the words of an entry stand in front, whatever options came before, and leave the rest
 abbrev pub StandsPlainly : ℕ → List Word → Entry → List Word → Type 0
 StandsPlainly place left entry rest = (w : Word) × (ws : List Word) × (left ≡ w ∷ ws) × ((g : Options) → item_at g place w ws ≡ Ok (sched_entry entry.mask entry.interval, rest))
+
+-- an entry that stands in front is taken
+pub record TakesEntry (old new : Words) (taken : Entry) : Type 0 where
+  pub entry : StandsPlainly (words_taken old) (words_left old) taken (words_left new)
+  pub moves : Moves old new
+  pub onward : words_taken old < words_taken new
+
+-- the next word is taken, and is the interval of an entry, in nanoseconds
+pub record TakesInterval (old new : Words) (interval : ℕ) : Type 0 where
+  pub value : value_at Opts.SchedEntry (number_in 10 (2 ^ 32 - 1)) (words_taken old) (words_left old) ≡ Ok (interval, words_left new)
+  pub place : words_taken new ≡ words_taken old + 1
+  pub moves : Moves old new
 
 -- an option stands in front of the words, and was taken
 abbrev pub TakesOne : Options → ℕ → List Word → Options → List Word → Type 0

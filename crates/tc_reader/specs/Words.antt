@@ -6,7 +6,7 @@ pub use Rattle.words.specs.Numbers.{at_most, digit_in, is_digits, number_in}
 unfoldable pub use Rattle.words.specs.Numbers.{value_behind}
 pub use Rattle.words.specs.Words.{words_of}
 pub use Rattle.words.specs.WordsLeft.{words_left, words_taken}
-pub use Rattle.tc_reader.specs.Capped.{FailsOne, StandsPlainly, Takes, TakesOne, capped, first_ones, view, with_front}
+pub use Rattle.tc_reader.specs.Capped.{FailsOne, StandsPlainly, Takes, TakesEntry, TakesInterval, TakesOne, capped, first_ones, view, with_front}
 pub use Rattle.tc_reader.specs.Cursor.{Moves, Word, total}
 pub use Rattle.tc_reader.specs.Ends.{change_given, classes_of, closed_change, command_given, eight_limits, heads_missing, ranges_of}
 pub use Rattle.tc_reader.specs.Grammar.{AreNewHeads, IsCommand, head_words, heads_before}

@@ -2,7 +2,7 @@
 
 ghost use Rattle.std.specs.Prelude.{◌≡◌, ◌≤◌, ◌<◌, ◌+◌, ◌^◌, ◌-◌, ◌∷◌, [], Ok, Err, Some, MatchResult, MatchOption, IfOk, IfSome};
 ghost use Rattle.std.specs.List.{position, before_first, after_first};
-ghost use Rattle.tc_reader.specs.Words.{number_in, words_left, words_taken, Moves, after_0x, hex_in, is_sign, is_range, range_of, is_clock, limit_in, StandsPlainly, value_at, command_at, entry_at, flags_at, clock_item, sched_entry, clock, flags};
+ghost use Rattle.tc_reader.specs.Words.{number_in, words_left, words_taken, Moves, after_0x, hex_in, is_sign, is_range, range_of, is_clock, limit_in, TakesEntry, TakesInterval, value_at, command_at, entry_at, flags_at, clock_item, sched_entry, clock, flags};
 
 use crate::fault::{Opt, TcFault};
 use gate_list::Entry;
@@ -132,9 +132,7 @@ fn take_plain_mask(words: &mut Words<'_>) -> Option<u8>
 /// The next word as an interval, where it has one digit to eight, no blank before it and a space after it. Else None.
 #[inline(always)]
 fn take_front_interval(words: &mut Words<'_>) -> Option<u32>
-    ensures value { IfSome result (λ n. value_at Opt.SchedEntry (number_in 10 (2 ^ 32 - 1)) (words_taken words.old) (words_left words.old) ≡ Ok (n, words_left words.new)) }
-    ensures place { IfSome result (λ _. words_taken words.new ≡ words_taken words.old + 1) }
-    ensures moves { IfSome result (λ _. Moves words.old words.new) }
+    ensures { IfSome result (TakesInterval words.old words.new) }
 {
     let interval = words.next_front()?;
     Some(interval as u32)
@@ -143,9 +141,7 @@ fn take_front_interval(words: &mut Words<'_>) -> Option<u32>
 /// The next word as an interval, where it can be read at once. Else None.
 #[inline(always)]
 fn take_plain_interval(words: &mut Words<'_>) -> Option<u32>
-    ensures value { IfSome result (λ n. value_at Opt.SchedEntry (number_in 10 (2 ^ 32 - 1)) (words_taken words.old) (words_left words.old) ≡ Ok (n, words_left words.new)) }
-    ensures place { IfSome result (λ _. words_taken words.new ≡ words_taken words.old + 1) }
-    ensures moves { IfSome result (λ _. Moves words.old words.new) }
+    ensures { IfSome result (TakesInterval words.old words.new) }
 {
     let interval = words.next_short()?;
     if interval > 0xffff_ffff {
@@ -157,9 +153,7 @@ fn take_plain_interval(words: &mut Words<'_>) -> Option<u32>
 /// The next word as an interval: a short one before a space, or any that can be read at once. Else None.
 #[inline(always)]
 fn take_interval(words: &mut Words<'_>, short: bool) -> Option<u32>
-    ensures value { IfSome result (λ n. value_at Opt.SchedEntry (number_in 10 (2 ^ 32 - 1)) (words_taken words.old) (words_left words.old) ≡ Ok (n, words_left words.new)) }
-    ensures place { IfSome result (λ _. words_taken words.new ≡ words_taken words.old + 1) }
-    ensures moves { IfSome result (λ _. Moves words.old words.new) }
+    ensures { IfSome result (TakesInterval words.old words.new) }
 {
     if short {
         take_front_interval(words)
@@ -172,10 +166,7 @@ fn take_interval(words: &mut Words<'_>, short: bool) -> Option<u32>
 /// length. None where they don't, and then no word is taken.
 #[inline(always)]
 fn take_entry_by(words: &mut Words<'_>, short: bool) -> Option<Entry>
-    ensures entry { MatchOption result (words.new ≡ words.old)
-        (λ e. StandsPlainly (words_taken words.old) (words_left words.old) e (words_left words.new)) }
-    ensures moves { Moves words.old words.new }
-    ensures onward { IfSome result (λ _. words_taken words.old < words_taken words.new) }
+    ensures { MatchOption result (words.new ≡ words.old) (TakesEntry words.old words.new) }
 {
     let mut after = *words;
     if !after.skip_text(b" sched-entry S ", 2) {
@@ -194,10 +185,7 @@ const FRONT: usize = 34;
 /// An entry whose words stand as in most lines, where others come after it. Else None, and no word is taken.
 #[inline(always)]
 pub(crate) fn take_front_entry(words: &mut Words<'_>) -> Option<Entry>
-    ensures entry { MatchOption result (words.new ≡ words.old)
-        (λ e. StandsPlainly (words_taken words.old) (words_left words.old) e (words_left words.new)) }
-    ensures moves { Moves words.old words.new }
-    ensures onward { IfSome result (λ _. words_taken words.old < words_taken words.new) }
+    ensures { MatchOption result (words.new ≡ words.old) (TakesEntry words.old words.new) }
 {
     if words.octets().len() < FRONT {
         return None;
@@ -208,10 +196,7 @@ pub(crate) fn take_front_entry(words: &mut Words<'_>) -> Option<Entry>
 /// An entry whose words stand as in most lines. Else None, and no word is taken.
 #[inline(always)]
 pub(crate) fn take_plain_entry(words: &mut Words<'_>) -> Option<Entry>
-    ensures entry { MatchOption result (words.new ≡ words.old)
-        (λ e. StandsPlainly (words_taken words.old) (words_left words.old) e (words_left words.new)) }
-    ensures moves { Moves words.old words.new }
-    ensures onward { IfSome result (λ _. words_taken words.old < words_taken words.new) }
+    ensures { MatchOption result (words.new ≡ words.old) (TakesEntry words.old words.new) }
 {
     take_entry_by(words, false)
 }

@@ -55,3 +55,8 @@ first_number most (word ∷ rest) = Some (number_in 10 most word)
 abbrev pub behind_first : List (List ℕ) → List (List ℕ)
 behind_first [] = []
 behind_first (word ∷ rest) = rest
+
+-- the first of words is a number, and these come after it
+pub record FirstIsNumber (words : List (List ℕ)) (n : ℕ) (rest : List (List ℕ)) : Type 0 where
+  pub number : (most : ℕ) → first_number most words ≡ Some (at_most most (Some n))
+  pub left : rest ≡ behind_first words

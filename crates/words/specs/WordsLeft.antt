@@ -1,5 +1,6 @@
 -- A line's words as a cursor over them has them.
-use Rattle.std.specs.Prelude.{List, ℕ}
+use Rattle.std.specs.Prelude.{◌≡◌, ◌+◌, List, ℕ}
+use Rattle.words.specs.Numbers.{FirstIsNumber}
 use Rattle.words.specs.Words.{words_of}
 use Rattle.words.specs.declared.words.Words.{Words}
 
@@ -10,3 +11,8 @@ words_left w = words_of w.rest.now
 -- how many words were taken
 abbrev pub words_taken : Words → ℕ
 words_taken w = w.place
+
+-- the next word is taken, and is a number
+pub record TakesNumber (old new : Words) (n : ℕ) : Type 0 where
+  pub first : FirstIsNumber (words_left old) n (words_left new)
+  pub taken : words_taken new ≡ words_taken old + 1

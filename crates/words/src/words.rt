@@ -3,7 +3,7 @@
 ghost use Rattle.std.specs.Prelude.{◌≡◌, ◌≤◌, ◌<◌, ◌+◌, ◌^◌, ◌∷◌, ◌++◌, [], ℕ, List, drop, get_or, length, map, nat_lt, not, take, MatchOption, IfSome, Some, true, false};
 ghost use Rattle.std.specs.List.{list_all};
 ghost use Rattle.std.specs.Simd.Lanes.{mask_l};
-ghost use Rattle.words.specs.Numbers.{IsNumber, at_most, first_number, behind_first};
+ghost use Rattle.words.specs.Numbers.{FirstIsNumber, IsNumber, at_most, first_number, behind_first};
 ghost use Rattle.words.specs.Words.{is_blank, starts_blank, starts_with_break, word_length, words_of};
 
 use crate::numbers::{LANES, decimal_run, front_digit, front_short, number, short_run};
@@ -217,8 +217,7 @@ fn split_plain(octets: &[u8]) -> Option<(&[u8], &[u8])>
 /// what comes after it.
 #[inline]
 fn split_number(octets: &[u8]) -> Option<(u128, &[u8])>
-    ensures number { IfSome result (λ x. (most : ℕ) → first_number most (words_of octets.now) ≡ Some (at_most most (Some x.0))) }
-    ensures rest { IfSome result (λ x. behind_first (words_of octets.now) ≡ words_of x.1.now) }
+    ensures first { IfSome result (λ x. FirstIsNumber (words_of octets.now) x.0 (words_of x.1.now)) }
     ensures less { IfSome result (λ x. length x.1.now < length octets.now) }
 {
     let rest = past_space(octets);
@@ -234,8 +233,7 @@ fn split_number(octets: &[u8]) -> Option<(u128, &[u8])>
 /// what comes after it.
 #[inline]
 fn split_short(octets: &[u8]) -> Option<(u64, &[u8])>
-    ensures number { IfSome result (λ x. (most : ℕ) → first_number most (words_of octets.now) ≡ Some (at_most most (Some x.0))) }
-    ensures rest { IfSome result (λ x. behind_first (words_of octets.now) ≡ words_of x.1.now) }
+    ensures first { IfSome result (λ x. FirstIsNumber (words_of octets.now) x.0 (words_of x.1.now)) }
     ensures less { IfSome result (λ x. length x.1.now < length octets.now) }
 {
     let rest = past_space(octets);
@@ -251,8 +249,7 @@ fn split_short(octets: &[u8]) -> Option<(u64, &[u8])>
 /// None where fewer than 16 octets are there.
 #[inline(always)]
 fn split_front(octets: &[u8]) -> Option<(u64, &[u8])>
-    ensures number { IfSome result (λ x. (most : ℕ) → first_number most (words_of octets.now) ≡ Some (at_most most (Some x.0))) }
-    ensures rest { IfSome result (λ x. behind_first (words_of octets.now) ≡ words_of x.1.now) }
+    ensures first { IfSome result (λ x. FirstIsNumber (words_of octets.now) x.0 (words_of x.1.now)) }
     ensures less { IfSome result (λ x. length x.1.now < length octets.now) }
     ensures bound { IfSome result (λ x. x.0 < 10 ^ 8) }
 {
@@ -267,8 +264,7 @@ fn split_front(octets: &[u8]) -> Option<(u64, &[u8])>
 /// comes after it. None where fewer than 16 octets are there.
 #[inline(always)]
 fn split_few(octets: &[u8]) -> Option<(u64, &[u8])>
-    ensures number { IfSome result (λ x. (most : ℕ) → first_number most (words_of octets.now) ≡ Some (at_most most (Some x.0))) }
-    ensures rest { IfSome result (λ x. behind_first (words_of octets.now) ≡ words_of x.1.now) }
+    ensures first { IfSome result (λ x. FirstIsNumber (words_of octets.now) x.0 (words_of x.1.now)) }
     ensures less { IfSome result (λ x. length x.1.now < length octets.now) }
 {
     let (number, rest) = split_front(past_space(octets))?;
@@ -301,7 +297,7 @@ pub struct Words<'a> {
 }
 
 impl<'a> Words<'a> {
-    ghost use Rattle.words.specs.WordsLeft.{words_left, words_taken};
+    ghost use Rattle.words.specs.WordsLeft.{TakesNumber, words_left, words_taken};
 
     /// Before the first word of a line.
     pub fn new(line: &'a [u8]) -> Words<'a>
@@ -442,11 +438,8 @@ impl<'a> Words<'a> {
     /// there. Else None, and nothing changes.
     #[inline(always)]
     pub fn next_front(&mut self) -> Option<u64>
-        ensures number { IfSome result (λ n. (most : ℕ) → first_number most (words_left self.old) ≡ Some (at_most most (Some n))) }
+        ensures number { MatchOption result (self.new ≡ self.old) (TakesNumber self.old self.new) }
         ensures bound { IfSome result (λ n. n < 10 ^ 8) }
-        ensures left { IfSome result (λ _. words_left self.new ≡ behind_first (words_left self.old)) }
-        ensures taken { IfSome result (λ _. words_taken self.new ≡ words_taken self.old + 1) }
-        ensures kept { result ≡ None → self.new ≡ self.old }
     {
         let (number, rest) = split_front(self.rest)?;
         self.go_on(rest, 1);
@@ -457,10 +450,7 @@ impl<'a> Words<'a> {
     /// about it but spaces. Else None, and nothing changes.
     #[inline]
     pub fn next_short(&mut self) -> Option<u64>
-        ensures number { IfSome result (λ n. (most : ℕ) → first_number most (words_left self.old) ≡ Some (at_most most (Some n))) }
-        ensures left { IfSome result (λ _. words_left self.new ≡ behind_first (words_left self.old)) }
-        ensures taken { IfSome result (λ _. words_taken self.new ≡ words_taken self.old + 1) }
-        ensures kept { result ≡ None → self.new ≡ self.old }
+        ensures number { MatchOption result (self.new ≡ self.old) (TakesNumber self.old self.new) }
     {
         let (number, rest) = split_short(self.rest)?;
         self.go_on(rest, 1);
@@ -471,10 +461,7 @@ impl<'a> Words<'a> {
     /// about it but spaces. Else None, and nothing changes.
     #[inline]
     pub fn next_plain(&mut self) -> Option<u128>
-        ensures number { IfSome result (λ n. (most : ℕ) → first_number most (words_left self.old) ≡ Some (at_most most (Some n))) }
-        ensures left { IfSome result (λ _. words_left self.new ≡ behind_first (words_left self.old)) }
-        ensures taken { IfSome result (λ _. words_taken self.new ≡ words_taken self.old + 1) }
-        ensures kept { result ≡ None → self.new ≡ self.old }
+        ensures number { MatchOption result (self.new ≡ self.old) (TakesNumber self.old self.new) }
     {
         let (value, rest) = split_number(self.rest)?;
         self.go_on(rest, 1);

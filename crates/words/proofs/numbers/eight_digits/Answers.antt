@@ -1,4 +1,4 @@
-use Rattle.std.proofs.Common.{rules, arith}
+use Rattle.std.proofs.Common.{rules}
 use Rattle.words.proofs.MovedDigits.{joined_is, joined_small, moved_word}
 use Rattle.words.proofs.numbers.eight_digits.Goals as goal
 

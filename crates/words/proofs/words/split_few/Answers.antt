@@ -1,9 +1,9 @@
-use Rattle.std.proofs.Common.{sym, ap, ◌∙◌}
-use Rattle.words.specs.Numbers.{behind_first, first_number}
+use Rattle.std.proofs.Common.{subst}
+use Rattle.words.specs.Numbers.{FirstIsNumber}
+use Rattle.words.specs.Words.{words_of}
 use Rattle.words.proofs.words.split_few.Goals as goal
 
-pub returns-clause-number : goal.returns-clause-number
-returns-clause-number c = λ most. ap (first_number most) (sym c.past_space.ensures.words) ∙ c.in_ok-number.ensures.number most
-
-pub returns-clause-rest : goal.returns-clause-rest
-returns-clause-rest c = ap behind_first (sym c.past_space.ensures.words) ∙ c.in_ok-number.ensures.rest
+pub returns-clause-first : goal.returns-clause-first
+returns-clause-first c =
+    let found = c.in_ok-number in
+    subst (λ words. FirstIsNumber words found.number (words_of found.rest.now)) c.past_space.ensures.words found.ensures.first

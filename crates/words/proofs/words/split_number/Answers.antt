@@ -4,19 +4,15 @@ use Rattle.words.specs.Words.{words_of}
 use Rattle.words.proofs.NumberWord.{digits_first, value_first}
 use Rattle.words.proofs.words.split_number.Goals as goal
 
-pub returns-clause-number : goal.returns-clause-number
-returns-clause-number c = λ most.
+pub returns-clause-first : goal.returns-clause-first
+returns-clause-first c =
     let rest = c.past_space-rest.result.now in
     let end = c.decimal_run-number.result.1 in
+    let number = c.decimal_run-number.result.0 in
+    let run = c.decimal_run-number.ensures in
     let some : 0 < end = search rules in
-    let first = digits_first end c.decimal_run-number.result.0 rest some c.decimal_run-number.ensures.within c.decimal_run-number.ensures.value (search rules) (search rules) in
-    let value = value_first most end c.decimal_run-number.result.0 rest some c.decimal_run-number.ensures.within c.decimal_run-number.ensures.value in
-    ap (first_number most) (sym c.past_space-rest.ensures.words ∙ first) ∙ ap Some value
-
-pub returns-clause-rest : goal.returns-clause-rest
-returns-clause-rest c =
-    let rest = c.past_space-rest.result.now in
-    let end = c.decimal_run-number.result.1 in
-    let some : 0 < end = search rules in
-    let first = digits_first end c.decimal_run-number.result.0 rest some c.decimal_run-number.ensures.within c.decimal_run-number.ensures.value (search rules) (search rules) in
-    ap behind_first (sym c.past_space-rest.ensures.words ∙ first) ∙ ap words_of (sym c.split_at.ensures.back)
+    let first = sym c.past_space-rest.ensures.words ∙ digits_first end number rest some run.within run.value (search rules) (search rules) in
+    record {
+      number = λ most. ap (first_number most) first ∙ ap Some (value_first most end number rest some run.within run.value);
+      left = ap words_of c.split_at.ensures.back ∙ ap behind_first (sym first);
+    }
