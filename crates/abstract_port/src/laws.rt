@@ -7,8 +7,8 @@ pub fn starts_law()
     ensures { StartsLaw }
 {}
 
-/// Each start of a clock event is at a moment at which the wire is free, by a gate that is open up to its end by the history
-/// of that time.
+/// Each start of a clock event is at a moment at which the wire is free, by a gate that is open up to its end by the
+/// history of that time.
 pub fn turn_law()
     ensures { TurnLaw }
 {}
@@ -18,8 +18,8 @@ pub fn wire_law()
     ensures { WireLaw }
 {}
 
-/// After a run each counter is the number at its beginning plus the count over the answers, at most the greatest u64; for the
-/// octets, over the frames that started. So is the count of frames without a class.
+/// After a run each counter is the number at its beginning plus the count over the answers, at most the greatest u64;
+/// for the octets, over the frames that started. So is the count of frames without a class.
 pub fn counting_law()
     ensures counting { CountingLaw }
     ensures unclassed { UnclassedLaw }

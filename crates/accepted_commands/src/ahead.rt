@@ -167,8 +167,8 @@ fn through_change<'a>(
     }
 }
 
-/// The legs of the command in force, with one pending that is replaced by the one that is announced: the list goes on at the
-/// lead moment where `resumed` says.
+/// The legs of the command in force, with one pending that is replaced by the one that is announced: the list goes on
+/// at the lead moment where `resumed` says.
 fn through_lead<'a>(
     in_force: Option<&'a AcceptedCommand>,
     moment: u128,
@@ -210,7 +210,8 @@ fn through_lead<'a>(
     }
 }
 
-/// Where the list in force goes on at the lead moment of the command that is announced, where it replaces a pending one.
+/// Where the list in force goes on at the lead moment of the command that is announced, where it replaces a pending
+/// one.
 pub fn resumed(slots: &CommandSlots, visits: &mut Visits) -> Option<Position>
     requires { AreCommands slots.now.commands }
     ensures resumes { Resumes slots.now.commands result }

@@ -30,8 +30,8 @@ pub enum AcceptedCommand {
 }
 
 impl AcceptedCommand {
-    /// This schedule, with this lead moment, this change moment and where it stands then, takes the place of the command. The
-    /// moments are in picoseconds.
+    /// This schedule, with this lead moment, this change moment and where it stands then, takes the place of the
+    /// command. The moments are in picoseconds.
     pub(crate) fn put_list(
         &mut self,
         schedule: &Schedule,
@@ -143,7 +143,8 @@ impl AcceptedList {
         }
     }
 
-    /// These take the place of what the list has. Of the schedule what it uses is copied. The moments are in picoseconds.
+    /// These take the place of what the list has. Of the schedule what it uses is copied. The moments are in
+    /// picoseconds.
     fn put(&mut self, schedule: &Schedule, lead: u128, change: u128, position: Position)
         ensures { self.new ≡ record { lead = lead; change = change; schedule = schedule.now; position = position } }
     {

@@ -39,7 +39,8 @@ pub fn lead_moment(command: Option<&AcceptedCommand>) -> Option<u128>
     }
 }
 
-/// The next moment at which a boundary of the list in force comes, or a command does, in picoseconds; none: there is none.
+/// The next moment at which a boundary of the list in force comes, or a command does, in picoseconds; none: there is
+/// none.
 #[inline(always)]
 pub fn edge_of(slots: &CommandSlots) -> Option<u128>
     requires sound { AreCommands slots.now.commands }

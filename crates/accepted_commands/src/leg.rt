@@ -94,7 +94,8 @@ impl<'a> ListedLeg<'a> {
         }
     }
 
-    /// Where this list stands at the start of the cycle that holds `t`, in picoseconds, where it is in force and in no hold.
+    /// Where this list stands at the start of the cycle that holds `t`, in picoseconds, where it is in force and in no
+    /// hold.
     pub fn cycle_at(&self, t: u128, visits: &mut Visits) -> Position
         requires stands { IsStanding (Listed self.now) }
         requires later { self.now.from ≤ t }

@@ -1,5 +1,5 @@
-//! The accepted commands that count at a moment: the one in force, the one that is pending and the one that is announced,
-//! each list with the position where it stands (IEEE Std 802.1Q-2018, 8.6.9.3 List Config).
+//! The accepted commands that count at a moment: the one in force, the one that is pending and the one that is
+//! announced, each list with the position where it stands (IEEE Std 802.1Q-2018, 8.6.9.3 List Config).
 //!
 //! The contracts compare them with the history of accepted commands, by specs/Commands.antt, specs/InForce.antt
 //! and specs/Leg.antt.

@@ -9,8 +9,8 @@ use gate_list::{Schedule, Visits};
 use list_position::Position;
 use std::marker::Model;
 
-/// A slot for a command. A command takes six kilobytes: what is in a slot stays in place until another command comes, so that only
-/// what that one uses is copied.
+/// A slot for a command. A command takes six kilobytes: what is in a slot stays in place until another command comes,
+/// so that only what that one uses is copied.
 #[derive(Drop)]
 pub(crate) struct CommandSlot {
     kept: AcceptedCommand,
@@ -61,8 +61,8 @@ impl CommandSlot {
         }
     }
 
-    /// The command of a schedule that is accepted for a lead moment; the change moment of that command. Both are in picoseconds.
-    /// It looks at the last entry of the list and at the first.
+    /// The command of a schedule that is accepted for a lead moment; the change moment of that command. Both are in
+    /// picoseconds. It looks at the last entry of the list and at the first.
     pub(crate) fn put_list(&mut self, schedule: &Schedule, lead: u128, visits: &mut Visits) -> u128
         requires { lead ≤ greatest_moment + greatest_lead }
         ensures change { result ≡ (accepted_at lead schedule.now).change }
@@ -81,7 +81,8 @@ impl CommandSlot {
         change
     }
 
-    /// Lets the list of the command, if it is one, go on to a later moment `t`, in picoseconds, with the same change pending.
+    /// Lets the list of the command, if it is one, go on to a later moment `t`, in picoseconds, with the same change
+    /// pending.
     pub fn go_on(&mut self, pending: Option<&AcceptedCommand>, t: u128, visits: &mut Visits)
         requires usable { ForSome (option_map accepted_in self.old) IsUsable }
         requires pending { ForSome (command_of pending) IsUsable }
@@ -98,8 +99,8 @@ impl CommandSlot {
         }
     }
 
-    /// Lets the list of the command, if it is one, go on to a later moment `t` where no other command is to come; the moment up to
-    /// which it shows one mask then, both in picoseconds, if it shows it not for ever; and that mask.
+    /// Lets the list of the command, if it is one, go on to a later moment `t` where no other command is to come; the
+    /// moment up to which it shows one mask then, both in picoseconds, if it shows it not for ever; and that mask.
     #[inline(always)]
     pub(crate) fn go_alone(&mut self, t: u128, visits: &mut Visits) -> (Option<u128>, u8)
         requires usable { ForSome (option_map accepted_in self.old) IsUsable }

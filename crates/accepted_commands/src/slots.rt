@@ -98,8 +98,8 @@ impl CommandSlots {
         self.announced.lent()
     }
 
-    /// Goes on to a moment, in picoseconds: a command that is replaced before its change, or that another follows in force,
-    /// is dropped. The list in force stands where it stood.
+    /// Goes on to a moment, in picoseconds: a command that is replaced before its change, or that another follows in
+    /// force, is dropped. The list in force stands where it stood.
     pub(crate) fn settle(&mut self, t: u128)
         requires later { self.old.commands.moment ≤ t }
         requires within { t ≤ greatest_moment }
@@ -164,8 +164,9 @@ impl CommandSlots {
         self.pending().is_none() && self.announced().is_none()
     }
 
-    /// Goes on to a moment, in picoseconds, where no command is to come: the list in force goes on from where it stood. Answers the
-    /// next moment at which a boundary comes, in picoseconds, if one does, and the mask that shows up to there.
+    /// Goes on to a moment, in picoseconds, where no command is to come: the list in force goes on from where it stood.
+    /// Answers the next moment at which a boundary comes, in picoseconds, if one does, and the mask that shows up to
+    /// there.
     #[inline(always)]
     pub fn move_alone(&mut self, t: u128, visits: &mut Visits) -> (Option<u128>, u8)
         requires later { self.old.commands.moment ≤ t }

@@ -56,8 +56,9 @@ fn is_shut_now(slots: &CommandSlots, need: Need) -> bool
     need.length != 0 && !is_open(mask_under(slots.in_force()), need.class)
 }
 
-/// Whether a class stays open from now on, by the commands that count. The mask that shows is enough for a class that is shut now, which most
-/// that are asked for are. Where no other command comes up to the end of the need, the one in force decides, and no legs are made.
+/// Whether a class stays open from now on, by the commands that count. The mask that shows is enough for a class that
+/// is shut now, which most that are asked for are. Where no other command comes up to the end of the need, the one in
+/// force decides, and no legs are made.
 #[tactic(auto, using(crate::proofs::CommandLaws::alone_while))]
 pub fn stays_open(slots: &CommandSlots, resumed: &Option<Position>, need: Need) -> bool
     requires sound { AreCommands slots.now.commands }

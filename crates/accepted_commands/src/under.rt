@@ -9,7 +9,8 @@ use list_position::{Need, Position};
 use wire_time::CLASSES;
 
 impl AcceptedList {
-    /// The moment from which the last state is held for the change that is pending, in picoseconds; none: there is none.
+    /// The moment from which the last state is held for the change that is pending, in picoseconds; none: there is
+    /// none.
     pub fn held_from(&self, pending: Option<&AcceptedCommand>) -> Option<u128>
         requires sound { IsSchedule self.now.schedule }
         requires start { self.now.change ≤ 2 * greatest_moment }
@@ -66,8 +67,8 @@ impl AcceptedList {
             .go_on(&self.schedule, self.change, held_from, t, visits);
     }
 
-    /// Lets the list go on to a later moment `t` where no other command is to come; the moment up to which it shows one mask then,
-    /// and that mask: bit c is class c. The moments are in picoseconds.
+    /// Lets the list go on to a later moment `t` where no other command is to come; the moment up to which it shows one
+    /// mask then, and that mask: bit c is class c. The moments are in picoseconds.
     #[inline(always)]
     fn go_alone(&mut self, t: u128, visits: &mut Visits) -> (Option<u128>, u8)
         requires usable { IsUsable (accepted_list self.old) }
@@ -89,7 +90,8 @@ impl AcceptedList {
 }
 
 impl AcceptedCommand {
-    /// Lets the list of the command, if it is one, go on to a later moment `t`, in picoseconds, with the same change pending.
+    /// Lets the list of the command, if it is one, go on to a later moment `t`, in picoseconds, with the same change
+    /// pending.
     pub fn go_on(&mut self, pending: Option<&AcceptedCommand>, t: u128, visits: &mut Visits)
         requires usable { IsUsable (accepted_in self.old) }
         requires pending { ForSome (command_of pending) IsUsable }
@@ -107,8 +109,8 @@ impl AcceptedCommand {
         }
     }
 
-    /// Lets the list of the command, if it is one, go on to a later moment `t` where no other command is to come; the moment up to
-    /// which it shows one mask then, both in picoseconds, if it shows it not for ever; and that mask.
+    /// Lets the list of the command, if it is one, go on to a later moment `t` where no other command is to come; the
+    /// moment up to which it shows one mask then, both in picoseconds, if it shows it not for ever; and that mask.
     #[inline(always)]
     pub(crate) fn go_alone(&mut self, t: u128, visits: &mut Visits) -> (Option<u128>, u8)
         requires usable { IsUsable (accepted_in self.old) }
@@ -166,7 +168,8 @@ pub fn list_in(command: Option<&AcceptedCommand>) -> Option<&AcceptedList>
     }
 }
 
-/// The moment up to which the command in force shows one mask, with this change pending, in picoseconds; none: for ever.
+/// The moment up to which the command in force shows one mask, with this change pending, in picoseconds; none: for
+/// ever.
 pub fn until_under(
     in_force: Option<&AcceptedCommand>,
     pending: Option<&AcceptedCommand>,

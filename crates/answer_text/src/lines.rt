@@ -77,8 +77,8 @@ fn put_refused<W: Write>(writer: &mut W, why: Refused) -> Result<(), WriteFault>
     }
 }
 
-/// Writes the line of a command: the moment at which it comes into force, in picoseconds, or why it is refused. At a fault a prefix of
-/// it is written.
+/// Writes the line of a command: the moment at which it comes into force, in picoseconds, or why it is refused. At a
+/// fault a prefix of it is written.
 pub fn put_installation<W: Write>(
     writer: &mut W,
     answer: Result<u128, Refused>,
@@ -100,8 +100,8 @@ fn put_any_start<W: PutLine>(writer: &mut W, start: &Start) -> Result<(), WriteF
     writer.put_line(&StartLine { start })
 }
 
-/// Writes the line of a frame that starts, and keeps the digits of its moments for the next. At a fault a prefix of the line
-/// is written.
+/// Writes the line of a frame that starts, and keeps the digits of its moments for the next. At a fault a prefix of the
+/// line is written.
 #[inline(always)]
 pub fn put_start<W: PutLine>(
     writer: &mut W,

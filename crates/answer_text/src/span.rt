@@ -9,7 +9,8 @@ use decimal_text::{put_number, put_text};
 /// The octets that two moments have to have room for.
 pub(crate) const SPAN_ROOM: usize = 85;
 
-/// Puts the moment of a start, ` end ` and the moment of its end at a place, and answers where they end. Both are in picoseconds.
+/// Puts the moment of a start, ` end ` and the moment of its end at a place, and answers where they end. Both are in
+/// picoseconds.
 pub(crate) fn put_span(first: u128, second: u128, line: &mut [u8], at: usize) -> usize
     requires { at + SPAN_ROOM ≤ length line.old }
     ensures text { Placed line.old line.new at (decimal first ++ (codes " end " ++ decimal second)) result }

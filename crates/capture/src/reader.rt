@@ -216,8 +216,8 @@ impl<R: Read, A: Allocator> CaptureReader<R, A> {
         }
     }
 
-    /// Goes on to the next record, and answers its header: `next` without the loan of the octets, which `lend` gives. Apart, since
-    /// a record mostly stands whole in hand, and is taken there (`take_in_hand`).
+    /// Goes on to the next record, and answers its header: `next` without the loan of the octets, which `lend` gives.
+    /// Apart, since a record mostly stands whole in hand, and is taken there (`take_in_hand`).
     #[inline(never)]
     pub fn advance(&mut self) -> Result<Option<RecordHeader>, CapFault>
         ensures next { Next R.remaining (left self.old) (shown self.new result) (left self.new) }

@@ -1,5 +1,5 @@
-//! Tests of `capture` and `octet_store`, by their public calls. They stand in a crate of their own, so that those are proved once and not again
-//! with them.
+//! Tests of `capture` and `octet_store`, by their public calls. They stand in a crate of their own, so that those are
+//! proved once and not again with them.
 #![tactic(auto)]
 
 #[cfg(test)]

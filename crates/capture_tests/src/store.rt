@@ -35,7 +35,8 @@ pub fn put<A: Allocator + Clone>(
     store.put(class, original_of(seed), octets).is_ok()
 }
 
-/// Looks at the first frame of a class, and gives it up. Whether there was one, and it is that of the seed, with these octets.
+/// Looks at the first frame of a class, and gives it up. Whether there was one, and it is that of the seed, with these
+/// octets.
 pub fn takes<A: Allocator>(store: &mut OctetStore<A>, class: u8, seed: u32, octets: &[u8]) -> bool {
     if class >= CLASSES as u8 || store.len(class) == 0 {
         return false;

@@ -1,4 +1,5 @@
-//! Captures, readers and writers that the tests share. What captures are read as, and their faults, are rows of tests/captures.py.
+//! Captures, readers and writers that the tests share. What captures are read as, and their faults, are rows of
+//! tests/captures.py.
 
 mod frames;
 mod readers;
@@ -9,8 +10,8 @@ use std::alloc::Global;
 use std::io::Read;
 pub use test_streams::{Narrow, Pieces};
 
-/// Big-endian, in microseconds: two frames of 60 octets of which 18 are captured, with priorities 3 and 5, at 2 s and 500
-/// microseconds and at 2 s and 400 microseconds.
+/// Big-endian, in microseconds: two frames of 60 octets of which 18 are captured, with priorities 3 and 5, at 2 s and
+/// 500 microseconds and at 2 s and 400 microseconds.
 pub const TWO_RECORDS: [u8; 92] = [
     0xa1, 0xb2, 0xc3, 0xd4, 0, 2, 0, 4, 0, 0, 0, 0, 0, 0, 0, 0, 0, 4, 0, 0, 0, 0, 0, 1, //
     0, 0, 0, 2, 0, 0, 1, 0xf4, 0, 0, 0, 18, 0, 0, 0, 60, //
@@ -19,7 +20,8 @@ pub const TWO_RECORDS: [u8; 92] = [
     2, 0, 0, 0, 0, 2, 2, 0, 0, 0, 0, 1, 0x81, 0, 0xa0, 5, 8, 0,
 ];
 
-/// Little-endian, in nanoseconds: the same frames, that of priority 5 first, at 2 s and 500,000 and 500,672 nanoseconds.
+/// Little-endian, in nanoseconds: the same frames, that of priority 5 first, at 2 s and 500,000 and 500,672
+/// nanoseconds.
 pub const WRITTEN: [u8; 92] = [
     0x4d, 0x3c, 0xb2, 0xa1, 2, 0, 4, 0, 0, 0, 0, 0, 0, 0, 0, 0, 0, 0, 4, 0, 1, 0, 0, 0, //
     2, 0, 0, 0, 0x20, 0xa1, 7, 0, 18, 0, 0, 0, 60, 0, 0, 0, //

@@ -22,8 +22,8 @@ fn four_pairs(front: u64, back: u64) -> u64
     fours * 65_536 - hundreds * 6_553_599
 }
 
-/// The eight decimal digits of a number, each in an octet of a word, the first of them in the lowest. Of n below 100, n * 103 / 2^10 is
-/// n / 10: four pairs are divided at once.
+/// The eight decimal digits of a number, each in an octet of a word, the first of them in the lowest. Of n below 100, n
+/// * 103 / 2^10 is n / 10: four pairs are divided at once.
 #[inline(always)]
 fn eight_digits(number: u64) -> u64
     requires { number < EIGHT_DIGITS }

@@ -1,6 +1,7 @@
 //! Numbers and texts in decimal that are put at a place of octets, forwards, by stores of a fixed size.
 //!
-//! The contract of each is a `Placed` of specs/Placed.antt. What is behind the text may change: a number takes room for its last store.
+//! The contract of each is a `Placed` of specs/Placed.antt. What is behind the text may change: a number takes room for
+//! its last store.
 #![tactic(auto)]
 
 mod digits;

@@ -43,7 +43,8 @@ impl NearNumbers {
         }
     }
 
-    /// Takes a number for the second, and answers whether it can be. Apart, since mostly its last eight digits alone are new.
+    /// Takes a number for the second, and answers whether it can be. Apart, since mostly its last eight digits alone
+    /// are new.
     #[cold]
     #[inline(never)]
     fn keep(&mut self, number: u128) -> bool

@@ -11,8 +11,8 @@ use gate_list::{Schedule, Visits};
 use list_position::{Need, Position};
 use wire_time::CLASSES;
 
-/// The first moment from `from` on and less than a cycle later, both in picoseconds since the change moment, from which the class stays
-/// open for so long; none: from no moment.
+/// The first moment from `from` on and less than a cycle later, both in picoseconds since the change moment, from which
+/// the class stays open for so long; none: from no moment.
 pub fn fit(
     schedule: &Schedule,
     first: &Position,

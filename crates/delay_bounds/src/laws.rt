@@ -10,7 +10,8 @@ ghost use Rattle.delay_bounds.specs.Overloaded.{OverloadLaw};
 ghost use Rattle.delay_bounds.specs.Waits.{BoundsLaw, DropsLaw};
 ghost use Rattle.delay_bounds.specs.Walked.{PlanLaw, bounds_answered};
 
-/// What `bound_flows` answers is worth this in every run, whatever the other classes send: the whole claim (specs/Claim.antt).
+/// What `bound_flows` answers is worth this in every run, whatever the other classes send: the whole claim
+/// (specs/Claim.antt).
 pub fn answers()
     ensures { AnswerLaw bounds_answered }
 {}
@@ -20,8 +21,8 @@ pub fn by_plan()
     ensures { PlanLaw }
 {}
 
-/// Where after some frames of the flows it is as it was before, so much later, what is told of every frame, for ever, is what is
-/// told of one of the first.
+/// Where after some frames of the flows it is as it was before, so much later, what is told of every frame, for ever,
+/// is what is told of one of the first.
 pub fn for_ever()
     ensures { ForEverLaw }
 {}
@@ -51,12 +52,14 @@ pub fn never()
     ensures { NeverLaw }
 {}
 
-/// Where nothing starts any more, in every run the frame of the flows that then is the first to find no room is dropped, and none before it.
+/// Where nothing starts any more, in every run the frame of the flows that then is the first to find no room is
+/// dropped, and none before it.
 pub fn stuck()
     ensures { StuckLaw }
 {}
 
-/// Where the class is overloaded, a frame of the flows finds no room at last, whatever the room: in every run it is dropped, and none before it.
+/// Where the class is overloaded, a frame of the flows finds no room at last, whatever the room: in every run it is
+/// dropped, and none before it.
 pub fn overload()
     ensures { OverloadLaw }
 {}
@@ -66,7 +69,8 @@ pub fn less()
     ensures { LessLaw }
 {}
 
-/// A frame that comes at any moment, when no other of its class waits or is sent, starts within the longest wait of the schedule alone.
+/// A frame that comes at any moment, when no other of its class waits or is sent, starts within the longest wait of the
+/// schedule alone.
 pub fn any_moment()
     ensures { AnyMomentLaw }
 {}

@@ -88,12 +88,13 @@ pub struct Refused {
 pub enum Unbound {
     /// The first frame that finds no room.
     Full(FlowFrame),
-    /// The first frame that fits into no window of a cycle, so that it never starts; and the first that then finds no room, if it comes by the
-    /// greatest moment.
+    /// The first frame that fits into no window of a cycle, so that it never starts; and the first that then finds no
+    /// room, if it comes by the greatest moment.
     Never(FlowFrame, Option<Refused>),
     /// So many frames as may be were walked, and the backlog grows for ever: at any room some frame finds none.
     Overloaded,
-    /// So many frames as may be were walked, and the state did not come again; nor was the backlog seen to grow for ever.
+    /// So many frames as may be were walked, and the state did not come again; nor was the backlog seen to grow for
+    /// ever.
     Long,
     /// A frame can't start before the greatest moment.
     Late,

@@ -33,8 +33,9 @@ pub enum Stop {
     Late,
 }
 
-/// Where a walk stands: when the next frame of each flow comes, from when the wire is free, and when those frames start that wait.
-/// Moments are in picoseconds from the change moment of the schedule on. The memory for all that ever wait is taken once.
+/// Where a walk stands: when the next frame of each flow comes, from when the wire is free, and when those frames start
+/// that wait. Moments are in picoseconds from the change moment of the schedule on. The memory for all that ever wait
+/// is taken once.
 #[derive(Drop)]
 pub struct Line<A: Allocator> {
     nexts: Vec<u128, A>,

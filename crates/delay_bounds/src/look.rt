@@ -36,7 +36,8 @@ pub struct Backlog {
     pub origin: u128,
     /// Whether each frame since that look has found one.
     pub lasts: bool,
-    /// Whether it has risen by a cycle from a look to a later one at which the frames come as they did, while it lasted.
+    /// Whether it has risen by a cycle from a look to a later one at which the frames come as they did, while it
+    /// lasted.
     pub grows: bool,
 }
 
@@ -51,7 +52,8 @@ pub fn last_offset(flows: &[Flow]) -> u128
     last
 }
 
-// Whether the frames of a walk, whose next frame comes at `t`, come as those did of another one, whose next came at `since`, whole cycles before.
+// Whether the frames of a walk, whose next frame comes at `t`, come as those did of another one, whose next came at
+// `since`, whole cycles before.
 fn comes_again<A: Allocator>(
     line: &Line<A>,
     base: &Line<A>,
@@ -185,7 +187,8 @@ fn with_frame(backlog: Backlog, taken: u128) -> Backlog
     }
 }
 
-/// A backlog behind a look and the frame that comes then, which finds the wire taken for so long. Times are in picoseconds.
+/// A backlog behind a look and the frame that comes then, which finds the wire taken for so long. Times are in
+/// picoseconds.
 pub fn followed(backlog: Backlog, look: Look, taken: u128, cycle: u128) -> Backlog
     ensures { result ≡ followed cycle look taken backlog }
 {

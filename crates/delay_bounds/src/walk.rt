@@ -188,13 +188,13 @@ fn walk<A: Allocator>(
     Err(unended(backlog))
 }
 
-/// The bounds of the flows of a class that a schedule keeps apart, for ever: the least and the greatest time from the arrival of each
-/// flow's frames to their starts, the greatest number of frames that ever wait at once, and how many frames come in how long; or why
-/// there are none. `room` is that of the queue, in frames.
+/// The bounds of the flows of a class that a schedule keeps apart, for ever: the least and the greatest time from the
+/// arrival of each flow's frames to their starts, the greatest number of frames that ever wait at once, and how many
+/// frames come in how long; or why there are none. `room` is that of the queue, in frames.
 ///
-/// The frames are walked one after another by the schedule alone, at most `limit` of them, until all stands as it did some cycles before:
-/// from there on it goes on so for ever. That takes time for as many frames as come in one hyperperiod, mostly, and memory for each flow
-/// and each place of the queue alone.
+/// The frames are walked one after another by the schedule alone, at most `limit` of them, until all stands as it did
+/// some cycles before: from there on it goes on so for ever. That takes time for as many frames as come in one
+/// hyperperiod, mostly, and memory for each flow and each place of the queue alone.
 ///
 /// # Errors
 /// `Full` and `Never` tell of the first frame that finds no room, or that never starts, and then of the first that finds no room.

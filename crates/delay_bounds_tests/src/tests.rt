@@ -1,4 +1,5 @@
-//! Flows at 1 Gb/s, in two schedules of 250 us: class 7 has the first 13 us of each cycle, then class 5 its window, then class 6.
+//! Flows at 1 Gb/s, in two schedules of 250 us: class 7 has the first 13 us of each cycle, then class 5 its window,
+//! then class 6.
 
 ghost use Rattle.std.specs.Prelude.{◌<◌, All, length};
 ghost use Rattle.delay_bounds.specs.Claim.{IsFlow};
@@ -195,7 +196,8 @@ fn a_window_that_is_too_short(rt: HostRuntime) -> Result<(), Fail> {
     Ok(())
 }
 
-/// Every 500 us one frame more comes than leaves. At frame 16 the backlog has risen by a cycle; frame 636 is the first without room.
+/// Every 500 us one frame more comes than leaves. At frame 16 the backlog has risen by a cycle; frame 636 is the first
+/// without room.
 #[test]
 fn a_backlog_that_grows(rt: HostRuntime) -> Result<(), Fail> {
     let schedule = schedule(26_000, 12_000, 199_000).ok_or("a schedule")?;
@@ -235,7 +237,8 @@ fn a_frame_that_never_fits(rt: HostRuntime) -> Result<(), Fail> {
     Ok(())
 }
 
-/// Frame 4 waits for the next cycle, so that frame 6 finds another state than frame 1, half a millisecond before. Frame 11 finds that of frame 6.
+/// Frame 4 waits for the next cycle, so that frame 6 finds another state than frame 1, half a millisecond before. Frame
+/// 11 finds that of frame 6.
 #[test]
 fn a_limit_that_is_just_too_low(rt: HostRuntime) -> Result<(), Fail> {
     let schedule = schedule(60_000, 800, 176_200).ok_or("a schedule")?;

@@ -9,7 +9,8 @@ use std::alloc::{AllocError, Allocator};
 use std::marker::Model;
 use wire_time::CLASSES;
 
-/// The arrival moments of the frames of a class that wait, the first to go first. The memory for all that ever wait is taken once.
+/// The arrival moments of the frames of a class that wait, the first to go first. The memory for all that ever wait is
+/// taken once.
 #[derive(Drop)]
 pub(crate) struct ClassArrivals<A: Allocator> {
     moments: HeapCircularBuffer<u128, A>,

@@ -21,7 +21,8 @@ pub struct Asked {
     pub cycle: Option<u128>,
 }
 
-/// When the frames that wait have come, what is drawn so far, when the last frame so far ends, in picoseconds, and what the run has had so far.
+/// When the frames that wait have come, what is drawn so far, when the last frame so far ends, in picoseconds, and what
+/// the run has had so far.
 #[derive(Drop)]
 pub struct Course<A: Allocator> {
     arrivals: Arrivals<A>,
@@ -65,8 +66,9 @@ impl<A: Allocator> Course<A> {
     ghost use Rattle.drawing.specs.Course.{changed, dropped, ended_at, queued, seen, started};
     ghost use Rattle.drawing.specs.Shapes.{IsJoined};
 
-    /// Nothing is drawn, and of what comes what this view shows will be; there is room for so many frames a class, and a command has its lead moment so
-    /// long after it is given, in picoseconds. All memory that is ever wanted is taken here.
+    /// Nothing is drawn, and of what comes what this view shows will be; there is room for so many frames a class, and
+    /// a command has its lead moment so long after it is given, in picoseconds. All memory that is ever wanted is taken
+    /// here.
     pub fn new(alloc: &A, room: u32, view: View, lead: u128) -> Result<Course<A>, AllocError>
     where
         A: Clone,
@@ -109,7 +111,8 @@ impl<A: Allocator> Course<A> {
         self.scope = self.scope.with_frame(now);
     }
 
-    /// A command is accepted at this moment, by which the schedule changes at another, to one with this cycle; all are in picoseconds.
+    /// A command is accepted at this moment, by which the schedule changes at another, to one with this cycle; all are
+    /// in picoseconds.
     fn see_change(&mut self, now: u128, change: u128, cycle: Option<u128>)
         ensures { self.new ≡ changed now change cycle self.old }
     {
@@ -135,7 +138,8 @@ impl<A: Allocator> Course<A> {
         }
     }
 
-    /// The picture ends at this moment, in picoseconds: the frames that wait then wait on, and the last command is replaced by none.
+    /// The picture ends at this moment, in picoseconds: the frames that wait then wait on, and the last command is
+    /// replaced by none.
     pub fn end_at(&mut self, upto: u128)
         requires { upto ≤ greatest_moment }
         ensures { self.new ≡ ended_at upto self.old }

@@ -13,8 +13,8 @@ use std::alloc::{Allocator, Global};
 use std::io::{Read, Write};
 use wire_time::MAX_MOMENT;
 
-/// Draws the run of the script that `reader` gives, by these values, through `answers`, with the text of a fault on `errors`; and gives the
-/// writer of the answers back. At a fault of the script nothing is drawn.
+/// Draws the run of the script that `reader` gives, by these values, through `answers`, with the text of a fault on
+/// `errors`; and gives the writer of the answers back. At a fault of the script nothing is drawn.
 pub fn answer_draw<B: Allocator, R: Read, W: Write + Drop, E: Write, H: Watch>(
     alloc: Global,
     values: Values<'_>,

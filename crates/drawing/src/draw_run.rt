@@ -99,7 +99,8 @@ fn are_of<A: Allocator>(bands: &Bands<A>, view: View) -> bool
     bands.from() == view.from && bands.to() == view.to
 }
 
-/// Where another time is shown than so far, the bands begin anew once the port reaches it: until then a later command may change it.
+/// Where another time is shown than so far, the bands begin anew once the port reaches it: until then a later command
+/// may change it.
 fn begin_shown<A: Allocator>(bands: &mut Bands<A>, view: View, now: u128)
     ensures { MayBegin view now bands.old bands.new }
 {
@@ -214,7 +215,8 @@ fn take_asked<A: Allocator>(
     follow(port, bands, options.view(course.scope()));
 }
 
-/// Takes the line of this number, which begins with `tc`. One that changes nothing isn't drawn, and who watches is called for it.
+/// Takes the line of this number, which begins with `tc`. One that changes nothing isn't drawn, and who watches is
+/// called for it.
 fn take_tc<A: Allocator, H: Watch>(
     port: &mut RunningPort<A>,
     bands: &mut Bands<A>,
@@ -242,8 +244,8 @@ fn take_tc<A: Allocator, H: Watch>(
     }
 }
 
-/// Takes what the line of this number says, if it says something. Who watches is called for a line that begins with `tc` and changes nothing, and
-/// for one with a fault.
+/// Takes what the line of this number says, if it says something. Who watches is called for a line that begins with
+/// `tc` and changes nothing, and for one with a fault.
 fn take_line<A: Allocator, H: Watch>(
     port: &mut RunningPort<A>,
     bands: &mut Bands<A>,
@@ -527,8 +529,9 @@ fn draw_port<B: Allocator, R: Read + Drop, W: Write, H: Watch>(
     draw_bands(alloc, &mut port, lines, writer, settings, options, watch)
 }
 
-/// Runs a script to its end, and writes the picture of its run: the text that specs/Picture.antt says, of what the port answers. At the first fault of the script, at a failed read, and when out of memory,
-/// nothing is written. After a failed write the script has no fault, and what was written is part of no promise. Who watches is called for a
+/// Runs a script to its end, and writes the picture of its run: the text that specs/Picture.antt says, of what the port
+/// answers. At the first fault of the script, at a failed read, and when out of memory, nothing is written. After a
+/// failed write the script has no fault, and what was written is part of no promise. Who watches is called for a
 /// malformed line, and for each line that begins with `tc` and changes nothing.
 pub fn draw<R: Read + Drop, W: Write, H: Watch>(
     alloc: Global,

@@ -1,7 +1,9 @@
-//! Draws the run of a script as an SVG picture: a lane for each class with its open time, its frames and how long they wait, and a lane for the wire.
+//! Draws the run of a script as an SVG picture: a lane for each class with its open time, its frames and how long they
+//! wait, and a lane for the wire.
 //!
-//! What is drawn is defined in specs/Course.antt and specs/Taken.antt, and the time that it covers in specs/Scope.antt; `take` promises it of the drawn run. The
-//! SVG text is defined in specs/Marks.antt, specs/Axis.antt and specs/Picture.antt, and how a run ends in specs/PictureEnd.antt.
+//! What is drawn is defined in specs/Course.antt and specs/Taken.antt, and the time that it covers in specs/Scope.antt;
+//! `take` promises it of the drawn run. The SVG text is defined in specs/Marks.antt, specs/Axis.antt and
+//! specs/Picture.antt, and how a run ends in specs/PictureEnd.antt.
 #![tactic(auto)]
 
 mod arrivals;

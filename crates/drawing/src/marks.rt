@@ -24,7 +24,8 @@ const LEAST_EDGED: u64 = 400;
 /// How far apart the labels of changes stand at least, in hundredths of a pixel.
 const LABEL_WIDTH: u64 = 9_600;
 
-/// Writes a rectangle from a place on and of a width, both in hundredths of a pixel, at this height from above and of this height, in pixels.
+/// Writes a rectangle from a place on and of a width, both in hundredths of a pixel, at this height from above and of
+/// this height, in pixels.
 pub(crate) fn put_rect<W: Write>(
     writer: &mut W,
     look: &[u8],
@@ -100,8 +101,8 @@ fn band_look(look: &[u8], id: Option<u64>) -> &[u8]
     }
 }
 
-/// Writes a band in a row that begins at this height, and answers up to where the row is covered then; both ends are in hundredths of a pixel. What
-/// a band before it covers isn't written.
+/// Writes a band in a row that begins at this height, and answers up to where the row is covered then; both ends are in
+/// hundredths of a pixel. What a band before it covers isn't written.
 fn put_band<W: Write>(
     writer: &mut W,
     page: &Page,
@@ -291,8 +292,8 @@ fn put_wait_line<W: Write>(
     )
 }
 
-/// Writes the wait of a frame: a line from its arrival, which is marked where it lies within the viewport, to its start. Where the wait goes on at the
-/// end of the picture the line ends there in a point.
+/// Writes the wait of a frame: a line from its arrival, which is marked where it lies within the viewport, to its
+/// start. Where the wait goes on at the end of the picture the line ends there in a point.
 fn put_wait<W: Write>(
     writer: &mut W,
     page: &Page,
@@ -426,7 +427,8 @@ fn put_change_number<W: Write>(writer: &mut W, number: Option<u64>) -> Result<()
     }
 }
 
-/// Writes the beginning of a label whose middle lies at this place, in hundredths of a pixel, and which stands on this line, in pixels from above.
+/// Writes the beginning of a label whose middle lies at this place, in hundredths of a pixel, and which stands on this
+/// line, in pixels from above.
 pub(crate) fn put_label<W: Write>(writer: &mut W, middle: u64, line: u32) -> Result<(), WriteFault>
     ensures { Writes result (W.contents writer.old) (W.contents writer.new) (label_text middle line) }
 {
@@ -456,7 +458,8 @@ fn put_change_name<W: Write>(
     put_change_number(writer, number)
 }
 
-/// Writes the line of the last of changes that are joined, where it lies elsewhere than the first, and the line that joins both above.
+/// Writes the line of the last of changes that are joined, where it lies elsewhere than the first, and the line that
+/// joins both above.
 fn put_last_change<W: Write>(writer: &mut W, left: u64, right: u64) -> Result<(), WriteFault>
     ensures { Writes result (W.contents writer.old) (W.contents writer.new) (last_change left right) }
 {
@@ -487,8 +490,8 @@ fn put_change_lines<W: Write>(writer: &mut W, left: u64, right: u64) -> Result<(
     put_last_change(writer, left, right)
 }
 
-/// Writes a change of the schedule, with its name where there is room, and answers from where on there is room for the next name. The places are in
-/// hundredths of a pixel.
+/// Writes a change of the schedule, with its name where there is room, and answers from where on there is room for the
+/// next name. The places are in hundredths of a pixel.
 fn put_change<W: Write>(
     writer: &mut W,
     page: &Page,

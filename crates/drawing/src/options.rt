@@ -29,8 +29,8 @@ pub struct DrawValues<'a> {
     pub width: Option<&'a str>,
 }
 
-/// What a picture shows: from a moment on and up to another, in picoseconds, as far as they are given; and its width, 400 to 2400 pixels. Where neither is
-/// given it covers what the run has (`Scope`).
+/// What a picture shows: from a moment on and up to another, in picoseconds, as far as they are given; and its width,
+/// 400 to 2400 pixels. Where neither is given it covers what the run has (`Scope`).
 #[derive(Clone, Copy, Debug, PartialEq, Eq)]
 pub struct DrawOptions {
     /// The moment that the picture begins at; none: moment 0, where its end is given.
@@ -62,15 +62,16 @@ impl DrawOptions {
         }
     }
 
-    /// The moment that the axis counts from, in picoseconds: that at which the picture begins, where no option says it; else moment 0.
+    /// The moment that the axis counts from, in picoseconds: that at which the picture begins, where no option says it;
+    /// else moment 0.
     pub fn origin(&self, scope: Scope) -> u128
         ensures { result ≡ origin_of self.now scope }
     {
         if self.is_open() { scope.view().from } else { 0 }
     }
 
-    /// The time that the picture shows, where the run has had so much and ends at this moment, in picoseconds: up to the end that is known, or to the
-    /// run's; a microsecond where the run ends before the picture begins.
+    /// The time that the picture shows, where the run has had so much and ends at this moment, in picoseconds: up to
+    /// the end that is known, or to the run's; a microsecond where the run ends before the picture begins.
     pub fn viewport(&self, scope: Scope, last: u128) -> Option<Viewport>
         ensures { result ≡ viewport_shown self.now scope last }
     {
@@ -87,7 +88,8 @@ impl DrawOptions {
     }
 }
 
-/// The moment that a picture begins at, a microsecond or more before the greatest, if one is given; the outer None is a bad value.
+/// The moment that a picture begins at, a microsecond or more before the greatest, if one is given; the outer None is a
+/// bad value.
 fn beginning_in(value: Option<&str>) -> Option<Option<u128>>
     ensures { result ≡ beginning_in (octets_of value.entry) }
 {
@@ -111,7 +113,8 @@ fn width_in(value: Option<&str>) -> Option<u128>
     }
 }
 
-/// The end of a picture, after its beginning, which is moment 0 where none is given, if an end is; the outer None is a bad value.
+/// The end of a picture, after its beginning, which is moment 0 where none is given, if an end is; the outer None is a
+/// bad value.
 fn end_in(from: Option<u128>, value: Option<&str>) -> Option<Option<u128>>
     ensures { result ≡ end_in from (octets_of value.entry) }
 {
@@ -141,8 +144,8 @@ fn width_where(number: Option<u128>) -> Option<u32>
     }
 }
 
-/// What the values of a picture say, or the first that is bad: a beginning over the greatest moment but a microsecond, an end over the greatest
-/// or not after the beginning, or a width out of its limits.
+/// What the values of a picture say, or the first that is bad: a beginning over the greatest moment but a microsecond,
+/// an end over the greatest or not after the beginning, or a width out of its limits.
 pub fn options_given(values: DrawValues<'_>) -> Result<DrawOptions, BadValue>
     ensures { result ≡ options_of (words_of_draws values.entry) }
 {

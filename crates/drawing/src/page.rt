@@ -48,8 +48,8 @@ pub(crate) const LEGEND: u32 = BOTTOM + 44;
 /// The height of the picture, in pixels.
 pub(crate) const HEIGHT: u32 = BOTTOM + 58;
 
-/// How many hundredths of a pixel half a character of a label takes, at most: a digit has seven pixels in DejaVu Sans, the widest of the common
-/// fonts.
+/// How many hundredths of a pixel half a character of a label takes, at most: a digit has seven pixels in DejaVu Sans,
+/// the widest of the common fonts.
 pub(crate) const HALF_CHARACTER: u64 = 350;
 
 /// Where a part of a row begins, and how wide it is, in hundredths of a pixel.
@@ -85,7 +85,8 @@ impl Page {
         u64::from(LEFT) * 100 + self.viewport.x(moment)
     }
 
-    /// Where a part of a row lies that shows this time: it has at least this width, at most two pixels, in hundredths of a pixel, and lies in the row.
+    /// Where a part of a row lies that shows this time: it has at least this width, at most two pixels, in hundredths
+    /// of a pixel, and lies in the row.
     pub fn place(&self, span: Span, least: u64) -> Place
         requires { least ≤ 200 }
         ensures place { result ≡ place_of (100 * (LEFT + self.now.viewport.width)) least (100 * LEFT + x_in self.now.viewport span.from) (100 * LEFT + x_in self.now.viewport span.to) }
@@ -102,8 +103,8 @@ impl Page {
         }
     }
 
-    /// Where the middle of a label stands that belongs to this place and has so many characters: at its place, or as near to it as the label
-    /// is still whole; both in hundredths of a pixel from the left.
+    /// Where the middle of a label stands that belongs to this place and has so many characters: at its place, or as
+    /// near to it as the label is still whole; both in hundredths of a pixel from the left.
     pub fn label(&self, place: u64, characters: u32) -> u64
         ensures { result ≡ label_at (LEFT + self.now.viewport.width + RIGHT) place characters }
     {

@@ -34,7 +34,8 @@ impl Scope {
         }
     }
 
-    /// A command is accepted now, with its lead moment so long after: by it the schedule changes at a moment, to one with a cycle of so long, or to none.
+    /// A command is accepted now, with its lead moment so long after: by it the schedule changes at a moment, to one
+    /// with a cycle of so long, or to none.
     pub fn with_command(self, lead: u128, now: u128, change: u128, cycle: Option<u128>) -> Scope
         ensures { result ≡ schedule_given lead now change cycle self }
     {
@@ -59,8 +60,9 @@ impl Scope {
         }
     }
 
-    /// The time that the picture covers, as far as it is known: from the first frame on; without a frame two cycles of the first schedule, from the
-    /// moment on at which it comes into force, where they end in time; else from moment 0 on.
+    /// The time that the picture covers, as far as it is known: from the first frame on; without a frame two cycles of
+    /// the first schedule, from the moment on at which it comes into force, where they end in time; else from moment 0
+    /// on.
     pub fn view(self) -> View
         ensures { result ≡ view_in self }
     {

@@ -140,8 +140,8 @@ fn draw_frame<A: Allocator>(view: View, lanes: &mut [Lane<A>; 9], start: &Start)
     draw_in(view, lanes, WIRE, shape);
 }
 
-/// The change of a command, where it is in time: at or before the lead moment of the next command, which is given now and has that moment so long
-/// after it, in picoseconds.
+/// The change of a command, where it is in time: at or before the lead moment of the next command, which is given now
+/// and has that moment so long after it, in picoseconds.
 fn in_time(lead: u128, now: u128, change: Option<Shape>) -> Option<Shape>
     ensures { result ≡ in_time lead now change }
 {
@@ -178,8 +178,8 @@ fn lane_of(class: Option<u8>) -> u8
     }
 }
 
-/// The shapes of a run: by lane, the frames on the wire, how long they wait, and those that were dropped; when the schedule changes; and the change
-/// of the last command, which a later one may replace.
+/// The shapes of a run: by lane, the frames on the wire, how long they wait, and those that were dropped; when the
+/// schedule changes; and the change of the last command, which a later one may replace.
 #[derive(Drop)]
 pub struct Shapes<A: Allocator> {
     view: View,
@@ -205,8 +205,8 @@ impl<A: Allocator> Shapes<A> {
     ghost use Rattle.drawing.specs.Shapes.{IsJoined, lane_at, shape_count, with_start, with_dropped, with_change, with_last_change};
     ghost use Rattle.std.specs.Prelude.{None};
 
-    /// Nothing is drawn, and of what comes what this view shows will be. A command has its lead moment so long after it is given, in picoseconds.
-    /// All memory that is ever wanted is taken here.
+    /// Nothing is drawn, and of what comes what this view shows will be. A command has its lead moment so long after it
+    /// is given, in picoseconds. All memory that is ever wanted is taken here.
     pub fn new(alloc: &A, view: View, lead: u128) -> Result<Shapes<A>, AllocError>
     where
         A: Clone,
@@ -259,8 +259,8 @@ impl<A: Allocator> Shapes<A> {
         self.changes.shapes()
     }
 
-    /// A frame that came at this moment, in picoseconds, has the wire: it is drawn in the lane of its class and in the wire's, and its wait in
-    /// that of its class.
+    /// A frame that came at this moment, in picoseconds, has the wire: it is drawn in the lane of its class and in the
+    /// wire's, and its wait in that of its class.
     pub fn put_start(&mut self, came: u128, start: &Start)
         ensures { self.new ≡ with_start came start.now self.old }
     {
@@ -271,7 +271,8 @@ impl<A: Allocator> Shapes<A> {
         }
     }
 
-    /// A frame was dropped at this moment, in picoseconds: it is marked in the lane of its class, or in the wire's where it has none.
+    /// A frame was dropped at this moment, in picoseconds: it is marked in the lane of its class, or in the wire's
+    /// where it has none.
     pub fn put_drop(&mut self, id: u64, class: Option<u8>, now: u128)
         requires { now ≤ greatest_moment }
         ensures { self.new ≡ with_dropped id class now self.old }
@@ -293,8 +294,8 @@ impl<A: Allocator> Shapes<A> {
         draw_wait(self.view, &mut self.waits, class, came, upto, None);
     }
 
-    /// One more command is accepted now: by it the schedule changes at this moment, unless a later command replaces it; both are in picoseconds.
-    /// The command before it is drawn, unless this one replaces it.
+    /// One more command is accepted now: by it the schedule changes at this moment, unless a later command replaces it;
+    /// both are in picoseconds. The command before it is drawn, unless this one replaces it.
     pub fn mark_change(&mut self, now: u128, change: u128)
         ensures { self.new ≡ with_change now change self.old }
     {

@@ -24,8 +24,8 @@ use std::io::Write;
 /// How far the second line of the legend lies below the first, in pixels.
 const MIXED_LINE: u32 = 18;
 
-/// How the parts of the picture look: set apart by lightness and by form, so that they are in black and white too; and light on dark where the
-/// reader asks for that.
+/// How the parts of the picture look: set apart by lightness and by form, so that they are in black and white too; and
+/// light on dark where the reader asks for that.
 const STYLE: &[u8] = b"<style>
 svg{background:#fff}
 text{font:11px sans-serif;fill:#222}

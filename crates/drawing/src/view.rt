@@ -5,7 +5,8 @@ ghost use Rattle.drawing.specs.Words.{shows};
 
 use picture::Span;
 
-/// The time that a picture shows: from a moment on and, where there is an end, before another. Moments are in picoseconds.
+/// The time that a picture shows: from a moment on and, where there is an end, before another. Moments are in
+/// picoseconds.
 #[derive(Clone, Copy, Debug, PartialEq, Eq)]
 pub struct View {
     /// The moment that it begins at.

@@ -24,8 +24,9 @@ fn count_bands<A: Allocator>(bands: &Bands<A>) -> usize
     count
 }
 
-/// Where there are more than `MOST_APART` shapes in all lanes of a picture with this viewport, neighbours in a lane that are closer to one another
-/// than a pixel are joined. So a picture of any length has a bounded number of shapes, and a short one shows each.
+/// Where there are more than `MOST_APART` shapes in all lanes of a picture with this viewport, neighbours in a lane
+/// that are closer to one another than a pixel are joined. So a picture of any length has a bounded number of shapes,
+/// and a short one shows each.
 pub fn fit<A: Allocator>(bands: &mut Bands<A>, course: &mut Course<A>, viewport: &Viewport)
     ensures bounded { bands_to WIRE bands.old.classes bands.old.mixed ≤ 2 * WIRE * MOST_SHAPES }
     ensures few { bands_to WIRE bands.old.classes bands.old.mixed + shape_count course.old.shown ≤ MOST_APART → (bands.new ≡ bands.old) × (course.new ≡ course.old) }

@@ -1,7 +1,8 @@
-//! A port that is driven call by call, with its values in structs of a fixed layout, as a caller in another language has them.
+//! A port that is driven call by call, with its values in structs of a fixed layout, as a caller in another language
+//! has them.
 //!
-//! The definitions are specs/Taken.antt, what is handed in, and specs/Told.antt, what is answered. The contract of each call compares it
-//! with the abstract port of `abstract_port`.
+//! The definitions are specs/Taken.antt, what is handed in, and specs/Told.antt, what is answered. The contract of each
+//! call compares it with the abstract port of `abstract_port`.
 #![tactic(auto)]
 
 ghost use Rattle.std.specs.Prelude.{◌≡◌, IfErr, IfNone, IfOk, IfSome, Ok, Err};
@@ -75,8 +76,8 @@ fn open_refusal(mbps: u32, mtu: u32, room: u32) -> Option<OpenFault>
 }
 
 impl DrivenPort {
-    /// A port of this line rate, in Mb/s, with an mtu in octets and room for so many frames a class. The room for all frames that ever
-    /// wait is taken here.
+    /// A port of this line rate, in Mb/s, with an mtu in octets and room for so many frames a class. The room for all
+    /// frames that ever wait is taken here.
     pub fn new(alloc: Global, mbps: u32, mtu: u32, room: u32) -> Result<DrivenPort, OpenFault>
         ensures ok { IfOk result (λ p. IfOk (rate_of mbps) (λ ps. p ≡ new_port ps mtu room)) }
         ensures refused { IfSome (open_refusal mbps mtu room) (λ fault. result ≡ Err fault) }

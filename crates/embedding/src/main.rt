@@ -1,4 +1,5 @@
-//! A port inside another program: a schedule is built and installed, two frames arrive, the clock runs, and each start is reported.
+//! A port inside another program: a schedule is built and installed, two frames arrive, the clock runs, and each start
+//! is reported.
 //!
 //! An example: it has no contract, and its output is compared with the file beside it.
 #![tactic(auto)]
@@ -9,7 +10,8 @@ use taprio::{
     Answer, Change, ClassMap, Command, Entry, Event, Frame, GateList, Jumping, Port, Rate,
 };
 
-/// Class 7 alone for 20 microseconds, then all others for 80, over and over; each priority from 0 to 7 is its own class.
+/// Class 7 alone for 20 microseconds, then all others for 80, over and over; each priority from 0 to 7 is its own
+/// class.
 fn schedule() -> Option<Command> {
     let entries = [(0x80, 20_000), (0x7f, 80_000)].map(|(mask, interval)| Entry { mask, interval });
     Some(Command::Replace(Change {
@@ -33,7 +35,8 @@ fn frame(id: u64, priority: u8) -> Frame {
     }
 }
 
-/// The answers of a port of 1000 Mb/s to two frames that come as the schedule comes into force, and to 100 microseconds more.
+/// The answers of a port of 1000 Mb/s to two frames that come as the schedule comes into force, and to 100 microseconds
+/// more.
 fn answers(alloc: Global) -> Option<Vec<Answer>> {
     let rate = Rate::from_mbps(1000).ok()?;
     let mut port = Port::<Jumping>::new(alloc, rate, 1500, 128).ok()?;

@@ -1,5 +1,5 @@
-//! Runs and draws each example script, the worked scripts and the examples of checks, of a table of streams and of a replay, and says whether their
-//! answers are those that lie beside them.
+//! Runs and draws each example script, the worked scripts and the examples of checks, of a table of streams and of a
+//! replay, and says whether their answers are those that lie beside them.
 //!
 //! It has no contract: it is a test.
 #![tactic(auto)]
@@ -31,7 +31,8 @@ const CHECKS: [(&str, &str, bool); 2] = [
     ("windows.schedules", "windows.answers", true),
 ];
 
-/// The examples of a picture, each with its script, its picture, and the moments that it begins and ends at, in picoseconds.
+/// The examples of a picture, each with its script, its picture, and the moments that it begins and ends at, in
+/// picoseconds.
 const PICTURES: [(&str, &str, Option<u128>, Option<u128>); 11] = [
     ("first.script", "first.svg", None, None),
     ("priorities.script", "priorities.svg", None, None),
@@ -77,7 +78,8 @@ fn settings(until: Option<u128>) -> Option<Settings> {
     Settings::new(rate, 1500, 128, until).ok()
 }
 
-/// Whether a script is answered with these octets, by the settings that the program has where no words are given, with a summary or without.
+/// Whether a script is answered with these octets, by the settings that the program has where no words are given, with
+/// a summary or without.
 fn answers_with<R: AllocGlobal>(rt: &R, script: &[u8], answers: &[u8], summary: bool) -> bool {
     let Some(settings) = settings(None) else {
         return false;
@@ -145,8 +147,8 @@ fn streams_agree<R: Files + AllocGlobal>(rt: &R) -> io::Result<bool> {
     Ok(written.is_ok() && got.as_slice() == script.as_slice())
 }
 
-/// Whether the example of a replay gives the report and the capture that lie beside it, run to 2 ms, and after the report a summary where
-/// one is asked for.
+/// Whether the example of a replay gives the report and the capture that lie beside it, run to 2 ms, and after the
+/// report a summary where one is asked for.
 fn replay_agrees<R: Files + AllocGlobal>(rt: &R, summary: bool) -> io::Result<bool> {
     let script = fs::read(rt, "machine.script")?;
     let capture = fs::read(rt, "machine.pcap")?;
@@ -217,8 +219,8 @@ fn told(agrees: bool) -> &'static str {
     }
 }
 
-/// How many worked scripts there are, and how many of them answer as they should. A script and its answers are parted by a line
-/// of four dashes, and one script from the next by a line of four equals signs.
+/// How many worked scripts there are, and how many of them answer as they should. A script and its answers are parted
+/// by a line of four dashes, and one script from the next by a line of four equals signs.
 fn worked<R: Files + AllocGlobal>(rt: &R) -> io::Result<(u32, u32)> {
     let text = fs::read_to_string(rt, "worked.txt")?;
     let mut scripts = 0u32;

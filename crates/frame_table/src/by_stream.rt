@@ -68,12 +68,13 @@ fn put_by_stream<A: Allocator, B: Allocator, R: Read + Drop, S: Read + Drop, W: 
     }
 }
 
-/// Reads a table of streams to its end, and then a script, and writes the same table of its frames as `run_frames`, with a column behind the
-/// others: the stream that a frame is of, named by its first ID. A stream has as many IDs as frames, from its first one on; where more than one has an
-/// ID, the first of the table has it. Where none has it, the field is empty.
+/// Reads a table of streams to its end, and then a script, and writes the same table of its frames as `run_frames`,
+/// with a column behind the others: the stream that a frame is of, named by its first ID. A stream has as many IDs as
+/// frames, from its first one on; where more than one has an ID, the first of the table has it. Where none has it, the
+/// field is empty.
 ///
-/// A malformed line of the table of streams is the fault, and nothing is written. What is kept is that table, and the frames that wait. Else it is as
-/// with `run_frames`.
+/// A malformed line of the table of streams is the fault, and nothing is written. What is kept is that table, and the
+/// frames that wait. Else it is as with `run_frames`.
 pub fn run_frames_by_stream<A: Allocator, R: Read + Drop, S: Read + Drop, W: Write, H: Watch>(
     alloc: A,
     table: S,

@@ -51,8 +51,8 @@ fn finish<A: Allocator + Clone, B: Allocator, C: Allocator, W: Write, H: Watch>(
     Ok(())
 }
 
-/// Writes the head of the table, takes the records and the lines to the end of both, and writes the rows. The number of the record at which the capture
-/// ends with a fault, and the fault.
+/// Writes the head of the table, takes the records and the lines to the end of both, and writes the rows. The number of
+/// the record at which the capture ends with a fault, and the fault.
 fn run<A: Allocator + Clone, B: Allocator, C: Allocator, D: Allocator, R: Read, W: Write, H: Watch>(
     port: &mut RunningPort<A>,
     arrivals: &mut Arrivals<A>,
@@ -150,13 +150,16 @@ fn put_table<A: Allocator, B: Allocator, C: Allocator, R: Read, W: Write, H: Wat
     run_of_both(run)
 }
 
-/// Reads a script to its end, and then the records of a capture, and writes the table of the frames of a replay of both: the same as `run_frames` writes
-/// of the events of both by moment. The ID of a frame is the number of its record, from 0.
+/// Reads a script to its end, and then the records of a capture, and writes the table of the frames of a replay of
+/// both: the same as `run_frames` writes of the events of both by moment. The ID of a frame is the number of its
+/// record, from 0.
 ///
-/// The inputs are read as `replay::replay` reads them, and the run ends as there: at the moment of the settings, or where they have none when no frame
-/// can start any more. Nothing is written where the script or the file header of the capture has a fault. A record with a fault ends the capture: the
-/// table is that of the records before it, and of the whole script. What was written is let out before more of the capture is waited for. A read or a
-/// write that fails, or takes nothing, isn't tried again. Of the frames only those that wait are kept. Who watches is called as for a replay.
+/// The inputs are read as `replay::replay` reads them, and the run ends as there: at the moment of the settings, or
+/// where they have none when no frame can start any more. Nothing is written where the script or the file header of the
+/// capture has a fault. A record with a fault ends the capture: the table is that of the records before it, and of the
+/// whole script. What was written is let out before more of the capture is waited for. A read or a write that fails, or
+/// takes nothing, isn't tried again. Of the frames only those that wait are kept. Who watches is called as for a
+/// replay.
 pub fn run_frames_of_capture<A: Allocator, R: Read + Drop, S: Read + Drop, W: Write, H: Watch>(
     alloc: A,
     script: R,

@@ -14,9 +14,9 @@ use std::alloc::Allocator;
 use std::io::{Read, Write};
 use wire_time::MAX_MOMENT;
 
-/// Writes the table of the frames of the script that `reader` gives, by these values, through `answers`, with the text of a fault on
-/// `errors`; and gives the writer of the answers back. What was written is let out before a fault is reported; after a failed write no
-/// other is tried. Where a value is bad nothing is read.
+/// Writes the table of the frames of the script that `reader` gives, by these values, through `answers`, with the text
+/// of a fault on `errors`; and gives the writer of the answers back. What was written is let out before a fault is
+/// reported; after a failed write no other is tried. Where a value is bad nothing is read.
 pub fn answer_frames<A: Allocator, B: Allocator, R: Read, W: Write + Drop, E: Write, H: Watch>(
     alloc: A,
     values: Values<'_>,
@@ -38,9 +38,10 @@ pub fn answer_frames<A: Allocator, B: Allocator, R: Read, W: Write + Drop, E: Wr
     }
 }
 
-/// Writes the table of the frames of a replay of the script that `reader` gives and of the capture that `capture` gives, with settings whose moment is
-/// judged as that of a replay, through `answers`, with the text of a fault on `errors`; and gives the writer of the answers back. What was written is let
-/// out before a fault is reported; after a failed write no other is tried.
+/// Writes the table of the frames of a replay of the script that `reader` gives and of the capture that `capture`
+/// gives, with settings whose moment is judged as that of a replay, through `answers`, with the text of a fault on
+/// `errors`; and gives the writer of the answers back. What was written is let out before a fault is reported; after a
+/// failed write no other is tried.
 pub fn answer_frames_of_capture<
     A: Allocator,
     B: Allocator,
@@ -64,8 +65,8 @@ pub fn answer_frames_of_capture<
     end_run(run, answers, errors)
 }
 
-/// The same as `answer_frames` with the stream of each frame, by the table of streams that `table` gives, as `run_frames_by_stream` writes it. Where a value is bad
-/// nothing is read.
+/// The same as `answer_frames` with the stream of each frame, by the table of streams that `table` gives, as
+/// `run_frames_by_stream` writes it. Where a value is bad nothing is read.
 pub fn answer_frames_by_stream<
     A: Allocator,
     B: Allocator,

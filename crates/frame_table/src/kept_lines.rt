@@ -12,8 +12,8 @@ use script::{RunFault, RunningPort, Watch};
 use std::alloc::Allocator;
 use std::io::Write;
 
-/// Takes a line of a kept script, and writes the rows of the frames whose fate it decides. Who watches is called where it begins with `tc` and
-/// changes nothing.
+/// Takes a line of a kept script, and writes the rows of the frames whose fate it decides. Who watches is called where
+/// it begins with `tc` and changes nothing.
 fn take_line<A: Allocator + Clone, B: Allocator, C: Allocator, W: Write, H: Watch>(
     port: &mut RunningPort<A>,
     arrivals: &mut Arrivals<A>,
@@ -42,7 +42,8 @@ fn take_line<A: Allocator + Clone, B: Allocator, C: Allocator, W: Write, H: Watc
     }
 }
 
-/// Takes the lines up to a moment that are to come, and writes their rows. Who watches is called for each that begins with `tc` and changes nothing.
+/// Takes the lines up to a moment that are to come, and writes their rows. Who watches is called for each that begins
+/// with `tc` and changes nothing.
 pub(crate) fn take_lines<A: Allocator + Clone, B: Allocator, C: Allocator, W: Write, H: Watch>(
     port: &mut RunningPort<A>,
     arrivals: &mut Arrivals<A>,

@@ -1,9 +1,10 @@
-//! The table of the frames of a script: of each its class, its length, when it came, started and ended, how long it waited, and its fate.
+//! The table of the frames of a script: of each its class, its length, when it came, started and ended, how long it
+//! waited, and its fate.
 //!
 //! The definition is specs/Rows.antt, with its text in specs/RowText.antt; the contracts of `run_frames` and
-//! `answer_frames` cite it by specs/Outcome.antt, and those of `run_frames_by_stream` and `answer_frames_by_stream`, which also say of which stream
-//! of a table a frame is (specs/StreamOf.antt), by specs/ByStream.antt. Those of `run_frames_of_capture` and `answer_frames_of_capture`, for the frames of
-//! a replay, cite it by specs/OfCapture.antt.
+//! `answer_frames` cite it by specs/Outcome.antt, and those of `run_frames_by_stream` and `answer_frames_by_stream`,
+//! which also say of which stream of a table a frame is (specs/StreamOf.antt), by specs/ByStream.antt. Those of
+//! `run_frames_of_capture` and `answer_frames_of_capture`, for the frames of a replay, cite it by specs/OfCapture.antt.
 #![tactic(auto)]
 
 mod arrivals;

@@ -16,7 +16,8 @@ use script::{RunFault, RunningPort, Watch};
 use std::alloc::Allocator;
 use std::io::{Read, Write};
 
-/// Takes the record of a number: a clock event at this moment, and the arrival of its frame; and writes the rows of the frames whose fate they decide.
+/// Takes the record of a number: a clock event at this moment, and the arrival of its frame; and writes the rows of the
+/// frames whose fate they decide.
 fn take_record<A: Allocator + Clone, B: Allocator, W: Write>(
     port: &mut RunningPort<A>,
     arrivals: &mut Arrivals<A>,
@@ -45,7 +46,8 @@ fn stopped_at(number: u32, fault: CapFault) -> Result<Option<(u32, CapFault)>, R
     }
 }
 
-/// Lets out what was written where no record stands whole in hand, so that whoever waits for it has it before more of the capture is waited for.
+/// Lets out what was written where no record stands whole in hand, so that whoever waits for it has it before more of
+/// the capture is waited for.
 fn let_out_before<C: Allocator, R: Read, W: Write>(
     records: &CaptureReader<R, C>,
     writer: &mut W,
@@ -62,9 +64,9 @@ fn let_out_before<C: Allocator, R: Read, W: Write>(
     Ok(())
 }
 
-/// Takes the records that are to come, each after the lines up to its moment, writes their rows, and calls who watches for each; later lines are left.
-/// What was written is let out before more of the capture is waited for. The number of the record at which the capture ends with a fault, and the
-/// fault.
+/// Takes the records that are to come, each after the lines up to its moment, writes their rows, and calls who watches
+/// for each; later lines are left. What was written is let out before more of the capture is waited for. The number of
+/// the record at which the capture ends with a fault, and the fault.
 pub(crate) fn take_records<
     A: Allocator + Clone,
     B: Allocator,

@@ -80,7 +80,8 @@ fn put_sent<A: Allocator, B: Allocator, W: Write>(
     }
 }
 
-/// Runs to a moment that is not refused, in picoseconds, and writes the rows of the starts before it as the port finds them.
+/// Runs to a moment that is not refused, in picoseconds, and writes the rows of the starts before it as the port finds
+/// them.
 fn take_starts<A: Allocator, B: Allocator, W: Write>(
     port: &mut RunningPort<A>,
     arrivals: &mut Arrivals<A>,
@@ -153,7 +154,8 @@ fn tell_refusal<H: Watch>(watch: &mut H, number: u32, line: &[u8], answer: Resul
     }
 }
 
-/// Gives the port the command that the line of this number is, which begins with `tc`, if it is one. Who watches is called where it changes nothing.
+/// Gives the port the command that the line of this number is, which begins with `tc`, if it is one. Who watches is
+/// called where it changes nothing.
 pub(crate) fn take_tc<A: Allocator, H: Watch>(
     port: &mut RunningPort<A>,
     number: u32,
@@ -316,12 +318,14 @@ pub(crate) fn run_with<A: Allocator, B: Allocator, R: Read + Drop, W: Write, H: 
     )
 }
 
-/// Reads a script to its end, and writes a table of its frames: a head, and a row for each frame as soon as its fate is known. A frame that
-/// is dropped has its row when it comes, one that starts when it starts, and one that still waits at the end of the run after all others.
+/// Reads a script to its end, and writes a table of its frames: a head, and a row for each frame as soon as its fate is
+/// known. A frame that is dropped has its row when it comes, one that starts when it starts, and one that still waits
+/// at the end of the run after all others.
 ///
-/// A malformed line ends the run after the rows of the lines before it; what waits then has no row. What was written is let out before more input is
-/// waited for. A read or a write that fails, or takes nothing, isn't tried again. Of the frames only those that wait are kept. Who watches is called
-/// for a malformed line, for one that is skipped, and for each that begins with `tc` and changes nothing.
+/// A malformed line ends the run after the rows of the lines before it; what waits then has no row. What was written is
+/// let out before more input is waited for. A read or a write that fails, or takes nothing, isn't tried again. Of the
+/// frames only those that wait are kept. Who watches is called for a malformed line, for one that is skipped, and for
+/// each that begins with `tc` and changes nothing.
 pub fn run_frames<A: Allocator, R: Read + Drop, W: Write, H: Watch>(
     alloc: A,
     reader: R,

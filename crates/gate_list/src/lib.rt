@@ -178,8 +178,8 @@ impl GateList {
         }
     }
 
-    /// These entries take the place of its own, unless they are refused, as `new` refuses them. A list takes two kilobytes, which
-    /// are not moved so.
+    /// These entries take the place of its own, unless they are refused, as `new` refuses them. A list takes two
+    /// kilobytes, which are not moved so.
     pub fn set(&mut self, entries: &[Entry]) -> Result<(), GateFault>
         ensures answer { result ≡ ok_unless (gate_fault entries.now) tt }
         ensures entries { OnOk result (self.new ≡ entries.now) }

@@ -169,8 +169,8 @@ impl Schedule {
 
     /// The schedule of a list with these times, in nanoseconds; a cycle of 0 means the sum of the intervals.
     ///
-    /// Refused, in this order: an interval, then a cycle, that is shorter than the shortest frame, whose 60 octets are taken
-    /// in whole nanoseconds; a cycle, then an extension, above 2^40; a base time above 2^63 - 1.
+    /// Refused, in this order: an interval, then a cycle, that is shorter than the shortest frame, whose 60 octets are
+    /// taken in whole nanoseconds; a cycle, then an extension, above 2^40; a base time above 2^63 - 1.
     pub fn new(
         list: &GateList,
         base_ns: u64,
@@ -188,8 +188,8 @@ impl Schedule {
         }
     }
 
-    /// This list with these times takes the place of its own, unless they are refused, as `new` refuses them. A schedule takes six
-    /// kilobytes, which are not moved so.
+    /// This list with these times takes the place of its own, unless they are refused, as `new` refuses them. A
+    /// schedule takes six kilobytes, which are not moved so.
     pub fn set(
         &mut self,
         list: &GateList,
@@ -265,7 +265,8 @@ impl Schedule {
         self.extension_ns
     }
 
-    /// The moment from which the schedule is in force, if it is accepted for the lead moment `lead`; both in picoseconds.
+    /// The moment from which the schedule is in force, if it is accepted for the lead moment `lead`; both in
+    /// picoseconds.
     pub fn change_moment(&self, lead: u128) -> u128
         requires { lead < 2 ^ 100 }
         ensures change { result ≡ change_of self.now lead }
@@ -317,8 +318,8 @@ impl Schedule {
         }
     }
 
-    /// How long a class stays open from the start of the entry of an index, where the list is repeated for ever. It looks at no
-    /// entry.
+    /// How long a class stays open from the start of the entry of an index, where the list is repeated for ever. It
+    /// looks at no entry.
     ///
     /// An entry that begins at or after the cycle's end is never shown: its stay is 0 picoseconds.
     pub fn stay(&self, i: usize, class: u8) -> Stay
@@ -331,8 +332,9 @@ impl Schedule {
         stay_at(&self.stays, class as usize, i)
     }
 
-    /// Whether a class stays open for so long from a moment on, which is so long after the start of the entry of an index and before
-    /// its end, where the list is repeated for ever. Both times are in picoseconds. It looks at no entry.
+    /// Whether a class stays open for so long from a moment on, which is so long after the start of the entry of an
+    /// index and before its end, where the list is repeated for ever. Both times are in picoseconds. It looks at no
+    /// entry.
     #[inline(always)]
     pub fn stays_open(&self, i: usize, class: u8, past: u64, for_ps: u64) -> bool
         requires class { class < CLASSES }

@@ -1,7 +1,7 @@
 //! The table of open time: how long each class stays open from the start of each entry of a list repeated for ever.
 //!
-//! It is made once, in time linear in the entries, by a walk from the end of the cycle to its start. It has the slot that closes a
-//! class, which is an octet, in place of the time up to there: a row of all classes is then one word.
+//! It is made once, in time linear in the entries, by a walk from the end of the cycle to its start. It has the slot
+//! that closes a class, which is an octet, in place of the time up to there: a row of all classes is then one word.
 ghost use Rattle.std.specs.Prelude.{◌≡◌, ◌≢◌, ℕ, ◌<◌, ◌≤◌, ◌+◌, ◌^◌, Some, false, drop, if◌then◌else◌, length, slice_get, take};
 ghost use Rattle.gate_list.specs.Closed.{closed_entries};
 ghost use Rattle.gate_list.specs.Gate.{in_ps, opens};
@@ -23,7 +23,8 @@ pub(crate) struct Table {
     always: u8,
     /// When each slot begins, from the start of the cycle.
     starts: [u64; MAX_ENTRIES],
-    /// By slot and by class, the first slot from there on that closes the class; past the last slot the first one comes again.
+    /// By slot and by class, the first slot from there on that closes the class; past the last slot the first one comes
+    /// again.
     closing: [u8; PLACES],
 }
 
@@ -39,8 +40,8 @@ fn span_of(entry: &Entry) -> u64
     1000 * u64::from(entry.interval)
 }
 
-/// When each slot of a cycle of so many picoseconds begins, from the start of the first, is written; the answer is how many slots
-/// there are.
+/// When each slot of a cycle of so many picoseconds begins, from the start of the first, is written; the answer is how
+/// many slots there are.
 fn put_starts(entries: &[Entry], cycle: u64, starts: &mut [u64; MAX_ENTRIES]) -> usize
     requires few { length entries.now ≤ MAX_ENTRIES }
     requires fits { cycle ≤ in_ps MAX_CYCLE_NS }
@@ -114,8 +115,8 @@ fn put_row(slot: usize, mask: u8, bits: &[u8; CLASSES], rows: &mut [u8; PLACES])
     }
 }
 
-/// The rows of the slots of some entries, by the row after them, are written. Apart, and by a copy of the bits, so that the compiler
-/// takes all classes at once.
+/// The rows of the slots of some entries, by the row after them, are written. Apart, and by a copy of the bits, so that
+/// the compiler takes all classes at once.
 #[inline(never)]
 fn put_rows(entries: &[Entry], bits: &[u8; CLASSES], rows: &mut [u8; PLACES])
     requires few { length entries.now ≤ MAX_ENTRIES }
@@ -157,7 +158,8 @@ fn put_first(slot: usize, rows: &mut [u8; PLACES])
     }
 }
 
-/// The rows of all slots of a cycle, with the row after them, are written; the answer is the classes that all slots open.
+/// The rows of all slots of a cycle, with the row after them, are written; the answer is the classes that all slots
+/// open.
 fn put_closing(entries: &[Entry], rows: &mut [u8; PLACES]) -> u8
     requires few { length entries.now ≤ MAX_ENTRIES }
     ensures all { (class : ℕ) → class < CLASSES → opens result class ≡ all_open entries.now class }

@@ -1,5 +1,5 @@
-//! Worked cases: lists that are refused, the rows of two lists, and that a visit is counted. Refused schedules are a row of
-//! tests/histories.py.
+//! Worked cases: lists that are refused, the rows of two lists, and that a visit is counted. Refused schedules are a
+//! row of tests/histories.py.
 
 use gate_list::{Entry, GateFault, GateList, Schedule, Stay, Visits, laws};
 use std::process::Abort;

@@ -49,9 +49,9 @@ fn visits_to(rt: &impl Abort, gates: &mut Stepped, t: u128) -> u64
     visits.count()
 }
 
-/// A list that comes into force, or is placed anew at a lead moment, looks at its entries from the first up to the one of the
-/// moment. Each entry that begins later is one more, also where a cycle begins; a cycle that begins in a hold looks at its
-/// first entry and at the last.
+/// A list that comes into force, or is placed anew at a lead moment, looks at its entries from the first up to the one
+/// of the moment. Each entry that begins later is one more, also where a cycle begins; a cycle that begins in a hold
+/// looks at its first entry and at the last.
 #[test]
 fn a_move_counts_each_entry_that_it_looks_at(rt: HostRuntime) {
     let mut gates = two_masks(&rt, 200000);
@@ -70,8 +70,8 @@ fn a_move_counts_each_entry_that_it_looks_at(rt: HostRuntime) {
     assert_eq!(rt; visits_to(&rt, &mut gates, 5150000000), 1);
 }
 
-/// Only where one command is pending and another that is announced replaces it the list is placed at the lead moment ahead, in
-/// its first entry: one visit each time, also where the class is shut now.
+/// Only where one command is pending and another that is announced replaces it the list is placed at the lead moment
+/// ahead, in its first entry: one visit each time, also where the class is shut now.
 #[test]
 fn a_list_is_placed_ahead_for_two_commands_alone(rt: HostRuntime) {
     let mut gates = two_masks(&rt, 0);

@@ -253,7 +253,8 @@ fn refused_hint(line: &[u8], why: Refused) -> Hint {
     }
 }
 
-/// Writes that the line of this number, which begins with `tc`, changes nothing, and why; then, where that is wanted, what helps with it.
+/// Writes that the line of this number, which begins with `tc`, changes nothing, and why; then, where that is wanted,
+/// what helps with it.
 pub fn put_failure<W: Write>(
     writer: &mut W,
     number: u32,

@@ -221,8 +221,8 @@ fn put_link<W: Write>(writer: &mut W, link: u32) -> Result<(), WriteFault> {
     )
 }
 
-/// Writes what helps with the fault that this text reports: of this line, which is empty where no line has it, or of a capture that begins
-/// with these octets, which are none where it isn't known.
+/// Writes what helps with the fault that this text reports: of this line, which is empty where no line has it, or of a
+/// capture that begins with these octets, which are none where it isn't known.
 pub fn put_fault_hint<W: Write>(
     writer: &mut W,
     text: &[u8],

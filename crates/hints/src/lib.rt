@@ -1,5 +1,5 @@
-//! What helps with a fault: its line with the word marked, what was expected there, and what was perhaps meant. And what is no fault, and is
-//! perhaps not meant.
+//! What helps with a fault: its line with the word marked, what was expected there, and what was perhaps meant. And
+//! what is no fault, and is perhaps not meant.
 //!
 //! No contract says these texts. They are tested.
 #![tactic(auto)]

@@ -1,6 +1,6 @@
-//! Each growth refused in turn, until a run meets none: once that growth alone, and once all from it on. Of what is answered then and
-//! of what was written before, nothing is left open but how much was written. A body that always answers `Memory` comes
-//! out otherwise than it should, since the last runs meet no refusal.
+//! Each growth refused in turn, until a run meets none: once that growth alone, and once all from it on. Of what is
+//! answered then and of what was written before, nothing is left open but how much was written. A body that always
+//! answers `Memory` comes out otherwise than it should, since the last runs meet no refusal.
 
 use super::rows::{Given, Job, Replaying, Runs, hundred_frames};
 use abstract_port::{Answer, Event, Start};
@@ -16,7 +16,8 @@ use std::alloc::Global;
 use std::io;
 use wire_time::Frame;
 
-/// The heap of the run with this number: each growth has two runs, one in which it alone is refused, and one with all after it.
+/// The heap of the run with this number: each growth has two runs, one in which it alone is refused, and one with all
+/// after it.
 fn heap_of(alloc: Global, run: u64) -> RefusingHeap<Global> {
     RefusingHeap::new(alloc, run / 2, run % 2 == 0)
 }
@@ -118,7 +119,8 @@ fn have_all_left(answers: &[Answer]) -> bool {
     true
 }
 
-/// Whether a port goes on with the events that are left as if nothing had happened, after the answers that it has given.
+/// Whether a port goes on with the events that are left as if nothing had happened, after the answers that it has
+/// given.
 fn goes_on(
     alloc: Global,
     port: &mut Port<Jumping>,
@@ -131,8 +133,8 @@ fn goes_on(
     port.run(rest, &mut all) == Ok(()) && have_all_left(all.as_slice())
 }
 
-/// The forty frames in the run with this number: whether a growth was refused, how many events were taken before it, and whether all came
-/// out as it should. Nothing where there is no port.
+/// The forty frames in the run with this number: whether a growth was refused, how many events were taken before it,
+/// and whether all came out as it should. Nothing where there is no port.
 fn run_of_forty(
     given: &Given,
     alloc: Global,
@@ -155,8 +157,9 @@ fn run_of_forty(
     Some((refused, taken, stopped && goes_on))
 }
 
-/// Forty frames through a port. When out of memory, the events that are left go on as if nothing had happened, also where it is
-/// lacking between two starts of one clock event. A body that always says that it took no event fails, since the last runs want none.
+/// Forty frames through a port. When out of memory, the events that are left go on as if nothing had happened, also
+/// where it is lacking between two starts of one clock event. A body that always says that it took no event fails,
+/// since the last runs want none.
 pub fn run_of_events(given: &Given, alloc: Global) -> Runs {
     let Ok(events) = forty_frames(alloc) else {
         return Runs::failed();

@@ -1,5 +1,5 @@
-//! Hostile use, by public calls: memory, reads and writes refused in turn. Each run is compared with what has to come of it, and the program
-//! prints how many there are, and how many came out otherwise.
+//! Hostile use, by public calls: memory, reads and writes refused in turn. Each run is compared with what has to come
+//! of it, and the program prints how many there are, and how many came out otherwise.
 //!
 //! It has no contract: it is a test.
 #![tactic(auto)]
@@ -107,7 +107,8 @@ fn reads_and_writes(
     ]
 }
 
-/// What is printed: the growths of each call, its reads and writes, the reads of a header, and the calls that say that they are out of memory.
+/// What is printed: the growths of each call, its reads and writes, the reads of a header, and the calls that say that
+/// they are out of memory.
 #[derive(Clone, Copy)]
 struct Counts {
     growths: [(&'static str, Runs); 10],

@@ -1,4 +1,5 @@
-//! When out of memory, each of the calls that the program makes ends with status 4 and its text, and nothing is answered.
+//! When out of memory, each of the calls that the program makes ends with status 4 and its text, and nothing is
+//! answered.
 
 use super::rows::{Given, Job, Runs};
 use job::Ended;

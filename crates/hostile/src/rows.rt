@@ -228,7 +228,8 @@ impl Replaying {
     }
 }
 
-/// How many runs met what is put in the way, how many after them met nothing, and how many came out otherwise than they should.
+/// How many runs met what is put in the way, how many after them met nothing, and how many came out otherwise than they
+/// should.
 #[derive(Clone, Copy, PartialEq, Eq, Debug)]
 pub struct Runs {
     pub met: u32,

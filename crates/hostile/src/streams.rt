@@ -1,5 +1,6 @@
-//! Reads and writes that fail, in turn, once or for ever, are cut short to one octet, or give or take nothing, until a run meets none of
-//! it. A body that always answers `Read` or `Write` comes out otherwise than it should, since the last runs meet nothing.
+//! Reads and writes that fail, in turn, once or for ever, are cut short to one octet, or give or take nothing, until a
+//! run meets none of it. A body that always answers `Read` or `Write` comes out otherwise than it should, since the
+//! last runs meet nothing.
 
 use super::rows::{Given, Job, Replaying, Runs, replay_in_memory};
 use capture::{CapFault, CaptureReader};
@@ -29,7 +30,8 @@ fn is_outcome(
     job.run(given, alloc, lines, &mut want) == outcome && want.as_slice() == answers
 }
 
-/// A run of a job whose reader does something else at one call: whether it came to that call, and came out as it should.
+/// A run of a job whose reader does something else at one call: whether it came to that call, and came out as it
+/// should.
 fn read_in_turn(given: &Given, alloc: Global, job: Job, piece: usize, run: u32) -> (bool, bool) {
     let (at, turn) = nth_turn(run);
     let tally = Tally::default();
@@ -60,12 +62,14 @@ pub fn reads_of(given: &Given, alloc: Global, job: Job, piece: usize, most: u32)
     runs
 }
 
-/// Pieces in which a job is read, and how many reads those are: at once, and octet by octet; the last read finds the end.
+/// Pieces in which a job is read, and how many reads those are: at once, and octet by octet; the last read finds the
+/// end.
 pub fn pieces_of_input(job: Job) -> [(usize, u32); 2] {
     [(WHOLE, 2), (1, job.input().len().min(1000) as u32 + 1)]
 }
 
-/// A run of a job whose writer does something else at one call: whether it came to that call, and came out as it should.
+/// A run of a job whose writer does something else at one call: whether it came to that call, and came out as it
+/// should.
 fn write_in_turn(given: &Given, alloc: Global, job: Job, piece: usize, run: u32) -> (bool, bool) {
     let (at, turn) = nth_turn(run);
     let mut writer = TurningWriter::new(alloc, piece, at, turn);
@@ -91,8 +95,8 @@ pub fn writes_of(given: &Given, alloc: Global, job: Job, piece: usize, most: u32
     runs
 }
 
-/// Pieces in which a job is written, and how many writes those are: at once, an answer of a script or a word of a check, and octet by
-/// octet.
+/// Pieces in which a job is written, and how many writes those are: at once, an answer of a script or a word of a
+/// check, and octet by octet.
 pub fn pieces_of_output(job: Job) -> [(usize, u32); 2] {
     let parts = match job {
         Job::OneFrame => 2,
@@ -117,7 +121,8 @@ fn is_outcome_of_replay(
         && want.capture.as_slice() == departures
 }
 
-/// A run of a replay whose capture's reader does something else at one call: whether it came to that call, and came out as it should.
+/// A run of a replay whose capture's reader does something else at one call: whether it came to that call, and came out
+/// as it should.
 fn read_of_capture(
     given: &Given,
     alloc: Global,
@@ -162,15 +167,16 @@ pub fn reads_of_capture(
     runs
 }
 
-/// Pieces in which the capture of two frames is read, and how many reads those are: the header, what comes after it, and the end; and octet by
-/// octet.
+/// Pieces in which the capture of two frames is read, and how many reads those are: the header, what comes after it,
+/// and the end; and octet by octet.
 pub const PIECES_OF_TWO_FRAMES: [(usize, u32); 2] = [(WHOLE, 3), (1, 93)];
 
 /// Pieces in which the capture of a hundred frames is read, and how many reads those are: the header, what comes after
 /// it, and the end; and the header and then record by record.
 pub const PIECES_OF_A_HUNDRED_FRAMES: [(usize, u32); 2] = [(WHOLE, 3), (76, 102)];
 
-/// A run of a replay one of whose writers does something else at one call: whether it came to that call, and came out as it should.
+/// A run of a replay one of whose writers does something else at one call: whether it came to that call, and came out
+/// as it should.
 fn write_of_replay(
     given: &Given,
     alloc: Global,
@@ -227,8 +233,8 @@ pub const WRITES_OF_TWO_FRAMES: [(bool, u32); 2] = [(true, 4), (false, 5)];
 /// How many writes the report of a hundred frames takes, and how many the output capture.
 pub const WRITES_OF_A_HUNDRED_FRAMES: [(bool, u32); 2] = [(true, 200), (false, 201)];
 
-/// All runs of a new reader of a capture that gets an octet at a time, of which one read fails: each of the first 24, once and for ever.
-/// One whose reads don't fail reads on.
+/// All runs of a new reader of a capture that gets an octet at a time, of which one read fails: each of the first 24,
+/// once and for ever. One whose reads don't fail reads on.
 pub fn reads_of_a_header(alloc: Global, capture: &[u8]) -> Runs {
     let mut runs = Runs::none();
     for run in 0..60u32 {

@@ -28,7 +28,8 @@ fn frames_at(frames: u64) -> Option<u64>
     }
 }
 
-/// The settings of these values and of so many frames, which are not strict. The first that is out of its limits is the fault.
+/// The settings of these values and of so many frames, which are not strict. The first that is out of its limits is the
+/// fault.
 fn bounds_settings_at(values: PortValues, frames: u64) -> Result<BoundsSettings, BoundsValue>
     ensures { result ≡ bounds_settings_at values frames }
 {
@@ -46,13 +47,14 @@ fn bounds_settings_at(values: PortValues, frames: u64) -> Result<BoundsSettings,
     }
 }
 
-/// Answers how long the frames of a table's streams wait under each schedule, for ever, with these values: what `stream_bounds::bounds` writes comes
-/// into `output`, and the text of a fault into `fault`, as the program writes it on its standard error. `frames`, 1 to 1,000,000,000, is how many
-/// frames of a class are looked at, at most. A deadline that is missed is no fault: the lines say it. The moment to run to and the summary of the
-/// values change nothing, but a moment out of its limits is refused.
+/// Answers how long the frames of a table's streams wait under each schedule, for ever, with these values: what
+/// `stream_bounds::bounds` writes comes into `output`, and the text of a fault into `fault`, as the program writes it
+/// on its standard error. `frames`, 1 to 1,000,000,000, is how many frames of a class are looked at, at most. A
+/// deadline that is missed is no fault: the lines say it. The moment to run to and the summary of the values change
+/// nothing, but a moment out of its limits is refused.
 ///
-/// Status 2 where a value is out of its limits, 3 where a line of the table has a fault, and nothing is written then, or where one of the schedules
-/// has, after what is reported of the lines before it.
+/// Status 2 where a value is out of its limits, 3 where a line of the table has a fault, and nothing is written then,
+/// or where one of the schedules has, after what is reported of the lines before it.
 pub fn bounds_octets(
     alloc: Global,
     values: PortValues,

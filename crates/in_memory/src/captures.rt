@@ -129,14 +129,15 @@ fn refuse_replay<A: Allocator>(
     )
 }
 
-/// Replays a script and a capture with these values: both outputs, as `replay::replay` writes them, come into `report` and `departures`, and
-/// the text of a fault into `fault`, as the program writes it on its standard error.
+/// Replays a script and a capture with these values: both outputs, as `replay::replay` writes them, come into `report`
+/// and `departures`, and the text of a fault into `fault`, as the program writes it on its standard error.
 ///
-/// The records of the frames that leave carry the moment that `stamp` says. Without a moment to run to the port runs on until no frame can start
-/// any more.
+/// The records of the frames that leave carry the moment that `stamp` says. Without a moment to run to the port runs on
+/// until no frame can start any more.
 ///
-/// Status 2 where a value is out of its limits, which for `until` is the last moment that a capture can say; 3 where the script or the capture has a fault.
-/// Nothing is written at a fault of the script or of the capture's header; at one of a record both outputs of the records before it, and of the whole script.
+/// Status 2 where a value is out of its limits, which for `until` is the last moment that a capture can say; 3 where
+/// the script or the capture has a fault. Nothing is written at a fault of the script or of the capture's header; at
+/// one of a record both outputs of the records before it, and of the whole script.
 pub fn replay_octets<A: Allocator>(
     alloc: &A,
     values: PortValues,

@@ -16,11 +16,12 @@ use schedule_check::{CheckSettings, check};
 use script::Unwatched;
 use std::alloc::Allocator;
 
-/// Checks schedule commands at a line rate in Mb/s: what is reported of each, as `schedule_check::check` writes it, comes into `output`, with
-/// what a schedule gives each class where `windows` asks for it; and the text of a fault into `fault`, as the program writes it on its
-/// standard error.
+/// Checks schedule commands at a line rate in Mb/s: what is reported of each, as `schedule_check::check` writes it,
+/// comes into `output`, with what a schedule gives each class where `windows` asks for it; and the text of a fault into
+/// `fault`, as the program writes it on its standard error.
 ///
-/// Status 2 where the rate is none of the ten, 3 where a line has a fault, after what is reported of the lines before it.
+/// Status 2 where the rate is none of the ten, 3 where a line has a fault, after what is reported of the lines before
+/// it.
 pub fn check_octets<A: Allocator>(
     alloc: &A,
     rate: u32,

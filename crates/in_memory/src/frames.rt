@@ -23,8 +23,8 @@ use frame_table::{run_frames, run_frames_by_stream, run_frames_of_capture};
 use script::Unwatched;
 use std::alloc::Allocator;
 
-/// Runs a script with these values: the table of its frames, as `frame_table::run_frames` writes it, comes into `output`, and the text of a
-/// fault into `fault`, as the program writes it on its standard error.
+/// Runs a script with these values: the table of its frames, as `frame_table::run_frames` writes it, comes into
+/// `output`, and the text of a fault into `fault`, as the program writes it on its standard error.
 ///
 /// Status 2 where a value is out of its limits, 3 where a line has a fault, after the rows of the lines before it.
 pub fn frames_octets<A: Allocator>(
@@ -46,11 +46,12 @@ pub fn frames_octets<A: Allocator>(
     end_in_memory(alloc, run, written.as_slice(), output, fault)
 }
 
-/// Runs a script with these values: the table of its frames with the stream of each, as `frame_table::run_frames_by_stream` writes it, comes into
-/// `output`, and the text of a fault into `fault`, as the program writes it on its standard error.
+/// Runs a script with these values: the table of its frames with the stream of each, as
+/// `frame_table::run_frames_by_stream` writes it, comes into `output`, and the text of a fault into `fault`, as the
+/// program writes it on its standard error.
 ///
-/// Status 2 where a value is out of its limits; 3 where a line of the table of streams has a fault, and nothing is written then, or where one of the
-/// script has, after the rows of the lines before it.
+/// Status 2 where a value is out of its limits; 3 where a line of the table of streams has a fault, and nothing is
+/// written then, or where one of the script has, after the rows of the lines before it.
 pub fn frames_by_stream_octets<A: Allocator>(
     alloc: &A,
     values: PortValues,
@@ -71,13 +72,15 @@ pub fn frames_by_stream_octets<A: Allocator>(
     end_in_memory(alloc, run, written.as_slice(), output, fault)
 }
 
-/// Runs a script and a capture with these values: the table of the frames of their replay, as `frame_table::run_frames_of_capture` writes it, comes
-/// into `output`, and the text of a fault into `fault`, as the program writes it on its standard error.
+/// Runs a script and a capture with these values: the table of the frames of their replay, as
+/// `frame_table::run_frames_of_capture` writes it, comes into `output`, and the text of a fault into `fault`, as the
+/// program writes it on its standard error.
 ///
 /// Without a moment to run to the port runs on until no frame can start any more.
 ///
-/// Status 2 where a value is out of its limits, which for `until` is the last moment that a capture can say; 3 where the script or the capture has a fault.
-/// Nothing is written at a fault of the script or of the capture's header; at one of a record the table of the records before it, and of the whole script.
+/// Status 2 where a value is out of its limits, which for `until` is the last moment that a capture can say; 3 where
+/// the script or the capture has a fault. Nothing is written at a fault of the script or of the capture's header; at
+/// one of a record the table of the records before it, and of the whole script.
 pub fn frames_of_capture_octets<A: Allocator>(
     alloc: &A,
     values: PortValues,

@@ -1,8 +1,9 @@
-//! The jobs of the program over memory: octets in, octets out into slices that the caller lends, with no file, no stream and no word.
+//! The jobs of the program over memory: octets in, octets out into slices that the caller lends, with no file, no
+//! stream and no word.
 //!
-//! Each call answers how it ended (`Ran`). At status 0 the whole output stands at the front of its slice, at 3 what an input with a fault
-//! gives, and at 2 and 3 the text of the fault stands at the front of its own slice; what lies after them is as it was. At 5 a slice has too
-//! little room, and at 4 out of memory: nothing is written then.
+//! Each call answers how it ended (`Ran`). At status 0 the whole output stands at the front of its slice, at 3 what an
+//! input with a fault gives, and at 2 and 3 the text of the fault stands at the front of its own slice; what lies after
+//! them is as it was. At 5 a slice has too little room, and at 4 out of memory: nothing is written then.
 //!
 //! The contract of each call cites the job's own definition of its output, by specs/Slices.antt,
 //! specs/Captures.antt, specs/Pictures.antt and specs/Bounds.antt.

@@ -16,10 +16,11 @@ use std::alloc::Global;
 /// What a picture shows, as numbers that are still to be judged.
 #[derive(Clone, Copy, Debug, PartialEq, Eq)]
 pub struct PictureValues {
-    /// The moment that the picture begins at, in picoseconds, at most the greatest moment less a microsecond; none: moment 0 where its end is given.
+    /// The moment that the picture begins at, in picoseconds, at most the greatest moment less a microsecond; none:
+    /// moment 0 where its end is given.
     pub from: Option<u128>,
-    /// The moment that it ends at, in picoseconds, after the one that it begins at; none: the end of the run where its beginning is given. With neither the
-    /// picture covers what the run has (`drawing::Scope`).
+    /// The moment that it ends at, in picoseconds, after the one that it begins at; none: the end of the run where its
+    /// beginning is given. With neither the picture covers what the run has (`drawing::Scope`).
     pub to: Option<u128>,
     /// Its width, 400 to 2400 pixels.
     pub width: u32,
@@ -35,7 +36,8 @@ fn spelled<'a>(buffer: &'a mut Buffer, moment: Option<u128>) -> Option<&'a str>
     }
 }
 
-/// The options of these values, which are judged as the words that spell them in decimal. The first that is out of its limits is the fault.
+/// The options of these values, which are judged as the words that spell them in decimal. The first that is out of its
+/// limits is the fault.
 pub fn options_at(values: PictureValues) -> Result<DrawOptions, BadValue>
     ensures { result ≡ options_at values }
 {
@@ -72,10 +74,12 @@ fn draw_with(
     end_in_memory(&alloc, run, written.as_slice(), output, fault)
 }
 
-/// Draws the run of a script with these values: the picture, as `drawing::draw` writes it, comes into `output`, and the text of a fault into
-/// `fault`, as the program writes it on its standard error. The memory is that of `Global`, as a drawing's is.
+/// Draws the run of a script with these values: the picture, as `drawing::draw` writes it, comes into `output`, and the
+/// text of a fault into `fault`, as the program writes it on its standard error. The memory is that of `Global`, as a
+/// drawing's is.
 ///
-/// Status 2 where a value is out of its limits, first those of the port; 3 where a line has a fault, with its text and no picture.
+/// Status 2 where a value is out of its limits, first those of the port; 3 where a line has a fault, with its text and
+/// no picture.
 pub fn draw_octets(
     alloc: Global,
     values: PortValues,

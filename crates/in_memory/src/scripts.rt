@@ -14,8 +14,8 @@ use crate::values::{PortValues, settings_at};
 use script::{Unwatched, run_script};
 use std::alloc::Allocator;
 
-/// Runs a script with these values: its answers, as `script::run_script` writes them, come into `output`, and the text of a fault into
-/// `fault`, as the program writes it on its standard error.
+/// Runs a script with these values: its answers, as `script::run_script` writes them, come into `output`, and the text
+/// of a fault into `fault`, as the program writes it on its standard error.
 ///
 /// Status 2 where a value is out of its limits, 3 where a line has a fault, after the answers of the lines before it.
 pub fn run_octets<A: Allocator>(

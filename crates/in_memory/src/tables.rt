@@ -12,11 +12,11 @@ use std::alloc::Allocator;
 use traffic::write_streams;
 
 /// Makes a script of a table of streams, with the lines of `script` among their frames, which may have no octets: what
-/// `traffic::write_streams` writes comes into `output`, and the text of a fault into `fault`, as the program writes it on its standard error.
-/// `from`, at most `MAX_MOMENT`, in picoseconds, is added to each offset.
+/// `traffic::write_streams` writes comes into `output`, and the text of a fault into `fault`, as the program writes it
+/// on its standard error. `from`, at most `MAX_MOMENT`, in picoseconds, is added to each offset.
 ///
-/// Status 2 where that moment is over the greatest; 3 where a line of the table has a fault, and nothing is written then, or where one of the script
-/// passes a limit, after what comes before it.
+/// Status 2 where that moment is over the greatest; 3 where a line of the table has a fault, and nothing is written
+/// then, or where one of the script passes a limit, after what comes before it.
 pub fn streams_octets<A: Allocator>(
     alloc: &A,
     from: u128,

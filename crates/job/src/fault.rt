@@ -11,8 +11,8 @@ use std::alloc::AllocError;
 use std::error::Error;
 use std::fmt::{self, Debug, Display};
 
-/// Why a run of a job ended early: the fault of an input, which is the job's own; or a call failed. What was written is then a prefix of the right
-/// output, and all of it at the fault of an input.
+/// Why a run of a job ended early: the fault of an input, which is the job's own; or a call failed. What was written is
+/// then a prefix of the right output, and all of it at the fault of an input.
 #[derive(Clone, Copy, Debug, PartialEq, Eq)]
 pub enum Fault<I> {
     /// An input has this fault.

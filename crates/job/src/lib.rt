@@ -1,5 +1,5 @@
-//! What the jobs of the program have in common: why a run ends early, what is reported of that, and how a run ends whose output goes through
-//! a buffer.
+//! What the jobs of the program have in common: why a run ends early, what is reported of that, and how a run ends
+//! whose output goes through a buffer.
 //!
 //! The definitions are specs/Outcome.antt, specs/Report.antt and specs/RunEnd.antt; the contracts of `end_run`,
 //! `end_told` and `say_run` cite them.

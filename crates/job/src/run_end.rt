@@ -32,9 +32,9 @@ fn let_out<I: Copy, W: Write + Drop, B: Allocator>(
     run
 }
 
-/// Ends a run whose output went through `answers`: lets out what was written, also before a fault, but after a failed write; then
-/// reports the fault on `errors`, where there is one; and gives the writer back. What the run has written is then what the writer has got, with what
-/// no write let out.
+/// Ends a run whose output went through `answers`: lets out what was written, also before a fault, but after a failed
+/// write; then reports the fault on `errors`, where there is one; and gives the writer back. What the run has written
+/// is then what the writer has got, with what no write let out.
 pub fn end_run<I: InputFault, B: Allocator, W: Write + Drop, E: Write>(
     run: Result<(), Fault<I>>,
     mut answers: BufWriter<W, B>,

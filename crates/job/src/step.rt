@@ -11,8 +11,8 @@ use line_reader::LineReader;
 use std::alloc::Allocator;
 use std::io::{Read, Write};
 
-/// Goes on to the next line, if there is one. Where no whole line stands in hand, what was written is let out first, so that whoever waits
-/// for it has it before more input is waited for. If that fails, no line is taken.
+/// Goes on to the next line, if there is one. Where no whole line stands in hand, what was written is let out first, so
+/// that whoever waits for it has it before more input is waited for. If that fails, no line is taken.
 pub fn next_line<I: LineInput, A: Allocator, R: Read + Drop, W: Write>(
     lines: &mut LineReader<R, A>,
     writer: &mut W,

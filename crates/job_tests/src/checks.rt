@@ -8,7 +8,8 @@ use std::io::{Read, Write};
 use test_streams::{Narrow, Pieces};
 use wire_time::Rate;
 
-/// The example of tc-taprio(8), and a schedule that opens classes 0 and 1 together; a deletion; and lines that are skipped.
+/// The example of tc-taprio(8), and a schedule that opens classes 0 and 1 together; a deletion; and lines that are
+/// skipped.
 const SCHEDULES: &[u8] = b"# the manual's example\n\
 tc qdisc replace dev eth0 parent root handle 100 taprio num_tc 3 map 2 2 1 0 2 2 2 2 2 2 2 2 2 2 2 2 \\\n\
  queues 1@0 1@1 2@2 base-time 1528743495910289987 sched-entry S 01 300000 sched-entry S 02 300000 \\\r\n\

@@ -36,8 +36,8 @@ fn run_refused(alloc: Global, settings: Settings, number: u64) -> Refused {
     }
 }
 
-/// How many growths a replay asks for, and how many of them leave both outputs empty where they are refused. Each that is refused is reported;
-/// else the number of the one that isn't.
+/// How many growths a replay asks for, and how many of them leave both outputs empty where they are refused. Each that
+/// is refused is reported; else the number of the one that isn't.
 fn growths_of(alloc: Global, settings: Settings) -> Result<(u64, u64), u64> {
     let mut silent = 0u64;
     for number in 0..1000u64 {
@@ -55,7 +55,8 @@ fn growths_of(alloc: Global, settings: Settings) -> Result<(u64, u64), u64> {
     Ok((1000, silent))
 }
 
-/// A summary takes the memory for its eight classes before anything is written, and no more: each of these growths is a fault where it is refused.
+/// A summary takes the memory for its eight classes before anything is written, and no more: each of these growths is a
+/// fault where it is refused.
 #[test]
 fn sums_up_in_memory_that_is_taken_first(rt: HostRuntime) -> Result<(), Fail> {
     let usual = settings(END).ok_or("settings")?;
@@ -75,7 +76,8 @@ fn is_told(ended: &Replayed, fault: ReplayFault) -> bool {
     ended.result == Err(fault) && fronts
 }
 
-/// Whether a heap of so many octets is enough for a replay of the two frames and a line; none where what is answered or reported is wrong.
+/// Whether a heap of so many octets is enough for a replay of the two frames and a line; none where what is answered or
+/// reported is wrong.
 fn is_enough(alloc: Global, octets: usize) -> Option<bool> {
     let settings = settings(END)?;
     let heap = LocalHeap::new(alloc, octets).ok()?;
@@ -105,8 +107,8 @@ fn are_read(alloc: Global, script: Pieces<'_>, capture: Pieces<'_>) -> bool {
     is_told(&ended, ReplayFault::Read)
 }
 
-/// Whether they do so where a read of one of them fails, in a run with this number: each call has four, of the capture and of the script, and
-/// for ever and once.
+/// Whether they do so where a read of one of them fails, in a run with this number: each call has four, of the capture
+/// and of the script, and for ever and once.
 fn is_read(alloc: Global, run: u32) -> bool {
     let (at, never) = (run / 4, u32::MAX);
     let (of_capture, of_script) = if run % 2 == 0 {
@@ -124,7 +126,8 @@ fn is_read(alloc: Global, run: u32) -> bool {
     are_read(alloc, script, capture)
 }
 
-/// Each of the first twenty reads of either input fails in turn, once or for ever: it isn't tried again, and what is written is a prefix.
+/// Each of the first twenty reads of either input fails in turn, once or for ever: it isn't tried again, and what is
+/// written is a prefix.
 #[test]
 fn stops_at_each_read(rt: HostRuntime) {
     for run in 0..80u32 {
@@ -163,8 +166,8 @@ fn replay_to<W: PutLine, V: PutLine>(
     )
 }
 
-/// Whether a replay of the two frames is as it should be where each output has room for so many octets: it reports all, or a failed write and
-/// a prefix of the rest, which isn't all.
+/// Whether a replay of the two frames is as it should be where each output has room for so many octets: it reports all,
+/// or a failed write and a prefix of the rest, which isn't all.
 fn is_written(alloc: Global, room: usize, recovers: bool) -> bool {
     let Some(settings) = settings(END) else {
         return false;
@@ -178,7 +181,8 @@ fn is_written(alloc: Global, room: usize, recovers: bool) -> bool {
     fronts && result.err() == fault && whole == fault.is_none()
 }
 
-/// Each write of either output fails in turn, or takes nothing: no write is tried again, and not all of both is written.
+/// Each write of either output fails in turn, or takes nothing: no write is tried again, and not all of both is
+/// written.
 #[test]
 fn stops_at_each_write(rt: HostRuntime) {
     for room in 0..=REPORT.len() {
@@ -198,7 +202,8 @@ fn tells_before(alloc: Global, room: usize, told: &[u8]) -> bool {
     result == Err(ReplayFault::Write) && written.got.len() == room && report.as_slice() == told
 }
 
-/// A failed write of the output capture ends the report too: no line follows that of the start whose record wasn't written.
+/// A failed write of the output capture ends the report too: no line follows that of the start whose record wasn't
+/// written.
 #[test]
 fn the_report_ends_where_the_capture_fails(rt: HostRuntime) {
     let first =

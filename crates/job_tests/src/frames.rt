@@ -65,8 +65,8 @@ fn is_written(alloc: Global, settings: Settings, room: usize) -> bool {
     run == Err(RunFault::Write) && TABLE.starts_with(narrow.got.as_slice())
 }
 
-/// Whether a growth of this number is refused, which is reported behind a prefix of the table; or it isn't asked for. None where it comes out
-/// otherwise.
+/// Whether a growth of this number is refused, which is reported behind a prefix of the table; or it isn't asked for.
+/// None where it comes out otherwise.
 fn is_refused(alloc: Global, settings: Settings, number: u64) -> Option<bool> {
     let heap = RefusingHeap::new(alloc, number, true);
     let mut got = Vec::new(alloc);
@@ -78,7 +78,8 @@ fn is_refused(alloc: Global, settings: Settings, number: u64) -> Option<bool> {
     }
 }
 
-/// Whether a run whose read of this number of the table of streams fails reports that, and writes nothing; or has no such read.
+/// Whether a run whose read of this number of the table of streams fails reports that, and writes nothing; or has no
+/// such read.
 fn is_table_read(alloc: Global, settings: Settings, at: u32) -> bool {
     let mut failing = Pieces::new(STREAMS, 9);
     failing.fails_at = at;
@@ -102,8 +103,8 @@ fn is_refused_by_stream(alloc: Global, settings: Settings, number: u64) -> Optio
     }
 }
 
-/// Whether a run with a capture whose read of this number fails, of the capture where that is even and of the script else, reports that behind a
-/// prefix of the table; or has no such read.
+/// Whether a run with a capture whose read of this number fails, of the capture where that is even and of the script
+/// else, reports that behind a prefix of the table; or has no such read.
 fn is_capture_read(alloc: Global, settings: Settings, number: u32) -> bool {
     let mut capture = Pieces::new(&TWO_CAPTURED, 9);
     let mut script = Pieces::new(BESIDE, 4);
@@ -167,7 +168,8 @@ fn failed_reads_and_writes_end_it(rt: HostRuntime) -> Result<(), Fail> {
     Ok(())
 }
 
-/// Each growth is refused in turn, also that of a class whose frames wait: none is asked for anew, and no frame is lost without a word.
+/// Each growth is refused in turn, also that of a class whose frames wait: none is asked for anew, and no frame is lost
+/// without a word.
 #[test]
 fn memory_is_wanting_only_where_it_is_refused(rt: HostRuntime) {
     let settings = usual(&rt);

@@ -1,6 +1,7 @@
-//! Tests of the program's jobs, by their public calls: readers, writers and heaps that fail, slices with too little room, and random
-//! schedules against a reference. What words and texts show, the rows of `tests/` have. They stand in a crate of their own, so that the jobs
-//! are proved once and not again with them. Nothing stands on it, so it has no contract.
+//! Tests of the program's jobs, by their public calls: readers, writers and heaps that fail, slices with too little
+//! room, and random schedules against a reference. What words and texts show, the rows of `tests/` have. They stand in
+//! a crate of their own, so that the jobs are proved once and not again with them. Nothing stands on it, so it has no
+//! contract.
 #![tactic(auto)]
 
 #[cfg(test)]

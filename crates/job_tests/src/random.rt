@@ -1,4 +1,5 @@
-//! What random schedules give each class, by the gates of `reference`, which asks at every picosecond, through three cycles.
+//! What random schedules give each class, by the gates of `reference`, which asks at every picosecond, through three
+//! cycles.
 
 use gate_list::{Schedule, Stay, Visits};
 use list_config::Gates;
@@ -74,7 +75,8 @@ fn stay(longest: u128, cycle: u128) -> Stay {
     }
 }
 
-/// The longest frame that fits into a time at 100 Gb/s, octet by octet: 80 picoseconds each, and 24 octets beside its own 60 or more.
+/// The longest frame that fits into a time at 100 Gb/s, octet by octet: 80 picoseconds each, and 24 octets beside its
+/// own 60 or more.
 fn longest_frame(time: Stay) -> Longest {
     let Stay::Lasts(time) = time else {
         return Longest::AnyFrame;

@@ -9,12 +9,13 @@ use std::test::Fail;
 use test_streams::BOTH_LEFT;
 use wire_time::Rate;
 
-/// What is reported of the two frames where all gates are open: the second comes no earlier than the first, and goes first.
+/// What is reported of the two frames where all gates are open: the second comes no earlier than the first, and goes
+/// first.
 pub const REPORT: &[u8] = b"queued 0 class 3\nqueued 1 class 5\n\
 start 1 class 5 at 2000500000000 end 2000500672000\nstart 0 class 3 at 2000500672000 end 2000501344000\n";
 
-/// A capture of two frames of 60 octets of which 18 are captured, with customer tags of priority 3 and 5, at 2 s and 500 microseconds and at
-/// 2 s and 400 microseconds.
+/// A capture of two frames of 60 octets of which 18 are captured, with customer tags of priority 3 and 5, at 2 s and
+/// 500 microseconds and at 2 s and 400 microseconds.
 pub const TWO_CAPTURED: [u8; 92] = [
     0x4d, 0x3c, 0xb2, 0xa1, 2, 0, 4, 0, 0, 0, 0, 0, 0, 0, 0, 0, 0, 0, 4, 0, 1, 0, 0, 0, //
     2, 0, 0, 0, 0x20, 0xa1, 7, 0, 18, 0, 0, 0, 60, 0, 0, 0, //
@@ -162,8 +163,8 @@ impl Watch for Seen {
     }
 }
 
-/// What a replay of the three frames says of how far it has come: how often, and then of how many records and of which moment. None where it
-/// fails.
+/// What a replay of the three frames says of how far it has come: how often, and then of how many records and of which
+/// moment. None where it fails.
 fn seen_of_three(alloc: Global) -> io::Result<Option<(u32, u32, u128)>> {
     let Some(settings) = settings(END) else {
         return Ok(None);

@@ -50,8 +50,8 @@ fn is_front_and(octets: &[u8], front: &[u8], behind: &[u8]) -> bool {
     octets.starts_with(front) && &octets[front.len().min(octets.len())..] == behind
 }
 
-/// Whether a heap of so many octets is enough for a script, which is then answered so, with this summary; where it isn't, nothing is answered.
-/// Nothing where it comes out otherwise.
+/// Whether a heap of so many octets is enough for a script, which is then answered so, with this summary; where it
+/// isn't, nothing is answered. Nothing where it comes out otherwise.
 fn is_enough(
     alloc: Global,
     octets: usize,
@@ -102,7 +102,8 @@ fn reads_pieces(rt: HostRuntime) {
     }
 }
 
-/// Whether a script is answered as it should be where its writer has room for so many octets, and then fails or takes nothing.
+/// Whether a script is answered as it should be where its writer has room for so many octets, and then fails or takes
+/// nothing.
 fn is_written(alloc: Global, settings: Settings, room: usize, piece: usize, fails: bool) -> bool {
     let mut writer = Narrow {
         got: Vec::new(alloc),
@@ -154,7 +155,8 @@ const NONE: Values<'static> = Values {
     summary: false,
 };
 
-/// The frames of a worked example: two of class 0 at moment 0, then one of class 0 and one of class 5 a picosecond after 1000000.
+/// The frames of a worked example: two of class 0 at moment 0, then one of class 0 and one of class 5 a picosecond
+/// after 1000000.
 const FRAMES: &[u8] =
     b"frame 1 0 60\nframe 2 0 60\nclock 1000001\nframe 3 0 60\nframe 4 5 1514\nclock 20000000\n";
 

@@ -26,8 +26,8 @@ clock 100\ncount 5\nclock 250000000\nquery\nframe 2 5 60\nframe 7 3 64\nframe 8 
 clock 300000000\nquery\nclock 500000000\nframe 3 5 60\nframe 101 7 1514 tagged\n\
 clock 500000001\nquery\n";
 
-/// Whether a growth of this number is refused, which is reported, and nothing is written; or it isn't asked for, and all is written. None where
-/// it comes out otherwise.
+/// Whether a growth of this number is refused, which is reported, and nothing is written; or it isn't asked for, and
+/// all is written. None where it comes out otherwise.
 fn is_refused(alloc: Global, number: u64) -> Option<bool> {
     let heap = RefusingHeap::new(alloc, number, true);
     let mut got = Vec::new(alloc);
@@ -88,7 +88,8 @@ fn reads_pieces_and_stops_at_a_failed_read(rt: HostRuntime) {
     }
 }
 
-/// How much is written before a read of the script with this number, which fails and is the last; none where it comes out otherwise.
+/// How much is written before a read of the script with this number, which fails and is the last; none where it comes
+/// out otherwise.
 fn written_before(alloc: Global, fails_at: u32) -> Option<usize> {
     let mut reader = Pieces::new(WITH, 40);
     reader.fails_at = fails_at;

@@ -31,7 +31,8 @@ fn entry_stays_open(list: &AcceptedList, class: u8, length: u128, shown: &Shown)
     }
 }
 
-/// Whether a class stays open from a moment on for so long, both in picoseconds, in a list that stands so then and that nothing follows.
+/// Whether a class stays open from a moment on for so long, both in picoseconds, in a list that stands so then and that
+/// nothing follows.
 pub(crate) fn stays_open_alone(list: &AcceptedList, from: u128, class: u8, length: u128) -> bool
     requires schedule { IsSchedule list.now.schedule }
     requires stands { IsPlaced list.now.schedule list.now.change None from list.now.position }
@@ -55,8 +56,8 @@ pub(crate) fn stays_open_alone(list: &AcceptedList, from: u128, class: u8, lengt
     entry_stays_open(list, class, length, &shown)
 }
 
-/// The entry that a cycle shows at a place, in which it is asked: its index, and where it starts. Both times are in picoseconds from the
-/// start of the cycle.
+/// The entry that a cycle shows at a place, in which it is asked: its index, and where it starts. Both times are in
+/// picoseconds from the start of the cycle.
 #[derive(Clone, Copy)]
 struct Place {
     index: usize,
@@ -64,7 +65,8 @@ struct Place {
     at: u64,
 }
 
-/// Whether some class stays open for as long as its head needs, of those that are open at a place and in which a frame waits.
+/// Whether some class stays open for as long as its head needs, of those that are open at a place and in which a frame
+/// waits.
 #[inline(always)]
 fn some_fits(schedule: &Schedule, heads: &Heads, asked: u8, place: Place) -> bool
     requires schedule { IsSchedule schedule.now }
@@ -86,8 +88,9 @@ fn some_fits(schedule: &Schedule, heads: &Heads, asked: u8, place: Place) -> boo
     false
 }
 
-/// The first place at which an entry begins, from the start of an entry on and before another place of the same cycle, at which some
-/// class may start that stays open for as long as its head needs. Places are in picoseconds. Each entry is a visit.
+/// The first place at which an entry begins, from the start of an entry on and before another place of the same cycle,
+/// at which some class may start that stays open for as long as its head needs. Places are in picoseconds. Each entry
+/// is a visit.
 fn search_entries(
     schedule: &Schedule,
     heads: &Heads,
@@ -128,8 +131,8 @@ fn search_entries(
     None
 }
 
-/// The first place from one on and before another of the same cycle, in picoseconds, at which some class may start that stays open
-/// for as long as its head needs. Each entry is a visit.
+/// The first place from one on and before another of the same cycle, in picoseconds, at which some class may start that
+/// stays open for as long as its head needs. Each entry is a visit.
 fn search_cycle(
     schedule: &Schedule,
     heads: &Heads,
@@ -161,8 +164,8 @@ fn search_cycle(
     search_entries(schedule, heads, next, at, stop, visits)
 }
 
-/// The first such place from one on, and before another in the same cycle or in the next one, which goes on counting: in picoseconds
-/// from the start of the cycle.
+/// The first such place from one on, and before another in the same cycle or in the next one, which goes on counting:
+/// in picoseconds from the start of the cycle.
 fn search_two(
     schedule: &Schedule,
     heads: &Heads,
@@ -208,8 +211,9 @@ fn place_in(list: &AcceptedList, from: u128) -> Place
     }
 }
 
-/// The first moment from `from` on and before `before`, in picoseconds, at which some class may start, by what the heads need, in a
-/// list that stands so at `from` and that nothing follows. Where there is none within a cycle, there is none at all.
+/// The first moment from `from` on and before `before`, in picoseconds, at which some class may start, by what the
+/// heads need, in a list that stands so at `from` and that nothing follows. Where there is none within a cycle, there
+/// is none at all.
 pub(crate) fn search_alone(
     list: &AcceptedList,
     from: u128,

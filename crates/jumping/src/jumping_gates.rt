@@ -16,8 +16,9 @@ use queue_heads::Heads;
 use std::marker::Model;
 use wire_time::CLASSES;
 
-/// The gates of a port: its commands, each list with where it stands, where the list in force goes on once a pending command
-/// is replaced, the next moment at which a boundary of the list or a command comes, and the mask that shows until then.
+/// The gates of a port: its commands, each list with where it stands, where the list in force goes on once a pending
+/// command is replaced, the next moment at which a boundary of the list or a command comes, and the mask that shows
+/// until then.
 ///
 /// What a move and an answer look at doesn't grow with how far the moments are apart.
 #[derive(Drop)]
@@ -54,7 +55,8 @@ fn is_before(moment: u128, edge: Option<u128>) -> bool
     }
 }
 
-/// The next moment at which a boundary of the list in force comes, or a command does, in picoseconds; none: there is none.
+/// The next moment at which a boundary of the list in force comes, or a command does, in picoseconds; none: there is
+/// none.
 fn next_edge(slots: &CommandSlots) -> Option<u128>
     requires sound { AreCommands slots.now.commands }
     requires stands { Stands slots.now.commands.in_force slots.now.commands.pending slots.now.commands.moment slots.now.position }
@@ -95,9 +97,9 @@ fn lone_list(slots: &CommandSlots) -> Option<&AcceptedList>
     }
 }
 
-/// Whether a class stays open from now on, by the commands that count. Where no other command is to come, which is mostly so, the list
-/// in force decides. Apart, so that the loop over the classes stays small: mostly a class is shut now, or needs less than what is left
-/// up to the next edge.
+/// Whether a class stays open from now on, by the commands that count. Where no other command is to come, which is
+/// mostly so, the list in force decides. Apart, so that the loop over the classes stays small: mostly a class is shut
+/// now, or needs less than what is left up to the next edge.
 #[inline(never)]
 fn stays_open_from_now(
     slots: &CommandSlots,
@@ -161,9 +163,9 @@ fn move_on(
     }
 }
 
-/// The first moment from now on and before `before`, in picoseconds, at which some class with a need stays open through it. It
-/// makes the legs that a search wants, in a place of its own: the compiler would clear that place at each call of a body that it is
-/// taken into, wanted or not.
+/// The first moment from now on and before `before`, in picoseconds, at which some class with a need stays open through
+/// it. It makes the legs that a search wants, in a place of its own: the compiler would clear that place at each call
+/// of a body that it is taken into, wanted or not.
 #[inline(never)]
 fn search_legs(
     slots: &CommandSlots,
@@ -247,8 +249,8 @@ impl Gates for Jumping {
         }
     }
 
-    /// Goes on to the moment `t`, in picoseconds. Where nothing comes by then, no entry is looked at, and where one entry begins
-    /// and no command comes, at most two are.
+    /// Goes on to the moment `t`, in picoseconds. Where nothing comes by then, no entry is looked at, and where one
+    /// entry begins and no command comes, at most two are.
     fn move_to(&mut self, t: u128, visits: &mut Visits)
         requires sound { IsCurrent self.old.history self.old.moment }
         requires later { self.old.moment ≤ t }

@@ -45,7 +45,8 @@ fn opens_some(mask: u8, needs: &[Option<u128>; CLASSES]) -> bool
     false
 }
 
-/// Whether some class with a need, in picoseconds, stays open through it in a list that nothing follows, from where it stands so.
+/// Whether some class with a need, in picoseconds, stays open through it in a list that nothing follows, from where it
+/// stands so.
 fn fits_alone(
     leg: &ListedLeg<'_>,
     from: u128,
@@ -85,8 +86,8 @@ pub(crate) fn boundary(position: &Position) -> u128
     }
 }
 
-/// A search in a list: what comes after it, what each class needs, and the moment before which it ends. All times are in
-/// picoseconds.
+/// A search in a list: what comes after it, what each class needs, and the moment before which it ends. All times are
+/// in picoseconds.
 #[derive(Drop)]
 struct ListSearch<'a> {
     rest: &'a Rest<'a>,
@@ -95,8 +96,8 @@ struct ListSearch<'a> {
 }
 
 impl ListSearch<'_> {
-    /// Whether some class fits where a list stands so at a moment. Where nothing follows it, its position decides. Else the mask shows
-    /// first whether what follows is worth asking.
+    /// Whether some class fits where a list stands so at a moment. Where nothing follows it, its position decides. Else
+    /// the mask shows first whether what follows is worth asking.
     fn fits_at(&self, leg: &ListedLeg<'_>, from: u128, position: &Position) -> bool
         requires ready { AreReady (Listed (record leg.now { from = from; position = position })) self.now.rest.now }
         requires unended { ForSome leg.now.until (λ u. from < u) }
@@ -113,8 +114,8 @@ impl ListSearch<'_> {
         }
     }
 
-    /// The first moment at which some class fits, from where a list stands and before the end of its cycle. Each further entry is
-    /// a visit.
+    /// The first moment at which some class fits, from where a list stands and before the end of its cycle. Each
+    /// further entry is a visit.
     fn in_cycle(&self, leg: &ListedLeg<'_>, visits: &mut Visits) -> Option<u128>
         requires search { IsSearch self.now leg.now }
         requires unheld { ForSome leg.now.held_from (λ h. self.now.stop ≤ h) }
@@ -157,8 +158,8 @@ impl ListSearch<'_> {
         self.in_cycle(&next, visits)
     }
 
-    /// The first such moment from where a cycle begins. Where there is none in that cycle, there is none up to a cycle before
-    /// the end of the search, since what is shown repeats: what lies between is passed by division.
+    /// The first such moment from where a cycle begins. Where there is none in that cycle, there is none up to a cycle
+    /// before the end of the search, since what is shown repeats: what lies between is passed by division.
     fn in_cycles(&self, leg: &ListedLeg<'_>, visits: &mut Visits) -> Option<u128>
         requires search { IsSearch self.now leg.now }
         requires unheld { ForSome leg.now.held_from (λ h. self.now.stop ≤ h) }
@@ -342,8 +343,8 @@ fn search_into(
     }
 }
 
-/// The first moment from a leg on, through what follows and before `before`, in picoseconds, at which some class with a need
-/// stays open through it.
+/// The first moment from a leg on, through what follows and before `before`, in picoseconds, at which some class with a
+/// need stays open through it.
 pub(crate) fn search(
     leg: &Leg<'_>,
     rest: &Rest<'_>,

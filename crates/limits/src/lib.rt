@@ -1,5 +1,5 @@
-//! The limits of the program, in one place. Each function runs nothing: its contract says what the constants of a subject are, so
-//! that a number that is changed where it stands is refused here.
+//! The limits of the program, in one place. Each function runs nothing: its contract says what the constants of a
+//! subject are, so that a number that is changed where it stands is refused here.
 #![tactic(auto)]
 
 ghost use Rattle.std.specs.Prelude.{◌≡◌, ◌-◌, ◌*◌, ◌/◌, ◌^◌};
@@ -12,14 +12,15 @@ ghost use Rattle.capture.specs.declared.format.TheConstants.{MAX_RECORDS, MAX_RE
 ghost use Rattle.capture.specs.declared.writer.TheConstants.{CAPTURE_END};
 ghost use Rattle.stream_bounds.specs.declared.settings.TheConstants.{MAX_FRAMES};
 
-/// Time: a moment is at most 2^63 - 1 nanoseconds, in picoseconds: the greatest `ktime_t` of Linux, in which tc-taprio(8) gives times.
+/// Time: a moment is at most 2^63 - 1 nanoseconds, in picoseconds: the greatest `ktime_t` of Linux, in which
+/// tc-taprio(8) gives times.
 pub fn time_limits()
     ensures moment { MAX_MOMENT ≡ 1000 * (2 ^ 63 - 1) }
     ensures defined { greatest_moment ≡ MAX_MOMENT }
 {}
 
-/// The port: eight traffic classes (IEEE Std 802.1Q-2018, 8.6.6); sixteen priorities, as the map of tc-taprio(8) has them; an
-/// mtu of 68 octets (RFC 791, 3.2) to 9216; queues of 4096 frames; 10 Mb/s to 100 Gb/s.
+/// The port: eight traffic classes (IEEE Std 802.1Q-2018, 8.6.6); sixteen priorities, as the map of tc-taprio(8) has
+/// them; an mtu of 68 octets (RFC 791, 3.2) to 9216; queues of 4096 frames; 10 Mb/s to 100 Gb/s.
 pub fn port_limits()
     ensures classes { CLASSES ≡ 8 }
     ensures priorities { PRIORITIES ≡ 16 }
@@ -43,7 +44,8 @@ pub fn text_limits()
     ensures octets { MAX_LINE_OCTETS ≡ 65536 }
 {}
 
-/// Captures: 4,000,000 records of 262,144 octets, as libpcap has them; time stamps up to 2^32 seconds (pcap-savefile(5)).
+/// Captures: 4,000,000 records of 262,144 octets, as libpcap has them; time stamps up to 2^32 seconds
+/// (pcap-savefile(5)).
 pub fn capture_limits()
     ensures records { MAX_RECORDS ≡ 4000000 }
     ensures octets { MAX_RECORD_OCTETS ≡ 262144 }

@@ -13,7 +13,8 @@ use memchr::memchr;
 use std::alloc::{AllocError, Allocator, Global};
 use std::io::Read;
 
-/// The most octets of a line before the LF that ends it. Physical lines that are joined count with their backslashes and LFs.
+/// The most octets of a line before the LF that ends it. Physical lines that are joined count with their backslashes
+/// and LFs.
 pub const MAX_LINE_OCTETS: usize = 65_536;
 
 /// The most physical lines of a script.
@@ -86,9 +87,9 @@ fn ended_by(answer: Result<bool, LineFault>) -> Option<Result<(), LineFault>>
 
 /// A reader's lines, one after another.
 ///
-/// A physical line ends at LF or at the end of the input, where an empty rest is no line. A backslash directly before that
-/// LF, or before CR LF, joins the next physical line. Both buffers are made once, whatever the reader gives. Once the input
-/// has ended or a fault was found, nothing more is read.
+/// A physical line ends at LF or at the end of the input, where an empty rest is no line. A backslash directly before
+/// that LF, or before CR LF, joins the next physical line. Both buffers are made once, whatever the reader gives. Once
+/// the input has ended or a fault was found, nothing more is read.
 #[derive(Drop)]
 pub struct LineReader<R, A: Allocator = Global> {
     source: Source<R, A>,
@@ -136,7 +137,8 @@ impl<R: Read + Drop, A: Allocator> LineReader<R, A> {
         self.first
     }
 
-    /// The octets in hand, in which lines may be passed: what was read and is in no line yet. There are none once the lines have ended.
+    /// The octets in hand, in which lines may be passed: what was read and is in no line yet. There are none once the
+    /// lines have ended.
     pub fn hand(&self) -> &[u8]
         ensures { result.now ≡ hand self.now }
     {
@@ -153,8 +155,8 @@ impl<R: Read + Drop, A: Allocator> LineReader<R, A> {
         MAX_LINES - self.breaks
     }
 
-    /// Goes past so many octets in hand, which are so many physical lines with the LF of each, without taking them: the line that the
-    /// reader stands at stays.
+    /// Goes past so many octets in hand, which are so many physical lines with the LF of each, without taking them: the
+    /// line that the reader stands at stays.
     pub fn go_past(&mut self, octets: usize, lines: u32)
         requires hand { octets ≤ length (hand self.old) }
         requires few { lines ≤ lines_left self.old }
@@ -240,11 +242,12 @@ impl<R: Read + Drop, A: Allocator> LineReader<R, A> {
         }
     }
 
-    /// Goes on to the next line, if there is one. After the end, and after a fault, each further call gives the same answer.
+    /// Goes on to the next line, if there is one. After the end, and after a fault, each further call gives the same
+    /// answer.
     ///
-    /// A line that is too long is found at its octet after the last that it may have, too many physical lines at the first
-    /// octet after the last of them. A read that fails isn't tried again: it fails with no octet in hand, and the line so far
-    /// is no line.
+    /// A line that is too long is found at its octet after the last that it may have, too many physical lines at the
+    /// first octet after the last of them. A read that fails isn't tried again: it fails with no octet in hand, and the
+    /// line so far is no line.
     pub fn advance(&mut self) -> Result<bool, LineFault>
         ensures line { Advances (script_left R.remaining self.old) result
             (current_number self.new) (current_line self.new) (script_left R.remaining self.new) }

@@ -12,7 +12,8 @@ ghost use Rattle.list_execute.specs.Walk.{in_hold, ShowsEntry, ShowsHold, IsOf, 
 use gate_list::{Entry, Schedule, Visits};
 use std::marker::Model;
 
-/// Where a walk of a list stands: at an entry of a cycle, or in the hold of the last mask. All moments are in picoseconds.
+/// Where a walk of a list stands: at an entry of a cycle, or in the hold of the last mask. All moments are in
+/// picoseconds.
 #[derive(Clone, Copy, Debug, PartialEq, Eq)]
 pub struct ListExecute {
     began: u128,

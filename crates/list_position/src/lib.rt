@@ -100,8 +100,8 @@ fn begin_cycle(
 }
 
 impl Position {
-    /// The position of a list at `start`, the moment at which its first cycle begins, in picoseconds. It looks at the last entry
-    /// and at the first.
+    /// The position of a list at `start`, the moment at which its first cycle begins, in picoseconds. It looks at the
+    /// last entry and at the first.
     pub fn first(schedule: &Schedule, start: u128, visits: &mut Visits) -> Position
         requires sound { IsSchedule schedule.now }
         requires start { start ≤ 2 * greatest_moment }
@@ -113,8 +113,8 @@ impl Position {
         begin_cycle(schedule, timer, last.mask, None, visits)
     }
 
-    /// The position of the same list at the moment `t`, whose cycles began at `start`, and whose last state is held from
-    /// `held_from` on; none: from no moment on. All are in picoseconds.
+    /// The position of the same list at the moment `t`, whose cycles began at `start`, and whose last state is held
+    /// from `held_from` on; none: from no moment on. All are in picoseconds.
     pub fn at(
         &self,
         schedule: &Schedule,
@@ -211,8 +211,8 @@ impl Position {
         }
     }
 
-    /// The moment up to which a list shows one mask, in picoseconds, where it stands so and its last state is held from a
-    /// moment on; none: for ever.
+    /// The moment up to which a list shows one mask, in picoseconds, where it stands so and its last state is held from
+    /// a moment on; none: for ever.
     pub fn until(&self, held_from: Option<u128>) -> Option<u128>
         ensures boundary { result ≡ boundary_of held_from self.now }
         ensures flat { (plan : Plan) (start n : ℕ) → IsSchedule plan → IsPlaced plan start held_from n self.now → IsFlat (mask_since (Some plan) start held_from) n result }
@@ -227,9 +227,9 @@ impl Position {
         })
     }
 
-    /// Goes on to a later moment `t`, where the same hold counts: in the cycle that runs from the entry that is shown, and in a
-    /// further one from the first. The cycles of the list began at `start`, and its last state is held from `held_from` on; none:
-    /// from no moment on. All are in picoseconds.
+    /// Goes on to a later moment `t`, where the same hold counts: in the cycle that runs from the entry that is shown,
+    /// and in a further one from the first. The cycles of the list began at `start`, and its last state is held from
+    /// `held_from` on; none: from no moment on. All are in picoseconds.
     #[inline(always)]
     pub fn go_on(
         &mut self,
@@ -293,8 +293,8 @@ impl Position {
         self.walk.next(schedule, visits);
     }
 
-    /// The position of the same list at the start of the cycle that holds `t`, which is in no hold. Its last state is held
-    /// from `held_from` on; none: from no moment on. All are in picoseconds.
+    /// The position of the same list at the start of the cycle that holds `t`, which is in no hold. Its last state is
+    /// held from `held_from` on; none: from no moment on. All are in picoseconds.
     pub fn cycle_at(
         &self,
         schedule: &Schedule,

@@ -31,7 +31,8 @@ pub struct First<'a> {
 
 /// What is kept of the frames of one class, first in, first out.
 ///
-/// Their octets lie one after another in one buffer, so that no frame takes memory of its own. That buffer never shrinks.
+/// Their octets lie one after another in one buffer, so that no frame takes memory of its own. That buffer never
+/// shrinks.
 #[derive(Drop)]
 pub(crate) struct ClassOctets<A: Allocator = Global> {
     lengths: HeapCircularBuffer<Lengths, A>,
@@ -57,7 +58,8 @@ impl<A: Allocator + Clone> PerClass<A> for ClassOctets<A> {
 
     ghost made = { empty_class };
 
-    /// No frame yet, and room for so many. The room for their lengths is taken here; for their octets there is none yet.
+    /// No frame yet, and room for so many. The room for their lengths is taken here; for their octets there is none
+    /// yet.
     fn make(alloc: &A, room: usize) -> Result<ClassOctets<A>, AllocError> {
         let lengths = HeapCircularBuffer::with_capacity(alloc.clone()?, room)?;
         let octets = OctetQueue::new(alloc.clone()?);

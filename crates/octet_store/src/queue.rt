@@ -92,8 +92,8 @@ impl<A: Allocator> OctetQueue<A> {
         Ok(())
     }
 
-    /// Makes room for so many octets more after those that are held, which move to the front, where there is none. When out of memory,
-    /// nothing changes.
+    /// Makes room for so many octets more after those that are held, which move to the front, where there is none. When
+    /// out of memory, nothing changes.
     #[inline(never)]
     fn pull(&mut self, more: usize) -> Result<(), AllocError>
     where

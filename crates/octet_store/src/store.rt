@@ -65,8 +65,9 @@ fn give_up_in<A: Allocator>(classes: &mut [ClassOctets<A>; CLASSES], class: u8)
 
 /// For each class, first in, first out: the octets of frames that wait, and the original length of each.
 ///
-/// A class's octets lie in one buffer, which grows where a frame doesn't fit and never shrinks, and is used again for what comes after:
-/// once it is large enough, a frame takes no memory. The octets of a frame lie in one piece, and are lent from there.
+/// A class's octets lie in one buffer, which grows where a frame doesn't fit and never shrinks, and is used again for
+/// what comes after: once it is large enough, a frame takes no memory. The octets of a frame lie in one piece, and are
+/// lent from there.
 #[derive(Drop)]
 pub struct OctetStore<A: Allocator = Global> {
     classes: [ClassOctets<A>; CLASSES],
@@ -86,8 +87,8 @@ impl<A: Allocator> Model for OctetStore<A> {
 }
 
 impl<A: Allocator> OctetStore<A> {
-    /// Eight classes without frames, with room for so many frames each. The room for all lengths that are ever kept is got here, and the
-    /// room for the octets of frames that wait by `put`.
+    /// Eight classes without frames, with room for so many frames each. The room for all lengths that are ever kept is
+    /// got here, and the room for the octets of frames that wait by `put`.
     pub fn new(alloc: &A, room: u32) -> Result<OctetStore<A>, AllocError>
     where
         A: Clone,
@@ -113,8 +114,8 @@ impl<A: Allocator> OctetStore<A> {
         has_room_in(&self.classes, class)
     }
 
-    /// Puts a frame of `original` octets, of which these are kept, at the end of its class, 0 to 7. When out of memory, the store
-    /// is left as it was.
+    /// Puts a frame of `original` octets, of which these are kept, at the end of its class, 0 to 7. When out of memory,
+    /// the store is left as it was.
     pub fn put(&mut self, class: u8, original: u32, octets: &[u8]) -> Result<(), AllocError>
     where
         A: Clone,

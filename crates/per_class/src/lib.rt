@@ -40,7 +40,8 @@ fn four_of<A: Allocator, C: PerClass<A>>(alloc: &A, room: usize) -> Result<(C, C
     Ok((class_0, class_1, class_2, class_3))
 }
 
-/// One for each of the eight classes, with room for so many each: four by four, so that few are given back where one isn't made.
+/// One for each of the eight classes, with room for so many each: four by four, so that few are given back where one
+/// isn't made.
 pub fn classes_of<A: Allocator, C: PerClass<A>>(
     alloc: &A,
     room: usize,

@@ -94,8 +94,8 @@ fn left_after(left: u32, boundary: Option<u128>) -> u32
     }
 }
 
-/// Goes on from gate event to gate event up to a moment, in picoseconds, unless it is past, and draws the bands of the time until then. It
-/// stops where no boundary is left to be looked at.
+/// Goes on from gate event to gate event up to a moment, in picoseconds, unless it is past, and draws the bands of the
+/// time until then. It stops where no boundary is left to be looked at.
 fn draw_to<A: Allocator>(
     own: &mut Jumping,
     classes: &mut [ClassBands<A>; CLASSES],
@@ -220,8 +220,8 @@ fn mixed_all<A: Allocator>(
     }
 }
 
-/// How long the time is that a pixel shows of the widest picture, in picoseconds, rounded up; the picture begins at a moment and ends at another,
-/// or, where no end is known, at this one or later.
+/// How long the time is that a pixel shows of the widest picture, in picoseconds, rounded up; the picture begins at a
+/// moment and ends at another, or, where no end is known, at this one or later.
 fn piece_of(from: u128, to: Option<u128>, upto: u128) -> u128
     ensures value { result ≡ piece_of from to upto }
     ensures some { 0 < result }
@@ -230,7 +230,8 @@ fn piece_of(from: u128, to: Option<u128>, upto: u128) -> u128
     length.div_ceil(u128::from(MAX_WIDTH)).max(1)
 }
 
-/// Where a piece ends that begins now: it is as long as given, or longer while no gate changes, and ends at the end of the time at the latest.
+/// Where a piece ends that begins now: it is as long as given, or longer while no gate changes, and ends at the end of
+/// the time at the latest.
 fn piece_end(own: &Jumping, piece: u128, upto: u128) -> u128
     requires sound { IsCurrent own.now.history own.now.moment }
     requires some { 0 < piece }
@@ -243,7 +244,8 @@ fn piece_end(own: &Jumping, piece: u128, upto: u128) -> u128
     steady.max(whole)
 }
 
-/// What is left up to a moment, in picoseconds, is drawn piece by piece: of each piece each class is open at all moments, at some or at none.
+/// What is left up to a moment, in picoseconds, is drawn piece by piece: of each piece each class is open at all
+/// moments, at some or at none.
 fn mix_to<A: Allocator>(
     own: &mut Jumping,
     classes: &mut [ClassBands<A>; CLASSES],
@@ -271,10 +273,10 @@ fn mix_to<A: Allocator>(
     }
 }
 
-/// The bands of the eight classes of a port: gates of its commands, since when each class is open, and the bands that are complete, in
-/// lanes. A band is a longest time for which its class stays open, of the moments from one on and, where there is an end, before another. Once
-/// `MOST_BOUNDARIES` have been looked at, the time is drawn in pieces as long as a pixel, or longer while no gate changes: a piece at some of whose
-/// moments a class is open is mixed.
+/// The bands of the eight classes of a port: gates of its commands, since when each class is open, and the bands that
+/// are complete, in lanes. A band is a longest time for which its class stays open, of the moments from one on and,
+/// where there is an end, before another. Once `MOST_BOUNDARIES` have been looked at, the time is drawn in pieces as
+/// long as a pixel, or longer while no gate changes: a piece at some of whose moments a class is open is mixed.
 #[derive(Drop)]
 pub struct Bands<A: Allocator = Global> {
     gates: Jumping,
@@ -298,8 +300,8 @@ impl<A: Allocator> Model for Bands<A> {
 }
 
 impl<A: Allocator> Bands<A> {
-    /// No bands at the moment 0, of gates that all are open. Nothing before `from` is drawn, in picoseconds, and nothing from `to` on,
-    /// where it is given. The room for all that the lanes ever have is got here.
+    /// No bands at the moment 0, of gates that all are open. Nothing before `from` is drawn, in picoseconds, and
+    /// nothing from `to` on, where it is given. The room for all that the lanes ever have is got here.
     pub fn new(alloc: &A, from: u128, to: Option<u128>) -> Result<Bands<A>, AllocError>
     where
         A: Clone,
@@ -317,8 +319,8 @@ impl<A: Allocator> Bands<A> {
         })
     }
 
-    /// A command that a port accepted, given now, at the port's line rate and with its lead moment, in picoseconds. One that no port of
-    /// this history would accept changes nothing.
+    /// A command that a port accepted, given now, at the port's line rate and with its lead moment, in picoseconds. One
+    /// that no port of this history would accept changes nothing.
     pub fn install(&mut self, command: &Command, rate: Rate, lead: u128)
         requires ahead { self.old.moment < lead }
         requires within { lead ≤ greatest_moment + greatest_lead }
@@ -363,7 +365,8 @@ impl<A: Allocator> Bands<A> {
         }
     }
 
-    /// What was drawn is dropped: from now on nothing before `from` is drawn, in picoseconds, and nothing from `to` on, where it is given.
+    /// What was drawn is dropped: from now on nothing before `from` is drawn, in picoseconds, and nothing from `to` on,
+    /// where it is given.
     pub fn begin_at(&mut self, from: u128, to: Option<u128>)
         ensures gates { (self.new.history ≡ self.old.history) × (self.new.moment ≡ self.old.moment) }
         ensures viewport { (self.new.from ≡ from) × (self.new.to ≡ to) × (self.new.left ≡ MOST_BOUNDARIES) }
@@ -377,8 +380,9 @@ impl<A: Allocator> Bands<A> {
         self.left = MOST_BOUNDARIES;
     }
 
-    /// The gates go on to a moment, in picoseconds. Each band that ends on the way is put into its lane. Where no boundary is left to be looked at, what is
-    /// left of the way is drawn in pieces. Answers how many entries the gates looked at.
+    /// The gates go on to a moment, in picoseconds. Each band that ends on the way is put into its lane. Where no
+    /// boundary is left to be looked at, what is left of the way is drawn in pieces. Answers how many entries the gates
+    /// looked at.
     pub fn go_to(&mut self, moment: u128) -> u64
         requires later { self.old.moment ≤ moment }
         requires within { moment ≤ greatest_moment }

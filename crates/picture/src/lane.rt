@@ -77,7 +77,8 @@ fn least_distance(shapes: &[Shape]) -> u128
     least
 }
 
-/// Puts a shape at the end of a list that has room, or joins it to the last, where it is nearer to it than a gap, in picoseconds.
+/// Puts a shape at the end of a list that has room, or joins it to the last, where it is nearer to it than a gap, in
+/// picoseconds.
 fn put<A: Allocator>(shapes: &mut Vec<Shape, A>, gap: u128, shape: Shape)
     requires { length shapes.old.items < vec_capacity shapes.old }
     ensures items { shapes.new.items ≡ put gap shapes.old.items shape }
@@ -98,9 +99,10 @@ fn join_all<A: Allocator>(shapes: &mut Vec<Shape, A>, gap: u128)
     shapes.truncate(left);
 }
 
-/// The shapes of a lane, by rising start where they come so; their starts are at most `MAX_MOMENT`. There are at most `MOST_SHAPES`. When
-/// one more comes, neighbours that are closer to one another than a gap are joined, and from then on each shape that comes closer to the
-/// last. The gap is twice the least distance of neighbours, so that some are joined, and at least twice the gap before.
+/// The shapes of a lane, by rising start where they come so; their starts are at most `MAX_MOMENT`. There are at most
+/// `MOST_SHAPES`. When one more comes, neighbours that are closer to one another than a gap are joined, and from then
+/// on each shape that comes closer to the last. The gap is twice the least distance of neighbours, so that some are
+/// joined, and at least twice the gap before.
 #[derive(Drop)]
 pub struct Lane<A: Allocator = Global> {
     shapes: Vec<Shape, A>,
@@ -141,7 +143,8 @@ impl<A: Allocator> Lane<A> {
         }
     }
 
-    /// Neighbours that are closer to one another than a gap, in picoseconds, are joined, and from now on each shape that comes closer to the last.
+    /// Neighbours that are closer to one another than a gap, in picoseconds, are joined, and from now on each shape
+    /// that comes closer to the last.
     pub fn join(&mut self, gap: u128)
         ensures { self.new ≡ joined_at gap self.old }
     {

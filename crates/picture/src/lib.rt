@@ -26,8 +26,9 @@ pub const MIN_WIDTH: u32 = 200;
 /// The greatest width of a picture, in pixels.
 pub const MAX_WIDTH: u32 = 2400;
 
-/// At how many boundaries of the gates a picture looks at most. From there on it asks of each class, for each pixel at most, whether it is open at all
-/// moments, at some or at none: so what it costs does not grow with the time that it shows.
+/// At how many boundaries of the gates a picture looks at most. From there on it asks of each class, for each pixel at
+/// most, whether it is open at all moments, at some or at none: so what it costs does not grow with the time that it
+/// shows.
 pub const MOST_BOUNDARIES: u32 = 100_000;
 
 /// How many shapes a lane has at most.

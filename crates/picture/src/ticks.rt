@@ -18,8 +18,8 @@ pub enum Unit {
     S,
 }
 
-/// The step of an axis over a time of this length, both in picoseconds: the least of 1, 2, 5, 10, 20, 50 and so on such that at most
-/// `most` steps are as long as the time.
+/// The step of an axis over a time of this length, both in picoseconds: the least of 1, 2, 5, 10, 20, 50 and so on such
+/// that at most `most` steps are as long as the time.
 pub fn tick_step(length: u128, most: u32) -> u128
     requires some { 0 < most }
     requires within { length ≤ greatest_moment }

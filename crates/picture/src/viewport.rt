@@ -8,8 +8,8 @@ use crate::{MAX_WIDTH, MIN_WIDTH};
 use std::marker::Model;
 use wire_time::MAX_MOMENT;
 
-/// The time that a picture shows, from a moment on and before another, in picoseconds, at most `MAX_MOMENT`; and its width,
-/// 200 to 2400 pixels.
+/// The time that a picture shows, from a moment on and before another, in picoseconds, at most `MAX_MOMENT`; and its
+/// width, 200 to 2400 pixels.
 #[derive(Clone, Copy, Debug, PartialEq, Eq)]
 pub struct Viewport {
     from: u128,
@@ -31,8 +31,8 @@ impl Model for Viewport {
 }
 
 impl Viewport {
-    /// The viewport of two moments, in picoseconds, and a width, in pixels; none: the first moment is not before the second, that
-    /// is over `MAX_MOMENT`, or the width is not 200 to 2400 pixels.
+    /// The viewport of two moments, in picoseconds, and a width, in pixels; none: the first moment is not before the
+    /// second, that is over `MAX_MOMENT`, or the width is not 200 to 2400 pixels.
     pub fn new(from: u128, to: u128, width: u32) -> Option<Viewport>
         ensures { result ≡ viewport_of from to width }
     {
@@ -76,8 +76,8 @@ impl Viewport {
         (self.to - self.from).div_ceil(u128::from(self.width))
     }
 
-    /// How far from the left edge a moment lies, in hundredths of a pixel, rounded down. A moment before the viewport lies at its
-    /// left edge, and one after it at its right edge.
+    /// How far from the left edge a moment lies, in hundredths of a pixel, rounded down. A moment before the viewport
+    /// lies at its left edge, and one after it at its right edge.
     pub fn x(&self, moment: u128) -> u64
         ensures place { result ≡ x_in self.now moment }
         ensures within { result ≤ 100 * self.now.width }

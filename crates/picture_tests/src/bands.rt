@@ -68,7 +68,8 @@ fn a_band_ends_where_its_entry_does(rt: HostRuntime) -> Result<(), Fail> {
     Ok(())
 }
 
-/// A command that a port would refuse is not taken: a list that no port of the rate can run, and one while another is awaited.
+/// A command that a port would refuse is not taken: a list that no port of the rate can run, and one while another is
+/// awaited.
 #[test]
 fn refused_commands_change_nothing(rt: HostRuntime) -> Result<(), Fail> {
     let slow = Rate::from_mbps(10).expect(&rt, "a rate");

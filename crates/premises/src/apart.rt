@@ -48,7 +48,8 @@ fn is_scheduled<G: Gates, A: Allocator>(port: &mut Port<G, A>) -> bool
     port.report().in_force.is_some()
 }
 
-/// Whether an arrival of this priority is as the law of separation asks: its class is another, or a schedule is in force.
+/// Whether an arrival of this priority is as the law of separation asks: its class is another, or a schedule is in
+/// force.
 fn is_arrival_apart<G: Gates, A: Allocator>(port: &mut Port<G, A>, class: u8, priority: u8) -> bool
     ensures apart { IsTrue result ↔ (class_for port.old.port priority ≡ Some class → IsScheduled port.old.port) }
     ensures same { port.new ≡ port.old }
@@ -105,8 +106,8 @@ fn take_apart<G: Gates, A: Allocator>(port: &mut Port<G, A>, class: u8, event: &
     }
 }
 
-/// Takes events, and answers whether each is as the law of separation asks of the class: no frame of the class comes while no
-/// schedule is in force, and no command is accepted but one whose schedule keeps the class apart.
+/// Takes events, and answers whether each is as the law of separation asks of the class: no frame of the class comes
+/// while no schedule is in force, and no command is accepted but one whose schedule keeps the class apart.
 pub fn is_kept_apart<G: Gates, A: Allocator>(
     port: &mut Port<G, A>,
     class: u8,
@@ -126,8 +127,8 @@ pub fn is_kept_apart<G: Gates, A: Allocator>(
     apart
 }
 
-/// Whether the law of separation speaks of the class and these events, on a new port of this rate with stepped gates, an mtu of
-/// 1500 octets and room for 128 frames a class. It is refused only when out of memory.
+/// Whether the law of separation speaks of the class and these events, on a new port of this rate with stepped gates,
+/// an mtu of 1500 octets and room for 128 frames a class. It is refused only when out of memory.
 pub fn separated(
     alloc: Global,
     rate: Rate,

@@ -56,7 +56,8 @@ fn arrive_offered<G: Gates, A: Allocator>(port: &mut Port<G, A>, class: u8, fram
     is_offered(class, of_class, port.arrive(frame))
 }
 
-/// When the frame behind one of a flow comes, where that one comes at this moment, has this length, and was to come at `next`.
+/// When the frame behind one of a flow comes, where that one comes at this moment, has this length, and was to come at
+/// `next`.
 fn behind(rate: Rate, change: u128, flow: Flow, next: u128, now: u128, len: u32) -> Option<u128>
     ensures { IfSome result (λ later. (now ≡ change + next) × (occupancy_of rate len ≡ flow.need) × (later ≡ next + flow.period)) }
 {
@@ -67,8 +68,8 @@ fn behind(rate: Rate, change: u128, flow: Flow, next: u128, now: u128, len: u32)
     }
 }
 
-/// Takes an event. The flow's next frame was to come at `next`, in picoseconds since the change moment; when it comes now. None: the event
-/// is a command, or a frame of the class that is not the flow's.
+/// Takes an event. The flow's next frame was to come at `next`, in picoseconds since the change moment; when it comes
+/// now. None: the event is a command, or a frame of the class that is not the flow's.
 fn take_next<G: Gates, A: Allocator>(
     port: &mut Port<G, A>,
     rate: Rate,
@@ -103,7 +104,8 @@ fn take_next<G: Gates, A: Allocator>(
     }
 }
 
-/// Takes events: whether none is a command, and the frames that the queue of the class is offered are the first of the flow.
+/// Takes events: whether none is a command, and the frames that the queue of the class is offered are the first of the
+/// flow.
 fn are_next<G: Gates, A: Allocator>(
     port: &mut Port<G, A>,
     rate: Rate,
@@ -126,7 +128,8 @@ fn are_next<G: Gates, A: Allocator>(
     true
 }
 
-/// Gives a command and takes events: whether it is accepted, and no other is, and the frames of the class are the first of the flow.
+/// Gives a command and takes events: whether it is accepted, and no other is, and the frames of the class are the first
+/// of the flow.
 fn is_flow_in<G: Gates, A: Allocator>(
     port: &mut Port<G, A>,
     rate: Rate,
@@ -143,7 +146,8 @@ fn is_flow_in<G: Gates, A: Allocator>(
     }
 }
 
-/// Gives a command and takes events: whether it is accepted, and the law of separation speaks of the class and of all these.
+/// Gives a command and takes events: whether it is accepted, and the law of separation speaks of the class and of all
+/// these.
 fn is_apart_in<G: Gates, A: Allocator>(
     port: &mut Port<G, A>,
     class: u8,
@@ -159,9 +163,9 @@ fn is_apart_in<G: Gates, A: Allocator>(
     }
 }
 
-/// Whether the claim speaks of a run: a command, which is accepted, keeps the class apart and is the only one, and events in which the
-/// frames of the class are the first of a flow. The port is a new one of this rate with stepped gates, an mtu of 1500 octets and room
-/// for 128 frames a class. It is refused only when out of memory.
+/// Whether the claim speaks of a run: a command, which is accepted, keeps the class apart and is the only one, and
+/// events in which the frames of the class are the first of a flow. The port is a new one of this rate with stepped
+/// gates, an mtu of 1500 octets and room for 128 frames a class. It is refused only when out of memory.
 pub fn is_run(
     alloc: Global,
     rate: Rate,

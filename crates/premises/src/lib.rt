@@ -1,5 +1,5 @@
-//! The premises of the laws, met by values that calls make: each function takes or makes such a value, and its contract is what
-//! the laws say of it.
+//! The premises of the laws, met by values that calls make: each function takes or makes such a value, and its contract
+//! is what the laws say of it.
 #![tactic(auto)]
 
 ghost use Rattle.std.specs.Prelude.{◌≡◌, ℕ, ◌+◌, ◌<◌, ◌≤◌, ◌++◌, ◌∷◌, [], List, Some, OnOk, All, ◌^◌, IfOk, IfErr, sum_by};
@@ -109,8 +109,8 @@ pub fn runs<G: Gates, A: Allocator>(port: &Port<G, A>)
     settling();
 }
 
-/// A new port of this rate, an mtu of 1500 octets and room for 128 frames a class. In all its runs each counter of a class is the
-/// count over the answers, at most the greatest u64.
+/// A new port of this rate, an mtu of 1500 octets and room for 128 frames a class. In all its runs each counter of a
+/// class is the count over the answers, at most the greatest u64.
 pub fn counted(alloc: Global, rate: Rate) -> Result<Port<Stepped>, PortFault>
     ensures port { IfOk result (λ p. p.port ≡ new_port rate 1500 128) }
     ensures refused { IfErr result (λ fault. fault ≡ PortFault.Memory) }

@@ -10,9 +10,10 @@ ghost use Rattle.script.specs.Outcome.{IsFaithfulTo, outcome_of};
 use script::{RunFault, Settings, Unwatched, run_script};
 use std::alloc::Global;
 
-/// Answers a script whose octets lie in memory. What is appended is the output of these octets: the lines of the abstract port's
-/// answers, of which each start is by an open gate, no two are on the wire at once, and the counts are those of the events.
-/// At a fault of the script too it is all of it, and the fault is the script's; at another fault it is a prefix of it.
+/// Answers a script whose octets lie in memory. What is appended is the output of these octets: the lines of the
+/// abstract port's answers, of which each start is by an open gate, no two are on the wire at once, and the counts are
+/// those of the events. At a fault of the script too it is all of it, and the fault is the script's; at another fault
+/// it is a prefix of it.
 pub fn answered(
     alloc: Global,
     settings: Settings,

@@ -157,7 +157,8 @@ fn the_claim_of_bounds_does_not_speak_of_other_runs(rt: HostRuntime) -> Result<(
     Ok(())
 }
 
-/// What is answered about that flow, about one that comes twice as often, with little room and with much, and about one that fits into no window.
+/// What is answered about that flow, about one that comes twice as often, with little room and with much, and about one
+/// that fits into no window.
 #[test]
 fn what_is_answered_is_worth_what_the_claim_says(rt: HostRuntime) -> Result<(), Fail> {
     let rate = Rate::from_mbps(1000).ok().ok_or("a rate")?;

@@ -16,8 +16,9 @@ use std::io::{Read, Write};
 use std::rt::Files;
 use stream_bounds::answer_bounds;
 
-/// Answers about the schedules that `reader` gives and the streams of the table whose file the words name, through `answers`, with the text of a
-/// fault on `errors`; and gives the writer of the answers back. The file is opened before anything is read; where it can't be, nothing is answered.
+/// Answers about the schedules that `reader` gives and the streams of the table whose file the words name, through
+/// `answers`, with the text of a fault on `errors`; and gives the writer of the answers back. The file is opened before
+/// anything is read; where it can't be, nothing is answered.
 pub fn bounds_given<F: Files, B: Allocator, R: Read, W: Write + Drop, E: Write, H: Watch>(
     files: &F,
     alloc: Global,

@@ -36,8 +36,8 @@ use std::io::{Read, Write};
 use std::rt::Files;
 use std::time::Clock;
 
-/// Answers the script that `reader` gives, by the values that the words give to the options, through `answers`, with the text of
-/// a fault on `errors`; and gives the writer of the answers back.
+/// Answers the script that `reader` gives, by the values that the words give to the options, through `answers`, with
+/// the text of a fault on `errors`; and gives the writer of the answers back.
 pub fn answer_given<B: Allocator, R: Read, W: Write + Drop, E: Write, H: Watch>(
     alloc: Global,
     matches: &ArgMatches<'_>,
@@ -53,9 +53,9 @@ pub fn answer_given<B: Allocator, R: Read, W: Write + Drop, E: Write, H: Watch>(
     answer_script(alloc, values_of(matches), reader, answers, errors, watch)
 }
 
-/// Checks the schedules that `reader` gives, by the value that the words give to the rate, with windows where they ask for them, and of a script
-/// where they say so,
-/// through `answers`, with the text of a fault on `errors`; and gives the writer of the answers back.
+/// Checks the schedules that `reader` gives, by the value that the words give to the rate, with windows where they ask
+/// for them, and of a script where they say so, through `answers`, with the text of a fault on `errors`; and gives the
+/// writer of the answers back.
 pub fn check_given<B: Allocator, R: Read, W: Write + Drop, E: Write, H: Watch>(
     alloc: Global,
     matches: &ArgMatches<'_>,
@@ -71,8 +71,9 @@ pub fn check_given<B: Allocator, R: Read, W: Write + Drop, E: Write, H: Watch>(
     answer_check(alloc, checks_of(matches), reader, answers, errors, watch)
 }
 
-/// Draws the run of the script that `reader` gives, by the values that the words give to the options, through `answers`, with the text of
-/// a fault on `errors`; and gives the writer of the answers back. At a fault of the script nothing is drawn.
+/// Draws the run of the script that `reader` gives, by the values that the words give to the options, through
+/// `answers`, with the text of a fault on `errors`; and gives the writer of the answers back. At a fault of the script
+/// nothing is drawn.
 pub fn draw_given<B: Allocator, R: Read, W: Write + Drop, E: Write, H: Watch>(
     alloc: Global,
     matches: &ArgMatches<'_>,
@@ -128,8 +129,8 @@ fn end_help<B: Allocator, W: Write + Drop>(text: &str, mut answers: BufWriter<W,
     end_told(Ended { status: 0, told }, answers)
 }
 
-/// Reports why the words are refused on `errors`, or the help that they ask for through `answers`. The status is 2, for help 0, and 4
-/// when out of memory.
+/// Reports why the words are refused on `errors`, or the help that they ask for through `answers`. The status is 2, for
+/// help 0, and 4 when out of memory.
 fn answer_refusal<B: Allocator, W: Write + Drop, E: Write>(
     alloc: Global,
     error: &Error,
@@ -233,9 +234,9 @@ fn job_of<'m, 'a>(matches: &'m ArgMatches<'a>) -> Option<(JobName, &'m ArgMatche
     None
 }
 
-/// Answers the words of the program, the first of which is its name: a job, help, or why they are refused. What is answered goes through
-/// `answers`, whose writer is given back, and the text of a fault to `errors`, which may be a terminal; how far a replay has come is said
-/// through `progress`, where the words ask for it.
+/// Answers the words of the program, the first of which is its name: a job, help, or why they are refused. What is
+/// answered goes through `answers`, whose writer is given back, and the text of a fault to `errors`, which may be a
+/// terminal; how far a replay has come is said through `progress`, where the words ask for it.
 pub(crate) fn answer_words<
     F: Files,
     B: Allocator,

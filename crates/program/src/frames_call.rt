@@ -1,4 +1,5 @@
-//! The table of the frames of a script, which may have the streams of a table from a file, or run beside a capture from one.
+//! The table of the frames of a script, which may have the streams of a table from a file, or run beside a capture from
+//! one.
 
 ghost use Rattle.std.specs.Prelude.{◌≡◌, IfErr, Some, codes};
 ghost use Rattle.octet_writer.specs.Buffered.{writer_contents};
@@ -19,8 +20,9 @@ use std::alloc::{Allocator, Global};
 use std::io::{Read, Write};
 use std::rt::Files;
 
-/// Writes the table of the frames of a replay of the script that `reader` gives and of the capture in the file of this path, by the values that the words
-/// give to the options. The values are judged first, as those of a replay; then the file is opened.
+/// Writes the table of the frames of a replay of the script that `reader` gives and of the capture in the file of this
+/// path, by the values that the words give to the options. The values are judged first, as those of a replay; then the
+/// file is opened.
 fn frames_of_capture<F: Files, B: Allocator, R: Read, W: Write + Drop, E: Write, H: Watch>(
     files: &F,
     alloc: Global,
@@ -47,8 +49,9 @@ fn frames_of_capture<F: Files, B: Allocator, R: Read, W: Write + Drop, E: Write,
     }
 }
 
-/// Writes the table of the frames of the script that `reader` gives, by the values that the words give to the options, and with the stream of each
-/// frame where the words name a file with a table of streams. The file is opened before anything is read.
+/// Writes the table of the frames of the script that `reader` gives, by the values that the words give to the options,
+/// and with the stream of each frame where the words name a file with a table of streams. The file is opened before
+/// anything is read.
 fn frames_of_script<F: Files, B: Allocator, R: Read, W: Write + Drop, E: Write, H: Watch>(
     files: &F,
     alloc: Global,
@@ -74,9 +77,9 @@ fn frames_of_script<F: Files, B: Allocator, R: Read, W: Write + Drop, E: Write, 
     }
 }
 
-/// Writes the table of the frames of the script that `reader` gives, or, where the words name a file with a capture, of a replay of both, by the values
-/// that the words give to the options, through `answers`, with the text of a fault on `errors`; and gives the writer of the answers back. Where the file
-/// can't be opened, nothing is answered.
+/// Writes the table of the frames of the script that `reader` gives, or, where the words name a file with a capture, of
+/// a replay of both, by the values that the words give to the options, through `answers`, with the text of a fault on
+/// `errors`; and gives the writer of the answers back. Where the file can't be opened, nothing is answered.
 pub fn frames_given<F: Files, B: Allocator, R: Read, W: Write + Drop, E: Write, H: Watch>(
     files: &F,
     alloc: Global,

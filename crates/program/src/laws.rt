@@ -4,8 +4,8 @@ ghost use Rattle.std.specs.Prelude.{◌≡◌, ◌∷◌, [], Some, codes, false
 ghost use Rattle.clap.specs.Words.{first_of, subcommand_of, takes};
 ghost use Rattle.program.specs.Table.{program_app};
 
-/// Words of a replay with its three files are taken, and those without the last are not. They name the replay, and give it
-/// the value of its option.
+/// Words of a replay with its three files are taken, and those without the last are not. They name the replay, and give
+/// it the value of its option.
 pub fn replay_words()
     ensures taken { takes program_app
         (codes "taprio_port" ∷ codes "replay" ∷ codes "--until" ∷ codes "2ms" ∷ codes "script" ∷ codes "-" ∷ codes "out" ∷ [])

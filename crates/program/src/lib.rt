@@ -1,7 +1,8 @@
 //! The program: what it does with its words, its input and its two outputs.
 //!
-//! The exit status is 0 where all is done, 1 where a strict run has found something, 2 where the words are refused, 3 where the input is, and 4 where a read, a write
-//! or memory failed, or a file can't be opened. `run` lends the process's own streams; all else is over any reader, writers and files.
+//! The exit status is 0 where all is done, 1 where a strict run has found something, 2 where the words are refused, 3
+//! where the input is, and 4 where a read, a write or memory failed, or a file can't be opened. `run` lends the
+//! process's own streams; all else is over any reader, writers and files.
 //!
 //! The contracts of the calls over readers, writers and files cite the definitions of each job; what words say is
 //! specs/Given.antt.
@@ -71,7 +72,8 @@ fn prompt<E: Write>(errors: &mut E) {
     let _ = errors.write_all(b"reading from the terminal; Ctrl-D ends the input\n");
 }
 
-/// Runs the program on the words, the standard input and the two standard outputs of the process, and answers its exit status.
+/// Runs the program on the words, the standard input and the two standard outputs of the process, and answers its exit
+/// status.
 pub fn run(rt: &HostRuntime) -> ExitCode {
     let mut errors = rt.stderr();
     let Ok(args) = std::env::args(rt) else {

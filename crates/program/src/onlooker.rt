@@ -1,4 +1,5 @@
-//! Who watches a run for the program: what it finds is reported on standard error, and is counted where the run is strict.
+//! Who watches a run for the program: what it finds is reported on standard error, and is counted where the run is
+//! strict.
 
 use crate::progress::Progress;
 use crate::stream_ids::{StreamIds, ids_of};
@@ -124,7 +125,8 @@ impl<'a, 'b, C: Clock, P: Write + Drop, E: Write> Onlooker<'a, 'b, C, P, E> {
         }
     }
 
-    /// Whether something was found for which a strict run ends with status 1: a command changed nothing, or a warning was given.
+    /// Whether something was found for which a strict run ends with status 1: a command changed nothing, or a warning
+    /// was given.
     pub fn has_found(&self) -> bool {
         self.failures > 0 || self.warned
     }
@@ -139,7 +141,8 @@ impl<'a, 'b, C: Clock, P: Write + Drop, E: Write> Onlooker<'a, 'b, C, P, E> {
         let _ = self.errors.flush();
     }
 
-    /// Looks at a line that the job didn't: whether it is a malformed command, or a comment where a command was perhaps meant.
+    /// Looks at a line that the job didn't: whether it is a malformed command, or a comment where a command was perhaps
+    /// meant.
     fn look_at(&mut self, number: u32, line: &[u8]) {
         let mut words = Words::new(line);
         match words.next_word() {
@@ -164,8 +167,8 @@ impl<'a, 'b, C: Clock, P: Write + Drop, E: Write> Onlooker<'a, 'b, C, P, E> {
         }
     }
 
-    /// Reports the text of a fault, if there is one, and what helps with it, where that is wanted. A capture begins with
-    /// these octets, where they are known.
+    /// Reports the text of a fault, if there is one, and what helps with it, where that is wanted. A capture begins
+    /// with these octets, where they are known.
     pub fn report(&mut self, text: &FaultText, capture: &[u8]) {
         let text = text.octets();
         let _ = put(self.errors, text);

@@ -17,7 +17,8 @@ use script::Values;
 use std::alloc::{AllocError, Global};
 use stream_bounds::BoundsWords;
 
-/// Whether the words ask for a job that reads the standard input, as far as can be told before they are read: for a prompt alone.
+/// Whether the words ask for a job that reads the standard input, as far as can be told before they are read: for a
+/// prompt alone.
 pub(crate) fn reads_input(words: &[String]) -> bool {
     let mut words = words.iter().skip(1).map(|word| word.as_str());
     let waits = match words.next() {

@@ -15,8 +15,9 @@ use std::time::{Clock, Duration, Instant};
 /// The least time between two lines, in milliseconds.
 const PAUSE: u128 = 500;
 
-/// Writes, at most twice a second, how many records a replay has taken, the moment that it has reached, and how many records it takes a
-/// second. After a failed write, or where the clock fails, it writes no more. When it writes is not known: it asks the clock.
+/// Writes, at most twice a second, how many records a replay has taken, the moment that it has reached, and how many
+/// records it takes a second. After a failed write, or where the clock fails, it writes no more. When it writes is not
+/// known: it asks the clock.
 #[derive(Drop)]
 pub struct Progress<'a, C: Clock, E: Write + Drop> {
     clock: &'a C,
@@ -42,8 +43,8 @@ fn put_out<E: Write>(writer: &mut E, parts: &[Part<'_>]) -> bool
     writer.flush().is_ok()
 }
 
-/// Writes the line of so many records, the last of which came at this moment, in picoseconds, and so long after the start, and lets it
-/// out. Whether both are done.
+/// Writes the line of so many records, the last of which came at this moment, in picoseconds, and so long after the
+/// start, and lets it out. Whether both are done.
 fn put_line<E: Write>(writer: &mut E, records: u32, moment: u128, after: Duration) -> bool
     ensures { Tells result (E.contents writer.old) (E.contents writer.new) (progress_line records moment (as_nanos after)) }
 {

@@ -51,8 +51,8 @@ pub(crate) fn open<'a, F: Files>(files: &F, path: &'a str) -> Result<F::File, &'
 /// How many octets of a capture are looked at.
 const FRONT: usize = 24;
 
-/// The first octets of a capture in a file, to say what the file is: none where the words name no such file or it can't be read. What is no regular
-/// file is left alone: a pipe that was read to its end may be waited for without an end.
+/// The first octets of a capture in a file, to say what the file is: none where the words name no such file or it can't
+/// be read. What is no regular file is left alone: a pipe that was read to its end may be waited for without an end.
 pub(crate) fn first_octets<F: Files>(files: &F, matches: &ArgMatches<'_>) -> ArrayVec<u8, FRONT> {
     let mut front = ArrayVec::new();
     let path = path_of(matches, "capture");
@@ -70,7 +70,8 @@ pub(crate) fn first_octets<F: Files>(files: &F, matches: &ArgMatches<'_>) -> Arr
     front
 }
 
-/// Makes the file of a path, or empties it, or gives the path back. `-` is no file: one of that name is reached as `./-`.
+/// Makes the file of a path, or empties it, or gives the path back. `-` is no file: one of that name is reached as
+/// `./-`.
 fn create<'a, F: Files>(files: &F, path: &'a str) -> Result<F::File, &'a str> {
     if path == "-" {
         return Err(path);
@@ -152,7 +153,8 @@ pub(crate) fn end_unopened<B: Allocator, W: Write + Drop, E: Write>(
     end_told(say_unopened(path, errors), answers)
 }
 
-/// Writes the text of an output that is one of the inputs. The exit status that goes with it is 2, also where that write fails.
+/// Writes the text of an output that is one of the inputs. The exit status that goes with it is 2, also where that
+/// write fails.
 fn say_over_input<W: Write>(path: &str, writer: &mut W) -> Ended
     ensures status { result.status ≡ 2 }
     ensures told { IsTold result.told (W.contents writer.old) (W.contents writer.new) (over_input_text path.now) }
@@ -267,10 +269,10 @@ fn replay_opened<
     }
 }
 
-/// Replays a script and a capture from files into a file, by the values that the words give to the options, with the report through
-/// `answers` and the text of a fault on `errors`; and gives the writer of the report back. The values are judged first; then the
-/// files are opened: the script, the capture, which is `reader` where its path is `-`, and the output, which is made or emptied, but
-/// not where it is one of the inputs.
+/// Replays a script and a capture from files into a file, by the values that the words give to the options, with the
+/// report through `answers` and the text of a fault on `errors`; and gives the writer of the report back. The values
+/// are judged first; then the files are opened: the script, the capture, which is `reader` where its path is `-`, and
+/// the output, which is made or emptied, but not where it is one of the inputs.
 pub fn replay_given<F: Files, B: Allocator, R: Read, W: Write + Drop, E: Write, P: Watch>(
     files: &F,
     alloc: Global,

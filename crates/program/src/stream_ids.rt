@@ -6,8 +6,8 @@ use std::alloc::Global;
 /// How many streams are looked at, since each is compared with all before it.
 const MOST: usize = 10_000;
 
-/// The ids of the streams so far, up to the first that shares one with a stream before it. Behind `MOST` streams, and where memory ends, nothing more is
-/// found.
+/// The ids of the streams so far, up to the first that shares one with a stream before it. Behind `MOST` streams, and
+/// where memory ends, nothing more is found.
 #[derive(Drop)]
 pub(crate) struct StreamIds {
     ids: Vec<Ids>,

@@ -15,9 +15,10 @@ use std::io::{Read, Write};
 use std::rt::Files;
 use traffic::answer_streams;
 
-/// Writes the script of the table of streams that `reader` gives through `answers`, with the lines of the script among the frames whose
-/// file the words name, if they do, and from the moment that they give, with the text of a fault on `errors`; and gives the writer of the answers back. The file is opened
-/// before anything is read; where it can't be, nothing is answered.
+/// Writes the script of the table of streams that `reader` gives through `answers`, with the lines of the script among
+/// the frames whose file the words name, if they do, and from the moment that they give, with the text of a fault on
+/// `errors`; and gives the writer of the answers back. The file is opened before anything is read; where it can't be,
+/// nothing is answered.
 pub fn streams_given<F: Files, B: Allocator, R: Read, W: Write + Drop, E: Write, H: Watch>(
     files: &F,
     alloc: Global,

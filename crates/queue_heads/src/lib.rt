@@ -12,8 +12,8 @@ ghost use Rattle.queue_heads.specs.Heads.{need_kept};
 use std::marker::Model;
 use wire_time::CLASSES;
 
-/// For each class how long its head needs the wire, in picoseconds, 0 where no frame waits; and the mask of the classes in which one
-/// does, so that the others need no look.
+/// For each class how long its head needs the wire, in picoseconds, 0 where no frame waits; and the mask of the classes
+/// in which one does, so that the others need no look.
 #[derive(Debug, Drop)]
 pub struct Heads {
     needs: [u64; CLASSES],

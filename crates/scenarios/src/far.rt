@@ -1,5 +1,5 @@
-//! Random lists of events that lie far apart, on two implementations of the gates: long lists and short ones, cycles that cut them
-//! or outlast them, holds, commands that replace one another, deletions, and moments up to the greatest.
+//! Random lists of events that lie far apart, on two implementations of the gates: long lists and short ones, cycles
+//! that cut them or outlast them, holds, commands that replace one another, deletions, and moments up to the greatest.
 
 use crate::ports::{new_port, plain_map};
 use abstract_port::{Answer, Change, Command, Event};

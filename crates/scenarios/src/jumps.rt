@@ -1,10 +1,12 @@
-//! How many entries each step of a port on jumping gates looks at, counted by hand: no more for a far clock than for a near one.
+//! How many entries each step of a port on jumping gates looks at, counted by hand: no more for a far clock than for a
+//! near one.
 //!
-//! A list of N entries that no other command follows is searched for one cycle at most, since it repeats: from the start of a cycle that
-//! takes its N - 1 further entries. Before a change, a list that is searched without a find takes N - 1 entries up to the end of its
-//! cycle, as many and the first of the next cycle, as many and the first of the last whole cycle before the change, and those of the
-//! cycle that the change cuts. A list that goes on takes each entry that it comes to in its cycle, and in another cycle all from the
-//! first up to the one of the moment. The gates move only where they are asked, or while a command is to come.
+//! A list of N entries that no other command follows is searched for one cycle at most, since it repeats: from the
+//! start of a cycle that takes its N - 1 further entries. Before a change, a list that is searched without a find takes
+//! N - 1 entries up to the end of its cycle, as many and the first of the next cycle, as many and the first of the last
+//! whole cycle before the change, and those of the cycle that the change cuts. A list that goes on takes each entry
+//! that it comes to in its cycle, and in another cycle all from the first up to the one of the moment. The gates move
+//! only where they are asked, or while a command is to come.
 use super::ports::{command, frame, gigabit_port, plain_map};
 use super::*;
 use abstract_port::{Answer, Command, Event, Start};
@@ -57,8 +59,8 @@ fn by_turns(many: usize, interval: u32) -> Option<Command> {
     command(&given, plain_map())
 }
 
-/// A schedule of so many entries, what a clock event that goes over it looks at while a frame can't start, and what is open
-/// then.
+/// A schedule of so many entries, what a clock event that goes over it looks at while a frame can't start, and what is
+/// open then.
 #[derive(Clone, Copy)]
 struct Waiting {
     many: usize,
@@ -67,8 +69,8 @@ struct Waiting {
     mask: u8,
 }
 
-/// What is seen of a port on which a frame waits: the steps up to a far clock, the moment, the mask and the frames that wait
-/// then, and whether a clock after it looks at nothing.
+/// What is seen of a port on which a frame waits: the steps up to a far clock, the moment, the mask and the frames that
+/// wait then, and whether a clock after it looks at nothing.
 fn waits(alloc: Global, waiting: &Waiting) -> Option<(Result<(), usize>, (u128, u8, u64), bool)> {
     let list = by_turns(waiting.many, waiting.interval)?;
     let mut port = gigabit_port::<Jumping>(alloc, 8)?;
@@ -93,8 +95,8 @@ fn waits(alloc: Global, waiting: &Waiting) -> Option<(Result<(), usize>, (u128, 
     ))
 }
 
-/// A frame waits through 5 * 10^12 cycles, 10^15 and 4 * 10^12: a step that took each of them would not end. It is searched for
-/// once, from the start of a cycle and through it, and then it is known that it never starts.
+/// A frame waits through 5 * 10^12 cycles, 10^15 and 4 * 10^12: a step that took each of them would not end. It is
+/// searched for once, from the start of a cycle and through it, and then it is known that it never starts.
 const WAITING: [Waiting; 3] = [
     Waiting {
         many: 2,
@@ -131,8 +133,9 @@ fn a_frame_waits_through_far_clocks(rt: HostRuntime) {
     assert_eq!(rt; wait_through_far_clocks(rt.alloc()), Ok(()));
 }
 
-/// A schedule of so many entries that open class 0, and a last one of 5 us that opens class 1, with an extension; a second one that
-/// opens class 1 alone, by its base time; and the start in picoseconds. All other times are in nanoseconds.
+/// A schedule of so many entries that open class 0, and a last one of 5 us that opens class 1, with an extension; a
+/// second one that opens class 1 alone, by its base time; and the start in picoseconds. All other times are in
+/// nanoseconds.
 #[derive(Clone, Copy)]
 struct Change {
     many: usize,
@@ -184,8 +187,8 @@ impl Change {
     }
 }
 
-/// Takes both schedules and a frame of class 1 on a new port, and then a far clock. Which is the first step whose answers or visits
-/// aren't those that are given.
+/// Takes both schedules and a frame of class 1 on a new port, and then a far clock. Which is the first step whose
+/// answers or visits aren't those that are given.
 fn steps_to_the_change<'a>(
     port: &mut Port<Jumping>,
     change: &Change,
@@ -215,8 +218,8 @@ fn steps_to_the_change<'a>(
     steps(port, &looks)
 }
 
-/// A frame of class 1 that takes 12.304 us fits into no entry of 5 us: 5,000,000 cycles later the change lets it start. Which is
-/// the first step that comes out otherwise; nothing where there is no port, or no command.
+/// A frame of class 1 that takes 12.304 us fits into no entry of 5 us: 5,000,000 cycles later the change lets it start.
+/// Which is the first step that comes out otherwise; nothing where there is no port, or no command.
 fn starts_at_the_change(alloc: Global, change: &Change) -> Option<Result<(), usize>> {
     let first = change.first()?;
     let second = change.second()?;
@@ -235,12 +238,13 @@ fn start_at_changes(alloc: Global) -> Result<(), (usize, Option<Result<(), usize
     Ok(())
 }
 
-/// The change comes where a cycle ends; 30 us later, through which the extension holds the last state; and again with an extension
-/// that is too short, so that a cycle begins and is cut.
+/// The change comes where a cycle ends; 30 us later, through which the extension holds the last state; and again with
+/// an extension that is too short, so that a cycle begins and is cut.
 ///
-/// Up to the start: three times all entries but the first, the first of two cycles (of the cut one too), and placed in the last
-/// entry, or in the one of the second list. After it no frame waits and nothing is searched: placed in the second list or in the hold,
-/// or not moved from the start's entry, where the frame ends; and placed in the second list where the clock stops.
+/// Up to the start: three times all entries but the first, the first of two cycles (of the cut one too), and placed in
+/// the last entry, or in the one of the second list. After it no frame waits and nothing is searched: placed in the
+/// second list or in the hold, or not moved from the start's entry, where the frame ends; and placed in the second list
+/// where the clock stops.
 const CHANGES: [Change; 6] = [
     Change {
         many: 2,
@@ -312,7 +316,8 @@ struct Starting {
     visits: u64,
 }
 
-/// Takes a clock event at the moment, which looks at nothing, then the frame, and then a picosecond. Whether each comes out so.
+/// Takes a clock event at the moment, which looks at nothing, then the frame, and then a picosecond. Whether each comes
+/// out so.
 fn starts_at_once(port: &mut Port<Jumping>, starting: &Starting) -> bool {
     let Starting { class, at, visits } = *starting;
     let queued = Answer::Queued { id: 1, class };
@@ -390,9 +395,9 @@ fn near_starts(alloc: Global) -> Option<(Result<(), u32>, Result<(), u128>)> {
     Some((start_in_each_entry(&mut port), start_further_on(&mut port)))
 }
 
-/// Frames that arrive over 256 entries of 1 us, and start at once. Clock events look at no entry. A start in the entry after that of
-/// the last start looks at that entry alone, also where a cycle begins; further on each entry that begins is looked at once, on the
-/// way.
+/// Frames that arrive over 256 entries of 1 us, and start at once. Clock events look at no entry. A start in the entry
+/// after that of the last start looks at that entry alone, also where a cycle begins; further on each entry that begins
+/// is looked at once, on the way.
 #[test]
 fn near_starts_look_at_the_next_entry_alone(rt: HostRuntime) {
     assert_eq!(rt; near_starts(rt.alloc()), Some((Ok(()), Ok(()))));

@@ -1,4 +1,5 @@
-//! Tests across crates: how long classes stay open in histories of schedule commands, on any implementation of the gates.
+//! Tests across crates: how long classes stay open in histories of schedule commands, on any implementation of the
+//! gates.
 #![tactic(auto)]
 
 ghost use Rattle.std.specs.Prelude.{◌≡◌, ◌≤◌, ◌<◌};
@@ -77,8 +78,8 @@ fn holds<G: Gates>(gates: &mut G, step: &Step<'_>) -> bool
     }
 }
 
-/// Plays a worked history on new gates, each step at its moment in picoseconds: the index of the first step that doesn't come out as it has
-/// to, or whose moment goes back.
+/// Plays a worked history on new gates, each step at its moment in picoseconds: the index of the first step that
+/// doesn't come out as it has to, or whose moment goes back.
 pub fn play<G: Gates + Drop>(steps: &[(u128, Step<'_>)]) -> Result<(), usize> {
     let mut gates = G::begin();
     let mut visits = Visits::zero();

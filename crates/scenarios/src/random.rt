@@ -157,8 +157,9 @@ fn open_alike<G: Gates, H: Gates>(first: &G, second: &H, numbers: &mut Numbers, 
     first.stays_open(class, for_ps, &mut visits) == second.stays_open(class, for_ps, &mut others)
 }
 
-/// Moves both to each picosecond up to `until`, gives commands now and then, and compares at each what they show and whether
-/// a class stays open for a short while, and now and then for a long one. The first moment at which they differ.
+/// Moves both to each picosecond up to `until`, gives commands now and then, and compares at each what they show and
+/// whether a class stays open for a short while, and now and then for a long one. The first moment at which they
+/// differ.
 pub fn agree<G: Gates + Drop, H: Gates + Drop>(seed: u64, until: u32) -> Result<(), u32> {
     let mut numbers = Numbers::new(seed);
     let mut first = G::begin();

@@ -1,5 +1,5 @@
-//! Worked histories as tables, for any gates: how long classes stay open. The scripts of tests/histories.py and examples/worked.txt have
-//! masks, change moments and what is shown.
+//! Worked histories as tables, for any gates: how long classes stay open. The scripts of tests/histories.py and
+//! examples/worked.txt have masks, change moments and what is shown.
 use super::{Given, Step, play};
 use gate_list::Entry;
 use list_config::Gates;

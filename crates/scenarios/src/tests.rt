@@ -209,7 +209,8 @@ fn ends_just(
     }
 }
 
-/// How many events a new port takes with so many octets of memory, if it answers just so once it has taken the rest of them.
+/// How many events a new port takes with so many octets of memory, if it answers just so once it has taken the rest of
+/// them.
 fn goes_on(alloc: Global, size: usize, events: &[Event<'_>], want: &[Answer]) -> Option<usize> {
     let mut port = gigabit_port::<Stepped>(alloc, 2)?;
     let (taken, few) = answers_within(alloc, size, &mut port, events).ok()?;
@@ -220,8 +221,8 @@ fn goes_on(alloc: Global, size: usize, events: &[Event<'_>], want: &[Answer]) ->
     }
 }
 
-/// Whether there was too little memory, and whether there was enough, each at some size. Or the first size with which the answers come out
-/// otherwise.
+/// Whether there was too little memory, and whether there was enough, each at some size. Or the first size with which
+/// the answers come out otherwise.
 fn go_on(alloc: Global) -> Result<(bool, bool), usize> {
     let Some(command) = closed_then_open() else {
         return Err(0);
@@ -240,8 +241,8 @@ fn go_on(alloc: Global) -> Result<(bool, bool), usize> {
     Ok((wanted, enough))
 }
 
-/// A frame waits for its gate, and the next schedule comes: through calls of `run` with little memory the answers are those
-/// of one call.
+/// A frame waits for its gate, and the next schedule comes: through calls of `run` with little memory the answers are
+/// those of one call.
 #[test]
 fn runs_go_on_where_memory_is_wanting(rt: HostRuntime) {
     assert_eq!(rt; go_on(rt.alloc()), Ok((true, true)));

@@ -32,8 +32,8 @@ fn two_entries() -> Option<Command> {
     command(&given, None)
 }
 
-/// Takes the events in turn on a port. Which is the first step after which the visits aren't those that are wanted, and how
-/// many they are then.
+/// Takes the events in turn on a port. Which is the first step after which the visits aren't those that are wanted, and
+/// how many they are then.
 fn counts(
     alloc: Global,
     port: &mut Port<Stepped>,
@@ -86,10 +86,10 @@ fn held_and_replaced(alloc: Global) -> Option<Result<(), (usize, u64)>> {
     Some(new_port_counts(alloc, &steps))
 }
 
-/// A list that comes into force, or is placed anew at a lead moment, looks at its entries from the first up to the one of the
-/// moment; while a command is to come each entry that begins later is one more, also where a cycle begins. A cycle that begins in a
-/// hold looks at its first entry and at the last. Where no command is to come and no frame waits, nothing is looked at. No other event
-/// than the clock's changes what is shown.
+/// A list that comes into force, or is placed anew at a lead moment, looks at its entries from the first up to the one
+/// of the moment; while a command is to come each entry that begins later is one more, also where a cycle begins. A
+/// cycle that begins in a hold looks at its first entry and at the last. Where no command is to come and no frame
+/// waits, nothing is looked at. No other event than the clock's changes what is shown.
 #[test]
 fn each_step_counts_what_it_looks_at(rt: HostRuntime) {
     assert_eq!(rt; held_and_replaced(rt.alloc()), Some(Ok(())));

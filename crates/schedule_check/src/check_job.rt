@@ -24,8 +24,8 @@ pub struct CheckWords<'a> {
 }
 
 /// Checks the schedules that `reader` gives, at the rate of this value and as these words ask for it, through
-/// `answers`, with the text of a fault on `errors`; and gives the writer of the answers back. What was reported is let out before a fault is; after a failed
-/// write no other is tried. Where the value is bad nothing is read.
+/// `answers`, with the text of a fault on `errors`; and gives the writer of the answers back. What was reported is let
+/// out before a fault is; after a failed write no other is tried. Where the value is bad nothing is read.
 pub fn answer_check<A: Allocator, B: Allocator, R: Read, W: Write + Drop, E: Write, H: Watch>(
     alloc: A,
     words: CheckWords<'_>,

@@ -1,5 +1,5 @@
-//! What schedules promise, before anything runs: for each schedule command the classes that it keeps apart, and what a schedule gives
-//! each class.
+//! What schedules promise, before anything runs: for each schedule command the classes that it keeps apart, and what a
+//! schedule gives each class.
 //!
 //! The definition is specs/Checked.antt, over specs/Apart.antt and specs/Windows.antt; the contracts of `check` and
 //! `answer_check` cite it.

@@ -87,7 +87,8 @@ pub fn put_apart<W: Write>(writer: &mut W, classes: &[u8]) -> Result<(), WriteFa
     }
 }
 
-/// Reports on an accepted schedule: the classes that it keeps apart and, where windows are asked for, what it gives each class.
+/// Reports on an accepted schedule: the classes that it keeps apart and, where windows are asked for, what it gives
+/// each class.
 fn put_schedule<W: Write>(
     writer: &mut W,
     settings: CheckSettings,
@@ -155,8 +156,8 @@ fn put_verdict<W: Write, H: Watch>(
     }
 }
 
-/// Writes what is reported of the line of this number, which begins with `tc`, by settings. Who watches is called where it is no command
-/// or its schedule is refused. At a fault a prefix of that is written.
+/// Writes what is reported of the line of this number, which begins with `tc`, by settings. Who watches is called where
+/// it is no command or its schedule is refused. At a fault a prefix of that is written.
 pub(crate) fn put_line<W: Write, H: Watch>(
     writer: &mut W,
     settings: CheckSettings,

@@ -13,8 +13,8 @@ use std::alloc::Allocator;
 use std::io::{Read, Write};
 use words::Words;
 
-/// Whether a line is a schedule command. It is skipped where it has no words or is a comment, and any other line where it is one of
-/// a script.
+/// Whether a line is a schedule command. It is skipped where it has no words or is a comment, and any other line where
+/// it is one of a script.
 pub fn is_command(line: &[u8], script: bool) -> Result<bool, ScriptFault>
     ensures { result ≡ is_command script (words_of line.now) }
 {
@@ -70,14 +70,15 @@ fn check_lines<A: Allocator, R: Read + Drop, W: Write, H: Watch>(
     Ok(())
 }
 
-/// Reads schedule commands to the end of the input, and reports on each at the line rate: its fault where it is no command; the
-/// refusal of its schedule; or `apart` with the classes that the schedule keeps apart, in rising order, of those that the
-/// command's map has, or of all eight where it gives no map; a deletion keeps none apart. Where windows are asked for, a line
-/// follows for each of these classes that the schedule ever opens, of what it gives the class.
+/// Reads schedule commands to the end of the input, and reports on each at the line rate: its fault where it is no
+/// command; the refusal of its schedule; or `apart` with the classes that the schedule keeps apart, in rising order, of
+/// those that the command's map has, or of all eight where it gives no map; a deletion keeps none apart. Where windows
+/// are asked for, a line follows for each of these classes that the schedule ever opens, of what it gives the class.
 ///
-/// Lines without words and comments are skipped, and other lines too where they are those of a script; else any other line is an `UnknownLine`, which ends the call after what is reported of the
-/// lines before it. What was reported is let out before more input is waited for. A read or a write that fails, or takes nothing, isn't tried again. Who watches is called for such a line, and for each command
-/// that is malformed or refused.
+/// Lines without words and comments are skipped, and other lines too where they are those of a script; else any other
+/// line is an `UnknownLine`, which ends the call after what is reported of the lines before it. What was reported is
+/// let out before more input is waited for. A read or a write that fails, or takes nothing, isn't tried again. Who
+/// watches is called for such a line, and for each command that is malformed or refused.
 pub fn check<A: Allocator, R: Read + Drop, W: Write, H: Watch>(
     alloc: A,
     reader: R,

@@ -71,7 +71,8 @@ fn put_if_open<W: Write>(writer: &mut W, class: u8, window: &Window) -> Result<(
     put_window(writer, class, window)
 }
 
-/// Writes the lines of the classes below a number that a schedule ever opens, by it and the schedule that opens what it closes.
+/// Writes the lines of the classes below a number that a schedule ever opens, by it and the schedule that opens what it
+/// closes.
 fn put_windows<W: Write>(
     writer: &mut W,
     rate: Rate,
@@ -102,8 +103,8 @@ fn put_windows<W: Write>(
     Ok(())
 }
 
-/// Writes, where windows are asked for, a line for each class below a number that is ever open, of what the schedule of a change gives it.
-/// At a fault a prefix of them is written.
+/// Writes, where windows are asked for, a line for each class below a number that is ever open, of what the schedule of
+/// a change gives it. At a fault a prefix of them is written.
 pub(crate) fn put_asked<W: Write>(
     writer: &mut W,
     settings: CheckSettings,

@@ -1,4 +1,5 @@
-//! What a schedule gives each class: how long it stays open and closed, its share of a cycle, and the longest frame that can start.
+//! What a schedule gives each class: how long it stays open and closed, its share of a cycle, and the longest frame
+//! that can start.
 
 ghost use Rattle.std.specs.Prelude.{◌≡◌, ◌<◌, ◌≤◌, ◌^◌, ◌+◌, ◌&&◌, ℕ, if◌then◌else◌, length, map, min, not, None, slice_index_or};
 ghost use Rattle.schedule_check.specs.Words.{in_ps, ok_unless, opens, plan_fault, plan_with, Lasts, IsLengthened, IsLonger, IsLongestFrame, IsOpenStay, IsWindow, Plan, alone, open_total, turned, turned_entry, turned_plan, CLASSES};
@@ -72,7 +73,8 @@ fn newly_open(mask: u8, before: u8) -> u8
     mask & !before
 }
 
-/// Where a mask opens a class, the stay of the class from the start of an entry on takes the place of one that is shorter.
+/// Where a mask opens a class, the stay of the class from the start of an entry on takes the place of one that is
+/// shorter.
 fn lengthen_stay(schedule: &Schedule, i: usize, mask: u8, class: u8, longest: &mut Stay)
     requires listed { i < length schedule.now.entries }
     requires class { class < CLASSES }
@@ -93,8 +95,8 @@ fn lengthen(schedule: &Schedule, i: usize, mask: u8, longest: &mut [Stay; CLASSE
     }
 }
 
-/// The longest time that each class stays open. A stay is looked at only where it begins: where an entry opens a class that the entry
-/// before it closes.
+/// The longest time that each class stays open. A stay is looked at only where it begins: where an entry opens a class
+/// that the entry before it closes.
 pub(crate) fn longest_open(schedule: &Schedule) -> [Stay; CLASSES]
     ensures longest { (class : ℕ) → class < CLASSES → IsOpenStay (alone schedule.now) class (slice_index_or result class (Lasts 0)) }
     ensures some { 0 < length schedule.now.entries }
@@ -110,7 +112,8 @@ pub(crate) fn longest_open(schedule: &Schedule) -> [Stay; CLASSES]
     longest
 }
 
-/// The moment in a cycle at which an entry that begins at `from` ends: the last ends with the cycle, which cuts each other.
+/// The moment in a cycle at which an entry that begins at `from` ends: the last ends with the cycle, which cuts each
+/// other.
 fn end_in_cycle(entry: Entry, is_last: bool, from: u64, cycle: u64) -> u64
     requires { from ≤ 2 ^ 50 }
     ensures { result ≡ (if is_last then cycle else min cycle (from + in_ps entry.interval)) }
@@ -223,7 +226,8 @@ pub(crate) fn longest_closed(other: &Schedule) -> [Stay; CLASSES]
     longest_open(other)
 }
 
-/// What a schedule gives a class at a rate that stays open for so long at the longest, and closed, and has this share of a cycle.
+/// What a schedule gives a class at a rate that stays open for so long at the longest, and closed, and has this share
+/// of a cycle.
 pub(crate) fn window_of(
     schedule: &Schedule,
     rate: Rate,

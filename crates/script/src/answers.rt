@@ -39,8 +39,8 @@ fn put_frame<A: Allocator, W: PutLine>(
     put_arrival(writer, frame, verdict)
 }
 
-/// Runs to a moment that is not refused, in picoseconds, and writes the starts before it as the port finds them. The digits
-/// of their moments are kept for the next.
+/// Runs to a moment that is not refused, in picoseconds, and writes the starts before it as the port finds them. The
+/// digits of their moments are kept for the next.
 fn put_each_start<A: Allocator, W: PutLine>(
     port: &mut RunningPort<A>,
     summary: &mut Option<Summary<A>>,
@@ -60,8 +60,8 @@ fn put_each_start<A: Allocator, W: PutLine>(
     Ok(())
 }
 
-/// Takes a clock event where it is known at once that nothing starts before its moment, and answers whether. Nothing is reported then;
-/// else nothing changes.
+/// Takes a clock event where it is known at once that nothing starts before its moment, and answers whether. Nothing is
+/// reported then; else nothing changes.
 #[inline(always)]
 pub(crate) fn rests<A: Allocator>(port: &mut RunningPort<A>, event: &Event<'_>) -> bool
     ensures rests { result ≡ true → IsSilent (Asks event.now) port.old port.new }
@@ -83,7 +83,8 @@ fn tell_refusal<H: Watch>(watch: &mut H, number: u32, line: &[u8], answer: Resul
     }
 }
 
-/// Gives the command of the line of this number to the port, and writes the answer. Who watches is called where it is refused.
+/// Gives the command of the line of this number to the port, and writes the answer. Who watches is called where it is
+/// refused.
 fn put_install<A: Allocator, W: Write, H: Watch>(
     port: &mut RunningPort<A>,
     summary: &mut Option<Summary<A>>,
@@ -150,8 +151,8 @@ fn put_count<A: Allocator, W: PutLine>(
     put_counters(writer, class, &port.counters(class))
 }
 
-/// Takes an event, and writes the answers to it as they come, each noted where a summary is wanted. At a fault a prefix of them is
-/// written. The digits of the moments of the last start are kept from event to event.
+/// Takes an event, and writes the answers to it as they come, each noted where a summary is wanted. At a fault a prefix
+/// of them is written. The digits of the moments of the last start are kept from event to event.
 #[inline(always)]
 pub fn put_answers<A: Allocator, W: PutLine>(
     moments: &mut NearNumbers,
@@ -202,8 +203,9 @@ fn put_command<A: Allocator, W: Write, H: Watch>(
     }
 }
 
-/// Takes a line that begins with `tc`, with its number, and writes what is reported of it. At a fault a prefix of that is written.
-/// Who watches is called where the line changes nothing. The command is read into a place that is kept from line to line.
+/// Takes a line that begins with `tc`, with its number, and writes what is reported of it. At a fault a prefix of that
+/// is written. Who watches is called where the line changes nothing. The command is read into a place that is kept from
+/// line to line.
 #[inline(never)]
 pub fn put_tc<A: Allocator, W: Write, H: Watch>(
     place: &mut CommandPlace,

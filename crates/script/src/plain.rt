@@ -34,8 +34,8 @@ fn behind_feed(octets: &[u8]) -> Option<&[u8]>
     }
 }
 
-/// The frame that a line is, after its first word, and what comes after the line: with a priority of one digit, and a length of at most
-/// eight.
+/// The frame that a line is, after its first word, and what comes after the line: with a priority of one digit, and a
+/// length of at most eight.
 #[inline(always)]
 fn front_frame(octets: &[u8]) -> Option<(Frame, &[u8])>
     ensures { IfSome result (λ x. BeginsWithEvent frame_event octets.now (Arrive x.0) x.1.now) }
@@ -70,7 +70,8 @@ fn front_clock(octets: &[u8]) -> Option<(u128, &[u8])>
     Some((moment, rest))
 }
 
-/// The event that the first line asks, where it is a frame or a moment as most are written, and what comes after the line.
+/// The event that the first line asks, where it is a frame or a moment as most are written, and what comes after the
+/// line.
 #[inline(always)]
 fn front_event(octets: &[u8]) -> Option<(Event<'static>, &[u8])>
     ensures { IfSome result (λ x. BeginsWithLine octets.now x.0 x.1.now) }
@@ -83,8 +84,8 @@ fn front_event(octets: &[u8]) -> Option<(Event<'static>, &[u8])>
     Some((Event::Clock(moment), rest))
 }
 
-/// The event that the first line asks, where one is left that is as most are written and stands whole among the octets, and how many
-/// octets it has. It is looked for in a window, so that its numbers are known to be within the octets.
+/// The event that the first line asks, where one is left that is as most are written and stands whole among the octets,
+/// and how many octets it has. It is looked for in a window, so that its numbers are known to be within the octets.
 #[inline(always)]
 pub(crate) fn front_line(octets: &[u8], left: u32) -> Option<(Event<'static>, usize)>
     ensures some { IfSome result (λ x. 0 < left) }

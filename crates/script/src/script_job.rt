@@ -62,8 +62,8 @@ fn read_given(values: Values<'_>, greatest: u128) -> Result<Settings, BadValue>
     )
 }
 
-/// The settings of the values that are given, and of those that stand for the others, with a moment of at most `greatest`, in
-/// picoseconds, and with a summary where one is wanted. The first bad value is the fault.
+/// The settings of the values that are given, and of those that stand for the others, with a moment of at most
+/// `greatest`, in picoseconds, and with a summary where one is wanted. The first bad value is the fault.
 pub fn settings_given(values: Values<'_>, greatest: u128) -> Result<Settings, BadValue>
     requires { greatest ≤ MAX_MOMENT }
     ensures { result ≡ settings_given greatest (words_of_values values.entry) }
@@ -85,9 +85,9 @@ pub fn end_with_value<B: Allocator, W: Write + Drop, E: Write>(
     end_told(say_value(&value, errors), answers)
 }
 
-/// Answers the script that `reader` gives, by these values, through `answers`, with the text of a fault on `errors`; and gives
-/// the writer of the answers back. What was answered is let out before a fault is reported; after a failed write no other is tried.
-/// Who watches is called as by `run_script`.
+/// Answers the script that `reader` gives, by these values, through `answers`, with the text of a fault on `errors`;
+/// and gives the writer of the answers back. What was answered is let out before a fault is reported; after a failed
+/// write no other is tried. Who watches is called as by `run_script`.
 pub fn answer_script<A: Allocator, B: Allocator, R: Read, W: Write + Drop, E: Write, H: Watch>(
     alloc: A,
     values: Values<'_>,

@@ -11,8 +11,8 @@ use tc_reader::{CommandPlace, TcFault, read_command, read_command_into};
 use wire_time::{Frame, MAX_MOMENT};
 use words::Words;
 
-/// What a line says. A line that begins with `tc` is read where it is answered: a command takes two kilobytes, and would make
-/// each value of this type as large.
+/// What a line says. A line that begins with `tc` is read where it is answered: a command takes two kilobytes, and
+/// would make each value of this type as large.
 #[derive(Clone, Copy, Debug, PartialEq, Eq)]
 pub enum Said {
     /// An event, which is no command.
@@ -227,7 +227,8 @@ fn read_any_line(line: &[u8]) -> Result<Option<Said>, ScriptFault>
 pub fn read_line(line: &[u8]) -> Result<Option<Said>, ScriptFault>
     ensures { result ≡ said_in line.now }
 {
-    // Most lines. The tests of their first octets are apart, so that the compiler takes what comes after them for likely.
+    // Most lines. The tests of their first octets are apart, so that the compiler takes what comes after them for
+    // likely.
     if let Some(rest) = behind_frame(line) {
         return Ok(Some(Said::Asked(read_frame(Words::new(rest))?)));
     }

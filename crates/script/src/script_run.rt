@@ -23,8 +23,8 @@ use std::io::Read;
 use summary::{Summary, summary_wanted};
 use tc_reader::CommandPlace;
 
-/// Runs to the moment after the input, if there is one, and writes the answers, then how many frames are left, and the summary where
-/// one is wanted.
+/// Runs to the moment after the input, if there is one, and writes the answers, then how many frames are left, and the
+/// summary where one is wanted.
 fn end<A: Allocator, W: PutLine>(
     port: &mut RunningPort<A>,
     summary: &mut Option<Summary<A>>,
@@ -113,15 +113,16 @@ fn run_lines<A: Allocator, B: Allocator, R: Read + Drop, W: PutLine, H: Watch>(
     Ok(())
 }
 
-/// Reads a script to its end, and writes the answers to each line in turn; then those to a clock event at the moment to run to,
-/// where the settings have one, how many frames each class still has, and a summary where the settings want one.
+/// Reads a script to its end, and writes the answers to each line in turn; then those to a clock event at the moment to
+/// run to, where the settings have one, how many frames each class still has, and a summary where the settings want
+/// one.
 ///
-/// What was answered is let out before more input is waited for. A malformed line ends the run after the answers of the lines before it. Who watches is called for it, and for each line that begins with
-/// `tc` and changes nothing. A read or a write that fails, or takes nothing,
-/// isn't tried again.
+/// What was answered is let out before more input is waited for. A malformed line ends the run after the answers of the
+/// lines before it. Who watches is called for it, and for each line that begins with `tc` and changes nothing. A read
+/// or a write that fails, or takes nothing, isn't tried again.
 ///
-/// What is written are the lines of the abstract port's answers to the events of the script, with the faults of `tc` lines at
-/// their places; so what holds of those answers holds of the output (`faithful`).
+/// What is written are the lines of the abstract port's answers to the events of the script, with the faults of `tc`
+/// lines at their places; so what holds of those answers holds of the output (`faithful`).
 pub fn run_script<A: Allocator, R: Read + Drop, W: PutLine, H: Watch>(
     alloc: A,
     reader: R,

@@ -10,9 +10,9 @@ use times::moment;
 use wire_time::{MAX_MOMENT, Rate};
 use words::number;
 
-/// What a port runs with, each value within its limits: a line rate, an mtu of 68 to 9216 octets, room for 1 to 4096 frames a
-/// class, and, where it is given, the moment in picoseconds, at most `MAX_MOMENT`, up to which the port runs after the input; and
-/// whether a summary is wanted at the end.
+/// What a port runs with, each value within its limits: a line rate, an mtu of 68 to 9216 octets, room for 1 to 4096
+/// frames a class, and, where it is given, the moment in picoseconds, at most `MAX_MOMENT`, up to which the port runs
+/// after the input; and whether a summary is wanted at the end.
 #[derive(Clone, Copy, Debug, PartialEq, Eq)]
 pub struct Settings {
     rate: Rate,
@@ -87,8 +87,8 @@ fn is_until(until: Option<u128>) -> bool
 }
 
 impl Settings {
-    /// The settings of a rate, an mtu in octets, a room in frames a class, and a moment in picoseconds to run to. The first that
-    /// is out of its limits is the fault. No summary is wanted.
+    /// The settings of a rate, an mtu in octets, a room in frames a class, and a moment in picoseconds to run to. The
+    /// first that is out of its limits is the fault. No summary is wanted.
     pub fn new(rate: Rate, mtu: u32, room: u32, until: Option<u128>) -> Result<Settings, BadValue>
         ensures { result ≡ settings_with rate mtu room until }
     {

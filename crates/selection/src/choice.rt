@@ -11,7 +11,8 @@ use list_config::Gates;
 use queue_heads::{Heads, highest, without};
 use wire_time::MAX_MOMENT;
 
-/// The greatest class that stays open for as long as its head needs. Those are asked in which a frame waits, and that are open now.
+/// The greatest class that stays open for as long as its head needs. Those are asked in which a frame waits, and that
+/// are open now.
 #[inline]
 pub fn choose<G: Gates>(heads: &Heads, gates: &G, visits: &mut Visits) -> Option<u8>
     requires sound { G.is_sound gates.now }
@@ -30,8 +31,8 @@ pub fn choose<G: Gates>(heads: &Heads, gates: &G, visits: &mut Visits) -> Option
     None
 }
 
-/// The moment up to which a search looks for a start, in picoseconds: gates that jump look at no more entries for the greatest one, and
-/// others take each boundary, or each picosecond, on the way.
+/// The moment up to which a search looks for a start, in picoseconds: gates that jump look at no more entries for the
+/// greatest one, and others take each boundary, or each picosecond, on the way.
 fn search_end<G: Gates>(until: u128) -> u128
     requires within { until ≤ greatest_moment }
     ensures reach { until ≤ result }
@@ -40,8 +41,9 @@ fn search_end<G: Gates>(until: u128) -> u128
     if G::JUMPS { MAX_MOMENT } else { until }
 }
 
-/// Moves the gates to the first moment at which some class may start, where it is before `until`, and answers the class that may.
-/// Else `idle` becomes a moment, at or after `until`, before which no class may start, and the gates are not moved past `until`.
+/// Moves the gates to the first moment at which some class may start, where it is before `until`, and answers the class
+/// that may. Else `idle` becomes a moment, at or after `until`, before which no class may start, and the gates are not
+/// moved past `until`.
 #[inline(always)]
 pub fn find_choice<G: Gates>(
     heads: &Heads,

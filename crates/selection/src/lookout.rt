@@ -36,8 +36,8 @@ fn is_still<G: Gates>(gates: &G) -> bool
     gates.pending().is_none() && gates.announced().is_none()
 }
 
-/// Gates for which no command is to come show at a later moment, in picoseconds, what they do where they stand. It runs nothing: its
-/// contract is its law.
+/// Gates for which no command is to come show at a later moment, in picoseconds, what they do where they stand. It runs
+/// nothing: its contract is its law.
 fn stay_till<G: Gates>(gates: &G, t: u128)
     requires sound { G.is_sound gates.now }
     requires still { IsStill (G.history gates.now) (G.moment gates.now) }
@@ -47,8 +47,8 @@ fn stay_till<G: Gates>(gates: &G, t: u128)
     ensures current { IsCurrent (G.history gates.now) t }
 {}
 
-/// Moves gates for which a command is to come to a moment, in picoseconds; where none is (`still`), the gates show there what they do
-/// where they stand. Answers whether none is to come then.
+/// Moves gates for which a command is to come to a moment, in picoseconds; where none is (`still`), the gates show
+/// there what they do where they stand. Answers whether none is to come then.
 fn catch_up<G: Gates>(gates: &mut G, still: bool, t: u128, visits: &mut Visits) -> bool
     requires sound { G.is_sound gates.old }
     requires still { still ≡ true → IsStill (G.history gates.old) (G.moment gates.old) }
@@ -70,9 +70,9 @@ fn catch_up<G: Gates>(gates: &mut G, still: bool, t: u128, visits: &mut Visits) 
     is_still(gates)
 }
 
-/// The gates of a port, a moment, and what the head of each class needs. The gates stand at that moment or before it: they are moved
-/// when they are asked, or while a command is to come. Up to `idle`, which is not before that moment, no class may start, so that a
-/// move to a moment before it costs a comparison.
+/// The gates of a port, a moment, and what the head of each class needs. The gates stand at that moment or before it:
+/// they are moved when they are asked, or while a command is to come. Up to `idle`, which is not before that moment, no
+/// class may start, so that a move to a moment before it costs a comparison.
 #[derive(Drop)]
 pub struct Lookout<G: Gates> {
     gates: G,
@@ -146,8 +146,8 @@ impl<G: Gates> Lookout<G> {
         self.idle = self.moment;
     }
 
-    /// A frame that needs the wire for so long, in picoseconds and more than 0, waits in a class from now on, after those that do
-    /// already.
+    /// A frame that needs the wire for so long, in picoseconds and more than 0, waits in a class from now on, after
+    /// those that do already.
     pub fn add_need(&mut self, class: u8, need: u64)
         requires class { class < CLASSES }
         requires some { 0 < need }
@@ -158,8 +158,8 @@ impl<G: Gates> Lookout<G> {
         }
     }
 
-    /// Moves on to `until`, in picoseconds, where it is known that no class may start from `free` on and before it, and no command is
-    /// to come; answers whether. Else nothing changes.
+    /// Moves on to `until`, in picoseconds, where it is known that no class may start from `free` on and before it, and
+    /// no command is to come; answers whether. Else nothing changes.
     #[inline]
     pub fn rest_until(&mut self, free: u128, until: u128) -> bool
         requires later { self.old.moment ≤ until }
@@ -186,8 +186,8 @@ impl<G: Gates> Lookout<G> {
         true
     }
 
-    /// Moves on to the first moment from `free` on and before `until` at which some class may start, and answers the greatest that
-    /// may; or to `until`, where there is none. All are in picoseconds.
+    /// Moves on to the first moment from `free` on and before `until` at which some class may start, and answers the
+    /// greatest that may; or to `until`, where there is none. All are in picoseconds.
     #[inline(always)]
     pub fn find_start(&mut self, free: u128, until: u128, visits: &mut Visits) -> Option<u8>
         requires later { self.old.moment ≤ until }
@@ -268,8 +268,8 @@ impl<G: Gates> Lookout<G> {
         self.gates.install(schedule, lead)
     }
 
-    /// A command after which all classes are open, with the lead moment `lead`, in picoseconds; that moment, or why it is not
-    /// accepted.
+    /// A command after which all classes are open, with the lead moment `lead`, in picoseconds; that moment, or why it
+    /// is not accepted.
     pub fn delete(&mut self, lead: u128, visits: &mut Visits) -> Result<u128, NotNow>
         requires ahead { self.old.moment < lead }
         requires within { lead ≤ greatest_moment + greatest_lead }

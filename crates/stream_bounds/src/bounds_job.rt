@@ -61,9 +61,10 @@ pub fn bounds_given(words: BoundsWords<'_>) -> Result<BoundsSettings, BoundsValu
     }
 }
 
-/// Answers about the schedules that `reader` gives and the streams of `table`, by these values, through `answers`, with the text of a fault or of a
-/// strict run's finding on `errors`; and gives the writer of the answers back. What was answered is let out before a fault is reported; after a failed
-/// write no other is tried. Where a value is bad nothing is read. Who watches is called as by `bounds`.
+/// Answers about the schedules that `reader` gives and the streams of `table`, by these values, through `answers`, with
+/// the text of a fault or of a strict run's finding on `errors`; and gives the writer of the answers back. What was
+/// answered is let out before a fault is reported; after a failed write no other is tried. Where a value is bad nothing
+/// is read. Who watches is called as by `bounds`.
 pub fn answer_bounds<B: Allocator, R: Read, S: Read + Drop, W: Write + Drop, E: Write, H: Watch>(
     alloc: Global,
     words: BoundsWords<'_>,

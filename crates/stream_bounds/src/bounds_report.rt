@@ -39,7 +39,8 @@ fn told(written: Result<Option<Finding>, WriteFault>) -> Result<Option<Finding>,
     }
 }
 
-/// Writes what is answered about an accepted schedule: the classes that it keeps apart, the verdict about each class, and the delay of each stream.
+/// Writes what is answered about an accepted schedule: the classes that it keeps apart, the verdict about each class,
+/// and the delay of each stream.
 fn put_answers<W: Write>(
     writer: &mut W,
     settings: &BoundsSettings,
@@ -141,7 +142,8 @@ fn put_command<W: Write>(
     }
 }
 
-/// Writes what is answered about a line that begins with `tc`, and which has this number; and answers the first finding about it.
+/// Writes what is answered about a line that begins with `tc`, and which has this number; and answers the first finding
+/// about it.
 pub fn put_line<W: Write>(
     alloc: Global,
     writer: &mut W,

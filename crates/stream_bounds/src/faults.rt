@@ -30,7 +30,8 @@ pub enum BoundsInput {
     /// The line of the table of this number, counted in physical lines from 1, has this fault. Nothing is written.
     #[error("line {0} of the table: {1:?}")]
     Table(u32, ScriptFault),
-    /// The line of the schedules of this number, counted in physical lines from 1, has this fault. What comes before it is written.
+    /// The line of the schedules of this number, counted in physical lines from 1, has this fault. What comes before it
+    /// is written.
     #[error("line {0} of the schedules: {1:?}")]
     Schedules(u32, ScriptFault),
     /// A strict run has found this first. All is written.

@@ -1,8 +1,8 @@
-//! How long the frames of streams wait, for ever: for each schedule command, the verdict about each class of a table of streams, and the least
-//! and the greatest delay of each stream.
+//! How long the frames of streams wait, for ever: for each schedule command, the verdict about each class of a table of
+//! streams, and the least and the greatest delay of each stream.
 //!
-//! The claim is specs/Verdicts.antt. What is written is specs/Outcome.antt, over specs/BoundLines.antt; the contracts of `bounds` and
-//! `answer_bounds` cite it.
+//! The claim is specs/Verdicts.antt. What is written is specs/Outcome.antt, over specs/BoundLines.antt; the contracts
+//! of `bounds` and `answer_bounds` cite it.
 #![tactic(auto)]
 
 mod answers;

@@ -47,7 +47,8 @@ fn keep<A: Allocator>(streams: &mut Vec<Stream, A>, stream: Stream) -> Result<()
     }
 }
 
-/// Reads the lines of a table that are to come, after the streams that are read. Who watches is called for a malformed one.
+/// Reads the lines of a table that are to come, after the streams that are read. Who watches is called for a malformed
+/// one.
 pub fn read_streams<A: Allocator, B: Allocator, R: Read + Drop, H: Watch>(
     lines: &mut LineReader<R, A>,
     streams: &mut Vec<Stream, B>,

@@ -105,15 +105,17 @@ fn bound_table<A: Allocator, R: Read + Drop, S: Read + Drop, W: Write, H: Watch>
     }
 }
 
-/// Reads a table of streams and then schedule commands, and answers about each, judged by itself: its fault where it is no command; the refusal of
-/// its schedule; or `apart` with the classes that the schedule keeps apart, then the verdict about each class that has streams, and then the delay
-/// of each stream, for ever, with whether its deadline is met. How many frames of a stream the table says is no matter: each goes on for ever,
-/// and its offset counts from the change moment of the schedule.
+/// Reads a table of streams and then schedule commands, and answers about each, judged by itself: its fault where it is
+/// no command; the refusal of its schedule; or `apart` with the classes that the schedule keeps apart, then the verdict
+/// about each class that has streams, and then the delay of each stream, for ever, with whether its deadline is met.
+/// How many frames of a stream the table says is no matter: each goes on for ever, and its offset counts from the
+/// change moment of the schedule.
 ///
-/// A malformed line of the table is the fault, and nothing is written. Lines of the schedules without words and comments are skipped; any other that
-/// isn't a command is an `UnknownLine`, which ends the call after what is answered about the lines before it. A strict run answers the same; the first
-/// finding is its fault. What is kept is the table, and for each class the bounds of its streams and as many moments as there is room for. A read or
-/// a write that fails, or takes nothing, isn't tried again. Who watches is called for a line of either input that ends the run.
+/// A malformed line of the table is the fault, and nothing is written. Lines of the schedules without words and
+/// comments are skipped; any other that isn't a command is an `UnknownLine`, which ends the call after what is answered
+/// about the lines before it. A strict run answers the same; the first finding is its fault. What is kept is the table,
+/// and for each class the bounds of its streams and as many moments as there is room for. A read or a write that fails,
+/// or takes nothing, isn't tried again. Who watches is called for a line of either input that ends the run.
 pub fn bounds<R: Read + Drop, S: Read + Drop, W: Write, H: Watch>(
     alloc: Global,
     table: R,

@@ -24,7 +24,8 @@ pub enum Verdict {
     Idle,
     /// It isn't kept apart.
     Shared,
-    /// Its delays have bounds: the most frames that ever wait at once, and how many frames come in how many picoseconds.
+    /// Its delays have bounds: the most frames that ever wait at once, and how many frames come in how many
+    /// picoseconds.
     Bounded {
         most: usize,
         frames: u64,
@@ -120,7 +121,8 @@ pub fn delay_by(class: u8, verdict: Verdict, bound: Bound) -> Delay
     }
 }
 
-/// Whether a deadline is met, in picoseconds from a frame's arrival to the end of its time on the wire, where it occupies the wire for `need`.
+/// Whether a deadline is met, in picoseconds from a frame's arrival to the end of its time on the wire, where it
+/// occupies the wire for `need`.
 pub fn met_by(need: u128, delay: Delay, deadline: u128) -> Met
     ensures { result ≡ met_by need delay deadline }
 {

@@ -56,7 +56,8 @@ impl<A: Allocator> ClassSummary<A> {
         }
     }
 
-    /// The frame that came first starts at this moment, in picoseconds. Its wait ends here, and its time on the wire begins.
+    /// The frame that came first starts at this moment, in picoseconds. Its wait ends here, and its time on the wire
+    /// begins.
     pub fn starts(&mut self, at: u128)
         ensures { self.new ≡ with_start at self.old }
     {

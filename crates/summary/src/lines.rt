@@ -66,8 +66,8 @@ fn put_class_line<W: Write>(
     )
 }
 
-/// Writes the line of a class that had frames: what it has counted, how long its frames waited, and the greatest number that waited
-/// at once.
+/// Writes the line of a class that had frames: what it has counted, how long its frames waited, and the greatest number
+/// that waited at once.
 pub(crate) fn put_class_text<W: Write>(
     class: u8,
     counters: &Counters,
@@ -115,8 +115,8 @@ fn first_part<'a>(first: Option<u128>) -> Part<'a>
     }
 }
 
-/// Writes how long the wire was busy, in picoseconds, and the share of the time up to a moment; and the moment at which the first frame was
-/// queued, with the share of the time since.
+/// Writes how long the wire was busy, in picoseconds, and the share of the time up to a moment; and the moment at which
+/// the first frame was queued, with the share of the time since.
 pub(crate) fn put_wire_line<W: Write>(
     busy: u128,
     now: u128,

@@ -50,7 +50,8 @@ struct WireSeen {
     first: Option<u128>,
 }
 
-/// What is seen of a run, from the answers of a port: how long the frames of each class waited, and how long the wire was busy.
+/// What is seen of a run, from the answers of a port: how long the frames of each class waited, and how long the wire
+/// was busy.
 #[derive(Drop)]
 pub struct Summary<A: Allocator = Global> {
     classes: [ClassSummary<A>; CLASSES],
@@ -73,7 +74,8 @@ impl<A: Allocator> Model for Summary<A> {
 impl<A: Allocator> Summary<A> {
     ghost use Rattle.summary.specs.Observed.{first_with, in_class, on_wire, seen, with_queued};
 
-    /// Nothing is seen yet. All memory that is ever wanted is taken here: the arrival moments of so many frames a class.
+    /// Nothing is seen yet. All memory that is ever wanted is taken here: the arrival moments of so many frames a
+    /// class.
     pub fn new(alloc: &A, room: u32) -> Result<Summary<A>, AllocError>
     where
         A: Clone,
@@ -124,7 +126,8 @@ impl<A: Allocator> Summary<A> {
         self.wire.free = self.wire.free.max(start.end);
     }
 
-    /// Takes note of an answer that a port gives at this moment, in picoseconds: a frame that is queued then, or one that starts.
+    /// Takes note of an answer that a port gives at this moment, in picoseconds: a frame that is queued then, or one
+    /// that starts.
     pub fn see(&mut self, now: u128, answer: &Answer)
         ensures { self.new ≡ seen now answer.now self.old }
     {
@@ -151,7 +154,8 @@ impl<A: Allocator> Summary<A> {
             .saturating_sub(self.wire.free.saturating_sub(now))
     }
 
-    /// Writes the line of a class, 0 to 7, with what it has counted, where it had frames. At a fault a prefix of it is written.
+    /// Writes the line of a class, 0 to 7, with what it has counted, where it had frames. At a fault a prefix of it is
+    /// written.
     pub fn put_class<W: Write>(
         &self,
         class: u8,

@@ -11,8 +11,8 @@ use abstract_port::{Answer, Dropped, Start};
 use std::alloc::{AllocError, Allocator};
 use wire_time::Frame;
 
-/// A summary of which nothing is seen yet, where one is wanted, with all the memory that it ever wants: the arrival moments of so many
-/// frames a class.
+/// A summary of which nothing is seen yet, where one is wanted, with all the memory that it ever wants: the arrival
+/// moments of so many frames a class.
 pub fn summary_wanted<A: Allocator + Clone>(
     alloc: &A,
     wanted: bool,
@@ -54,8 +54,8 @@ fn see_verdict<A: Allocator>(
     }
 }
 
-/// Takes note of what became of a frame that arrived at this moment, in picoseconds, where a summary is wanted: it is queued in a
-/// class, or dropped.
+/// Takes note of what became of a frame that arrived at this moment, in picoseconds, where a summary is wanted: it is
+/// queued in a class, or dropped.
 pub fn note_verdict<A: Allocator>(
     summary: &mut Option<Summary<A>>,
     now: u128,

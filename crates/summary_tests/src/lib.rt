@@ -1,4 +1,5 @@
-//! Tests of `summary`, by its public calls. They stand in a crate of their own, so that `summary` is proved once and not again with them.
+//! Tests of `summary`, by its public calls. They stand in a crate of their own, so that `summary` is proved once and
+//! not again with them.
 #![tactic(auto)]
 
 #[cfg(test)]

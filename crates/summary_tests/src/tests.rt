@@ -28,7 +28,8 @@ const COUNTERS: Counters = Counters {
     dropped: [1, 2, 3, 4],
 };
 
-/// The waits of these frames: each with the moment at which it comes, that at which it starts and that at which the wire is free again.
+/// The waits of these frames: each with the moment at which it comes, that at which it starts and that at which the
+/// wire is free again.
 fn lines_of(rt: &HostRuntime, frames: &[(u128, u128, u128)], now: u128) -> Result<Vec<u8>, Fail> {
     let mut summary = Summary::new(&rt.alloc(), 4)?;
     for (came, at, end) in frames.iter() {
@@ -41,8 +42,8 @@ fn lines_of(rt: &HostRuntime, frames: &[(u128, u128, u128)], now: u128) -> Resul
     Ok(got)
 }
 
-/// A wait goes from the arrival to the start, whatever the frame's own time on the wire is. A mean that isn't whole is rounded down, and so
-/// is a share. What a frame needs after the last moment isn't counted.
+/// A wait goes from the arrival to the start, whatever the frame's own time on the wire is. A mean that isn't whole is
+/// rounded down, and so is a share. What a frame needs after the last moment isn't counted.
 #[test]
 fn waits_and_the_wire(rt: HostRuntime) -> Result<(), Fail> {
     let rows: [(&[(u128, u128, u128)], u128, &[u8]); 6] = [

@@ -1,5 +1,5 @@
-//! The port as a library: what a caller needs to build a schedule, install it on a port, feed the port with events and read its answers. Each
-//! type and function stands in the crate that it is taken from, with its contract there.
+//! The port as a library: what a caller needs to build a schedule, install it on a port, feed the port with events and
+//! read its answers. Each type and function stands in the crate that it is taken from, with its contract there.
 #![tactic(auto)]
 
 pub use abstract_port::{

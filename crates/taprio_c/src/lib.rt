@@ -1,7 +1,8 @@
-//! The library as C calls it: one function for each of the program's jobs over memory, and a reader of moments, whose declarations are in
-//! `bindings/c/taprio.h`.
+//! The library as C calls it: one function for each of the program's jobs over memory, and a reader of moments, whose
+//! declarations are in `bindings/c/taprio.h`.
 //!
-//! The contract of each function is that of its job in `in_memory`; what C's values say, and how a moment is told, is specs/FromC.antt.
+//! The contract of each function is that of its job in `in_memory`; what C's values say, and how a moment is told, is
+//! specs/FromC.antt.
 #![tactic(auto)]
 
 mod values;
@@ -42,7 +43,8 @@ use replay::Stamp;
 use std::alloc::Global;
 pub use values::{CMoment, CPictureValues, CPortValues};
 
-/// Runs a script: its answers come into `output`, and the text of a fault into `fault`; how it ended is written to `ran`.
+/// Runs a script: its answers come into `output`, and the text of a fault into `fault`; how it ended is written to
+/// `ran`.
 #[unsafe(no_mangle)]
 pub extern "C" fn taprio_run(
     alloc: Global,
@@ -167,7 +169,8 @@ pub extern "C" fn taprio_streams_from(
     *ran = streams_octets(&alloc, from, table, script, output, fault);
 }
 
-/// Answers how long the frames of a table's streams wait under each schedule, for ever; at most `frames` frames of a class are looked at.
+/// Answers how long the frames of a table's streams wait under each schedule, for ever; at most `frames` frames of a
+/// class are looked at.
 #[unsafe(no_mangle)]
 pub extern "C" fn taprio_bounds(
     alloc: Global,
@@ -237,7 +240,8 @@ pub extern "C" fn taprio_replay(
     );
 }
 
-/// The same, whose departures carry the moment that `stamp` says: 0 that at which a frame starts, else that at which its last octet has been sent.
+/// The same, whose departures carry the moment that `stamp` says: 0 that at which a frame starts, else that at which
+/// its last octet has been sent.
 #[unsafe(no_mangle)]
 pub extern "C" fn taprio_replay_stamped(
     alloc: Global,

@@ -17,8 +17,8 @@ pub(crate) const KEPT_RANGES: usize = CLASSES + 1;
 /// How many entries are kept: one more than there may be.
 pub(crate) const KEPT_ENTRIES: usize = MAX_ENTRIES + 1;
 
-/// The options of a line so far. Of the priorities, ranges and entries one more than may stand is kept, which shows that there
-/// were too many; of the size limits those that have an effect.
+/// The options of a line so far. Of the priorities, ranges and entries one more than may stand is kept, which shows
+/// that there were too many; of the size limits those that have an effect.
 #[derive(Debug, Drop)]
 pub struct CappedOptions {
     /// The number of classes.

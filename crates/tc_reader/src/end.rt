@@ -94,7 +94,8 @@ fn closed_change() -> Change
     }
 }
 
-/// A place that commands are read into, one after another, since each takes two kilobytes, and so do its options while they are read.
+/// A place that commands are read into, one after another, since each takes two kilobytes, and so do its options while
+/// they are read.
 #[derive(Debug, Drop)]
 pub struct CommandPlace {
     /// The command of the last line that was read, or its first fault.
@@ -141,8 +142,8 @@ fn give_change(
     Ok(())
 }
 
-/// The command that the options give, with their map and ranges, where no list is written over. Apart, since it is seldom, and a
-/// command is large.
+/// The command that the options give, with their map and ranges, where no list is written over. Apart, since it is
+/// seldom, and a command is large.
 #[inline(never)]
 fn put_command(
     given: &CappedOptions,
@@ -160,7 +161,8 @@ fn put_command(
     };
 }
 
-/// Answers with a fault. Apart, since it is seldom: the compiler would clear two kilobytes for it in the body of each caller.
+/// Answers with a fault. Apart, since it is seldom: the compiler would clear two kilobytes for it in the body of each
+/// caller.
 #[inline(never)]
 pub(crate) fn put_fault(fault: TcFault, answer: &mut Result<Command, TcFault>)
     ensures { answer.new ≡ Err fault }
@@ -168,8 +170,8 @@ pub(crate) fn put_fault(fault: TcFault, answer: &mut Result<Command, TcFault>)
     *answer = Err(fault);
 }
 
-/// Answers with the command that the options give. Where there is a change already, it is written over, since a list of entries takes
-/// two kilobytes.
+/// Answers with the command that the options give. Where there is a change already, it is written over, since a list of
+/// entries takes two kilobytes.
 pub(crate) fn give_command(given: &CappedOptions, answer: &mut Result<Command, TcFault>)
     ensures { answer.new ≡ command_given (view given.now) }
 {

@@ -1,5 +1,5 @@
-//! What the commands and the faults of lines have to do with each other. The functions run nothing: the contract of each is
-//! its law.
+//! What the commands and the faults of lines have to do with each other. The functions run nothing: the contract of
+//! each is its law.
 
 ghost use Rattle.std.specs.Prelude.{◌≡◌, ◌⊎◌, List, Result};
 ghost use Rattle.tc_reader.specs.Words.{Command, Word, TcFault, IsCommand, HasFault, IsReader};

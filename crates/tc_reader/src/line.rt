@@ -149,8 +149,8 @@ fn read_into(line: &[u8], given: &mut CappedOptions, answer: &mut Result<Command
     read_line(line, given, answer);
 }
 
-/// The command that a line says, exactly where the grammar of tc-taprio(8) has one; else the line's first fault. It takes the place
-/// of another answer, and is not moved: where that one has a list, the list is written over.
+/// The command that a line says, exactly where the grammar of tc-taprio(8) has one; else the line's first fault. It
+/// takes the place of another answer, and is not moved: where that one has a list, the list is written over.
 ///
 /// Blanks are those of `Words`. Words are read from the left, and when all are read, what is missing is found, and then
 /// what the map, the ranges and the entries are refused for. A fault's place counts the words from 0.

@@ -35,7 +35,8 @@ pub trait ListValue: Copy + Default {
     fn value_in(word: &[u8], before: usize) -> Option<Self>
         ensures { result ≡ value before word.now };
 
-    /// The value that the next word is, whichever values came before, where it can be read at once. Else None, and nothing changes.
+    /// The value that the next word is, whichever values came before, where it can be read at once. Else None, and
+    /// nothing changes.
     fn front_value(words: &mut Words<'_>) -> Option<Self>
         ensures value { MatchOption result (words.new ≡ words.old)
             (λ x. (w : List ℕ) × (words_left words.old ≡ w ∷ words_left words.new) × (form w ≡ true) × ((before : ℕ) → value before w ≡ Some x)) }

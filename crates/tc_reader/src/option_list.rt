@@ -75,8 +75,8 @@ fn take_entry_on(given: &mut CappedOptions, words: &mut Words<'_>) -> bool
     true
 }
 
-/// The entries that stand as in most lines, up to the last: most options of a long line. The cursor is a local one, which the compiler
-/// keeps in registers.
+/// The entries that stand as in most lines, up to the last: most options of a long line. The cursor is a local one,
+/// which the compiler keeps in registers.
 #[inline(always)]
 fn take_entries(given: &mut CappedOptions, words: &mut Words<'_>)
     ensures read { (start : List Word) → SoFar (total words.old) start (words_left words.old) (view given.old) → SoFar (total words.old) start (words_left words.new) (view given.new) }
@@ -87,8 +87,8 @@ fn take_entries(given: &mut CappedOptions, words: &mut Words<'_>)
     *words = after;
 }
 
-/// Reads the options of the words after `taprio`, up to the end or the first fault. They are written where they are kept, since they
-/// take two kilobytes.
+/// Reads the options of the words after `taprio`, up to the end or the first fault. They are written where they are
+/// kept, since they take two kilobytes.
 pub(crate) fn read_options(words: Words<'_>, given: &mut CappedOptions) -> Result<(), TcFault>
     requires { view given.old ≡ no_options }
     ensures { MatchResult result

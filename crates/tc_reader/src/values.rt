@@ -162,8 +162,8 @@ fn take_interval(words: &mut Words<'_>, short: bool) -> Option<u32>
     }
 }
 
-/// An entry whose words stand as in most lines, with a space before each, its mask in two digits, and its interval short or of any
-/// length. None where they don't, and then no word is taken.
+/// An entry whose words stand as in most lines, with a space before each, its mask in two digits, and its interval
+/// short or of any length. None where they don't, and then no word is taken.
 #[inline(always)]
 fn take_entry_by(words: &mut Words<'_>, short: bool) -> Option<Entry>
     ensures { MatchOption result (words.new ≡ words.old) (TakesEntry words.old words.new) }
@@ -178,8 +178,8 @@ fn take_entry_by(words: &mut Words<'_>, short: bool) -> Option<Entry>
     Some(Entry { mask, interval })
 }
 
-/// How many octets are there at least where an entry is taken that others come after. As it is asked once, no part of an entry asks for
-/// its own length.
+/// How many octets are there at least where an entry is taken that others come after. As it is asked once, no part of
+/// an entry asks for its own length.
 const FRONT: usize = 34;
 
 /// An entry whose words stand as in most lines, where others come after it. Else None, and no word is taken.

@@ -1,5 +1,5 @@
-//! Readers and writers that tests lend: they are cut short, and fail where a test says. Nothing but tests stands on them, and what they
-//! do is no promise.
+//! Readers and writers that tests lend: they are cut short, and fail where a test says. Nothing but tests stands on
+//! them, and what they do is no promise.
 #![tactic(auto)]
 
 ghost use Rattle.std.specs.Prelude.{◌≡◌, false};

@@ -134,8 +134,8 @@ fn time_behind(whole: u128, rest: &[u8], most: u128) -> Option<u128>
     }
 }
 
-/// A time of at most `most` picoseconds: a decimal number with its unit, `s`, `ms`, `us`, `ns` or `ps`, directly after it. None where it
-/// is not so many picoseconds exactly, or has more than twelve digits behind its point.
+/// A time of at most `most` picoseconds: a decimal number with its unit, `s`, `ms`, `us`, `ns` or `ps`, directly after
+/// it. None where it is not so many picoseconds exactly, or has more than twelve digits behind its point.
 pub fn time(word: &[u8], most: u128) -> Option<u128>
     ensures time { result ≡ time_in most word.now }
     ensures bound { IfSome result (λ n. n ≤ most) }

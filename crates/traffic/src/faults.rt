@@ -16,7 +16,8 @@ pub enum StreamsInput {
     /// The line of the table of this number, counted in physical lines from 1, has this fault. Nothing is written.
     #[error("line {0} of the table: {1:?}")]
     Table(u32, ScriptFault),
-    /// The line of the script of this number, counted in physical lines from 1, passes this limit. What comes before it is written.
+    /// The line of the script of this number, counted in physical lines from 1, passes this limit. What comes before it
+    /// is written.
     #[error("line {0} of the script: {1:?}")]
     Script(u32, ScriptFault),
 }

@@ -2,8 +2,8 @@
 
 ghost use Rattle.std.specs.Prelude.{◌≡◌};
 
-/// A script may have room for more frames, where several come at one moment; for so many it has room wherever they come: each
-/// takes a line, and at most one clock line.
+/// A script may have room for more frames, where several come at one moment; for so many it has room wherever they
+/// come: each takes a line, and at most one clock line.
 const MOST_FRAMES: u32 = 2_000_000;
 
 /// How many frames the streams of a table have so far.

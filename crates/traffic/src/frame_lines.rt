@@ -88,8 +88,9 @@ pub(crate) fn write_frames_before<W: Write>(
     Ok(())
 }
 
-/// Writes the frames of streams that are to come, by moment, each as a line of a script, with a clock line before the first of each
-/// moment, unless it is the moment whose clock line is written already. At a fault a prefix of it is written.
+/// Writes the frames of streams that are to come, by moment, each as a line of a script, with a clock line before the
+/// first of each moment, unless it is the moment whose clock line is written already. At a fault a prefix of it is
+/// written.
 pub(crate) fn write_frames<W: Write>(
     writer: &mut W,
     turns: &mut [Turn],

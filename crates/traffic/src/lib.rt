@@ -1,7 +1,8 @@
-//! Traffic by streams: a table of streams becomes a script with the frames of all of them, and with the lines of another script among them.
+//! Traffic by streams: a table of streams becomes a script with the frames of all of them, and with the lines of
+//! another script among them.
 //!
-//! The definition is specs/Outcome.antt, over specs/Table.antt, specs/Frames.antt, specs/Merge.antt and specs/Room.antt; the
-//! contracts of `write_streams` and `answer_streams` cite it.
+//! The definition is specs/Outcome.antt, over specs/Table.antt, specs/Frames.antt, specs/Merge.antt and
+//! specs/Room.antt; the contracts of `write_streams` and `answer_streams` cite it.
 #![tactic(auto)]
 
 mod faults;

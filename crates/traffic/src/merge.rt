@@ -81,11 +81,12 @@ fn put_at<W: Write>(
     put_line(writer, line)
 }
 
-/// Writes the lines of a script that are to come among the frames of streams that are to come: before each line the frames before its
-/// moment, which is the greatest number of the clock lines up to it, its own included, and 0 before the first. No line is kept.
+/// Writes the lines of a script that are to come among the frames of streams that are to come: before each line the
+/// frames before its moment, which is the greatest number of the clock lines up to it, its own included, and 0 before
+/// the first. No line is kept.
 ///
-/// `room` is for how many physical lines of the script there is room. A line that passes a limit, or has no room, is the fault, once what comes
-/// before it is written. Who watches is called for each line.
+/// `room` is for how many physical lines of the script there is room. A line that passes a limit, or has no room, is
+/// the fault, once what comes before it is written. Who watches is called for each line.
 pub(crate) fn write_merged<A: Allocator, R: Read + Drop, W: Write, H: Watch>(
     lines: &mut LineReader<R, A>,
     turns: &mut [Turn],

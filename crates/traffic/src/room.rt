@@ -27,8 +27,8 @@ fn line_feeds(line: &[u8]) -> usize
     line.iter().filter(|octet| **octet == b'\n').count()
 }
 
-/// The limit that a line of a script passes as it is passed on, if it passes one, where so many physical lines of the script have room: its
-/// number is that of its first physical line, from 1.
+/// The limit that a line of a script passes as it is passed on, if it passes one, where so many physical lines of the
+/// script have room: its number is that of its first physical line, from 1.
 pub(crate) fn limit_passed(room: u32, number: u32, line: &[u8]) -> Option<Limit>
     ensures { result ≡ limit_passed room number line.now }
 {
@@ -52,7 +52,8 @@ fn clock_count(written: Option<u128>, moment: u128) -> u32
     }
 }
 
-/// How many lines the frames of streams that are to come take in a script, where it has room for them. The frames are taken.
+/// How many lines the frames of streams that are to come take in a script, where it has room for them. The frames are
+/// taken.
 fn count_lines(turns: &mut [Turn], nodes: &mut [Option<Head>]) -> Option<u32>
     requires tournament { IsTournament turns.old nodes.old }
     ensures { result ≡ lines_taken (line_count None (left_of_all turns.old)) }
@@ -69,8 +70,8 @@ fn count_lines(turns: &mut [Turn], nodes: &mut [Option<Head>]) -> Option<u32>
     Some(count)
 }
 
-/// How many lines the frames of streams that are to come take in a script, where it has room for them. Nothing is written, and no more
-/// frames are looked at than it has room for.
+/// How many lines the frames of streams that are to come take in a script, where it has room for them. Nothing is
+/// written, and no more frames are looked at than it has room for.
 pub(crate) fn lines_taken<A: Allocator + Clone>(
     alloc: A,
     turns: &[Turn],

@@ -30,7 +30,8 @@ fn keep<A: Allocator>(turns: &mut Vec<Turn, A>, stream: Stream) -> Result<(), St
     }
 }
 
-/// Reads the lines of a table that are to come, whose frames come so much later, after the streams that are read; and counts their frames.
+/// Reads the lines of a table that are to come, whose frames come so much later, after the streams that are read; and
+/// counts their frames.
 fn read_streams<A: Allocator, B: Allocator, R: Read + Drop, H: Watch>(
     lines: &mut LineReader<R, A>,
     turns: &mut Vec<Turn, B>,
@@ -66,7 +67,8 @@ fn read_streams<A: Allocator, B: Allocator, R: Read + Drop, H: Watch>(
     Ok(counted)
 }
 
-/// Writes the frames of streams that are read among the lines of a script, if the frames have room in a script; else nothing is written.
+/// Writes the frames of streams that are read among the lines of a script, if the frames have room in a script; else
+/// nothing is written.
 fn write_streams_read<A: Allocator, B: Allocator + Clone, R: Read + Drop, W: Write, H: Watch>(
     alloc: B,
     turns: &mut [Turn],
@@ -109,17 +111,18 @@ fn write_table<
     write_streams_read(alloc, turns.as_mut_slice(), counted, script, writer, watch)
 }
 
-/// Reads a table of streams to its end, and then writes a script that has the frames of all of them: each after a clock line of
-/// its moment, which stands once, by rising moment, and at one moment in the order of the table. Among them it puts in the lines of another
-/// script, each at its moment and before the frames of that moment; where that script has no octets there are the frames alone. `from`, in
-/// picoseconds, is added to each offset.
+/// Reads a table of streams to its end, and then writes a script that has the frames of all of them: each after a clock
+/// line of its moment, which stands once, by rising moment, and at one moment in the order of the table. Among them it
+/// puts in the lines of another script, each at its moment and before the frames of that moment; where that script has
+/// no octets there are the frames alone. `from`, in picoseconds, is added to each offset.
 ///
-/// A malformed line of the table is the fault, and nothing is written; so it is where the frames take more lines than a script may have, at the
-/// line with which there are more than 2,000,000 of them. What the lines of the script say is no matter, but that a good clock line
-/// sets the moment of the lines from it on; one that passes a limit is the fault, once what comes before it is written, and so is one that has no
-/// room beside the lines that the frames alone take. What is kept is the table, twice while the lines are counted; no memory grows with how
-/// many frames come, nor with the script. A read or a write that fails, or takes nothing, isn't tried again. Who watches is called
-/// for each stream, for a malformed line of the table, and for each line of the script.
+/// A malformed line of the table is the fault, and nothing is written; so it is where the frames take more lines than a
+/// script may have, at the line with which there are more than 2,000,000 of them. What the lines of the script say is
+/// no matter, but that a good clock line sets the moment of the lines from it on; one that passes a limit is the fault,
+/// once what comes before it is written, and so is one that has no room beside the lines that the frames alone take.
+/// What is kept is the table, twice while the lines are counted; no memory grows with how many frames come, nor with
+/// the script. A read or a write that fails, or takes nothing, isn't tried again. Who watches is called for each
+/// stream, for a malformed line of the table, and for each line of the script.
 pub fn write_streams<A: Allocator, R: Read + Drop, S: Read + Drop, W: Write, H: Watch>(
     alloc: A,
     table: R,

@@ -25,9 +25,10 @@ fn from_given(from: Option<&str>) -> Result<u128, BadValue>
     }
 }
 
-/// Writes the script of the table of streams that `reader` gives through `answers`, with the lines of `script` among the frames, and with the
-/// text of a fault on `errors`; and gives the writer of the answers back. `from` is a moment in picoseconds, which is added to each offset; where
-/// it is bad nothing is read. What was written is let out before a fault is reported; after a failed write no other is tried.
+/// Writes the script of the table of streams that `reader` gives through `answers`, with the lines of `script` among
+/// the frames, and with the text of a fault on `errors`; and gives the writer of the answers back. `from` is a moment
+/// in picoseconds, which is added to each offset; where it is bad nothing is read. What was written is let out before a
+/// fault is reported; after a failed write no other is tried.
 pub fn answer_streams<
     A: Allocator,
     B: Allocator,

@@ -70,7 +70,8 @@ struct StreamWords<'a> {
     count: &'a [u8],
 }
 
-/// What a stream's line says at its end: whether the frames are tagged, and their deadline, in picoseconds, where there is one.
+/// What a stream's line says at its end: whether the frames are tagged, and their deadline, in picoseconds, where there
+/// is one.
 #[derive(Clone, Copy, Debug, PartialEq, Eq)]
 pub(crate) struct Ends {
     pub tagged: bool,
@@ -190,7 +191,8 @@ fn read_stream(mut words: Words<'_>) -> Result<Stream, ScriptFault>
     )
 }
 
-/// What a line of a table says, or None where it is skipped: it has no words, or is a comment. How many frames come is not judged.
+/// What a line of a table says, or None where it is skipped: it has no words, or is a comment. How many frames come is
+/// not judged.
 pub fn read_stream_line(line: &[u8]) -> Result<Option<Stream>, ScriptFault>
     ensures said { result ≡ line_said (words_of line.now) }
     ensures times { IfOk result (λ said. IfSome said HasTimes) }

@@ -1,4 +1,5 @@
-//! Which of many streams comes next, found by a tournament: a frame costs as many comparisons as the streams have bits to count them.
+//! Which of many streams comes next, found by a tournament: a frame costs as many comparisons as the streams have bits
+//! to count them.
 
 ghost use Rattle.std.specs.Prelude.{◌≡◌, ◌<◌, ◌+◌, ℕ, None, length, get_or, drop, slice_set, IfOk, IfSome};
 ghost use Rattle.traffic.specs.Words.{IsBefore, IsNode, IsTournament, first_of_two, first_place, found_at, head_of, heads_from, is_before};

@@ -6,7 +6,8 @@ ghost use Rattle.traffic.specs.Words.{IsTournament, frames_before, frames_from, 
 use crate::tournament::{Head, first, follow};
 use crate::turn::{Coming, Turn};
 
-/// Takes the frame that comes next of all streams, if there is one; at one moment that of the first stream in the table.
+/// Takes the frame that comes next of all streams, if there is one; at one moment that of the first stream in the
+/// table.
 pub(crate) fn next_frame(turns: &mut [Turn], nodes: &mut [Option<Head>]) -> Option<Coming>
     requires tournament { IsTournament turns.old nodes.old }
     ensures tournament { IsTournament turns.new nodes.new }

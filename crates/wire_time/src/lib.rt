@@ -131,8 +131,8 @@ pub fn sdu(frame: &Frame) -> Option<u32>
     }
 }
 
-/// Nothing to run: its contract is the law that no frame whose service data unit is within the mtu occupies the wire for
-/// longer than the lead.
+/// Nothing to run: its contract is the law that no frame whose service data unit is within the mtu occupies the wire
+/// for longer than the lead.
 pub fn lead_law()
     ensures { (ps mtu : ℕ) (f : Frame) (sdu : ℕ) → 42 ≤ mtu → sdu_of f ≡ Some sdu → sdu ≤ mtu → occupancy_of ps f.len ≤ lead_of ps mtu }
 {}

@@ -37,8 +37,8 @@ fn decimal_digit(octet: u8) -> Option<u64>
     if digit < 10 { Some(digit) } else { None }
 }
 
-/// The number that the decimal digits at the front of an array are, and how many these are. The compiler lays this loop out digit
-/// by digit.
+/// The number that the decimal digits at the front of an array are, and how many these are. The compiler lays this loop
+/// out digit by digit.
 fn array_run(octets: &[u8; SHORT_DIGITS]) -> (u64, usize)
     ensures few { result.1 ≤ SHORT_DIGITS }
     ensures value { value_behind 10 0 (take result.1 octets.now) ≡ Some result.0 }
@@ -75,7 +75,8 @@ fn few_run(octets: &[u8]) -> (u64, usize)
     (number, end)
 }
 
-// The number that the decimal digits at the front of octets are, as far as they surely fit 64 bits, and how many these are.
+// The number that the decimal digits at the front of octets are, as far as they surely fit 64 bits, and how many these
+// are.
 pub(crate) fn short_run(octets: &[u8]) -> (u64, usize)
     ensures within { result.1 ≤ length octets.now }
     ensures few { result.1 ≤ SHORT_DIGITS }
@@ -115,9 +116,9 @@ fn digits_in_front(octets: &[u8; LANES]) -> usize
     }
 }
 
-/// The number that the first digits of eight octets are, so many. They are moved to the end of a word, the first in its lowest octet,
-/// so that zeros stand before them. There each digit is put together with the next one, of the pairs every second one counts, and
-/// these are put together in the same way.
+/// The number that the first digits of eight octets are, so many. They are moved to the end of a word, the first in its
+/// lowest octet, so that zeros stand before them. There each digit is put together with the next one, of the pairs
+/// every second one counts, and these are put together in the same way.
 #[inline(always)]
 fn eight_digits(octets: &[u8; 8], count: usize) -> u64
     requires some { 0 < count }
@@ -196,7 +197,8 @@ pub fn front_digit(octets: &[u8]) -> Option<(u64, &[u8])>
     }
 }
 
-/// The number that one digit to eight at the front of octets are, and what comes after them. None where fewer than 16 octets are there.
+/// The number that one digit to eight at the front of octets are, and what comes after them. None where fewer than 16
+/// octets are there.
 #[inline(always)]
 pub fn front_short(octets: &[u8]) -> Option<(u64, &[u8])>
     ensures number { IfSome result (λ x. BeginsWithNumber octets.now x.0 x.1.now) }
@@ -211,8 +213,8 @@ pub fn front_short(octets: &[u8]) -> Option<(u64, &[u8])>
     Some((digits_of(front, count), rest))
 }
 
-/// The number that digits at the front of octets are, of which the first 16 are this number, and what comes after them. None where they
-/// are more than 24, or fewer than 32 octets are there.
+/// The number that digits at the front of octets are, of which the first 16 are this number, and what comes after them.
+/// None where they are more than 24, or fewer than 32 octets are there.
 #[inline(always)]
 fn long_number<'a>(octets: &'a [u8], number: u64, rest: &'a [u8]) -> Option<(u128, &'a [u8])>
     requires there { LANES ≤ length octets.now }
@@ -235,8 +237,8 @@ fn long_number<'a>(octets: &'a [u8], number: u64, rest: &'a [u8]) -> Option<(u12
     ))
 }
 
-/// The number that digits at the front of octets are, and what comes after them. None where it has none or more than 24, or fewer octets
-/// are there than are looked at: 16 for 15 digits, and 32 for more.
+/// The number that digits at the front of octets are, and what comes after them. None where it has none or more than
+/// 24, or fewer octets are there than are looked at: 16 for 15 digits, and 32 for more.
 #[inline(always)]
 pub fn front_number(octets: &[u8]) -> Option<(u128, &[u8])>
     ensures { IfSome result (λ x. BeginsWithNumber octets.now x.0 x.1.now) }
@@ -339,7 +341,8 @@ fn any_number(word: &[u8], most: u128) -> Option<u128>
 /// How many hexadecimal digits surely make a number of 64 bits.
 const HEX_DIGITS: usize = 16;
 
-/// The number that the hexadecimal digits at the front of octets are, as far as they surely fit 64 bits, and how many these are.
+/// The number that the hexadecimal digits at the front of octets are, as far as they surely fit 64 bits, and how many
+/// these are.
 fn hex_run(octets: &[u8]) -> (u64, usize)
     ensures within { result.1 ≤ length octets.now }
     ensures value { value_behind 16 0 (take result.1 octets.now) ≡ Some result.0 }

@@ -96,7 +96,8 @@ fn are_eight(octets: [u8; 8], text: [u8; 8]) -> bool
     u64::from_le_bytes(octets) == u64::from_le_bytes(text)
 }
 
-/// Whether two texts of 8 to 16 octets are the same: their first eight and their last eight are. Longer and shorter ones are not compared.
+/// Whether two texts of 8 to 16 octets are the same: their first eight and their last eight are. Longer and shorter
+/// ones are not compared.
 #[inline(always)]
 fn are_same<const N: usize>(octets: &[u8; N], text: &[u8; N]) -> bool
     ensures { result ≡ true → octets.now ≡ text.now }
@@ -185,7 +186,8 @@ fn unblank_length(octets: &[u8]) -> usize
     unblank_from(octets, end)
 }
 
-/// How many octets stand in front of the first one that is a blank by itself, or of another control, where it isn't among so many.
+/// How many octets stand in front of the first one that is a blank by itself, or of another control, where it isn't
+/// among so many.
 fn unblank_from(octets: &[u8], begin: usize) -> usize
     requires within { begin ≤ length octets.now }
     requires unblank { list_all (λ octet. not (is_blank octet)) (take begin octets.now) ≡ true }
@@ -213,8 +215,8 @@ fn split_plain(octets: &[u8]) -> Option<(&[u8], &[u8])>
     Some(rest.split_at(length))
 }
 
-/// The number that the first word is, where it has digits alone, at most 38 of them, and no blanks about it but spaces; and
-/// what comes after it.
+/// The number that the first word is, where it has digits alone, at most 38 of them, and no blanks about it but spaces;
+/// and what comes after it.
 #[inline]
 fn split_number(octets: &[u8]) -> Option<(u128, &[u8])>
     ensures first { IfSome result (λ x. FirstIsNumber (words_of octets.now) x.0 (words_of x.1.now)) }
@@ -229,8 +231,8 @@ fn split_number(octets: &[u8]) -> Option<(u128, &[u8])>
     Some((number, behind))
 }
 
-/// The number that the first word is, where it has at most 19 digits, which surely fit 64 bits, and no blanks about it but spaces; and
-/// what comes after it.
+/// The number that the first word is, where it has at most 19 digits, which surely fit 64 bits, and no blanks about it
+/// but spaces; and what comes after it.
 #[inline]
 fn split_short(octets: &[u8]) -> Option<(u64, &[u8])>
     ensures first { IfSome result (λ x. FirstIsNumber (words_of octets.now) x.0 (words_of x.1.now)) }
@@ -245,8 +247,8 @@ fn split_short(octets: &[u8]) -> Option<(u64, &[u8])>
     Some((number, behind))
 }
 
-/// The number that the first word is, where it has one digit to eight, no blank before it and a space after it; and what comes after it.
-/// None where fewer than 16 octets are there.
+/// The number that the first word is, where it has one digit to eight, no blank before it and a space after it; and
+/// what comes after it. None where fewer than 16 octets are there.
 #[inline(always)]
 fn split_front(octets: &[u8]) -> Option<(u64, &[u8])>
     ensures first { IfSome result (λ x. FirstIsNumber (words_of octets.now) x.0 (words_of x.1.now)) }
@@ -260,8 +262,8 @@ fn split_front(octets: &[u8]) -> Option<(u64, &[u8])>
     }
 }
 
-/// The number that the first word is, where it has one digit to eight, and no blanks about it but spaces, one of them after it; and what
-/// comes after it. None where fewer than 16 octets are there.
+/// The number that the first word is, where it has one digit to eight, and no blanks about it but spaces, one of them
+/// after it; and what comes after it. None where fewer than 16 octets are there.
 #[inline(always)]
 fn split_few(octets: &[u8]) -> Option<(u64, &[u8])>
     ensures first { IfSome result (λ x. FirstIsNumber (words_of octets.now) x.0 (words_of x.1.now)) }
@@ -271,8 +273,8 @@ fn split_few(octets: &[u8]) -> Option<(u64, &[u8])>
     Some((number, rest))
 }
 
-/// The number that the first word is, where it is one digit with no blanks about it but spaces, one of them after it; and what comes after
-/// it.
+/// The number that the first word is, where it is one digit with no blanks about it but spaces, one of them after it;
+/// and what comes after it.
 #[inline(always)]
 fn split_digit(octets: &[u8]) -> Option<(u64, &[u8])>
     ensures word { IfSome result (λ x. (word : List ℕ) × IsNumber word x.0 × (words_of octets.now ≡ word ∷ words_of x.1.now)) }
@@ -358,8 +360,8 @@ impl<'a> Words<'a> {
         Some(word)
     }
 
-    /// Goes past a text, which is counted as so many words, where the octets that no word was taken of begin with it; else
-    /// nothing changes.
+    /// Goes past a text, which is counted as so many words, where the octets that no word was taken of begin with it;
+    /// else nothing changes.
     #[inline(always)]
     pub fn skip_text<const N: usize>(&mut self, text: &[u8; N], count: usize) -> bool
         requires { count ≤ length text.now }
@@ -397,8 +399,8 @@ impl<'a> Words<'a> {
         self.rest
     }
 
-    /// The next word as a decimal number of at most `most`: None after the last word, and Some(None) for a word that is no such
-    /// number.
+    /// The next word as a decimal number of at most `most`: None after the last word, and Some(None) for a word that is
+    /// no such number.
     #[inline(always)]
     pub fn next_number(&mut self, most: u128) -> Option<Option<u128>>
         ensures number { result ≡ first_number most (words_left self.old) }
@@ -420,8 +422,8 @@ impl<'a> Words<'a> {
         Some(number(word, most))
     }
 
-    /// The number that the next word is, where it is one digit with no blanks about it but spaces, one of them after it. Else None, and
-    /// nothing changes.
+    /// The number that the next word is, where it is one digit with no blanks about it but spaces, one of them after
+    /// it. Else None, and nothing changes.
     #[inline(always)]
     pub fn next_digit(&mut self) -> Option<u64>
         ensures word { IfSome result (λ n. (word : List ℕ) × IsNumber word n × (words_left self.old ≡ word ∷ words_left self.new)) }
@@ -434,8 +436,8 @@ impl<'a> Words<'a> {
         Some(digit)
     }
 
-    /// The number that the next word is, where it has one digit to eight, no blank before it and a space after it, and 16 octets are
-    /// there. Else None, and nothing changes.
+    /// The number that the next word is, where it has one digit to eight, no blank before it and a space after it, and
+    /// 16 octets are there. Else None, and nothing changes.
     #[inline(always)]
     pub fn next_front(&mut self) -> Option<u64>
         ensures number { MatchOption result (self.new ≡ self.old) (TakesNumber self.old self.new) }
@@ -446,8 +448,8 @@ impl<'a> Words<'a> {
         Some(number)
     }
 
-    /// The number that the next word is, where it can be read at once: it has decimal digits alone, at most 19 of them, and no blanks
-    /// about it but spaces. Else None, and nothing changes.
+    /// The number that the next word is, where it can be read at once: it has decimal digits alone, at most 19 of them,
+    /// and no blanks about it but spaces. Else None, and nothing changes.
     #[inline]
     pub fn next_short(&mut self) -> Option<u64>
         ensures number { MatchOption result (self.new ≡ self.old) (TakesNumber self.old self.new) }
@@ -457,8 +459,8 @@ impl<'a> Words<'a> {
         Some(number)
     }
 
-    /// The number that the next word is, where it can be read at once: it has decimal digits alone, at most 38 of them, and no blanks
-    /// about it but spaces. Else None, and nothing changes.
+    /// The number that the next word is, where it can be read at once: it has decimal digits alone, at most 38 of them,
+    /// and no blanks about it but spaces. Else None, and nothing changes.
     #[inline]
     pub fn next_plain(&mut self) -> Option<u128>
         ensures number { MatchOption result (self.new ≡ self.old) (TakesNumber self.old self.new) }

@@ -31,7 +31,8 @@ fn tagged(priority: u8, len: u32) -> Frame {
     }
 }
 
-/// The number of the first row whose frame is another: octets, how many were captured, how many the frame had, and the frame.
+/// The number of the first row whose frame is another: octets, how many were captured, how many the frame had, and the
+/// frame.
 fn first_frame_to_differ(rows: &[(&[u8], u32, u32, Frame)]) -> Option<usize> {
     for (number, (octets, captured, original, frame)) in rows.iter().enumerate() {
         if frame_of(&record(octets, *captured, *original), 7) != *frame {

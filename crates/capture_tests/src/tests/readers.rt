@@ -30,7 +30,8 @@ fn any_piece(rt: HostRuntime) -> Result<(), Fail> {
     Ok(())
 }
 
-/// What is read of the capture of two records, an octet a call, where the call with this number fails, and those after it too or not.
+/// What is read of the capture of two records, an octet a call, where the call with this number fails, and those after
+/// it too or not.
 fn read_with_a_fault(alloc: Global, call: u32, recovers: bool) -> (u32, End) {
     let mut reader = Pieces::new(TWO_RECORDS.as_slice(), 1);
     reader.fails_at = call;

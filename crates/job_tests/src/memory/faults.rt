@@ -93,7 +93,8 @@ const BROKEN: [Broken; 10] = [
     },
 ];
 
-/// Whether the answers are written and the fault is told; or, where the slice of this number lacks an octet, nothing is written.
+/// Whether the answers are written and the fault is told; or, where the slice of this number lacks an octet, nothing is
+/// written.
 fn is_told(alloc: Global, broken: &Broken, lacking: u8) -> bool {
     let (mut output, mut fault) = (DOTS, DOTS);
     let is_short = lacking == 1 || lacking == 0 && !broken.answers.is_empty();

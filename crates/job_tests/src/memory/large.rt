@@ -41,7 +41,8 @@ const TABLE: &[u8] = b"stream 1 5 60 1us 0s 2500\n";
 const SCHEDULE: &[u8] = b"tc qdisc replace dev eth0 root taprio num_tc 2 map 0 1 base-time 0 \
 sched-entry S 02 50000 sched-entry S 01 50000\n";
 
-/// Whether a job says how much room it wants, more than 64 KiB, and nothing is written; and with so much it writes an output that ends so.
+/// Whether a job says how much room it wants, more than 64 KiB, and nothing is written; and with so much it writes an
+/// output that ends so.
 fn is_written(job: Job, alloc: Global, inputs: [&[u8]; 2], end: &[u8]) -> bool {
     let mut fault = DOTS;
     let told = ran_by(job, alloc, inputs, &mut [], &mut fault);

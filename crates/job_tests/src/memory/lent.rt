@@ -36,7 +36,8 @@ pub fn has(slice: &[u8], text: &[u8]) -> bool {
     }
 }
 
-/// Whether a job whose input has a fault gave these answers and told this text; or nothing, where one of the two slices lacks an octet.
+/// Whether a job whose input has a fault gave these answers and told this text; or nothing, where one of the two slices
+/// lacks an octet.
 pub fn has_told(ran: Ran, is_short: bool, whole: [&[u8]; 2], output: &[u8], fault: &[u8]) -> bool {
     let [answers, text] = whole;
     let wanted = Ran {

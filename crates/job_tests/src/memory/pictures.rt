@@ -8,7 +8,8 @@ use std::alloc::Global;
 /// A frame, and a microsecond.
 const SCRIPT: &[u8] = b"frame 1 0 60\nclock 1000000\n";
 
-/// How much room the picture needs, where there is too little and nothing is written; none where it comes out otherwise.
+/// How much room the picture needs, where there is too little and nothing is written; none where it comes out
+/// otherwise.
 fn room_told(alloc: Global) -> Option<usize> {
     let (mut small, mut fault) = (DOTS, DOTS);
     let ran = draw_octets(alloc, USUAL, SHOWN, SCRIPT, &mut small, &mut fault);

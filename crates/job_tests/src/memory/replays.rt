@@ -42,7 +42,8 @@ fn replays_a_capture(rt: HostRuntime) {
 /// The text of the fault of two records of which the second is cut.
 const CUT: &[u8] = b"taprio_port: capture record 1: ShortRecord\n";
 
-/// Whether the one frame is reported, and leaves, and the fault is told; or, where the slice of this number lacks an octet, nothing is written.
+/// Whether the one frame is reported, and leaves, and the fault is told; or, where the slice of this number lacks an
+/// octet, nothing is written.
 fn is_told(alloc: Global, lacking: u8) -> bool {
     let (mut report, mut departures, mut fault) = (DOTS, DOTS, DOTS);
     let ran = replay_octets(

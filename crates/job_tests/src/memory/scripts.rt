@@ -35,8 +35,8 @@ const BROKEN: &[u8] = b"frame 1 0 60\nclock 1000000\nclok 5\n";
 /// The text of that fault.
 const UNKNOWN: &[u8] = b"taprio_port: script line 3: UnknownLine\n";
 
-/// Whether a growth of this number is refused, which is told by the status alone, and nothing is written; or it isn't asked for. None where it
-/// comes out otherwise.
+/// Whether a growth of this number is refused, which is told by the status alone, and nothing is written; or it isn't
+/// asked for. None where it comes out otherwise.
 fn is_refused(alloc: Global, number: u64) -> Option<bool> {
     let (mut output, mut fault) = (DOTS, DOTS);
     let heap = RefusingHeap::new(alloc, number, false);
