@@ -115,6 +115,15 @@ module _ (room : ℕ) where
     stays limit (Some all) frames old now clock left (Some script) t r (behind, t_is, is) p h =
         broken_at number limit all script frames old now clock left r (line_first number line script behind (Some limit) is p) h
 
+    -- out of memory at a line: what is written is what was
+    pub starves : {T : Type 0} {f : Result T (Fault StreamsInput)} (all : Option Script) (frames : List Coming) (old now : Option (List ℕ)) (clock : Option ℕ) (left : List Coming) (s t : Option Script)
+        → Reaches all frames old now clock left s → Advances s (Ok true) number line t → f ≡ Err Faults.Memory → IfSome all (λ script. Runs f old now (merging None (passed_on room script) frames))
+    starves None frames old now clock left s t r a h = tt
+    starves (Some all) frames old now clock left None t r a h = absurd r
+    starves {T} {f} (Some all) frames old now clock left (Some script) t r a h =
+        let P : Result T (Fault StreamsInput) → Type 0 = λ x. Runs x old now (merging None (passed_on room all) frames) in
+        subst P (sym h) (merged clock (passed_on room script) left, r.0)
+
     -- no line can be read
     pub stops : {T : Type 0} {f : Result T (Fault StreamsInput)} (fault : LineFault) (all : Option Script) (frames : List Coming) (old now : Option (List ℕ)) (clock : Option ℕ) (left : List Coming) (s t : Option Script)
         → Reaches all frames old now clock left s → Advances s (Err fault) number line t → f ≡ Err (script_fault fault) → IfSome all (λ script. Runs f old now (merging None (passed_on room script) frames))

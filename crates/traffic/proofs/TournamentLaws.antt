@@ -1,8 +1,8 @@
 -- What a tournament of streams tells: the stream whose next frame comes first.
-use Rattle.std.proofs.Common.{◌≡◌, ◌<◌, ◌≤◌, ◌+◌, ◌-◌, ◌/◌, ℕ, zero, suc, List, [], ◌∷◌, Bool, true, false, Option, Some, None, inl, inr, ◌⊎◌, refl, sym, ap, subst, ◌∙◌, arith, le_refl, le_trans, length, get_or, drop}
+use Rattle.std.proofs.Common.{◌≡◌, ◌<◌, ◌≤◌, ◌+◌, ◌-◌, ◌*◌, ◌/◌, ◌%◌, ℕ, zero, suc, List, [], ◌∷◌, Bool, true, false, Option, Some, None, inl, inr, ◌⊎◌, refl, sym, ap, subst, ◌∙◌, arith, le_refl, le_trans, length, get_or, drop}
 use Rattle.std.specs.Prelude.{IfSome, if◌then◌else◌, option_map, slice_set, nat_lt, ◌==◌, ◌&&◌, ◌||◌}
 use Rattle.std.proofs.lemmas.Bool.{cases_eq, cases_lt, eqb-false, eqb-true, le-ltb, lt-ltb, ltb-false, ltb-true}
-use Rattle.std.proofs.lemmas.List.{get_or-drop, get_or-set_other, get_or-set_same, length-set, set-get_or, set-set}
+use Rattle.std.proofs.lemmas.List.{get_or_default, get_or-drop, get_or-set_other, get_or-set_same, length-set, set-get_or, set-set}
 use Rattle.traffic.specs.Words.{Coming, IsBefore, IsNode, IsTournament, Turn, earlier, first_of_two, first_place, found_at, head_of, heads_from, is_before}
 use Rattle.traffic.specs.Turns.{next_of}
 use Rattle.traffic.specs.declared.tournament.Head.{Head}
@@ -65,6 +65,25 @@ is_one (Some l) (Some r) = by_one (is_before r l) where
   by_one : (t : Bool) → ((if t then Some r else Some l) ≡ Some l) ⊎ ((if t then Some r else Some l) ≡ Some r)
   by_one true = inr refl
   by_one false = inl refl
+
+leads_anti : (a b : Option Head) → Leads a b → Leads b a → a ≡ b
+leads_anti None None h k = refl
+leads_anti None (Some y) h k = absurd h
+leads_anti (Some x) None h k = absurd k
+leads_anti (Some x) (Some y) h k =
+    let at : x.moment ≡ y.moment = omega (arith, h.sooner, k.sooner) in
+    let place : x.place ≡ y.place = omega (arith, h.tie at, k.tie (sym at)) in
+    ap (λ m. Some (record { moment = m; place = x.place })) at ∙ ap (λ p. Some (record { moment = y.moment; place = p })) place
+
+first_leads : (a b : Option Head) → Leads (first_of_two a b) (first_of_two b a)
+first_leads a b = elim (is_one b a) [
+  | inl e ↦ subst (Leads (first_of_two a b)) (sym e) (leads_both a b).1
+  | inr e ↦ subst (Leads (first_of_two a b)) (sym e) (leads_both a b).0
+]
+
+-- which of the two is asked first is no matter
+first_either : (a b : Option Head) → first_of_two a b ≡ first_of_two b a
+first_either a b = leads_anti (first_of_two a b) (first_of_two b a) (first_leads a b) (first_leads b a)
 
 -- ---- the node over all
 
@@ -236,6 +255,17 @@ made nodes at o low high is =
     ∙ ap (λ x. first_of_two x (get_or nodes (at + at + 1) None)) (sym (get_or-set_other nodes at (at + at) o None (λ e. let wrong : ⊥ = omega (arith, e, low) in wrong)))
     ∙ ap (first_of_two (get_or (slice_set nodes at o) (at + at) None)) (sym (get_or-set_other nodes at (at + at + 1) o None (λ e. let wrong : ⊥ = omega (arith, e, low) in wrong)))
 
+-- a node that is read
+pub node_read : (nodes : List (Option Head)) (k : ℕ) (o : Option Head) → o ≡ get_or nodes k o → k < length nodes → o ≡ get_or nodes k None
+node_read nodes k o is high = is ∙ get_or_default nodes k o None high
+
+-- the first of two that are read
+pub first_read : (nodes : List (Option Head)) (at : ℕ) (left right o : Option Head) → left ≡ get_or nodes (at + at) left → right ≡ get_or nodes (at + at + 1) right → at + at + 1 < length nodes → o ≡ first_of_two left right
+    → o ≡ first_of_two (get_or nodes (at + at) None) (get_or nodes (at + at + 1) None)
+first_read nodes at left right o l r high is =
+    is ∙ ap (λ x. first_of_two x right) (node_read nodes (at + at) left l (omega (arith, high)))
+    ∙ ap (first_of_two (get_or nodes (at + at) None)) (node_read nodes (at + at + 1) right r high)
+
 -- all nodes but the one over a place
 pub AllBut : ℕ → List (Option Head) → ℕ → Type 0
 AllBut streams nodes at = (k : ℕ) → 0 < k → k < streams → (at ≡ k + k → ⊥) → (at ≡ k + k + 1 → ⊥) → IsNode nodes k
@@ -258,6 +288,19 @@ climbed streams nodes at over o all half low high is k above below left right = 
   by_right : (at ≡ over + over) ⊎ (at ≡ over + over + 1) → (k ≡ over → ⊥) → at ≡ k + k + 1 → ⊥
   by_right (inl h) n e = let wrong : ⊥ = omega (arith, h, e) in wrong
   by_right (inr h) n e = n (omega (arith, h, e))
+
+-- the node over one, by that one and the one beside it
+pub over_both : (nodes : List (Option Head)) (at over beside : ℕ) (head o : Option Head) → head ≡ get_or nodes at None → (at ≡ over + over) ⊎ (at ≡ over + over + 1) → beside ≡ at + 1 - at % 2 * 2
+    → o ≡ first_of_two head (get_or nodes beside None) → o ≡ first_of_two (get_or nodes (over + over) None) (get_or nodes (over + over + 1) None)
+over_both nodes at over beside head o here (inl e) b is =
+    let right : beside ≡ over + over + 1 = omega (arith, e, b) in
+    is ∙ ap (λ h. first_of_two h (get_or nodes beside None)) (here ∙ ap (λ k. get_or nodes k None) e)
+    ∙ ap (λ k. first_of_two (get_or nodes (over + over) None) (get_or nodes k None)) right
+over_both nodes at over beside head o here (inr e) b is =
+    let left : beside ≡ over + over = omega (arith, e, b) in
+    is ∙ ap (λ h. first_of_two h (get_or nodes beside None)) (here ∙ ap (λ k. get_or nodes k None) e)
+    ∙ ap (λ k. first_of_two (get_or nodes (over + over + 1) None) (get_or nodes k None)) left
+    ∙ first_either (get_or nodes (over + over + 1) None) (get_or nodes (over + over) None)
 
 pub all_at_root : (streams : ℕ) (nodes : List (Option Head)) (at : ℕ) → AllBut streams nodes at → at ≤ 1 → (k : ℕ) → 0 < k → k < streams → IsNode nodes k
 unfolding AllBut

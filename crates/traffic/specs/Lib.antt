@@ -2,6 +2,7 @@ pub mod Faults
 pub mod TableRead
 pub mod Table
 pub mod Frames
+pub mod Kept
 pub mod Tournament
 pub mod Turns
 pub mod Written

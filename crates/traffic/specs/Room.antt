@@ -1,5 +1,5 @@
 -- How many lines the frames of streams take in a script, and what of another script has room among them.
-use Rattle.std.specs.Prelude.{ℕ, ◌+◌, ◌==◌, ◌&&◌, nat_le, nat_lt, count_by, List, [], ◌∷◌, length, Option, Some, None, Result, Ok, Err, if◌then◌else◌}
+use Rattle.std.specs.Prelude.{◌≡◌, ◌≤◌, ⊤, ℕ, ◌+◌, ◌-◌, ◌==◌, ◌&&◌, nat_le, nat_lt, count_by, List, [], ◌∷◌, length, Option, Some, None, option_map, Result, Ok, Err, if◌then◌else◌}
 use Rattle.line_reader.specs.Script.{Script, End, Broken, Line, joins}
 use Rattle.line_reader.specs.declared.lines.Limit.{Limit}
 use Rattle.line_reader.specs.declared.lines.Limit.TheVariants.{LongLine, TooManyLines}
@@ -10,6 +10,8 @@ use Rattle.traffic.specs.Table.{line_judged}
 use Rattle.traffic.specs.declared.frame_count.FrameCount.{FrameCount}
 use Rattle.traffic.specs.declared.frame_count.FrameCount.TheVariants.{Few, Many}
 use Rattle.traffic.specs.declared.frame_count.TheConstants.{MOST_FRAMES}
+use Rattle.traffic.specs.declared.room.ScriptRoom.{ScriptRoom}
+use Rattle.traffic.specs.declared.room.ScriptRoom.TheVariants.{AtLeast, Exactly}
 use Rattle.traffic.specs.declared.table.Stream.{Stream}
 use Rattle.traffic.specs.declared.turn.Coming.{Coming}
 
@@ -28,6 +30,10 @@ line_count written (f ∷ fs) = clock_count written f.moment + 1 + line_count (S
 -- the lines that frames take, where a script has room for them
 abbrev pub lines_taken : ℕ → Option ℕ
 lines_taken count = if nat_le count MAX_LINES then Some count else None
+
+-- how many lines of a script have room beside frames that take so many, where these have room
+abbrev pub room_beside : ℕ → Option ℕ
+room_beside count = option_map (λ taken. MAX_LINES - taken) (lines_taken count)
 
 -- 2. The line of a table with which the frames become many
 
@@ -53,6 +59,21 @@ abbrev pub crowded_line : FrameCount → ℕ
 crowded_line (Few frames) = 0
 crowded_line (Many line) = line
 
+-- few frames are so many
+abbrev pub AreCounted : FrameCount → List Coming → Type 0
+AreCounted (Few frames) all = (length all ≡ frames) × (frames ≤ MOST_FRAMES)
+AreCounted (Many line) all = ⊤
+
+-- how many lines of a script have room for sure
+abbrev pub lines_known : ScriptRoom → ℕ
+lines_known (AtLeast lines) = lines
+lines_known (Exactly lines) = lines
+
+-- the room beside all frames, of which these are to be counted: the exact one, or a lower bound while they are all
+abbrev pub IsRoomLeft : ScriptRoom → List Coming → List Coming → Type 0
+IsRoomLeft (AtLeast lines) uncounted all = (uncounted ≡ all) × (lines + line_count None all ≤ MAX_LINES)
+IsRoomLeft (Exactly lines) uncounted all = room_beside (line_count None all) ≡ Some lines
+
 -- 3. The lines of a script
 
 -- the line feeds among octets
@@ -66,6 +87,11 @@ limit_passed room number line =
     if nat_lt room (number + line_feeds line) then Some TooManyLines
     else if (length line == MAX_LINE_OCTETS) && joins line then Some LongLine
     else None
+
+-- such room that tells which limit a line passes
+pub record IsRoomFor (room : ScriptRoom) (uncounted all : List Coming) (number : ℕ) (line : List ℕ) : Type 0 where
+  pub left : IsRoomLeft room uncounted all
+  pub limit : limit_passed (lines_known room) number line ≡ limit_passed (MAX_LINES - line_count None all) number line
 
 -- a line before the rest, unless it passes a limit
 abbrev pub unless_passed : Option Limit → ℕ → List ℕ → Script → Script

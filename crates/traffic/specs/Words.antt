@@ -18,7 +18,7 @@ unfoldable pub use Rattle.traffic.specs.Frames.{by_moment, frames_after}
 pub use Rattle.traffic.specs.Merge.{clock_after, clock_in, clock_said, latest, line_end, line_text, passed_line}
 unfoldable pub use Rattle.traffic.specs.Merge.{frames_before, frames_from}
 pub use Rattle.traffic.specs.Outcome.{merging, outcome_among, outcome_by_lines, outcome_in, outcome_of}
-pub use Rattle.traffic.specs.Room.{clock_count, counted_line, counted_with, crowded_line, limit_passed, line_feeds, lines_taken, unless_passed}
+pub use Rattle.traffic.specs.Room.{AreCounted, IsRoomFor, IsRoomLeft, clock_count, counted_line, counted_with, crowded_line, limit_passed, line_feeds, lines_known, lines_taken, room_beside, unless_passed}
 unfoldable pub use Rattle.traffic.specs.Room.{counted_in, line_count, passed_on}
 pub use Rattle.traffic.specs.TableRead.{ReadsTable}
 pub use Rattle.traffic.specs.Table.{HasTimes, IsStream, Table, deadline_in, ends_in, judged, line_judged, line_said, moved, stream_in_words, stream_said, table_of}
@@ -26,7 +26,7 @@ pub use Rattle.traffic.specs.Tournament.{IsBefore, IsNode, IsTournament, first_o
 unfoldable pub use Rattle.traffic.specs.Tournament.{heads_from}
 pub use Rattle.traffic.specs.Turns.{earlier, left_of, left_of_all}
 unfoldable pub use Rattle.traffic.specs.Turns.{first_place}
-pub use Rattle.traffic.specs.Written.{clock_to, frame_end, frame_line}
+pub use Rattle.traffic.specs.Written.{clock_line, clock_to, frame_line}
 unfoldable pub use Rattle.traffic.specs.Written.{lines_of}
 pub use Rattle.traffic.specs.declared.faults.StreamsInput.{StreamsInput}
 pub use Rattle.traffic.specs.declared.frame_count.FrameCount.{FrameCount}

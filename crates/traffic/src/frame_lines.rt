@@ -1,17 +1,61 @@
 //! The lines of a script that has the frames of streams.
 
-ghost use Rattle.std.specs.Prelude.{◌≡◌, ◌++◌, OnOk};
-ghost use Rattle.traffic.specs.Words.{IsTournament, Writes, clock_to, frame_end, frame_line, lines_of, frames_before, frames_from, left_of_all};
+ghost use Rattle.std.specs.Prelude.{◌≡◌, ◌≤◌, ◌++◌, OnOk, take};
+ghost use Rattle.traffic.specs.Words.{IsTournament, Writes, clock_line, clock_to, frame_line, lines_of, frames_before, frames_from, left_of_all};
 
-use crate::tournament::Head;
+use crate::tournament::Node;
 use crate::turn::{Coming, Turn};
 use crate::turns::{next_before, next_frame};
-use answer_text::{Part, WriteFault, put_parts};
-use std::io::Write;
+use answer_text::WriteFault;
+use decimal_text::{put_number, put_octet, put_short, put_text};
+use octet_writer::{LINE_ROOM, Line, PutLine};
 use wire_time::Frame;
 
+/// The clock line of a moment.
+#[derive(Clone, Copy)]
+struct ClockLine {
+    moment: u128,
+}
+
+impl Line for ClockLine {
+    ghost text = { λ line. clock_line line.moment };
+
+    #[inline(always)]
+    fn put_into(&self, room: &mut [u8; LINE_ROOM]) -> usize {
+        let at = put_text(b"clock ", room, 0);
+        let at = put_number(self.moment, room, at);
+        put_text(b"\n", room, at)
+    }
+}
+
+/// The line of a frame.
+#[derive(Clone, Copy)]
+struct FrameLine<'a> {
+    frame: &'a Frame,
+}
+
+impl Line for FrameLine<'_> {
+    ghost text = { λ line. frame_line line.frame.now };
+
+    #[inline(always)]
+    fn put_into(&self, room: &mut [u8; LINE_ROOM]) -> usize {
+        let frame = self.frame;
+        let at = put_text(b"frame ", room, 0);
+        let at = put_short(frame.id, room, at);
+        let at = put_text(b" ", room, at);
+        let at = put_octet(frame.priority, room, at);
+        let at = put_text(b" ", room, at);
+        let at = put_short(u64::from(frame.len), room, at);
+        if frame.tagged {
+            put_text(b" tagged\n", room, at)
+        } else {
+            put_text(b"\n", room, at)
+        }
+    }
+}
+
 /// Writes a clock line, unless the one of the same moment is written.
-fn put_clock_to<W: Write>(
+fn put_clock_to<W: PutLine>(
     writer: &mut W,
     written: Option<u128>,
     moment: u128,
@@ -21,43 +65,18 @@ fn put_clock_to<W: Write>(
     if written == Some(moment) {
         return Ok(());
     }
-    put_parts(
-        writer,
-        &[
-            Part::Text(b"clock "),
-            Part::Number(moment),
-            Part::Text(b"\n"),
-        ],
-    )
-}
-
-/// What ends the line of a frame.
-fn frame_end(tagged: bool) -> &'static [u8]
-    ensures { result.now ≡ frame_end tagged }
-{
-    if tagged { b" tagged\n" } else { b"\n" }
+    writer.put_line(&ClockLine { moment })
 }
 
 /// Writes the line of a frame.
-fn put_frame<W: Write>(writer: &mut W, frame: &Frame) -> Result<(), WriteFault>
+fn put_frame<W: PutLine>(writer: &mut W, frame: &Frame) -> Result<(), WriteFault>
     ensures { Writes result (W.contents writer.old) (W.contents writer.new) (frame_line frame.now) }
 {
-    put_parts(
-        writer,
-        &[
-            Part::Text(b"frame "),
-            Part::Number(u128::from(frame.id)),
-            Part::Text(b" "),
-            Part::Number(u128::from(frame.priority)),
-            Part::Text(b" "),
-            Part::Number(u128::from(frame.len)),
-            Part::Text(frame_end(frame.tagged)),
-        ],
-    )
+    writer.put_line(&FrameLine { frame })
 }
 
 /// Writes the line of a frame, after a clock line where its moment has none yet.
-fn put_coming<W: Write>(
+fn put_coming<W: PutLine>(
     writer: &mut W,
     written: Option<u128>,
     coming: &Coming,
@@ -69,10 +88,10 @@ fn put_coming<W: Write>(
 }
 
 /// Writes the frames of streams that are to come before a moment, as `write_frames` does.
-pub(crate) fn write_frames_before<W: Write>(
+pub(crate) fn write_frames_before<W: PutLine>(
     writer: &mut W,
     turns: &mut [Turn],
-    nodes: &mut [Option<Head>],
+    nodes: &mut [Node],
     mut written: Option<u128>,
     end: u128,
 ) -> Result<(), WriteFault>
@@ -91,10 +110,10 @@ pub(crate) fn write_frames_before<W: Write>(
 /// Writes the frames of streams that are to come, by moment, each as a line of a script, with a clock line before the
 /// first of each moment, unless it is the moment whose clock line is written already. At a fault a prefix of it is
 /// written.
-pub(crate) fn write_frames<W: Write>(
+pub(crate) fn write_frames<W: PutLine>(
     writer: &mut W,
     turns: &mut [Turn],
-    nodes: &mut [Option<Head>],
+    nodes: &mut [Node],
     mut written: Option<u128>,
 ) -> Result<(), WriteFault>
     requires tournament { IsTournament turns.old nodes.old }

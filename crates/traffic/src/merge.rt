@@ -1,16 +1,18 @@
 //! The lines of a script among the frames of streams, each at its moment.
 
-ghost use Rattle.std.specs.Prelude.{◌≡◌, ◌++◌, IfSome, OnOk, None};
-ghost use Rattle.traffic.specs.Words.{IsTournament, Writes, script_left, clock_in, clock_said, frames_before, frames_from, latest, line_end, line_text, Runs, merging, passed_on, left_of_all, lines_of};
+ghost use Rattle.std.specs.Prelude.{◌≡◌, ◌-◌, ◌++◌, IfSome, OnOk, None};
+ghost use Rattle.line_reader.specs.declared.lines.TheConstants.{MAX_LINES};
+ghost use Rattle.traffic.specs.Words.{IsRoomLeft, IsTournament, Writes, script_left, clock_in, clock_said, frames_before, frames_from, latest, line_count, line_end, line_text, Runs, merging, passed_on, left_of_all, lines_of};
 
 use crate::faults::{StreamsFault, script_fault};
 use crate::frame_lines::{write_frames, write_frames_before};
-use crate::room::{joins, limit_passed};
-use crate::tournament::Head;
+use crate::room::{ScriptRoom, joins, limit_passed, lines_known, room_for};
+use crate::tournament::Node;
 use crate::turn::Turn;
 use abstract_port::Event;
 use answer_text::{Part, WriteFault, put_parts};
 use line_reader::{LineFault, LineReader};
+use octet_writer::PutLine;
 use script::{Said, Watch, read_line};
 use std::alloc::Allocator;
 use std::io::{Read, Write};
@@ -64,10 +66,10 @@ fn put_line<W: Write>(writer: &mut W, line: &[u8]) -> Result<(), WriteFault>
 }
 
 /// Writes a line, and before it the frames that come before a moment.
-fn put_at<W: Write>(
+fn put_at<W: PutLine>(
     writer: &mut W,
     turns: &mut [Turn],
-    nodes: &mut [Option<Head>],
+    nodes: &mut [Node],
     written: Option<u128>,
     moment: u128,
     line: &[u8],
@@ -85,19 +87,30 @@ fn put_at<W: Write>(
 /// frames before its moment, which is the greatest number of the clock lines up to it, its own included, and 0 before
 /// the first. No line is kept.
 ///
-/// `room` is for how many physical lines of the script there is room. A line that passes a limit, or has no room, is
-/// the fault, once what comes before it is written. Who watches is called for each line.
-pub(crate) fn write_merged<A: Allocator, R: Read + Drop, W: Write, H: Watch>(
+/// `room` is for how many physical lines of the script there is room beside the frames, which `streams` has once more.
+/// A line that passes a limit, or has no room, is the fault, once what comes before it is written. Who watches is
+/// called for each line.
+pub(crate) fn write_merged<
+    A: Allocator,
+    B: Allocator + Clone,
+    R: Read + Drop,
+    W: PutLine,
+    H: Watch,
+>(
+    alloc: &B,
     lines: &mut LineReader<R, A>,
     turns: &mut [Turn],
-    nodes: &mut [Option<Head>],
+    nodes: &mut [Node],
+    streams: &mut [Turn],
+    room: ScriptRoom,
     writer: &mut W,
-    room: u32,
     watch: &mut H,
 ) -> Result<(), StreamsFault>
     requires tournament { IsTournament turns.old nodes.old }
-    ensures { IfSome (script_left R.remaining lines.old) (λ script. Runs result (W.contents writer.old) (W.contents writer.new) (merging None (passed_on room script) (left_of_all turns.old))) }
+    requires room { IsRoomLeft room (left_of_all streams.old) (left_of_all turns.old) }
+    ensures { IfSome (script_left R.remaining lines.old) (λ script. Runs result (W.contents writer.old) (W.contents writer.new) (merging None (passed_on (MAX_LINES - line_count None (left_of_all turns.old)) script) (left_of_all turns.old))) }
 {
+    let mut room = room;
     let mut clock = None;
     'lines: loop {
         let more = match lines.advance() {
@@ -109,7 +122,8 @@ pub(crate) fn write_merged<A: Allocator, R: Read + Drop, W: Write, H: Watch>(
         }
         let line = lines.line();
         let number = lines.line_number();
-        if let Some(limit) = limit_passed(room, number, line) {
+        room = room_for(alloc, streams, room, number, line)?;
+        if let Some(limit) = limit_passed(lines_known(room), number, line) {
             return Err(script_fault(LineFault::Limit(number, limit)));
         }
         watch.line_passed(number, line);

@@ -1,21 +1,22 @@
 //! A table of streams becomes a script.
 
-ghost use Rattle.std.specs.Prelude.{◌≡◌, ◌≤◌, ◌++◌, IfErr, IfOk, IfSome, OnOk};
-ghost use Rattle.traffic.specs.Words.{greatest_moment, script_left, Runs, outcome_among, outcome_by_lines, outcome_of, ReadsTable, IsStream, counted_in, judged, table_of, frames_of, left_of, left_of_all, Few};
+ghost use Rattle.std.specs.Prelude.{◌≡◌, ◌≤◌, ◌++◌, [], IfErr, IfOk, IfSome, OnOk};
+ghost use Rattle.traffic.specs.Words.{AreCounted, greatest_moment, script_left, Runs, outcome_among, outcome_by_lines, outcome_of, ReadsTable, IsStream, counted_in, judged, table_of, frames_of, left_of, left_of_all, Few};
 ghost use Rattle.std.specs.List.{flat_map};
 ghost use Rattle.job.specs.declared.fault.Fault.TheVariants as Faults;
 
 use crate::faults::{StreamsFault, StreamsInput, table_fault};
 use crate::frame_count::FrameCount;
 use crate::merge::write_merged;
-use crate::room::lines_taken;
+use crate::room::script_room;
 use crate::table::{Stream, read_line};
 use crate::tournament::tournament;
 use crate::turn::Turn;
-use line_reader::{Limit, LineFault, LineReader, MAX_LINES};
+use line_reader::{Limit, LineFault, LineReader};
+use octet_writer::PutLine;
 use script::Watch;
 use std::alloc::Allocator;
-use std::io::{Read, Write};
+use std::io::Read;
 
 /// Keeps a stream after the others.
 #[tactic(auto, using(crate::proofs::TableLaws::pushed))]
@@ -41,6 +42,7 @@ fn read_streams<A: Allocator, B: Allocator, R: Read + Drop, H: Watch>(
     requires { from ≤ greatest_moment }
     ensures table { IfSome (script_left R.remaining lines.old) (λ script. ReadsTable result (table_of from script) turns.old.items turns.new.items) }
     ensures counted { IfSome (script_left R.remaining lines.old) (λ script. IfOk result (λ counted. counted ≡ counted_in (judged from) (Few 0) script)) }
+    ensures few { flat_map left_of turns.old.items ≡ [] → IfOk result (λ counted. AreCounted counted (left_of_all turns.new.items)) }
 {
     let mut counted = FrameCount::Few(0);
     'lines: loop {
@@ -69,7 +71,7 @@ fn read_streams<A: Allocator, B: Allocator, R: Read + Drop, H: Watch>(
 
 /// Writes the frames of streams that are read among the lines of a script, if the frames have room in a script; else
 /// nothing is written.
-fn write_streams_read<A: Allocator, B: Allocator + Clone, R: Read + Drop, W: Write, H: Watch>(
+fn write_streams_read<A: Allocator, B: Allocator + Clone, R: Read + Drop, W: PutLine, H: Watch>(
     alloc: B,
     turns: &mut [Turn],
     counted: FrameCount,
@@ -77,14 +79,25 @@ fn write_streams_read<A: Allocator, B: Allocator + Clone, R: Read + Drop, W: Wri
     writer: &mut W,
     watch: &mut H,
 ) -> Result<(), StreamsFault>
+    requires { AreCounted counted (left_of_all turns.old) }
     ensures { IfSome (script_left R.remaining script.old) (λ script. Runs result (W.contents writer.old) (W.contents writer.new) (outcome_among counted (left_of_all turns.old) script)) }
 {
-    let Some(taken) = lines_taken(alloc.clone()?, turns)? else {
+    let mut streams = turns.to_vec(alloc.clone()?)?;
+    let streams = streams.as_mut_slice();
+    let Some(room) = script_room(alloc.clone()?, streams, counted)? else {
         return Err(table_fault(LineFault::Limit(counted.crowded_line(), Limit::TooManyLines)));
     };
-    let mut nodes = tournament(alloc, turns)?;
-    let room = MAX_LINES.saturating_sub(taken);
-    write_merged(script, turns, nodes.as_mut_slice(), writer, room, watch)
+    let mut nodes = tournament(alloc.clone()?, turns)?;
+    write_merged(
+        &alloc,
+        script,
+        turns,
+        nodes.as_mut_slice(),
+        streams,
+        room,
+        writer,
+        watch,
+    )
 }
 
 /// Reads the lines of a table that are to come, and writes the frames of its streams among the lines of a script.
@@ -93,7 +106,7 @@ fn write_table<
     B: Allocator + Clone,
     R: Read + Drop,
     S: Read + Drop,
-    W: Write,
+    W: PutLine,
     H: Watch,
 >(
     alloc: B,
@@ -120,10 +133,10 @@ fn write_table<
 /// script may have, at the line with which there are more than 2,000,000 of them. What the lines of the script say is
 /// no matter, but that a good clock line sets the moment of the lines from it on; one that passes a limit is the fault,
 /// once what comes before it is written, and so is one that has no room beside the lines that the frames alone take.
-/// What is kept is the table, twice while the lines are counted; no memory grows with how many frames come, nor with
-/// the script. A read or a write that fails, or takes nothing, isn't tried again. Who watches is called for each
-/// stream, for a malformed line of the table, and for each line of the script.
-pub fn write_streams<A: Allocator, R: Read + Drop, S: Read + Drop, W: Write, H: Watch>(
+/// What is kept is the table, twice; no memory grows with how many frames come, nor with the script. A read or a write
+/// that fails, or takes nothing, isn't tried again. Who watches is called for each stream, for a malformed line of the
+/// table, and for each line of the script.
+pub fn write_streams<A: Allocator, R: Read + Drop, S: Read + Drop, W: PutLine, H: Watch>(
     alloc: A,
     table: R,
     script: S,

@@ -6,6 +6,7 @@ ghost use Rattle.traffic.specs.Words.{IsBefore, IsNode, IsTournament, first_of_t
 
 use crate::turn::Turn;
 use std::alloc::{AllocError, Allocator};
+use std::marker::Model;
 
 /// A stream by its place in the table, and the moment of its next frame, in picoseconds.
 #[derive(Clone, Copy, Debug, PartialEq, Eq)]
@@ -16,38 +17,86 @@ pub(crate) struct Head {
     pub place: usize,
 }
 
-/// A stream at a place, by its next frame, if it has one.
-fn head_of(place: usize, turn: &Turn) -> Option<Head>
-    ensures { result ≡ head_of place turn.now }
-{
-    let coming = turn.next()?;
-    Some(Head {
-        moment: coming.moment,
-        place,
-    })
+/// The moment of a stream that has no next frame: after all moments, so that such a stream comes last by its moment.
+const NEVER: u128 = u128::MAX;
+
+/// A stream, if it has a next frame.
+#[derive(Clone, Copy, Debug)]
+pub(crate) struct Node {
+    moment: u128,
+    place: usize,
 }
 
-/// Whether one comes before another.
-fn is_before(one: Head, other: Head) -> bool
-    ensures { result ≡ is_before one other }
+/// A contract sees the head of the stream, or none.
+impl Model for Node {
+    ghost use Rattle.std.specs.Prelude.{◌≡◌, Option};
+    ghost use Rattle.traffic.specs.Kept.{head_kept, moment_back, moment_kept, place_back, place_kept};
+    ghost use Rattle.traffic.specs.declared.tournament.Head.{Head};
+    ghost use Rattle.traffic.specs.declared.tournament.TheConstants.{NEVER};
+
+    ghost Value = { Option Head };
+
+    ghost view = { λ n. head_kept n.moment n.place };
+
+    ghost invariant = { λ n. n.moment ≡ NEVER → n.place ≡ 0 };
+
+    ghost inverse = { λ head. record { moment = moment_kept head; place = place_kept head } };
+
+    ghost inverse_ok = { λ n h. Prim.rw (moment_back n.moment n.place, place_back n.moment n.place h) };
+}
+
+impl Node {
+    /// A stream that has no next frame.
+    fn none() -> Node
+        ensures { result ≡ None }
+    {
+        Node {
+            moment: NEVER,
+            place: 0,
+        }
+    }
+
+    /// The head of the stream, if it has a next frame.
+    fn head(&self) -> Option<Head>
+        ensures { result ≡ self.now }
+    {
+        if self.moment == NEVER {
+            return None;
+        }
+        Some(Head {
+            moment: self.moment,
+            place: self.place,
+        })
+    }
+}
+
+/// A stream at a place.
+fn head_of(place: usize, turn: &Turn) -> Node
+    ensures { result ≡ head_of place turn.now }
 {
-    one.moment < other.moment || (one.moment == other.moment && one.place < other.place)
+    match turn.next() {
+        Some(coming) => Node {
+            moment: coming.moment,
+            place,
+        },
+        None => Node::none(),
+    }
 }
 
 /// The first of two.
-fn first_of_two(left: Option<Head>, right: Option<Head>) -> Option<Head>
+#[inline(always)]
+fn first_of_two(left: Node, right: Node) -> Node
     ensures { result ≡ first_of_two left right }
 {
-    match (left, right) {
-        (left, None) => left,
-        (None, Some(right)) => Some(right),
-        (Some(left), Some(right)) if is_before(right, left) => Some(right),
-        (Some(left), Some(_)) => Some(left),
+    if right.moment < left.moment || (right.moment == left.moment && right.place < left.place) {
+        right
+    } else {
+        left
     }
 }
 
 /// Sets a stream, and the nodes over it.
-fn climb(nodes: &mut [Option<Head>], streams: usize, place: usize, head: Option<Head>)
+fn climb(nodes: &mut [Node], streams: usize, place: usize, head: Node)
     requires long { length nodes.old ≡ streams + streams }
     requires place { place < streams }
     requires inner { (k : ℕ) → 0 < k → k < streams → IsNode nodes.old k }
@@ -56,15 +105,18 @@ fn climb(nodes: &mut [Option<Head>], streams: usize, place: usize, head: Option<
     ensures inner { (k : ℕ) → 0 < k → k < streams → IsNode nodes.new k }
 {
     let mut at = streams + place;
+    let mut head = head;
     nodes[at] = head;
     'up: while at > 1 {
+        let beside = at + 1 - at % 2 * 2;
+        head = first_of_two(head, nodes[beside]);
         at /= 2;
-        nodes[at] = first_of_two(nodes[at + at], nodes[at + at + 1]);
+        nodes[at] = head;
     }
 }
 
 /// The streams among the nodes.
-fn put_leaves(nodes: &mut [Option<Head>], turns: &[Turn])
+fn put_leaves(nodes: &mut [Node], turns: &[Turn])
     requires { length nodes.old ≡ length turns.now + length turns.now }
     ensures long { length nodes.new ≡ length nodes.old }
     ensures leaves { drop (length turns.now) nodes.new ≡ heads_from 0 turns.now }
@@ -77,7 +129,7 @@ fn put_leaves(nodes: &mut [Option<Head>], turns: &[Turn])
 }
 
 /// The nodes over the streams.
-fn put_inner(nodes: &mut [Option<Head>], streams: usize)
+fn put_inner(nodes: &mut [Node], streams: usize)
     requires { length nodes.old ≡ streams + streams }
     ensures long { length nodes.new ≡ length nodes.old }
     ensures leaves { drop streams nodes.new ≡ drop streams nodes.old }
@@ -91,16 +143,13 @@ fn put_inner(nodes: &mut [Option<Head>], streams: usize)
 }
 
 /// The tournament of streams.
-pub(crate) fn tournament<A: Allocator>(
-    alloc: A,
-    turns: &[Turn],
-) -> Result<Vec<Option<Head>, A>, AllocError>
+pub(crate) fn tournament<A: Allocator>(alloc: A, turns: &[Turn]) -> Result<Vec<Node, A>, AllocError>
     ensures { IfOk result (λ nodes. IsTournament turns.now nodes.items) }
 {
     let Some(count) = turns.len().checked_mul(2) else {
         return Err(AllocError);
     };
-    let mut nodes = vec![in alloc; None; count]?;
+    let mut nodes = vec![in alloc; Node::none(); count]?;
     let slice = nodes.as_mut_slice();
     put_leaves(slice, turns);
     put_inner(slice, turns.len());
@@ -108,7 +157,7 @@ pub(crate) fn tournament<A: Allocator>(
 }
 
 /// The stream that comes next, if one does.
-pub(crate) fn first(nodes: &[Option<Head>], turns: &[Turn]) -> Option<Head>
+pub(crate) fn first(nodes: &[Node], turns: &[Turn]) -> Option<Head>
     requires { IsTournament turns.now nodes.now }
     ensures found { found_at result ≡ first_place 0 turns.now }
     ensures within { IfSome result (λ head. head.place < length turns.now) }
@@ -116,11 +165,11 @@ pub(crate) fn first(nodes: &[Option<Head>], turns: &[Turn]) -> Option<Head>
     if turns.is_empty() {
         return None;
     }
-    nodes[1]
+    nodes[1].head()
 }
 
 /// Has the tournament follow what became of the stream at a place.
-pub(crate) fn follow(nodes: &mut [Option<Head>], turns: &[Turn], place: usize)
+pub(crate) fn follow(nodes: &mut [Node], turns: &[Turn], place: usize)
     requires place { place < length turns.now }
     requires before { IsBefore turns.now place nodes.old }
     ensures { IsTournament turns.now nodes.new }

@@ -1,6 +1,8 @@
 //! A stream whose frames come one after another.
 
 ghost use Rattle.std.specs.Prelude.{◌≡◌, ◌≤◌};
+ghost use Rattle.std.specs.Option.{ForSome};
+ghost use Rattle.wire_time.specs.Moment.{greatest_moment};
 ghost use Rattle.traffic.specs.Frames.{next_of_stream};
 ghost use Rattle.traffic.specs.Table.{IsStream};
 
@@ -20,7 +22,8 @@ pub(crate) struct Coming {
 fn frame_after(stream: &Stream, come: u32) -> Option<Coming>
     requires fits { IsStream stream.now }
     requires few { come ≤ stream.now.count }
-    ensures { result ≡ next_of_stream stream.now come }
+    ensures next { result ≡ next_of_stream stream.now come }
+    ensures within { ForSome result (λ f. f.moment ≤ greatest_moment) }
 {
     if come == stream.count {
         return None;
@@ -45,6 +48,7 @@ pub(crate) struct Turn {
     ghost fits: { IsStream stream },
     ghost few: { come ≤ stream.count },
     ghost known: { next ≡ next_of_stream stream come },
+    ghost within: { ForSome next (λ f. f.moment ≤ greatest_moment) },
 }
 
 impl Turn {
@@ -67,7 +71,8 @@ impl Turn {
 
     /// The next frame of the stream, if there is one.
     pub fn next(&self) -> Option<Coming>
-        ensures { result ≡ next_of self.now }
+        ensures next { result ≡ next_of self.now }
+        ensures within { ForSome result (λ f. f.moment ≤ greatest_moment) }
     {
         self.next
     }

@@ -3,12 +3,12 @@
 ghost use Rattle.std.specs.Prelude.{◌≡◌, ◌∷◌, [], MatchOption};
 ghost use Rattle.traffic.specs.Words.{IsTournament, frames_before, frames_from, left_of_all};
 
-use crate::tournament::{Head, first, follow};
+use crate::tournament::{Head, Node, first, follow};
 use crate::turn::{Coming, Turn};
 
 /// Takes the frame that comes next of all streams, if there is one; at one moment that of the first stream in the
 /// table.
-pub(crate) fn next_frame(turns: &mut [Turn], nodes: &mut [Option<Head>]) -> Option<Coming>
+pub(crate) fn next_frame(turns: &mut [Turn], nodes: &mut [Node]) -> Option<Coming>
     requires tournament { IsTournament turns.old nodes.old }
     ensures tournament { IsTournament turns.new nodes.new }
     ensures left { MatchOption result (left_of_all turns.old ≡ []) (λ f. left_of_all turns.old ≡ f ∷ left_of_all turns.new) }
@@ -20,11 +20,7 @@ pub(crate) fn next_frame(turns: &mut [Turn], nodes: &mut [Option<Head>]) -> Opti
 }
 
 /// Takes the frame that `next_frame` would take, if it comes before a moment.
-pub(crate) fn next_before(
-    turns: &mut [Turn],
-    nodes: &mut [Option<Head>],
-    end: u128,
-) -> Option<Coming>
+pub(crate) fn next_before(turns: &mut [Turn], nodes: &mut [Node], end: u128) -> Option<Coming>
     requires tournament { IsTournament turns.old nodes.old }
     ensures tournament { IsTournament turns.new nodes.new }
     ensures before { MatchOption result (frames_before end (left_of_all turns.old) ≡ []) (λ f. frames_before end (left_of_all turns.old) ≡ f ∷ frames_before end (left_of_all turns.new)) }

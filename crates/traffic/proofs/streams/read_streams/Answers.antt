@@ -1,16 +1,20 @@
-use Rattle.std.proofs.Common.{◌≡◌, Ok, Err, Some, None, refl, sym, ap, ◌∙◌, subst}
+use Rattle.std.proofs.Common.{◌≡◌, arith, length, Ok, Err, Some, None, refl, sym, ap, ◌∙◌, subst}
 use Rattle.std.specs.List.{flat_map}
 use Rattle.traffic.specs.Words.{frames_of, words_of, script_left, judged, line_judged, left_of}
 use Rattle.job.specs.declared.fault.Fault.TheVariants as Faults
 use Rattle.traffic.specs.declared.faults.StreamsInput.TheVariants as Inputs
 use Rattle.traffic.specs.Words.{FrameCount, counted_with}
-use Rattle.traffic.proofs.CountedLaws.{all_counted, counts_on}
+use Rattle.traffic.proofs.CountedLaws.{all_counted, counts_on, few_by_moment, few_of_stream}
 use Rattle.traffic.proofs.CountedLaws.{begun as counting}
 use Rattle.traffic.proofs.TableLaws.{Goes, begun, ends, goes_on, goes_past, goes_wrong, stops}
 use Rattle.traffic.proofs.streams.read_streams.Goals as goal
 
 pub lines-init : goal.lines-init
-lines-init g c = record { goes = begun (judged c.args.from) frames_of _ _; counts = counting (judged c.args.from) _ }
+lines-init g c = record {
+  goes = begun (judged c.args.from) frames_of _ _;
+  few = λ none. (ap length none, omega arith);
+  counts = counting (judged c.args.from) _;
+}
 
 pub lines-preserved-in-Ok-None : goal.lines-preserved-in-Ok-None
 lines-preserved-in-Ok-None g c =
@@ -18,6 +22,7 @@ lines-preserved-in-Ok-None g c =
     let e : line_judged (judged c.args.from) (words_of c.advance.new.self.line.items) ≡ Ok None = cc in
     record {
       goes = goes_past (judged c.args.from) frames_of _ _ _ _ _ _ _ c.lines.invariant.goes a e;
+      few = c.lines.invariant.few;
       counts = counts_on (judged c.args.from) _ _ _ _ _ _ _ _ c.lines.invariant.counts a e refl;
     }
 
@@ -30,6 +35,7 @@ lines-preserved g c =
     let more = goes_on (judged c.args.from) frames_of _ _ _ _ _ _ _ stream c.lines.invariant.goes a e in
     record {
       goes = subst (λ now. Goes (judged c.args.from) frames_of (script_left g.R.Read.remaining c.args.lines.now) (flat_map left_of c.args.turns.now.items) now (script_left g.R.Read.remaining c.advance.new.self)) (sym c.in_ok-keep-in-Ok-Some.ensures.kept) more;
+      few = λ none. few_of_stream c.advance.new.self.first stream c.lines.counted _ _ _ counted c.in_ok-keep-in-Ok-Some.ensures.kept (c.lines.invariant.few none);
       counts = counts_on (judged c.args.from) _ _ _ _ _ _ _ _ c.lines.invariant.counts a e counted;
     }
 
@@ -52,3 +58,6 @@ pub returns-clause-counted : goal.returns-clause-counted
 returns-clause-counted g c =
     let a = rw c.if-not-more.true at c.in-Ok.ensures.line in
     all_counted (judged c.args.from) _ _ _ _ _ _ c.lines.invariant.counts a
+
+pub returns-clause-few : goal.returns-clause-few
+returns-clause-few g c = λ none. few_by_moment c.lines.counted _ (c.lines.invariant.few none)

@@ -1,6 +1,6 @@
 use Rattle.std.proofs.Common.{rules, ◌<◌, ◌-◌, ◌∙◌, arith}
 use Rattle.std.proofs.lemmas.List.{drop-set-lt, length-set}
-use Rattle.traffic.proofs.TournamentLaws.{inner_on}
+use Rattle.traffic.proofs.TournamentLaws.{first_read, inner_on}
 use Rattle.traffic.proofs.tournament.put_inner.Goals as goal
 
 pub inner-init : goal.inner-init
@@ -19,7 +19,7 @@ inner-preserved c =
     let early : at < c.args.streams = omega (arith, c.inner-test.true, i.within) in record {
       long = length-set _ _ _ ∙ i.long;
       leaves = drop-set-lt c.args.streams _ at _ early ∙ i.leaves;
-      inner = inner_on c.args.streams _ at _ low (omega (arith, early, i.long, c.requires)) c.first_of_two.ensures
+      inner = inner_on c.args.streams _ at _ low (omega (arith, early, i.long, c.requires)) (first_read _ at _ _ _ c.index-nodes-at.is c.index-nodes-at-in-inner.is (omega (arith, early, i.long, c.requires)) c.first_of_two.ensures)
           (λ k from below. i.inner k (omega (arith, from, low)) below);
       within = omega (arith, i.within);
     }
