@@ -3,7 +3,7 @@ use Rattle.std.proofs.Common.{◌≡◌, ℕ, List, [], ◌∷◌, Option, Resul
 use Rattle.wire_time.specs.declared.Frame.{Frame}
 use Rattle.abstract_port.specs.AbstractPort.{after_arrival, class_for, verdict}
 use Rattle.abstract_port.specs.declared.Dropped.{Dropped}
-use Rattle.frame_table.specs.Words.{AbstractPort, Arrival, Arrive, IsSoundPort, Row, Stream, answers_to, arrival_at, arrives, comes, row_line, rows_at, rows_text, settled}
+use Rattle.frame_table.specs.Words.{AbstractPort, Arrival, Arrive, FrameRow, IsSoundPort, Stream, answers_to, arrival_at, arrives, comes, row_line, rows_at, rows_text, settled}
 use Rattle.frame_table.specs.declared.rows.Fate.TheVariants.{Lost}
 use Rattle.script.proofs.StartsLaws.{settled-sound}
 
@@ -21,11 +21,11 @@ module _ (p : AbstractPort) (f : Frame) where
 
     -- one that joins a class
     pub joins-text : (streams : Option (List Stream)) (joined : ℕ) → verdict p f ≡ Ok joined → rows_text streams (rows_at (Arrive f) p w).0 ≡ []
-    joins-text streams joined is = ap (λ (r : List Row × List (List Arrival)). rows_text streams r.0) (joins joined is)
+    joins-text streams joined is = ap (λ (r : List FrameRow × List (List Arrival)). rows_text streams r.0) (joins joined is)
 
     pub joins-waiting : (joined now : ℕ) (v : List (List Arrival)) → verdict p f ≡ Ok joined → now ≡ p.now → v ≡ comes joined (arrival_at now f) w → v ≡ (rows_at (Arrive f) p w).1
     joins-waiting joined now v is at e =
-        e ∙ ap (λ n. comes joined (arrival_at n f) w) at ∙ sym (ap (λ (r : List Row × List (List Arrival)). r.1) (joins joined is))
+        e ∙ ap (λ n. comes joined (arrival_at n f) w) at ∙ sym (ap (λ (r : List FrameRow × List (List Arrival)). r.1) (joins joined is))
 
     -- one that is dropped
     pub lost-text : (streams : Option (List Stream)) (why : Dropped) (now : ℕ) (class : Option ℕ) → verdict p f ≡ Err why → now ≡ p.now → class ≡ class_for p f.priority
@@ -34,7 +34,7 @@ module _ (p : AbstractPort) (f : Frame) where
         ap (λ n. row_line streams (record { arrival = arrival_at n f; class = class; fate = Lost why })) at
         ∙ ap (λ k. row_line streams (record { arrival = arrival_at p.now f; class = k; fate = Lost why })) own
         ∙ sym (append-nil (row_line streams (record { arrival = arrival_at p.now f; class = class_for p f.priority; fate = Lost why })))
-        ∙ sym (ap (λ (r : List Row × List (List Arrival)). rows_text streams r.0) (lost why is))
+        ∙ sym (ap (λ (r : List FrameRow × List (List Arrival)). rows_text streams r.0) (lost why is))
 
     pub lost-waiting : (why : Dropped) → verdict p f ≡ Err why → w ≡ (rows_at (Arrive f) p w).1
-    lost-waiting why is = sym (ap (λ (r : List Row × List (List Arrival)). r.1) (lost why is))
+    lost-waiting why is = sym (ap (λ (r : List FrameRow × List (List Arrival)). r.1) (lost why is))

@@ -4,7 +4,7 @@ use Rattle.std.specs.List.{slice_get}
 use Rattle.std.specs.Prelude.{option_map}
 use Rattle.std.proofs.lemmas.List.{at_drop_more}
 use Rattle.std.proofs.lemmas.Option.{get_or_from_slice_get, slice_get-map, slice_get_within}
-use Rattle.frame_table.specs.Words.{Arrival, Row, Stream, left_from, left_row, row_line, rows_text, waiting_in}
+use Rattle.frame_table.specs.Words.{Arrival, FrameRow, Stream, left_from, left_row, row_line, rows_text, waiting_in}
 use Rattle.frame_table.proofs.RowLaws.{rows-append}
 
 pub left-class : (streams : Option (List Stream)) (class : ℕ) (w : List (List Arrival)) → class < 8
@@ -21,7 +21,7 @@ left-over streams class w more =
     ap (λ n. rows_text streams (left_from n class w)) e
 
 -- the row at a place, and those after it
-row_of : (streams : Option (List Stream)) (rows : List Row) (place : ℕ) (row : Row) → slice_get rows place ≡ Some row → rows_text streams (drop place rows) ≡ row_line streams row ++ rows_text streams (drop (place + 1) rows)
+row_of : (streams : Option (List Stream)) (rows : List FrameRow) (place : ℕ) (row : FrameRow) → slice_get rows place ≡ Some row → rows_text streams (drop place rows) ≡ row_line streams row ++ rows_text streams (drop (place + 1) rows)
 row_of streams rows place row e =
     at_drop_more (rows_text streams) rows place row (slice_get_within rows place row e) ∙ ap (λ r. row_line streams r ++ rows_text streams (drop (place + 1) rows)) (get_or_from_slice_get rows place row row e)
 

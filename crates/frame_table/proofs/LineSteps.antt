@@ -12,13 +12,13 @@ use Rattle.job.proofs.LineLaws.{behind, done}
 use Rattle.job.proofs.RunEndLaws.{input_out}
 use Rattle.script.specs.Outcome.{asked_with, with_line}
 use Rattle.script.proofs.LineSteps.{StandsFor, stands_for_itself, stands-after, event-answers}
-use Rattle.frame_table.specs.Words.{AbstractPort, Advances, Arrival, Arrive, Asks, BadLine, Clock, Command, Count, Event, FallsShort, Fault, Install, IsSoundPort, NoCommand, Outcome, Query, Reading, Request, Row, Runs, RunsOut, Script, ScriptFault, Steps, Stream, TcFault, answers_to, arrival_at, arrives, asked_in, bad_line, departs, ending_text, events_of, left_rows, long_line, reading_of, request_of, responses_to, rows_at, rows_of, rows_text, settled, starts_in, table_after, table_by, table_from, table_unless, tc_request}
+use Rattle.frame_table.specs.Words.{AbstractPort, Advances, Arrival, Arrive, Asks, BadLine, Clock, Command, Count, Event, FallsShort, Fault, FrameRow, Install, IsSoundPort, NoCommand, Outcome, Query, Reading, Request, Runs, RunsOut, Script, ScriptFault, Steps, Stream, TcFault, answers_to, arrival_at, arrives, asked_in, bad_line, departs, ending_text, events_of, left_rows, long_line, reading_of, request_of, responses_to, rows_at, rows_of, rows_text, settled, starts_in, table_after, table_by, table_from, table_unless, tc_request}
 use Rattle.frame_table.proofs.RowLaws.{rows-append}
 use Rattle.frame_table.proofs.RunLaws.{stops_in}
 
 -- rows, and what waits then
 abbrev Rows : Type 0
-Rows = List Row × List (List Arrival)
+Rows = List FrameRow × List (List Arrival)
 
 -- the rows of a request; a line that begins with tc and is no command has none
 abbrev pub rows_by : Request → AbstractPort → List (List Arrival) → Rows

@@ -9,7 +9,7 @@ use Rattle.abstract_port.specs.AbstractPort.{class_for, verdict}
 use Rattle.abstract_port.specs.declared.Dropped.{Dropped}
 use Rattle.abstract_port.specs.declared.Start.{Start}
 use Rattle.frame_table.specs.Once.{AllJoin, Incoming, JoinsClass, OnceLaw, coming, comings, dropping, if_class, joining, joins, losing, staying}
-use Rattle.frame_table.specs.Words.{AbstractPort, Arrival, Arrive, Clock, Count, Event, Install, Query, Row, answers_to, arrival_at, arrives, comes, departs, first_came, goes, left_from, left_row, left_rows, none_wait, rows_at, rows_of, sent_row, starts_in, table_of, waiting_in}
+use Rattle.frame_table.specs.Words.{AbstractPort, Arrival, Arrive, Clock, Count, Event, FrameRow, Install, Query, answers_to, arrival_at, arrives, comes, departs, first_came, goes, left_from, left_row, left_rows, none_wait, rows_at, rows_of, sent_row, starts_in, table_of, waiting_in}
 
 -- a class from 8 on is none
 none_past : (d : ℕ) → 8 ≤ d → ltb d 8 ≡ false
@@ -49,7 +49,7 @@ event-eight (Count class) p w = refl
 -- ---- the frames of a class
 
 module _ (class : ℕ) (less : class < 8) where
-  staying-append : (xs ys : List Row) → staying class (xs ++ ys) ≡ staying class xs ++ staying class ys
+  staying-append : (xs ys : List FrameRow) → staying class (xs ++ ys) ≡ staying class xs ++ staying class ys
   staying-append xs ys = flat_map-append _ xs ys
 
   joining-append : (xs ys : List Incoming) → joining class (xs ++ ys) ≡ joining class xs ++ joining class ys
@@ -184,7 +184,7 @@ module _ (class : ℕ) (less : class < 8) where
 
 -- ---- the frames that are dropped
 
-losing-append : (xs ys : List Row) → losing (xs ++ ys) ≡ losing xs ++ losing ys
+losing-append : (xs ys : List FrameRow) → losing (xs ++ ys) ≡ losing xs ++ losing ys
 losing-append xs ys = flat_map-append _ xs ys
 
 dropping-append : (xs ys : List Incoming) → dropping (xs ++ ys) ≡ dropping xs ++ dropping ys

@@ -8,13 +8,13 @@ use Rattle.abstract_port.specs.declared.Answer.TheVariants as Answered
 use Rattle.abstract_port.specs.declared.Start.{Start}
 use Rattle.abstract_port.proofs.RunLaws.{clock_by}
 use Rattle.script.proofs.StartsLaws.{settled-sound}
-use Rattle.frame_table.specs.Words.{AbstractPort, Arrival, Clock, Event, IsAfter, IsSoundPort, Row, Stream, Writes, departs, first_came, goes, greatest_moment, row_line, rows_text, sent_row, settled, starts_in}
+use Rattle.frame_table.specs.Words.{AbstractPort, Arrival, Clock, Event, FrameRow, IsAfter, IsSoundPort, Stream, Writes, departs, first_came, goes, greatest_moment, row_line, rows_text, sent_row, settled, starts_in}
 
-pub rows-append : (streams : Option (List Stream)) (xs ys : List Row) → rows_text streams (xs ++ ys) ≡ rows_text streams xs ++ rows_text streams ys
+pub rows-append : (streams : Option (List Stream)) (xs ys : List FrameRow) → rows_text streams (xs ++ ys) ≡ rows_text streams xs ++ rows_text streams ys
 rows-append streams xs ys = flat_map-append (row_line streams) xs ys
 
 -- one row is its line
-pub one_row : (streams : Option (List Stream)) {T E : Type 0} (r : Result T E) (old new : Option (List ℕ)) (row : Row) → Writes r old new (row_line streams row) → Writes r old new (rows_text streams (row ∷ []))
+pub one_row : (streams : Option (List Stream)) {T E : Type 0} (r : Result T E) (old new : Option (List ℕ)) (row : FrameRow) → Writes r old new (row_line streams row) → Writes r old new (rows_text streams (row ∷ []))
 one_row streams r old new row w = subst (λ text. Writes r old new text) (sym (append-nil (row_line streams row))) w
 
 -- a call that fails says nothing of what it leaves
@@ -36,12 +36,12 @@ one_start answers rest s w v e f =
 pub start_first : (streams : Option (List Stream)) (answers rest : List Answer) (s : Start) (w v : List (List Arrival)) → Answered.Start s ∷ rest ≡ answers → v ≡ goes s.class w
     → rows_text streams (departs (starts_in answers) w).0 ≡ rows_text streams (sent_row s (first_came s.class w)) ++ rows_text streams (departs (starts_in rest) v).0
 start_first streams answers rest s w v e f =
-    ap (λ (r : List Row × List (List Arrival)). rows_text streams r.0) (one_start answers rest s w v e f) ∙ rows-append streams (sent_row s (first_came s.class w)) (departs (starts_in rest) v).0
+    ap (λ (r : List FrameRow × List (List Arrival)). rows_text streams r.0) (one_start answers rest s w v e f) ∙ rows-append streams (sent_row s (first_came s.class w)) (departs (starts_in rest) v).0
 
 -- what waits after all of them
 pub start_then : (answers rest : List Answer) (s : Start) (w v : List (List Arrival)) → Answered.Start s ∷ rest ≡ answers → v ≡ goes s.class w
     → (departs (starts_in rest) v).1 ≡ (departs (starts_in answers) w).1
-start_then answers rest s w v e f = sym (ap (λ (r : List Row × List (List Arrival)). r.1) (one_start answers rest s w v e f))
+start_then answers rest s w v e f = sym (ap (λ (r : List FrameRow × List (List Arrival)). r.1) (one_start answers rest s w v e f))
 
 -- a clock that would go back, or too far
 any_or_true : (b : Bool) → (b || true) ≡ true

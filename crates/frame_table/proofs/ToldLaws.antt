@@ -27,12 +27,12 @@ use Rattle.frame_table.specs.Rows.{arrival_at, arrives, departs, left_from, left
 use Rattle.frame_table.specs.Told.{AllTellOwn, ToldLaw, starts_told}
 use Rattle.frame_table.specs.Waits.{comes, first_came, goes, none_wait, waiting_in}
 use Rattle.frame_table.specs.declared.rows.Arrival.{Arrival}
-use Rattle.frame_table.specs.declared.rows.Row.{Row}
+use Rattle.frame_table.specs.declared.rows.FrameRow.{FrameRow}
 
-told-append : (xs ys : List Row) → starts_told (xs ++ ys) ≡ starts_told xs ++ starts_told ys
+told-append : (xs ys : List FrameRow) → starts_told (xs ++ ys) ≡ starts_told xs ++ starts_told ys
 told-append xs ys = flat_map-append _ xs ys
 
-own-append : (xs ys : List Row) → AllTellOwn xs → AllTellOwn ys → AllTellOwn (xs ++ ys)
+own-append : (xs ys : List FrameRow) → AllTellOwn xs → AllTellOwn ys → AllTellOwn (xs ++ ys)
 own-append [] ys a b = b
 own-append (r ∷ rest) ys a b = (a.0, own-append rest ys a.1 b)
 
@@ -189,7 +189,7 @@ departed (suc n) upto p w fuel fits = departed_by n upto (departed n upto) p w (
 -- ---- events
 
 -- the rows of an event tell its starts
-record Told (starts : List Start) (rows : List Row × List (List Arrival)) (q : AbstractPort) : Type 0 where
+record Told (starts : List Start) (rows : List FrameRow × List (List Arrival)) (q : AbstractPort) : Type 0 where
   pub told : starts_told rows.0 ≡ starts
   pub own : AllTellOwn rows.0
   pub fits : Fits q rows.1

@@ -7,7 +7,7 @@ use Rattle.octet_writer.proofs.Fronts.{Appends-nil, front_of_short, sent_all, se
 use Rattle.job.specs.declared.fault.Fault.TheVariants as Faults
 use Rattle.job.proofs.LineLaws.{done}
 use Rattle.job.proofs.RunEndLaws.{runs_out, sent_kept}
-use Rattle.frame_table.specs.Words.{AbstractPort, Arrival, Arrive, Asks, BadLine, Carries, Clock, Command, Count, Event, Fault, Install, IsAfter, IsSoundPort, NoCommand, Outcome, Place, Query, Request, Row, Runs, RunsOut, Stands, Stream, TcFault, answers_to, departs, events_of, left_rows, responses_to, rows_at, rows_of, rows_text, rows_told, settled, starts_in, table_at, table_of, tc_request}
+use Rattle.frame_table.specs.Words.{AbstractPort, Arrival, Arrive, Asks, BadLine, Carries, Clock, Command, Count, Event, Fault, FrameRow, Install, IsAfter, IsSoundPort, NoCommand, Outcome, Place, Query, Request, Runs, RunsOut, Stands, Stream, TcFault, answers_to, departs, events_of, left_rows, responses_to, rows_at, rows_of, rows_text, rows_told, settled, starts_in, table_at, table_of, tc_request}
 use Rattle.frame_table.proofs.LineSteps.{by-more, rows-tc, rows_by}
 use Rattle.frame_table.proofs.RunLaws.{front_on}
 
@@ -29,8 +29,8 @@ rows-settled (event ∷ rest) p w fit =
     let here = rows_at event (settled p) w in
     let there = (same-event event (settled p) (timely-settled p fit)).fit in
     let later : rows_of rest q here.1 ≡ rows_of rest r here.1 = sym (rows-settled rest q here.1 there) ∙ (ap (λ x. rows_of rest x here.1) s.port ∙ rows-settled rest r here.1 s.fit) in
-    ap (λ (rows : List Row × List (List Arrival)). (here.0 ++ rows.0, rows.1)) later
-    ∙ ap (λ (x : List Row × List (List Arrival)). (x.0 ++ (rows_of rest r x.1).0, (rows_of rest r x.1).1)) (rows-still event p w fit)
+    ap (λ (rows : List FrameRow × List (List Arrival)). (here.0 ++ rows.0, rows.1)) later
+    ∙ ap (λ (x : List FrameRow × List (List Arrival)). (x.0 ++ (rows_of rest r x.1).0, (rows_of rest r x.1).1)) (rows-still event p w fit)
 
 -- ---- one request more
 
@@ -48,7 +48,7 @@ module _ (streams : Option (List Stream)) where
   text_at requests p w = rows_text streams (table_of (events_of requests) p w)
 
   text-settled : (requests : List Request) (p : AbstractPort) (w : List (List Arrival)) → IsTimely p → text_at requests (settled p) w ≡ text_at requests p w
-  text-settled requests p w fit = ap (λ (rows : List Row × List (List Arrival)). rows_text streams (rows.0 ++ left_rows rows.1)) (rows-settled (events_of requests) p w fit)
+  text-settled requests p w fit = ap (λ (rows : List FrameRow × List (List Arrival)). rows_text streams (rows.0 ++ left_rows rows.1)) (rows-settled (events_of requests) p w fit)
 
   module _ (first : Place) (all : List Request) where
     -- the rows of a request are written, and the run goes on after it
@@ -105,8 +105,8 @@ module _ (streams : Option (List Stream)) where
       let none = rows-tc c x.port x.waiting in
       let text : Appends x.got y.got (rows_text streams (rows_by (tc_request c) x.port x.waiting).0) =
       subst (λ (o : Option (List ℕ)). Appends x.got o (rows_text streams (rows_by (tc_request c) x.port x.waiting).0)) (sym got)
-      (subst (λ (rows : List Row × List (List Arrival)). Appends x.got x.got (rows_text streams rows.0)) (sym none) (Appends-nil x.got)) in
-      goes_on first all (tc_request c) rest x y st text port (waiting ∙ sym (ap (λ (rows : List Row × List (List Arrival)). rows.1) none)) sound
+      (subst (λ (rows : List FrameRow × List (List Arrival)). Appends x.got x.got (rows_text streams rows.0)) (sym none) (Appends-nil x.got)) in
+      goes_on first all (tc_request c) rest x y st text port (waiting ∙ sym (ap (λ (rows : List FrameRow × List (List Arrival)). rows.1) none)) sound
 
   -- a begun run
   pub begun : (all : List Request) (x : Place) → IsSoundPort x.port → Stands streams x all all x

@@ -11,7 +11,7 @@ use Rattle.frame_table.specs.Waits.{none_wait}
 use Rattle.frame_table.specs.declared.rows.Arrival.{Arrival}
 use Rattle.frame_table.specs.declared.rows.Fate.{Fate}
 use Rattle.frame_table.specs.declared.rows.Fate.TheVariants.{Sent, Left, Lost}
-use Rattle.frame_table.specs.declared.rows.Row.{Row}
+use Rattle.frame_table.specs.declared.rows.FrameRow.{FrameRow}
 
 -- 1. The frames that come
 
@@ -56,8 +56,8 @@ stays class arrival own Left = if_class class own arrival
 stays class arrival own (Lost why) = []
 
 -- the frames of the rows of the class that were sent or are left
-abbrev pub staying : ℕ → List Row → List Arrival
-staying class rows = flat_map (λ (r : Row). stays class r.arrival r.class r.fate) rows
+abbrev pub staying : ℕ → List FrameRow → List Arrival
+staying class rows = flat_map (λ (r : FrameRow). stays class r.arrival r.class r.fate) rows
 
 -- 3. Drops
 
@@ -77,8 +77,8 @@ lost_with arrival Left = []
 lost_with arrival (Lost why) = (arrival, why) ∷ []
 
 -- the frames of the rows that were dropped, with the reasons
-abbrev pub losing : List Row → List (Arrival × Dropped)
-losing rows = flat_map (λ (r : Row). lost_with r.arrival r.fate) rows
+abbrev pub losing : List FrameRow → List (Arrival × Dropped)
+losing rows = flat_map (λ (r : FrameRow). lost_with r.arrival r.fate) rows
 
 -- 4. The law
 

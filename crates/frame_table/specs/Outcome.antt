@@ -18,13 +18,13 @@ use Rattle.frame_table.specs.RowText.{head_line, rows_text}
 use Rattle.frame_table.specs.Rows.{rows_at, rows_of, table_of}
 use Rattle.frame_table.specs.Waits.{none_wait}
 use Rattle.frame_table.specs.declared.rows.Arrival.{Arrival}
-use Rattle.frame_table.specs.declared.rows.Row.{Row}
+use Rattle.frame_table.specs.declared.rows.FrameRow.{FrameRow}
 use Rattle.traffic.specs.declared.table.Stream.{Stream}
 
 -- 1. What is written
 
 -- the table of events, or, where a line has a fault, the rows of the events before it alone
-abbrev pub table_unless : Option BadLine → List Event → AbstractPort → List (List Arrival) → List Row
+abbrev pub table_unless : Option BadLine → List Event → AbstractPort → List (List Arrival) → List FrameRow
 table_unless None events p w = table_of events p w
 table_unless (Some fault) events p w = (rows_of events p w).0
 

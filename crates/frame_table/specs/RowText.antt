@@ -4,7 +4,7 @@ use Rattle.std.specs.List.{concat, flat_map}
 use Rattle.answer_text.specs.Names.{dropped_name}
 use Rattle.frame_table.specs.declared.rows.Fate.{Fate}
 use Rattle.frame_table.specs.declared.rows.Fate.TheVariants.{Sent, Left, Lost}
-use Rattle.frame_table.specs.declared.rows.Row.{Row}
+use Rattle.frame_table.specs.declared.rows.FrameRow.{FrameRow}
 use Rattle.frame_table.specs.StreamOf.{stream_in}
 use Rattle.traffic.specs.declared.table.Stream.{Stream}
 
@@ -52,7 +52,7 @@ stream_text None id = []
 stream_text (Some streams) id = number_text (stream_in id streams)
 
 -- a row
-abbrev pub row_line : Option (List Stream) → Row → List ℕ
+abbrev pub row_line : Option (List Stream) → FrameRow → List ℕ
 row_line streams r = concat (
     decimal r.arrival.id
     ∷ codes "," ∷ number_text r.class
@@ -66,5 +66,5 @@ row_line streams r = concat (
     ∷ codes "\n" ∷ [])
 
 -- rows, one after another
-abbrev pub rows_text : Option (List Stream) → List Row → List ℕ
+abbrev pub rows_text : Option (List Stream) → List FrameRow → List ℕ
 rows_text streams rows = flat_map (row_line streams) rows

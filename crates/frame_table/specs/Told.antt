@@ -11,7 +11,7 @@ use Rattle.frame_table.specs.Waits.{none_wait}
 use Rattle.frame_table.specs.declared.rows.Arrival.{Arrival}
 use Rattle.frame_table.specs.declared.rows.Fate.{Fate}
 use Rattle.frame_table.specs.declared.rows.Fate.TheVariants.{Sent, Left, Lost}
-use Rattle.frame_table.specs.declared.rows.Row.{Row}
+use Rattle.frame_table.specs.declared.rows.FrameRow.{FrameRow}
 
 -- the start that a fate tells, if it tells one
 abbrev pub start_told : Fate → List Start
@@ -20,8 +20,8 @@ start_told Left = []
 start_told (Lost why) = []
 
 -- the starts that rows tell, in their order
-abbrev pub starts_told : List Row → List Start
-starts_told rows = flat_map (λ (r : Row). start_told r.fate) rows
+abbrev pub starts_told : List FrameRow → List Start
+starts_told rows = flat_map (λ (r : FrameRow). start_told r.fate) rows
 
 -- a frame of this class, that came at its moment, is the one that starts
 pub record IsOf (arrival : Arrival) (own : Option ℕ) (s : Start) : Type 0 where
@@ -36,7 +36,7 @@ TellsOwn arrival class Left = Unit {0}
 TellsOwn arrival class (Lost why) = Unit {0}
 
 -- so it is of each of the rows
-abbrev pub AllTellOwn : List Row → Type 0
+abbrev pub AllTellOwn : List FrameRow → Type 0
 AllTellOwn [] = Unit {0}
 AllTellOwn (r ∷ rest) = TellsOwn r.arrival r.class r.fate × AllTellOwn rest
 

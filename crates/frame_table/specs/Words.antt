@@ -46,7 +46,7 @@ pub use Rattle.frame_table.specs.Rows.{arrival_at, arrives, departs, left_row, l
 unfoldable pub use Rattle.frame_table.specs.Rows.{left_from}
 pub use Rattle.frame_table.specs.Waits.{comes, first_came, goes, none_wait, waiting_in}
 pub use Rattle.frame_table.specs.declared.rows.Arrival.{Arrival}
-pub use Rattle.frame_table.specs.declared.rows.Row.{Row}
+pub use Rattle.frame_table.specs.declared.rows.FrameRow.{FrameRow}
 pub use Rattle.traffic.specs.Faults.{streams_telling, table_fault}
 pub use Rattle.traffic.specs.Table.{Table, line_judged}
 pub use Rattle.traffic.specs.declared.faults.StreamsInput.{StreamsInput}

@@ -21,5 +21,5 @@ mod table_run;
 pub use by_stream::run_frames_by_stream;
 pub use capture_run::run_frames_of_capture;
 pub use frames_job::{answer_frames, answer_frames_by_stream, answer_frames_of_capture};
-pub use rows::{Arrival, Fate, Row};
+pub use rows::{Arrival, Fate, FrameRow};
 pub use table_run::run_frames;

@@ -36,7 +36,7 @@ pub enum Fate {
 
 /// A row of the table: a frame, and what became of it.
 #[derive(Clone, Copy, Debug, PartialEq, Eq)]
-pub struct Row {
+pub struct FrameRow {
     /// The frame.
     pub arrival: Arrival,
     /// Its class, where its priority has one: 0 to 7.
@@ -153,7 +153,7 @@ pub(crate) fn put_head<A: Allocator, W: Write>(
 pub(crate) fn put_row<A: Allocator, W: Write>(
     streams: &Option<Streams<A>>,
     writer: &mut W,
-    row: &Row,
+    row: &FrameRow,
 ) -> Result<(), WriteFault>
     ensures { Writes result (W.contents writer.old) (W.contents writer.new) (row_line streams.now row.now) }
 {

@@ -4,7 +4,7 @@ ghost use Rattle.std.specs.Prelude.{◌≡◌, ◌<◌, ◌≤◌, ℕ, IfSome, 
 ghost use Rattle.frame_table.specs.Words.{Arrive, Clock, Command, IsAfter, IsReader, IsSoundPort, Runs, RunsOut, TcFault, Writes, ending_text, first_came, frames_by, frames_of, goes, greatest_moment, left_row, left_rows, responses_to, rows_at, rows_told, rows_text, script_left, sent_row, settled, table_from, tc_request, waiting_in, with_head, words_of};
 
 use crate::arrivals::Arrivals;
-use crate::rows::{Arrival, Fate, Row, put_head, put_row};
+use crate::rows::{Arrival, Fate, FrameRow, put_head, put_row};
 use crate::streams::Streams;
 use abstract_port::{Event, Refused, Start};
 use answer_text::WriteFault;
@@ -45,7 +45,7 @@ fn take_frame<A: Allocator + Clone, B: Allocator, W: Write>(
             put_row(
                 streams,
                 writer,
-                &Row {
+                &FrameRow {
                     arrival,
                     class,
                     fate,
@@ -71,7 +71,7 @@ fn put_sent<A: Allocator, B: Allocator, W: Write>(
         Some(arrival) => put_row(
             streams,
             writer,
-            &Row {
+            &FrameRow {
                 arrival,
                 class: Some(start.class),
                 fate: Fate::Sent(*start),
@@ -192,7 +192,7 @@ fn put_left_in<A: Allocator, B: Allocator, W: Write>(
         put_row(
             streams,
             writer,
-            &Row {
+            &FrameRow {
                 arrival,
                 class: Some(class),
                 fate: Fate::Left,

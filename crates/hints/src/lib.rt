@@ -5,12 +5,12 @@
 #![tactic(auto)]
 
 mod commands;
-mod faults;
+mod fault_hints;
 mod marks;
 mod near;
 mod script_words;
 mod warnings;
 
 pub use commands::put_failure;
-pub use faults::put_fault_hint;
+pub use fault_hints::put_fault_hint;
 pub use warnings::{Ids, put_comment, put_no_command, put_shared_ids};
