@@ -61,6 +61,13 @@ def rows():
         **refused(b"script line 2: TooManyLines"),
     )
     yield with_script(
+        "the lines of the script have no room beside those of few frames, which are counted there",
+        b"query\nquery\nquery\n",
+        b"query\nquery\n",
+        apart % 1_999_999,
+        **refused(b"script line 3: TooManyLines"),
+    )
+    yield with_script(
         "the lines of the script have no room, and the frames before the line are written",
         b"clock 3\nquery\nquery\n",
         b"clock 0\nframe 0 0 60\nclock 3\nquery\n",
@@ -72,6 +79,7 @@ def rows():
 def case_a_script_has_room_for_4_000_000_lines(program):
     for table, plan, last in [
         (b"stream 1 0 60 1ps 0s 2000000\n", b"", b"frame 2000000 0 60"),
+        (b"stream 1 0 60 0s 0s 1999999\n", b"query\n" * 2_000_000, b"frame 1999999 0 60"),
         (b"stream 1 0 60 0s 0s 3999999\n", b"", b"frame 3999999 0 60"),
         (b"stream 1 0 60 0s 0s 3999996\n", b"query\n# \\\n.", b"frame 3999996 0 60"),
     ]:
