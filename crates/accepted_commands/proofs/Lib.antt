@@ -2,4 +2,5 @@ mod AheadLaws
 pub mod CommandLaws
 mod HoldLaws
 pub mod LegLaws
+mod RoleLaws
 pub mod UnderLaws

@@ -1,9 +1,9 @@
 -- What the command in force shows.
-use Rattle.std.proofs.Common.{◌≡◌, ◌<◌, ◌≤◌, ℕ, ltb, IsTrue, Option, Some, refl, sym, ap, ◌∙◌, subst, arith}
+use Rattle.std.proofs.Common.{◌≡◌, ◌<◌, ◌≤◌, ℕ, ltb, IsTrue, Option, Some, None, refl, sym, ap, ◌∙◌, subst, arith}
 use Rattle.std.proofs.lemmas.Bool.{ltb-true, lt-ltb}
 use Rattle.std.proofs.lemmas.Option.{same_Some}
 use Rattle.std.specs.Option.{ForSome}
-use Rattle.accepted_commands.specs.Words.{IsSchedule, last_mask, mask_since, Accepted, Position, IsPlaced, IsFlat, IsUsable, EndsSo, Stands, accepted_list, hold_for, shows_under}
+use Rattle.accepted_commands.specs.Words.{IsSchedule, last_mask, mask_since, Accepted, plan_of, start_of, hold_of, Position, IsPlaced, IsFlat, IsUsable, EndsSo, Stands, accepted_list, held_under, hold_for, shows_under}
 use Rattle.accepted_commands.specs.declared.command.AcceptedList.{AcceptedList}
 
 -- the list of a command
@@ -25,6 +25,11 @@ module _ (f : Option Accepted) (position : Option Position) (list : AcceptedList
 
   pub list_flat : (pending : Option Accepted) (n : ℕ) (until : Option ℕ) → IsFlat (mask_since (Some list.schedule) list.change (hold_for (Some list.schedule) list.change pending)) n until → IsFlat (shows_under f pending) n until
   list_flat pending n until flat = subst (λ g. IsFlat (shows_under g pending) n until) (sym of.0) flat
+
+-- where there is no list, nothing is held
+pub unheld : (now next : Option Accepted) → plan_of now ≡ None → held_under now next ≡ None
+unheld now None none = refl
+unheld now (Some a) none = ap (λ p. hold_of p (start_of now) a) none
 
 -- a moment of a command is later, if there is one
 pub is_after : (of : Accepted → ℕ) (o : Option Accepted) (a : Accepted) (m n : ℕ) → o ≡ Some a → n ≡ of a → (IsTrue (ltb m n) → ForSome o (λ k. m < of k)) × (ForSome o (λ k. m < of k) → IsTrue (ltb m n))

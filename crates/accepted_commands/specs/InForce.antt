@@ -18,15 +18,27 @@ abbrev pub hold_for : Option Plan → ℕ → Option Accepted → Option ℕ
 hold_for plan start None = None
 hold_for plan start (Some next) = hold_of plan start next
 
+-- a position is where the plan since start stands at n, held from a moment on; without a plan there is none
+abbrev pub StandsAs : Option Plan → ℕ → Option ℕ → ℕ → Option Position → Type 0
+StandsAs None start held n position = position ≡ None
+StandsAs (Some plan) start held n None = ⊥
+StandsAs (Some plan) start held n (Some position) = IsPlaced plan start held n position
+
 -- a position is where the plan since start stands at n with a change pending; without a plan there is none
 abbrev pub StandsUnder : Option Plan → ℕ → Option Accepted → ℕ → Option Position → Type 0
-StandsUnder None start next n position = position ≡ None
-StandsUnder (Some plan) start next n None = ⊥
-StandsUnder (Some plan) start next n (Some position) = IsPlaced plan start (hold_for (Some plan) start next) n position
+StandsUnder plan start next n position = StandsAs plan start (hold_for plan start next) n position
+
+-- The list of the command in force stands so at n, held from a moment on; there is none where all classes are open.
+abbrev pub StandsHeld : Option Accepted → Option ℕ → ℕ → Option Position → Type 0
+StandsHeld now held n position = StandsAs (plan_of now) (start_of now) held n position
+
+-- the moment from which the command in force is held for the change that is pending, if one is
+abbrev pub held_under : Option Accepted → Option Accepted → Option ℕ
+held_under now next = hold_for (plan_of now) (start_of now) next
 
 -- The list of the command in force stands so at n; there is none where all classes are open.
 abbrev pub Stands : Option Accepted → Option Accepted → ℕ → Option Position → Type 0
-Stands now next n position = StandsUnder (plan_of now) (start_of now) next n position
+Stands now next n position = StandsHeld now (held_under now next) n position
 
 -- The next boundary of the list of the command in force.
 abbrev pub boundary_under : Option Plan → ℕ → Option Accepted → Option Position → Option ℕ
@@ -40,7 +52,7 @@ boundary_in_force now next position = boundary_under (plan_of now) (start_of now
 
 -- what the command in force shows, with this change pending
 abbrev pub shows_under : Option Accepted → Option Accepted → ℕ → ℕ
-shows_under now next m = mask_since (plan_of now) (start_of now) (hold_for (plan_of now) (start_of now) next) m
+shows_under now next m = mask_since (plan_of now) (start_of now) (held_under now next) m
 
 -- the earlier of two moments, if any
 abbrev pub earlier : Option ℕ → Option ℕ → Option ℕ

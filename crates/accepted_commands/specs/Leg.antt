@@ -5,7 +5,7 @@ use Rattle.wire_time.specs.Moment.{greatest_moment}
 use Rattle.gate_list.specs.Gate.{IsSchedule}
 use Rattle.list_config.specs.History.{Accepted, plan_of, start_of}
 use Rattle.list_config.specs.Stretch.{Stretch}
-use Rattle.accepted_commands.specs.InForce.{hold_for}
+use Rattle.accepted_commands.specs.InForce.{held_under}
 use Rattle.list_position.specs.Position.{IsPlaced}
 use Rattle.accepted_commands.specs.declared.leg.Leg.{Leg}
 use Rattle.accepted_commands.specs.declared.leg.Leg.TheVariants.{Listed, Open}
@@ -64,7 +64,10 @@ pub record AreReady (leg : Leg) (rest : Rest) : Type 0 where
 
 -- ---- the legs of commands
 
+-- what a command shows up to a moment, held from another
+abbrev pub stretch_held : Option Accepted → Option ℕ → Option ℕ → Stretch
+stretch_held now held until = record { plan = plan_of now; start = start_of now; held_from = held; until = until }
+
 -- what a command shows up to a moment, with a change pending
 abbrev pub stretch_under : Option Accepted → Option Accepted → Option ℕ → Stretch
-stretch_under now next until =
-    record { plan = plan_of now; start = start_of now; held_from = hold_for (plan_of now) (start_of now) next; until = until }
+stretch_under now next until = stretch_held now (held_under now next) until

@@ -1,12 +1,12 @@
 //! The legs of the commands that count.
 ghost use Rattle.std.specs.Prelude.{◌≡◌, ◌+◌, ◌*◌, ◌<◌, ◌≤◌, ◌∷◌, [], Some, None};
 ghost use Rattle.std.specs.Option.{ForSome};
-ghost use Rattle.accepted_commands.specs.Words.{greatest_moment, plan_of, stretches_from, entry_count, AreCommands, IsUsable, accepted_in, command_of, lent_position, stretches_of, IsFirst, Stands, position_lent, AreReady, IsReady, from_of, until_of, stretch_of, stretch_under, stretches_ahead, Resumes};
+ghost use Rattle.accepted_commands.specs.Words.{greatest_moment, plan_of, stretches_from, entry_count, AreCommands, IsUsable, accepted_in, command_of, lent_position, stretches_of, IsFirst, Stands, StandsHeld, held_under, position_lent, AreReady, IsReady, from_of, until_of, stretch_held, stretch_of, stretch_under, stretches_ahead, Resumes};
 
 use crate::command::AcceptedCommand;
 use crate::leg::{Leg, ListedLeg, OpenLeg, Rest};
 use crate::slots::CommandSlots;
-use crate::under::list_in;
+use crate::under::{held_under, list_in};
 use gate_list::Visits;
 use list_position::Position;
 
@@ -29,19 +29,20 @@ fn position_of<'a>(command: Option<&'a AcceptedCommand>) -> Option<&'a Position>
     }
 }
 
-/// The leg of a command from a moment on, at which its list stands there, up to another and with a change pending.
+/// The leg of a command from a moment on, at which its list stands there, up to another, held from a moment on, if from
+/// any.
 fn leg_at<'a>(
     command: Option<&'a AcceptedCommand>,
     position: Option<&'a Position>,
     from: u128,
-    pending: Option<&AcceptedCommand>,
+    held_from: Option<u128>,
     until: Option<u128>,
 ) -> Leg<'a>
     requires usable { ForSome (command_of command) IsUsable }
-    requires pending { ForSome (command_of pending) IsUsable }
-    requires stands { Stands (command_of command) (command_of pending) from (lent_position position) }
+    requires stands { StandsHeld (command_of command) held_from from (lent_position position) }
+    requires unheld { plan_of (command_of command) ≡ None → held_from ≡ None }
     requires near { from ≤ 2 * greatest_moment }
-    ensures shows { stretch_of result ≡ stretch_under (command_of command.entry) (command_of pending.entry) until }
+    ensures shows { stretch_of result ≡ stretch_held (command_of command.entry) held_from until }
     ensures from { from_of result ≡ from }
     ensures until { until_of result ≡ until }
     ensures ready { IsReady result }
@@ -60,7 +61,7 @@ fn leg_at<'a>(
     Leg::Listed(ListedLeg {
         schedule: &list.schedule,
         start: list.change,
-        held_from: list.held_from(pending),
+        held_from,
         from,
         position,
         until,
@@ -68,6 +69,7 @@ fn leg_at<'a>(
 }
 
 /// The leg of a command from its change on, up to another and with a change pending.
+#[tactic(auto, using(crate::proofs::UnderLaws::unheld))]
 fn leg_from_change<'a>(
     command: &'a AcceptedCommand,
     pending: Option<&AcceptedCommand>,
@@ -82,10 +84,12 @@ fn leg_from_change<'a>(
     ensures ready { IsReady result }
 {
     let position = position_of(Some(command));
-    leg_at(Some(command), position, command.change(), pending, until)
+    let held_from = held_under(Some(command), pending);
+    leg_at(Some(command), position, command.change(), held_from, until)
 }
 
 /// The leg of the command in force, where nothing follows it.
+#[tactic(auto, using(crate::proofs::UnderLaws::unheld))]
 fn alone<'a>(in_force: Option<&'a AcceptedCommand>, moment: u128) -> Ahead<'a>
     requires usable { ForSome (command_of in_force) IsUsable }
     requires stands { Stands (command_of in_force) None moment (position_lent in_force) }
@@ -104,14 +108,17 @@ fn alone<'a>(in_force: Option<&'a AcceptedCommand>, moment: u128) -> Ahead<'a>
 }
 
 /// The legs of the command in force and of one that follows it.
+#[tactic(auto, using(crate::proofs::UnderLaws::unheld))]
 fn into_change<'a>(
     in_force: Option<&'a AcceptedCommand>,
+    held_from: Option<u128>,
     moment: u128,
     command: &'a AcceptedCommand,
 ) -> Ahead<'a>
     requires usable { ForSome (command_of in_force) IsUsable }
     requires command { IsUsable (accepted_in command.now) }
     requires first { IsFirst command.now }
+    requires held { held_from ≡ held_under (command_of in_force) (Some (accepted_in command.now)) }
     requires stands { Stands (command_of in_force) (Some (accepted_in command.now)) moment (position_lent in_force) }
     requires near { moment ≤ (accepted_in command.now).change }
     ensures shows { stretches_ahead result.leg result.rest ≡ stretches_from (command_of in_force.entry) (accepted_in command.now ∷ []) }
@@ -123,7 +130,7 @@ fn into_change<'a>(
             in_force,
             position_of(in_force),
             moment,
-            Some(command),
+            held_from,
             Some(command.change()),
         ),
         rest: Rest {
@@ -134,8 +141,10 @@ fn into_change<'a>(
 }
 
 /// The legs of the command in force, of the one that is pending and is in time, and of the one that is announced.
+#[tactic(auto, using(crate::proofs::UnderLaws::unheld))]
 fn through_change<'a>(
     in_force: Option<&'a AcceptedCommand>,
+    held_from: Option<u128>,
     moment: u128,
     pending: &'a AcceptedCommand,
     announced: &'a AcceptedCommand,
@@ -145,6 +154,7 @@ fn through_change<'a>(
     requires next { IsFirst pending.now }
     requires announced { IsUsable (accepted_in announced.now) }
     requires last { IsFirst announced.now }
+    requires held { held_from ≡ held_under (command_of in_force) (Some (accepted_in pending.now)) }
     requires stands { Stands (command_of in_force) (Some (accepted_in pending.now)) moment (position_lent in_force) }
     requires near { moment ≤ (accepted_in pending.now).change }
     requires timely { (accepted_in pending.now).change ≤ (accepted_in announced.now).lead }
@@ -157,7 +167,7 @@ fn through_change<'a>(
             in_force,
             position_of(in_force),
             moment,
-            Some(pending),
+            held_from,
             Some(pending.change()),
         ),
         rest: Rest {
@@ -169,8 +179,10 @@ fn through_change<'a>(
 
 /// The legs of the command in force, with one pending that is replaced by the one that is announced: the list goes on
 /// at the lead moment where `resumed` says.
+#[tactic(auto, using(crate::proofs::UnderLaws::unheld))]
 fn through_lead<'a>(
     in_force: Option<&'a AcceptedCommand>,
+    held_from: Option<u128>,
     moment: u128,
     pending: &AcceptedCommand,
     announced: &'a AcceptedCommand,
@@ -180,6 +192,7 @@ fn through_lead<'a>(
     requires pending { IsUsable (accepted_in pending.now) }
     requires announced { IsUsable (accepted_in announced.now) }
     requires last { IsFirst announced.now }
+    requires held { held_from ≡ held_under (command_of in_force) (Some (accepted_in pending.now)) }
     requires stands { Stands (command_of in_force) (Some (accepted_in pending.now)) moment (position_lent in_force) }
     requires resumes { Stands (command_of in_force) (Some (accepted_in announced.now)) (accepted_in announced.now).lead resumed.now }
     requires near { moment ≤ (accepted_in announced.now).lead }
@@ -194,7 +207,7 @@ fn through_lead<'a>(
             in_force,
             position_of(in_force),
             moment,
-            Some(pending),
+            held_from,
             Some(lead),
         ),
         rest: Rest {
@@ -202,7 +215,7 @@ fn through_lead<'a>(
                 in_force,
                 resumed.as_ref(),
                 lead,
-                Some(announced),
+                held_under(in_force, Some(announced)),
                 Some(announced.change()),
             )),
             last: Some(leg_from_change(announced, None, None)),
@@ -224,7 +237,8 @@ pub fn resumed(slots: &CommandSlots, visits: &mut Visits) -> Option<Position>
         return None;
     }
     let list = list_in(slots.in_force())?;
-    Some(list.position_at(Some(announced), announced.lead(), visits))
+    let held_from = list.held_from(Some(announced));
+    Some(list.position_at(held_from, announced.lead(), visits))
 }
 
 /// The legs of the commands that count.
@@ -237,18 +251,22 @@ pub fn legs_ahead<'a>(slots: &'a CommandSlots, resumed: &'a Option<Position>) ->
     ensures ready { AreReady result.leg result.rest }
 {
     let in_force = slots.in_force();
+    let held_from = slots.held_from();
     let moment = slots.moment();
     match slots.pending() {
         None => match slots.announced() {
             None => alone(in_force, moment),
-            Some(announced) => into_change(in_force, moment, announced),
+            Some(announced) => {
+                let held_from = held_under(in_force, Some(announced));
+                into_change(in_force, held_from, moment, announced)
+            }
         },
         Some(pending) => match slots.announced() {
-            None => into_change(in_force, moment, pending),
+            None => into_change(in_force, held_from, moment, pending),
             Some(announced) => if pending.change() <= announced.lead() {
-                through_change(in_force, moment, pending, announced)
+                through_change(in_force, held_from, moment, pending, announced)
             } else {
-                through_lead(in_force, moment, pending, announced, resumed)
+                through_lead(in_force, held_from, moment, pending, announced, resumed)
             },
         },
     }

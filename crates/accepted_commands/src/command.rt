@@ -37,9 +37,9 @@ impl AcceptedCommand {
         schedule: &Schedule,
         lead: u128,
         change: u128,
-        position: Position,
+        position: &Position,
     )
-        ensures { self.new ≡ Install (record { lead = lead; change = change; schedule = schedule.now; position = position }) }
+        ensures { self.new ≡ Install (record { lead = lead; change = change; schedule = schedule.now; position = position.now }) }
     {
         match self {
             AcceptedCommand::Install(list) => list.put(schedule, lead, change, position),
@@ -59,21 +59,6 @@ impl AcceptedCommand {
             AcceptedCommand::Install(_) => *self = AcceptedCommand::Delete(lead),
             // The place of a command is large, and would be cleared.
             AcceptedCommand::Delete(kept) => *kept = lead,
-        }
-    }
-
-    /// Another command takes the place of this one.
-    pub(crate) fn copy_from(&mut self, other: &AcceptedCommand)
-        ensures { self.new ≡ other.now }
-    {
-        match other {
-            AcceptedCommand::Install(list) => self.put_list(
-                &list.schedule,
-                list.lead,
-                list.change,
-                list.position,
-            ),
-            AcceptedCommand::Delete(lead) => self.put_deletion(*lead),
         }
     }
 
@@ -132,26 +117,26 @@ pub fn installed(command: Option<&AcceptedCommand>) -> Option<Installed>
 
 impl AcceptedList {
     /// A list of these. The moments are in picoseconds.
-    fn new(schedule: &Schedule, lead: u128, change: u128, position: Position) -> AcceptedList
-        ensures { result ≡ record { lead = lead; change = change; schedule = schedule.now; position = position } }
+    fn new(schedule: &Schedule, lead: u128, change: u128, position: &Position) -> AcceptedList
+        ensures { result ≡ record { lead = lead; change = change; schedule = schedule.now; position = position.now } }
     {
         AcceptedList {
             lead,
             change,
             schedule: schedule.copied(),
-            position,
+            position: *position,
         }
     }
 
     /// These take the place of what the list has. Of the schedule what it uses is copied. The moments are in
     /// picoseconds.
-    fn put(&mut self, schedule: &Schedule, lead: u128, change: u128, position: Position)
-        ensures { self.new ≡ record { lead = lead; change = change; schedule = schedule.now; position = position } }
+    fn put(&mut self, schedule: &Schedule, lead: u128, change: u128, position: &Position)
+        ensures { self.new ≡ record { lead = lead; change = change; schedule = schedule.now; position = position.now } }
     {
         self.lead = lead;
         self.change = change;
         self.schedule.copy_from(schedule);
-        self.position = position;
+        self.position = *position;
     }
 
     /// The first boundary from which the last state is held for a change, in picoseconds.

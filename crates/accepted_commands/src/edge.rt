@@ -1,10 +1,10 @@
 //! The next moment at which something comes.
-ghost use Rattle.std.specs.Prelude.{◌≡◌, IfSome, option_map};
-ghost use Rattle.accepted_commands.specs.Words.{gates, IsGateEvent, IsFlat, AreCommands, command_of, history_of, Stands, earlier, edge_at};
+ghost use Rattle.std.specs.Prelude.{◌≡◌, ℕ, IfSome, option_map};
+ghost use Rattle.accepted_commands.specs.Words.{gates, IsGateEvent, IsFlat, AreCommands, command_of, history_of, Stands, earlier, edge_at, boundary_in_force, shows_under};
 
 use crate::command::AcceptedCommand;
 use crate::slots::CommandSlots;
-use crate::under::until_under;
+use crate::under::list_in;
 
 /// The earlier of two moments, in picoseconds, if any.
 fn earlier(a: Option<u128>, b: Option<u128>) -> Option<u128>
@@ -39,6 +39,18 @@ pub fn lead_moment(command: Option<&AcceptedCommand>) -> Option<u128>
     }
 }
 
+/// The moment up to which the command in force shows one mask, in picoseconds; none: for ever.
+fn until_boundary(slots: &CommandSlots) -> Option<u128>
+    requires sound { AreCommands slots.now.commands }
+    ensures boundary { result ≡ boundary_in_force slots.now.commands.in_force slots.now.commands.pending slots.now.position }
+    ensures flat { (n : ℕ) → Stands slots.now.commands.in_force slots.now.commands.pending n slots.now.position → IsFlat (shows_under slots.now.commands.in_force slots.now.commands.pending) n result }
+{
+    match list_in(slots.in_force()) {
+        None => None,
+        Some(list) => list.position.until(slots.held_from()),
+    }
+}
+
 /// The next moment at which a boundary of the list in force comes, or a command does, in picoseconds; none: there is
 /// none.
 #[inline(always)]
@@ -49,7 +61,7 @@ pub fn edge_of(slots: &CommandSlots) -> Option<u128>
     ensures flat { IsFlat (gates (history_of slots.now.commands)) slots.now.commands.moment result }
     ensures event { IfSome result (IsGateEvent (history_of slots.now.commands)) }
 {
-    let listed = until_under(slots.in_force(), slots.pending());
+    let listed = until_boundary(slots);
     earlier(
         listed,
         earlier(

@@ -1,34 +1,35 @@
-//! The commands that count, in three slots.
+//! The commands that count at a moment.
 ghost use Rattle.std.specs.Prelude.{◌≡◌, ℕ, ◌+◌, ◌<◌, ◌≤◌, ◌↔◌, IsTrue, None, Some};
 ghost use Rattle.std.specs.Option.{ForSome};
-ghost use Rattle.accepted_commands.specs.Words.{greatest_lead, greatest_moment, plan_of, start_of, accepted_at, deletion_at, entry_count, more, BeginsAtMost, AreCommands, IsUsable, NoneBy, command_of, no_commands, settled_at, EndsSo, IsFirst, Stands, boundary_in_force, position_lent, shown_by};
+ghost use Rattle.accepted_commands.specs.Words.{greatest_lead, greatest_moment, plan_of, start_of, accepted_at, deletion_at, entry_count, more, BeginsAtMost, AreCommands, IsUsable, NoneBy, command_of, no_commands, settled_at, EndsSo, IsFirst, Stands, boundary_in_force, held_under, position_lent, shown_by};
 
 use crate::command::AcceptedCommand;
-use crate::slot::CommandSlot;
+use crate::roles::Roles;
+use crate::under::held_under;
 use gate_list::{Schedule, Visits};
 use std::marker::Model;
 
-/// The moment now, and the commands in force, pending and announced then.
+/// The moment now, and the commands in force, pending and announced then. The moment from which the list in force is
+/// held for the change that is pending is kept, since it takes a division.
 #[derive(Drop)]
 pub struct CommandSlots {
     moment: u128,
-    in_force: CommandSlot,
-    pending: CommandSlot,
-    announced: CommandSlot,
+    roles: Roles,
+    held_from: Option<u128>,
 }
 
 /// A contract sees the commands with the moment, and where the list in force stands.
 impl Model for CommandSlots {
-    ghost use Rattle.std.specs.Prelude.{option_map};
-    ghost use Rattle.std.specs.Option.{ForSome};
-    ghost use Rattle.accepted_commands.specs.Commands.{AreCommands, accepted_in};
-    ghost use Rattle.accepted_commands.specs.InForce.{EndsSo, IsFirst, Standing, option_position};
+    ghost use Rattle.std.specs.Prelude.{◌≡◌, option_map};
+    ghost use Rattle.accepted_commands.specs.Commands.{accepted_in};
+    ghost use Rattle.accepted_commands.specs.InForce.{Standing, held_under, option_position};
+    ghost use Rattle.accepted_commands.specs.Roles.{AreKept, commands_at};
 
     ghost Value = { Standing };
 
-    ghost view = { λ s. record { commands = record { moment = s.moment; in_force = option_map accepted_in s.in_force; pending = option_map accepted_in s.pending; announced = option_map accepted_in s.announced }; position = option_position s.in_force } };
+    ghost view = { λ s. record { commands = commands_at s.moment s.roles; position = option_position s.roles.in_force } };
 
-    ghost invariant = { λ s. AreCommands (record { moment = s.moment; in_force = option_map accepted_in s.in_force; pending = option_map accepted_in s.pending; announced = option_map accepted_in s.announced }) × EndsSo (option_map accepted_in s.in_force) (option_position s.in_force) × ForSome s.pending IsFirst × ForSome s.announced IsFirst };
+    ghost invariant = { λ s. AreKept s.moment s.roles × (s.held_from ≡ held_under (option_map accepted_in s.roles.in_force) (option_map accepted_in s.roles.pending)) };
 }
 
 /// Whether a command, if there is one, changes the gates after a moment, in picoseconds.
@@ -60,9 +61,8 @@ impl CommandSlots {
     {
         CommandSlots {
             moment: 0,
-            in_force: CommandSlot::empty(),
-            pending: CommandSlot::empty(),
-            announced: CommandSlot::empty(),
+            roles: Roles::empty(),
+            held_from: None,
         }
     }
 
@@ -79,7 +79,7 @@ impl CommandSlots {
         ensures position { position_lent result ≡ self.now.position }
         ensures ends { EndsSo self.now.commands.in_force self.now.position }
     {
-        self.in_force.lent()
+        self.roles.in_force()
     }
 
     /// The command that is pending.
@@ -87,7 +87,7 @@ impl CommandSlots {
         ensures command { command_of result ≡ self.now.commands.pending }
         ensures first { ForSome result (λ c. IsFirst c.now) }
     {
-        self.pending.lent()
+        self.roles.pending()
     }
 
     /// The command that is announced.
@@ -95,34 +95,27 @@ impl CommandSlots {
         ensures command { command_of result ≡ self.now.commands.announced }
         ensures first { ForSome result (λ c. IsFirst c.now) }
     {
-        self.announced.lent()
+        self.roles.announced()
+    }
+
+    /// The moment from which the list in force is held for the change that is pending, in picoseconds, if one is.
+    pub fn held_from(&self) -> Option<u128>
+        ensures { result ≡ held_under self.now.commands.in_force self.now.commands.pending }
+    {
+        self.held_from
     }
 
     /// Goes on to a moment, in picoseconds: a command that is replaced before its change, or that another follows in
     /// force, is dropped. The list in force stands where it stood.
-    pub(crate) fn settle(&mut self, t: u128)
+    fn settle(&mut self, t: u128)
         requires later { self.old.commands.moment ≤ t }
         requires within { t ≤ greatest_moment }
         ensures value { self.new.commands ≡ settled_at self.old.commands t }
-        ensures position { NoneBy self.old.commands.pending self.old.commands.announced t → self.new.position ≡ self.old.position }
         ensures sound { AreCommands self.new.commands }
     {
+        self.roles.settle(t);
         self.moment = t;
-        if let Some(announced) = self.announced.lent() {
-            if announced.lead() <= t {
-                if let Some(pending) = self.pending.lent() {
-                    if pending.change() <= announced.lead() {
-                        self.in_force.take_from(&mut self.pending);
-                    }
-                }
-                self.pending.take_from(&mut self.announced);
-            }
-        }
-        if let Some(pending) = self.pending.lent() {
-            if pending.change() <= t {
-                self.in_force.take_from(&mut self.pending);
-            }
-        }
+        self.held_from = held_under(self.roles.in_force(), self.roles.pending());
     }
 
     /// Goes on to a moment, in picoseconds, up to which no command comes: nothing but the moment changes.
@@ -153,8 +146,7 @@ impl CommandSlots {
         ensures visits { visits.new ≤ visits.old + (entry_count (plan_of self.old.commands.in_force) + 1) }
         ensures next { (n e : ℕ) → Stands self.old.commands.in_force self.old.commands.pending n self.old.position → BeginsAtMost (plan_of self.old.commands.in_force) (start_of self.old.commands.in_force) n self.old.commands.moment e → visits.new ≤ visits.old + 2 }
     {
-        self.in_force
-            .go_on(self.pending.lent(), self.moment, visits);
+        self.roles.go_on(self.held_from, self.moment, visits);
     }
 
     /// Whether no command is to come.
@@ -185,7 +177,7 @@ impl CommandSlots {
         ensures next { (n e : ℕ) → Stands self.old.commands.in_force None n self.old.position → BeginsAtMost (plan_of self.old.commands.in_force) (start_of self.old.commands.in_force) n t e → visits.new ≤ visits.old + 2 }
     {
         self.moment = t;
-        self.in_force.go_alone(t, visits)
+        self.roles.go_alone(t, visits)
     }
 
     /// Lets the list in force stand where it stands now, wherever it stood.
@@ -196,8 +188,8 @@ impl CommandSlots {
         ensures counted { visits.old ≤ visits.new }
         ensures visits { visits.new ≤ visits.old + (entry_count (plan_of self.old.commands.in_force) + 1) }
     {
-        self.in_force
-            .place_at(self.pending.lent(), self.moment, visits);
+        self.roles
+            .place_at(self.held_from, self.moment, visits);
     }
 
     /// Goes on to a moment, in picoseconds, and lets the list in force stand where it stands then. Where no command
@@ -217,11 +209,11 @@ impl CommandSlots {
     {
         // What holds of the slots is used below.
         let _ = &self.moment;
-        let goes_on = self.is_alone_until(t);
-        self.settle(t);
-        if goes_on {
+        if self.is_alone_until(t) {
+            self.pass(t);
             self.go_on(visits);
         } else {
+            self.settle(t);
             self.place(visits);
         }
     }
@@ -241,7 +233,7 @@ impl CommandSlots {
     {
         // What holds of the slots is used below.
         let _ = &self.moment;
-        self.announced.put_list(schedule, lead, visits)
+        self.roles.announce_list(schedule, lead, visits)
     }
 
     /// Announces a deletion whose lead moment, in picoseconds, is to come.
@@ -253,6 +245,6 @@ impl CommandSlots {
         ensures position { self.new.position ≡ self.old.position }
         ensures sound { AreCommands self.new.commands }
     {
-        self.announced.put_deletion(lead);
+        self.roles.announce_deletion(lead);
     }
 }

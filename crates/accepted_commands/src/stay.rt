@@ -1,35 +1,28 @@
 //! Whether a class stays open from now on.
 ghost use Rattle.std.specs.Prelude.{◌≡◌, ◌*◌, ◌<◌, ◌≤◌, true, false};
-ghost use Rattle.std.specs.Option.{ForSome};
-ghost use Rattle.accepted_commands.specs.Words.{greatest_moment, opens, open_while, AreCommands, IsUsable, command_of, mask_ahead, Stands, position_lent, shown_by, shows_under, Resumes};
+ghost use Rattle.accepted_commands.specs.Words.{greatest_moment, opens, open_while, AreCommands, mask_ahead, Stands, shown_by, shows_under, Resumes};
 
 use crate::ahead::legs_ahead;
-use crate::command::AcceptedCommand;
 use crate::slots::CommandSlots;
 use crate::under::{list_in, mask_under};
 use gate_list::is_open;
 use list_position::{Need, Position};
 use wire_time::CLASSES;
 
-/// Whether a class stays open by the command in force, with a change pending that comes later.
-fn stays_open_alone(
-    in_force: Option<&AcceptedCommand>,
-    pending: Option<&AcceptedCommand>,
-    need: Need,
-) -> bool
-    requires usable { ForSome (command_of in_force) IsUsable }
-    requires pending { ForSome (command_of pending) IsUsable }
-    requires stands { Stands (command_of in_force) (command_of pending) need.from (position_lent in_force) }
+/// Whether a class stays open by the command in force, where another comes later.
+fn stays_open_alone(slots: &CommandSlots, need: Need) -> bool
+    requires sound { AreCommands slots.now.commands }
+    requires stands { Stands slots.now.commands.in_force slots.now.commands.pending need.from slots.now.position }
     requires class { need.class < CLASSES }
     requires moment { need.from ≤ 2 * greatest_moment }
     requires within { need.length ≤ greatest_moment }
-    ensures { result ≡ open_while (shows_under (command_of in_force.entry) (command_of pending.entry)) need.class need.from need.length }
+    ensures { result ≡ open_while (shows_under slots.now.commands.in_force slots.now.commands.pending) need.class need.from need.length }
 {
-    match list_in(in_force) {
+    match list_in(slots.in_force()) {
         None => true,
         Some(list) => {
             list.position
-                .stays_open(&list.schedule, list.held_from(pending), need)
+                .stays_open(&list.schedule, slots.held_from(), need)
         }
     }
 }
@@ -73,7 +66,7 @@ pub fn stays_open(slots: &CommandSlots, resumed: &Option<Position>, need: Need) 
         return false;
     }
     if slots.is_alone_until(need.from + need.length) {
-        stays_open_alone(slots.in_force(), slots.pending(), need)
+        stays_open_alone(slots, need)
     } else {
         stays_open_through(slots, resumed, need)
     }

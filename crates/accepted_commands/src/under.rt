@@ -1,7 +1,7 @@
 //! What the command in force shows: its list, or else all classes open.
-ghost use Rattle.std.specs.Prelude.{◌≡◌, ℕ, ◌*◌, ◌<◌, ◌≤◌, ◌+◌, Some, None, length};
+ghost use Rattle.std.specs.Prelude.{◌≡◌, ℕ, Option, ◌*◌, ◌<◌, ◌≤◌, ◌+◌, Some, None, length};
 ghost use Rattle.std.specs.Option.{ForSome};
-ghost use Rattle.accepted_commands.specs.Words.{greatest_moment, IsSchedule, last_mask, entry_count, BeginsAtMost, IsFlat, IsPlaced, StoodBy, IsUsable, accepted_in, command_of, EndsSo, IsListOf, Stands, accepted_list, boundary_in_force, boundary_of, hold_for, position_in, position_lent, shown_by, shows_under, walk_mask};
+ghost use Rattle.accepted_commands.specs.Words.{greatest_moment, IsSchedule, last_mask, entry_count, BeginsAtMost, IsFlat, IsPlaced, StoodBy, Accepted, IsUsable, accepted_in, command_of, EndsSo, IsListOf, Stands, StandsHeld, accepted_list, held_under, boundary_in_force, boundary_of, hold_for, position_in, position_lent, shown_by, shows_under, walk_mask};
 
 use crate::command::{AcceptedCommand, AcceptedList};
 use gate_list::Visits;
@@ -23,46 +23,45 @@ impl AcceptedList {
         }
     }
 
-    /// Where the list stands at the moment `t`, in picoseconds, with this change pending.
+    /// Where the list stands at the moment `t`, with its last state held from a moment on, if from any. Both are in
+    /// picoseconds.
     pub(crate) fn position_at(
         &self,
-        pending: Option<&AcceptedCommand>,
+        held_from: Option<u128>,
         t: u128,
         visits: &mut Visits,
     ) -> Position
         requires sound { IsSchedule self.now.schedule }
         requires start { self.now.change ≤ 2 * greatest_moment }
-        requires usable { ForSome (command_of pending) IsUsable }
+        requires held { (next : Option Accepted) × (held_from ≡ hold_for (Some self.now.schedule) self.now.change next) }
         requires masked { self.now.position.last_mask ≡ last_mask self.now.schedule.entries }
         requires begun { self.now.change ≤ t }
         requires within { t ≤ 2 * greatest_moment }
-        ensures placed { IsPlaced self.now.schedule self.now.change (hold_for (Some self.now.schedule) self.now.change (command_of pending.entry)) t result }
+        ensures placed { IsPlaced self.now.schedule self.now.change held_from t result }
         ensures counted { visits.old ≤ visits.new }
         ensures visits { visits.new ≤ visits.old + (length self.now.schedule.entries + 1) }
     {
         self.position.at(
             &self.schedule,
             self.change,
-            self.held_from(pending),
+            held_from,
             t,
             visits,
         )
     }
 
-    /// Lets the list go on to a later moment `t`, in picoseconds, with the same change pending.
+    /// Lets the list go on to a later moment `t`, where the same hold counts. Both are in picoseconds.
     #[inline(always)]
-    fn go_on(&mut self, pending: Option<&AcceptedCommand>, t: u128, visits: &mut Visits)
+    fn go_on(&mut self, held_from: Option<u128>, t: u128, visits: &mut Visits)
         requires usable { IsUsable (accepted_list self.old) }
-        requires pending { ForSome (command_of pending) IsUsable }
         requires within { t ≤ 2 * greatest_moment }
-        requires stood { StoodBy self.old.schedule self.old.change (hold_for (Some self.old.schedule) self.old.change (command_of pending)) t self.old.position }
+        requires stood { StoodBy self.old.schedule self.old.change held_from t self.old.position }
         ensures same { self.new ≡ record self.old { position = self.new.position } }
-        ensures placed { IsPlaced self.old.schedule self.old.change (hold_for (Some self.old.schedule) self.old.change (command_of pending.entry)) t self.new.position }
+        ensures placed { IsPlaced self.old.schedule self.old.change held_from t self.new.position }
         ensures counted { visits.old ≤ visits.new }
         ensures visits { visits.new ≤ visits.old + (length self.old.schedule.entries + 1) }
-        ensures next { (n e : ℕ) → IsPlaced self.old.schedule self.old.change (hold_for (Some self.old.schedule) self.old.change (command_of pending.entry)) n self.old.position → BeginsAtMost (Some self.old.schedule) self.old.change n t e → visits.new ≤ visits.old + 2 }
+        ensures next { (n e : ℕ) → IsPlaced self.old.schedule self.old.change held_from n self.old.position → BeginsAtMost (Some self.old.schedule) self.old.change n t e → visits.new ≤ visits.old + 2 }
     {
-        let held_from = self.held_from(pending);
         self.position
             .go_on(&self.schedule, self.change, held_from, t, visits);
     }
@@ -90,21 +89,20 @@ impl AcceptedList {
 }
 
 impl AcceptedCommand {
-    /// Lets the list of the command, if it is one, go on to a later moment `t`, in picoseconds, with the same change
-    /// pending.
-    pub fn go_on(&mut self, pending: Option<&AcceptedCommand>, t: u128, visits: &mut Visits)
+    /// Lets the list of the command, if it is one, go on to a later moment `t`, where the same hold counts. Both are in
+    /// picoseconds.
+    pub(crate) fn go_on(&mut self, held_from: Option<u128>, t: u128, visits: &mut Visits)
         requires usable { IsUsable (accepted_in self.old) }
-        requires pending { ForSome (command_of pending) IsUsable }
         requires within { t ≤ 2 * greatest_moment }
-        requires stood { (n : ℕ) × (n ≤ t) × Stands (Some (accepted_in self.old)) (command_of pending) n (position_in self.old) }
+        requires stood { (n : ℕ) × (n ≤ t) × StandsHeld (Some (accepted_in self.old)) held_from n (position_in self.old) }
         ensures same { accepted_in self.new ≡ accepted_in self.old }
-        ensures stands { Stands (Some (accepted_in self.old)) (command_of pending.entry) t (position_in self.new) }
+        ensures stands { StandsHeld (Some (accepted_in self.old)) held_from t (position_in self.new) }
         ensures counted { visits.old ≤ visits.new }
         ensures visits { visits.new ≤ visits.old + (entry_count (accepted_in self.old).plan + 1) }
-        ensures next { (n e : ℕ) → Stands (Some (accepted_in self.old)) (command_of pending.entry) n (position_in self.old) → BeginsAtMost (accepted_in self.old).plan (accepted_in self.old).change n t e → visits.new ≤ visits.old + 2 }
+        ensures next { (n e : ℕ) → StandsHeld (Some (accepted_in self.old)) held_from n (position_in self.old) → BeginsAtMost (accepted_in self.old).plan (accepted_in self.old).change n t e → visits.new ≤ visits.old + 2 }
     {
         match self {
-            AcceptedCommand::Install(list) => list.go_on(pending, t, visits),
+            AcceptedCommand::Install(list) => list.go_on(held_from, t, visits),
             AcceptedCommand::Delete(_) => {}
         }
     }
@@ -131,25 +129,21 @@ impl AcceptedCommand {
         }
     }
 
-    /// Lets the list of the command, if it is one, stand where it stands at `t`, in picoseconds.
-    pub(crate) fn place_at(
-        &mut self,
-        pending: Option<&AcceptedCommand>,
-        t: u128,
-        visits: &mut Visits,
-    )
+    /// Lets the list of the command, if it is one, stand where it stands at `t`, with its last state held from a moment
+    /// on, if from any. Both are in picoseconds.
+    pub(crate) fn place_at(&mut self, held_from: Option<u128>, t: u128, visits: &mut Visits)
         requires usable { IsUsable (accepted_in self.old) }
-        requires pending { ForSome (command_of pending) IsUsable }
+        requires held { (next : Option Accepted) × (held_from ≡ held_under (Some (accepted_in self.old)) next) }
         requires ends { EndsSo (Some (accepted_in self.old)) (position_in self.old) }
         requires begun { (accepted_in self.old).change ≤ t }
         requires within { t ≤ 2 * greatest_moment }
         ensures same { accepted_in self.new ≡ accepted_in self.old }
-        ensures stands { Stands (Some (accepted_in self.old)) (command_of pending.entry) t (position_in self.new) }
+        ensures stands { StandsHeld (Some (accepted_in self.old)) held_from t (position_in self.new) }
         ensures counted { visits.old ≤ visits.new }
         ensures visits { visits.new ≤ visits.old + (entry_count (accepted_in self.old).plan + 1) }
     {
         match self {
-            AcceptedCommand::Install(list) => list.position = list.position_at(pending, t, visits),
+            AcceptedCommand::Install(list) => list.position = list.position_at(held_from, t, visits),
             AcceptedCommand::Delete(_) => {}
         }
     }
@@ -168,20 +162,18 @@ pub fn list_in(command: Option<&AcceptedCommand>) -> Option<&AcceptedList>
     }
 }
 
-/// The moment up to which the command in force shows one mask, with this change pending, in picoseconds; none: for
-/// ever.
-pub fn until_under(
+/// The moment from which the command in force is held for the change that is pending, in picoseconds, if one is.
+pub(crate) fn held_under(
     in_force: Option<&AcceptedCommand>,
     pending: Option<&AcceptedCommand>,
 ) -> Option<u128>
     requires usable { ForSome (command_of in_force) IsUsable }
     requires pending { ForSome (command_of pending) IsUsable }
-    ensures boundary { result ≡ boundary_in_force (command_of in_force.entry) (command_of pending.entry) (position_lent in_force.entry) }
-    ensures flat { (n : ℕ) → Stands (command_of in_force.entry) (command_of pending.entry) n (position_lent in_force.entry) → IsFlat (shows_under (command_of in_force.entry) (command_of pending.entry)) n result }
+    ensures { result ≡ held_under (command_of in_force.entry) (command_of pending.entry) }
 {
     match list_in(in_force) {
         None => None,
-        Some(list) => list.position.until(list.held_from(pending)),
+        Some(list) => list.held_from(pending),
     }
 }
 
