@@ -4,13 +4,13 @@ ghost use Rattle.std.specs.Prelude.{◌≡◌, ◌<◌, ◌≤◌, ◌+◌, ◌+
 ghost use Rattle.octet_writer.specs.declared.put_line.TheConstants.{LINE_ROOM};
 ghost use Rattle.decimal_text.specs.declared.digits.TheConstants.{EIGHT_DIGITS};
 ghost use Rattle.decimal_text.specs.Placed.{Placed};
-ghost use Rattle.answer_text.specs.Lines.{dropped_line, queued_line, start_line, start_text};
+ghost use Rattle.answer_text.specs.Lines.{dropped_line, installed_line, queued_line, start_line, start_text};
 ghost use Rattle.answer_text.specs.Names.{dropped_name};
 ghost use Rattle.answer_text.specs.declared.event_lines.TheConstants.{DROPPED_ROOM};
 
 use crate::span::put_span;
 use abstract_port::{Dropped, Start};
-use decimal_text::{EIGHT_DIGITS, NearNumbers, put_digit, put_few, put_octet, put_short, put_text};
+use decimal_text::{EIGHT_DIGITS, NearNumbers, put_digit, put_few, put_number, put_octet, put_short, put_text};
 use octet_writer::{LINE_ROOM, Line};
 
 /// The line of a frame of any number and class.
@@ -85,6 +85,23 @@ impl Line for DroppedLine {
         let at = put_short(self.id, room, at);
         let at = put_text(b" ", room, at);
         let at = put_dropped(self.why, room, at);
+        put_text(b"\n", room, at)
+    }
+}
+
+/// A command was accepted, and when it comes into force, in picoseconds.
+#[derive(Clone, Copy)]
+pub(crate) struct InstalledLine {
+    pub(crate) change: u128,
+}
+
+impl Line for InstalledLine {
+    ghost text = { λ line. installed_line line.change };
+
+    #[inline(always)]
+    fn put_into(&self, room: &mut [u8; LINE_ROOM]) -> usize {
+        let at = put_text(b"installed change ", room, 0);
+        let at = put_number(self.change, room, at);
         put_text(b"\n", room, at)
     }
 }

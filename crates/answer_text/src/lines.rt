@@ -4,7 +4,7 @@ ghost use Rattle.abstract_port.specs.Answers.{arrival_answer, command_answer};
 ghost use Rattle.answer_text.specs.Lines.{queued_line, dropped_line, installed_line, refused_line, start_line, count_line, left_line, answer_lines, tc_fault_line};
 ghost use Rattle.octet_writer.specs.Writes.{Writes};
 
-use crate::event_lines::{DroppedLine, QueuedLine, StartLine, UsualStartLine};
+use crate::event_lines::{DroppedLine, InstalledLine, QueuedLine, StartLine, UsualStartLine};
 use crate::names::{refused_name, refused_number, tc_fault_name, tc_fault_place, tc_fault_word};
 use crate::report_lines::{DroppedText, SentText, WaitingText};
 use crate::reports::put_report;
@@ -42,20 +42,14 @@ pub fn put_arrival<W: PutLine>(
     }
 }
 
-fn put_installed<W: Write>(writer: &mut W, change: u128) -> Result<(), WriteFault>
+fn put_installed<W: PutLine>(writer: &mut W, change: u128) -> Result<(), WriteFault>
     ensures { Writes result (W.contents writer.old) (W.contents writer.new) (installed_line change) }
 {
-    put_parts(
-        writer,
-        &[
-            Part::Text(b"installed change "),
-            Part::Number(change),
-            Part::Text(b"\n"),
-        ],
-    )
+    writer.put_line(&InstalledLine { change })
 }
 
-fn put_refused<W: Write>(writer: &mut W, why: Refused) -> Result<(), WriteFault>
+/// Writes the line of a command that is refused, and why. At a fault a prefix of it is written.
+pub fn put_refused<W: Write>(writer: &mut W, why: Refused) -> Result<(), WriteFault>
     ensures { Writes result (W.contents writer.old) (W.contents writer.new) (refused_line why) }
 {
     let name = refused_name(why);
@@ -79,7 +73,7 @@ fn put_refused<W: Write>(writer: &mut W, why: Refused) -> Result<(), WriteFault>
 
 /// Writes the line of a command: the moment at which it comes into force, in picoseconds, or why it is refused. At a
 /// fault a prefix of it is written.
-pub fn put_installation<W: Write>(
+pub fn put_installation<W: PutLine>(
     writer: &mut W,
     answer: Result<u128, Refused>,
 ) -> Result<(), WriteFault>

@@ -69,7 +69,7 @@ fn least_ns(rate: Rate) -> u64
     ensures value { result ≡ least_interval rate }
     ensures above { 0 < result }
 {
-    (60 * rate.ps_per_octet() / 1000) as u64
+    60 * rate.ps_per_octet() as u64 / 1000
 }
 
 /// The index of the first entry that is shorter.

@@ -3,7 +3,7 @@
 use crate::marks::{Hint, Span, put_hint, span_at, span_behind, span_of, word_at};
 use crate::near::nearest;
 use abstract_port::Refused;
-use answer_text::{Part, WriteFault, put_installation, put_parts, put_tc_fault};
+use answer_text::{Part, WriteFault, put_parts, put_refused, put_tc_fault};
 use class_map::{MapFault, QueueFault};
 use gate_list::{GateFault, PlanFault};
 use script::Failure;
@@ -276,7 +276,7 @@ pub fn put_failure<W: Write>(
             malformed_hint(line, fault)
         }
         Failure::Refused(why) => {
-            put_installation(writer, Err(why))?;
+            put_refused(writer, why)?;
             refused_hint(line, why)
         }
     };

@@ -101,7 +101,6 @@ leg_repeats leg rest ready stop unheld unended m from below =
 pub search_at : (search : ListSearch) (leg next : ListedLeg) (m : ℕ) (position : Bor Position) → IsSearch search leg → next ≡ record leg { from = m; position = position } → AreReady (Listed (record leg { from = m; position = position })) search.rest.now → m < search.stop → IsSearch search next
 search_at search leg next m position is same ready some = subst (IsSearch search) (sym same) (record {
   ready = ready;
-  needs = is.needs;
   some = some;
   within = is.within;
   unended = is.unended;

@@ -1,5 +1,5 @@
 -- The search for the first moment at which some class that needs the wire is open for as long as it needs.
-use Rattle.std.specs.Prelude.{◌≡◌, ◌<◌, ◌≤◌, ℕ, ◌+◌, ◌*◌, min, true, List, [], ◌∷◌, All, Option, Some, None, slice_get}
+use Rattle.std.specs.Prelude.{◌≡◌, ◌<◌, ◌≤◌, ℕ, ◌+◌, ◌*◌, min, true, List, [], ◌∷◌, Option, Some, None, slice_get}
 use Rattle.std.specs.Option.{ForSome}
 use Rattle.wire_time.specs.Moment.{greatest_moment}
 use Rattle.gate_list.specs.Open.{open_while}
@@ -30,7 +30,6 @@ Searched mask needs t stop (Some u) = (t ≤ u) × (u < stop) × NoneFits mask n
 -- A search in a list from where it stands: up to its stop the list is in force.
 pub record IsSearch (search : ListSearch) (leg : ListedLeg) : Type 0 where
   pub ready : AreReady (Listed leg) search.rest.now
-  pub needs : All (λ need. ForSome need (λ d. d ≤ greatest_moment)) search.needs.now
   pub some : leg.from < search.stop
   pub within : search.stop ≤ 2 * greatest_moment
   pub unended : ForSome leg.until (λ u. search.stop ≤ u)

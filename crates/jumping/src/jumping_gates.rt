@@ -183,7 +183,7 @@ fn search_legs(
     ensures visits { visits.new ≤ visits.old + most_in (stretches_of slots.now.commands) }
 {
     let ahead = legs_ahead(slots, resumed);
-    search(&ahead.leg, &ahead.rest, &heads.list(), before, visits)
+    search(&ahead.leg, &ahead.rest, heads, before, visits)
 }
 
 impl Gates for Jumping {

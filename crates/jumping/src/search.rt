@@ -4,20 +4,22 @@ ghost use Rattle.std.specs.Option.{ForSome};
 ghost use Rattle.jumping.specs.Words.{greatest_moment, IsSchedule, has_come, in_ps, mask_since, opens, open_while, mask_in, mask_of, end_of, IsFlat, IsPlaced, boundary_in, Listed, AreReady, DoFollow, IsReady, stretch_in, from_of, until_of, stretch_of, stretches_ahead, Fits, IsSearch, Searched, up_to, most_visits, most_in};
 
 use accepted_commands::{Leg, ListedLeg, Rest, copied};
-use gate_list::{Visits, is_open};
+use gate_list::Visits;
 use list_position::{Need, Position};
+use queue_heads::Heads;
 use wire_time::CLASSES;
 
 /// Whether some class with a need, in picoseconds, stays open through it from a leg on.
-fn fits(leg: &Leg<'_>, rest: &Rest<'_>, needs: &[Option<u128>; CLASSES]) -> bool
+fn fits(leg: &Leg<'_>, rest: &Rest<'_>, needs: &Heads) -> bool
     requires ready { AreReady leg.now rest.now }
-    requires needs { All (λ need. ForSome need (λ d. d ≤ greatest_moment)) needs.now }
     ensures some { result ≡ true → Fits (mask_in (stretches_ahead leg.now rest.now)) needs.now (from_of leg.now) }
     ensures none { result ≡ false → (class d : ℕ) → slice_get needs.now class ≡ Some (Some d) → open_while (mask_in (stretches_ahead leg.now rest.now)) class (from_of leg.now) d ≡ false }
 {
+    // The needs are of all classes.
+    let _ = needs.waits();
     let from = leg.from();
     for class in 0..CLASSES as u8 {
-        if let Some(length) = needs[class as usize] {
+        if let Some(length) = needs.need_in(class) {
             let need = Need {
                 class,
                 from,
@@ -31,18 +33,11 @@ fn fits(leg: &Leg<'_>, rest: &Rest<'_>, needs: &[Option<u128>; CLASSES]) -> bool
     false
 }
 
-/// Whether a mask opens some class with a need, or a class needs no time.
-fn opens_some(mask: u8, needs: &[Option<u128>; CLASSES]) -> bool
+/// Whether a mask opens some class with a need.
+fn opens_some(mask: u8, needs: &Heads) -> bool
     ensures { result ≡ false → (class d : ℕ) → slice_get needs.now class ≡ Some (Some d) → (0 < d) × (opens mask class ≡ false) }
 {
-    for class in 0..CLASSES as u8 {
-        if let Some(length) = needs[class as usize] {
-            if length == 0 || is_open(mask, class) {
-                return true;
-            }
-        }
-    }
-    false
+    mask & needs.waits() != 0
 }
 
 /// Whether some class with a need, in picoseconds, stays open through it in a list that nothing follows, from where it
@@ -51,17 +46,18 @@ fn fits_alone(
     leg: &ListedLeg<'_>,
     from: u128,
     position: &Position,
-    needs: &[Option<u128>; CLASSES],
+    needs: &Heads,
 ) -> bool
     requires sound { IsSchedule leg.now.schedule.now }
     requires stands { IsPlaced leg.now.schedule.now leg.now.start leg.now.held_from from position.now }
     requires near { from ≤ 2 * greatest_moment }
-    requires needs { All (λ need. ForSome need (λ d. d ≤ greatest_moment)) needs.now }
     ensures some { result ≡ true → Fits (mask_since (Some leg.now.schedule.now) leg.now.start leg.now.held_from) needs.now from }
     ensures none { result ≡ false → (class d : ℕ) → slice_get needs.now class ≡ Some (Some d) → open_while (mask_since (Some leg.now.schedule.now) leg.now.start leg.now.held_from) class from d ≡ false }
 {
+    // The needs are of all classes.
+    let _ = needs.waits();
     for class in 0..CLASSES as u8 {
-        if let Some(length) = needs[class as usize] {
+        if let Some(length) = needs.need_in(class) {
             let need = Need {
                 class,
                 from,
@@ -91,7 +87,7 @@ pub(crate) fn boundary(position: &Position) -> u128
 #[derive(Drop)]
 struct ListSearch<'a> {
     rest: &'a Rest<'a>,
-    needs: &'a [Option<u128>; CLASSES],
+    needs: &'a Heads,
     stop: u128,
 }
 
@@ -101,7 +97,6 @@ impl ListSearch<'_> {
     fn fits_at(&self, leg: &ListedLeg<'_>, from: u128, position: &Position) -> bool
         requires ready { AreReady (Listed (record leg.now { from = from; position = position })) self.now.rest.now }
         requires unended { ForSome leg.now.until (λ u. from < u) }
-        requires needs { All (λ need. ForSome need (λ d. d ≤ greatest_moment)) self.now.needs.now }
         ensures some { result ≡ true → Fits (mask_in (stretches_ahead (Listed leg.now) self.now.rest.now)) self.now.needs.now from }
         ensures none { result ≡ false → (class d : ℕ) → slice_get self.now.needs.now class ≡ Some (Some d) → open_while (mask_in (stretches_ahead (Listed leg.now) self.now.rest.now)) class from d ≡ false }
     {
@@ -246,9 +241,8 @@ impl ListSearch<'_> {
 }
 
 /// The leg's own moment, if some class with a need stays open through it from then on.
-fn search_flat(leg: &Leg<'_>, rest: &Rest<'_>, needs: &[Option<u128>; CLASSES]) -> Option<u128>
+fn search_flat(leg: &Leg<'_>, rest: &Rest<'_>, needs: &Heads) -> Option<u128>
     requires ready { AreReady leg.now rest.now }
-    requires needs { All (λ need. ForSome need (λ d. d ≤ greatest_moment)) needs.now }
     ensures { (stop : ℕ) → from_of leg.now < stop → ForSome (until_of leg.now) (λ u. stop ≤ u) → IsFlat (mask_of (stretch_of leg.now)) (from_of leg.now) None → Searched (mask_in (stretches_ahead leg.now rest.now)) needs.now (from_of leg.now) stop result }
 {
     if fits(leg, rest, needs) {
@@ -262,12 +256,11 @@ fn search_flat(leg: &Leg<'_>, rest: &Rest<'_>, needs: &[Option<u128>; CLASSES]) 
 fn search_leg(
     leg: &Leg<'_>,
     rest: &Rest<'_>,
-    needs: &[Option<u128>; CLASSES],
+    needs: &Heads,
     stop: u128,
     visits: &mut Visits,
 ) -> Option<u128>
     requires ready { AreReady leg.now rest.now }
-    requires needs { All (λ need. ForSome need (λ d. d ≤ greatest_moment)) needs.now }
     requires some { from_of leg.now < stop }
     requires within { stop ≤ 2 * greatest_moment }
     requires unended { ForSome (until_of leg.now) (λ u. stop ≤ u) }
@@ -285,12 +278,11 @@ fn search_leg(
 fn search_to(
     leg: &Leg<'_>,
     rest: &Rest<'_>,
-    needs: &[Option<u128>; CLASSES],
+    needs: &Heads,
     before: u128,
     visits: &mut Visits,
 ) -> Option<u128>
     requires ready { AreReady leg.now rest.now }
-    requires needs { All (λ need. ForSome need (λ d. d ≤ greatest_moment)) needs.now }
     requires within { before ≤ 2 * greatest_moment }
     ensures searched { Searched (mask_in (stretches_ahead leg.now rest.now)) needs.now (from_of leg.now) (up_to (until_of leg.now) before) result }
     ensures counted { visits.old ≤ visits.new }
@@ -311,14 +303,13 @@ fn search_to(
 fn search_into(
     leg: &Leg<'_>,
     last: &Option<Leg<'_>>,
-    needs: &[Option<u128>; CLASSES],
+    needs: &Heads,
     before: u128,
     visits: &mut Visits,
 ) -> Option<u128>
     requires ready { IsReady leg.now }
     requires follows { DoFollow leg.now last.now }
     requires ends { ForSome last.now (λ g. until_of g ≡ None) }
-    requires needs { All (λ need. ForSome need (λ d. d ≤ greatest_moment)) needs.now }
     requires within { before ≤ 2 * greatest_moment }
     ensures searched { Searched (mask_in (stretch_of leg.now ∷ stretch_in last.now)) needs.now (from_of leg.now) before result }
     ensures counted { visits.old ≤ visits.new }
@@ -348,12 +339,11 @@ fn search_into(
 pub(crate) fn search(
     leg: &Leg<'_>,
     rest: &Rest<'_>,
-    needs: &[Option<u128>; CLASSES],
+    needs: &Heads,
     before: u128,
     visits: &mut Visits,
 ) -> Option<u128>
     requires ready { AreReady leg.now rest.now }
-    requires needs { All (λ need. ForSome need (λ d. d ≤ greatest_moment)) needs.now }
     requires within { before ≤ 2 * greatest_moment }
     ensures searched { Searched (mask_in (stretches_ahead leg.now rest.now)) needs.now (from_of leg.now) before result }
     ensures counted { visits.old ≤ visits.new }

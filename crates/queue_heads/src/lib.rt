@@ -3,7 +3,7 @@
 //! The contract is that of each call of `Heads`, which is seen as the needs by class; what is kept is specs/Heads.antt.
 #![tactic(auto)]
 
-ghost use Rattle.std.specs.Prelude.{◌≡◌, ◌<◌, ◌≤◌, ℕ, [], ◌∷◌, All, Some, None, is_some, true, false, length, slice_index_or, slice_set};
+ghost use Rattle.std.specs.Prelude.{◌≡◌, ◌<◌, ◌≤◌, ℕ, [], ◌∷◌, All, Some, None, is_some, true, false, length, slice_get, slice_index_or, slice_set};
 ghost use Rattle.std.specs.Option.{ForSome};
 ghost use Rattle.wire_time.specs.Moment.{greatest_moment};
 ghost use Rattle.gate_list.specs.Gate.{opens};
@@ -113,6 +113,16 @@ impl Heads {
         ensures { (d : ℕ) → slice_index_or self.now class None ≡ Some d → result ≡ d }
     {
         self.needs[class as usize]
+    }
+
+    /// How long the head of a class needs the wire, in picoseconds, if a frame waits there.
+    #[inline(always)]
+    pub fn need_in(&self, class: u8) -> Option<u128>
+        requires { class < CLASSES }
+        ensures value { slice_get self.now class ≡ Some result }
+        ensures within { ForSome result (λ d. d ≤ greatest_moment) }
+    {
+        need_kept(self.needs[class as usize])
     }
 
     /// The needs, in picoseconds, by class; none where no frame waits.

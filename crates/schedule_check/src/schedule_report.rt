@@ -7,7 +7,7 @@ ghost use Rattle.std.specs.List.{flat_map};
 use crate::settings::CheckSettings;
 use crate::window_lines::put_asked;
 use abstract_port::{Change, Command, Refused};
-use answer_text::{Part, WriteFault, put, put_installation, put_parts, put_tc_fault};
+use answer_text::{Part, WriteFault, put, put_parts, put_refused, put_tc_fault};
 use arrayvec::ArrayVec;
 use class_map::ClassMap;
 use gate_list::Schedule;
@@ -129,7 +129,7 @@ fn put_change<W: Write, H: Watch>(
         Err(fault) => {
             let why = Refused::Schedule(fault);
             watch.command_failed(number, line, Failure::Refused(why));
-            put_installation(writer, Err(why))
+            put_refused(writer, why)
         }
     }
 }

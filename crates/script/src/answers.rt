@@ -85,7 +85,7 @@ fn tell_refusal<H: Watch>(watch: &mut H, number: u32, line: &[u8], answer: Resul
 
 /// Gives the command of the line of this number to the port, and writes the answer. Who watches is called where it is
 /// refused.
-fn put_install<A: Allocator, W: Write, H: Watch>(
+fn put_install<A: Allocator, W: PutLine, H: Watch>(
     port: &mut RunningPort<A>,
     summary: &mut Option<Summary<A>>,
     number: u32,
@@ -181,7 +181,7 @@ pub fn put_answers<A: Allocator, W: PutLine>(
 }
 
 /// Gives the command that the line of this number is to the port and writes its answer, or writes why there is none.
-fn put_command<A: Allocator, W: Write, H: Watch>(
+fn put_command<A: Allocator, W: PutLine, H: Watch>(
     port: &mut RunningPort<A>,
     summary: &mut Option<Summary<A>>,
     number: u32,
@@ -207,7 +207,7 @@ fn put_command<A: Allocator, W: Write, H: Watch>(
 /// is written. Who watches is called where the line changes nothing. The command is read into a place that is kept from
 /// line to line.
 #[inline(never)]
-pub fn put_tc<A: Allocator, W: Write, H: Watch>(
+pub fn put_tc<A: Allocator, W: PutLine, H: Watch>(
     place: &mut CommandPlace,
     port: &mut RunningPort<A>,
     summary: &mut Option<Summary<A>>,

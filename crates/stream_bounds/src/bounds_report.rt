@@ -20,7 +20,7 @@ use crate::faults::{BoundsFault, Finding};
 use crate::settings::BoundsSettings;
 use crate::stream_lines::put_streams;
 use abstract_port::{Change, Command, Refused};
-use answer_text::{WriteFault, put_installation, put_tc_fault};
+use answer_text::{WriteFault, put_refused, put_tc_fault};
 use gate_list::Schedule;
 use schedule_check::{class_count, classes_apart, put_apart};
 use script::read_tc;
@@ -107,7 +107,7 @@ fn put_change<W: Write>(
     match schedule {
         Ok(schedule) => put_schedule(alloc, writer, settings, streams, change, &schedule),
         Err(fault) => {
-            match put_installation(writer, Err(Refused::Schedule(fault))) {
+            match put_refused(writer, Refused::Schedule(fault)) {
                 Ok(()) => Ok(Some(Finding::Refused(line))),
                 Err(_) => Err(BoundsFault::Write),
             }

@@ -1,6 +1,0 @@
-use Rattle.std.proofs.Common.{◌≡◌, ℕ, ◌<◌, Some, false, slice_get}
-use Rattle.jumping.specs.Words.{opens}
-use Rattle.jumping.proofs.search.opens_some.Given as goal
-
-abbrev pub invariant-loop-class : goal.invariant-loop-class
-invariant-loop-class l = (k d : ℕ) → k < l.class → slice_get l.needs k ≡ Some (Some d) → (0 < d) × (opens l.mask k ≡ false)
