@@ -188,8 +188,7 @@ impl CommandSlots {
         ensures counted { visits.old ≤ visits.new }
         ensures visits { visits.new ≤ visits.old + (entry_count (plan_of self.old.commands.in_force) + 1) }
     {
-        self.roles
-            .place_at(self.held_from, self.moment, visits);
+        self.roles.place_at(self.held_from, self.moment, visits);
     }
 
     /// Goes on to a moment, in picoseconds, and lets the list in force stand where it stands then. Where no command

@@ -41,13 +41,8 @@ impl AcceptedList {
         ensures counted { visits.old ≤ visits.new }
         ensures visits { visits.new ≤ visits.old + (length self.now.schedule.entries + 1) }
     {
-        self.position.at(
-            &self.schedule,
-            self.change,
-            held_from,
-            t,
-            visits,
-        )
+        self.position
+            .at(&self.schedule, self.change, held_from, t, visits)
     }
 
     /// Lets the list go on to a later moment `t`, where the same hold counts. Both are in picoseconds.
@@ -143,7 +138,9 @@ impl AcceptedCommand {
         ensures visits { visits.new ≤ visits.old + (entry_count (accepted_in self.old).plan + 1) }
     {
         match self {
-            AcceptedCommand::Install(list) => list.position = list.position_at(held_from, t, visits),
+            AcceptedCommand::Install(list) => list.position = list.position_at(
+                held_from, t, visits,
+            ),
             AcceptedCommand::Delete(_) => {}
         }
     }

@@ -10,7 +10,9 @@ ghost use Rattle.answer_text.specs.declared.event_lines.TheConstants.{DROPPED_RO
 
 use crate::span::put_span;
 use abstract_port::{Dropped, Start};
-use decimal_text::{EIGHT_DIGITS, NearNumbers, put_digit, put_few, put_number, put_octet, put_short, put_text};
+use decimal_text::{
+    EIGHT_DIGITS, NearNumbers, put_digit, put_few, put_number, put_octet, put_short, put_text,
+};
 use octet_writer::{LINE_ROOM, Line};
 
 /// The line of a frame of any number and class.

@@ -14,7 +14,8 @@ mod text_writer;
 
 pub use decimal_text::NearNumbers;
 pub use lines::{
-    put_answer, put_arrival, put_counters, put_installation, put_left, put_refused, put_start, put_tc_fault,
+    put_answer, put_arrival, put_counters, put_installation, put_left, put_refused, put_start,
+    put_tc_fault,
 };
 pub use octet_writer::{WriteFault, put};
 pub use reports::put_report;

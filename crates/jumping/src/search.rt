@@ -42,12 +42,7 @@ fn opens_some(mask: u8, needs: &Heads) -> bool
 
 /// Whether some class with a need, in picoseconds, stays open through it in a list that nothing follows, from where it
 /// stands so.
-fn fits_alone(
-    leg: &ListedLeg<'_>,
-    from: u128,
-    position: &Position,
-    needs: &Heads,
-) -> bool
+fn fits_alone(leg: &ListedLeg<'_>, from: u128, position: &Position, needs: &Heads) -> bool
     requires sound { IsSchedule leg.now.schedule.now }
     requires stands { IsPlaced leg.now.schedule.now leg.now.start leg.now.held_from from position.now }
     requires near { from ≤ 2 * greatest_moment }

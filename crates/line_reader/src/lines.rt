@@ -1,7 +1,7 @@
 //! The lines of a script.
 
 ghost use Rattle.std.specs.List.{list_all};
-ghost use Rattle.std.specs.Prelude.{take, drop, not, ◌≡◌, ◌≤◌, ◌<◌, ◌-◌, ◌==◌, [], IfSome, IfOk, length, None, Ok, Err, true, false, vec_len, vec_capacity, option_map};
+ghost use Rattle.std.specs.Prelude.{take, drop, not, ◌≡◌, ◌≤◌, ◌<◌, ◌+◌, ◌-◌, ◌==◌, [], IfSome, IfOk, length, None, Ok, Err, true, false, vec_len, vec_capacity, option_map};
 ghost use Rattle.line_reader.specs.Script.{ends_in, script_of};
 ghost use Rattle.line_reader.specs.LineEnds.{answer_of, ended_by};
 ghost use Rattle.line_reader.specs.declared.lines.TheConstants.{MAX_LINE_OCTETS, MAX_LINES};
@@ -103,7 +103,7 @@ pub struct LineReader<R, A: Allocator = Global> {
 }
 
 impl<R: Read + Drop, A: Allocator> LineReader<R, A> {
-    ghost use Rattle.line_reader.specs.LineReader.{script_ahead, script_behind, script_within, script_left, Advances, most_lines, current_line, current_number, in_hand, hand, how_ended, IsAtEnd, lines_left, script_past};
+    ghost use Rattle.line_reader.specs.LineReader.{script_ahead, script_behind, script_within, script_left, Advances, EndsLine, most_lines, current_line, current_number, in_hand, hand, how_ended, IsAtEnd, lines_left, script_past};
 
     /// Makes both buffers, and reads nothing.
     pub fn new(alloc: A, reader: R) -> Result<LineReader<R, A>, AllocError>
@@ -148,6 +148,31 @@ impl<R: Read + Drop, A: Allocator> LineReader<R, A> {
         }
     }
 
+    /// How many octets the next line has, without the LF that ends it, where it stands whole in front of those in hand,
+    /// joins no other line, and is within the limits.
+    pub fn line_in_hand(&self) -> Option<usize>
+        ensures ends { IfSome result (EndsLine (hand self.now)) }
+        ensures short { IfSome result (λ n. n ≤ MAX_LINE_OCTETS) }
+        ensures left { IfSome result (λ _. 0 < lines_left self.now) }
+    {
+        if self.breaks == MAX_LINES {
+            return None;
+        }
+        let hand = self.hand();
+        let end = memchr(b'\n', hand)?;
+        if end > MAX_LINE_OCTETS || joins(&hand[..end]) {
+            return None;
+        }
+        Some(end)
+    }
+
+    /// The number of the next line, from 1.
+    pub fn next_number(&self) -> u32
+        ensures { result + lines_left self.now ≡ MAX_LINES + 1 }
+    {
+        self.breaks + 1
+    }
+
     /// How many more physical lines there may be.
     pub fn lines_left(&self) -> u32
         ensures { result ≡ lines_left self.now }
@@ -164,6 +189,7 @@ impl<R: Read + Drop, A: Allocator> LineReader<R, A> {
         ensures script { script_left R.remaining self.new ≡ script_past R.remaining self.old (drop octets (hand self.old)) lines }
         ensures hand { hand self.new ≡ drop octets (hand self.old) }
         ensures fewer { most_lines self.new ≤ most_lines self.old }
+        ensures passed { most_lines self.new + lines ≤ most_lines self.old }
         ensures left { lines_left self.new ≡ lines_left self.old - lines }
         ensures stays { (current_line self.new ≡ current_line self.old) × (current_number self.new ≡ current_number self.old) }
         ensures over { how_ended self.new ≡ how_ended self.old }

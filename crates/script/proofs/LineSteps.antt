@@ -3,10 +3,11 @@ use Rattle.std.proofs.Common.{◌≡◌, ◌≤◌, ℕ, List, [], ◌∷◌, �
 use Rattle.std.specs.Prelude.{IfSome, ⊤}
 use Rattle.std.proofs.lemmas.List.{append-nil, drop-drop, length-drop}
 use Rattle.std.specs.Io.KnownBytes.{Appends, Keeps}
-use Rattle.script.specs.Words.{AbstractPort, settled, answers_to, IsSoundPort, Event, Clock, Command, TcFault, Script, Advances, Fault, HasLine, script_left, HasFewVisits, IsAnswered, PortState, Request, Asks, NoCommand, request_of, Gave, end_lines, lines_of, noted_by, responses_to, bad_line, ending_text, long_line, outcome_after, outcome_from, reading_of, ScriptFault, BadLine, Observed, seen_all, noted_after, noted_at}
+use Rattle.script.specs.Words.{AbstractPort, settled, answers_to, IsSoundPort, Event, Clock, Command, TcFault, Script, Advances, Fault, IsCommandInHand, script_left, HasFewVisits, IsAnswered, PortState, Request, Asks, NoCommand, request_of, Gave, end_lines, lines_of, noted_by, responses_to, bad_line, ending_text, long_line, outcome_after, outcome_from, reading_of, ScriptFault, BadLine, Observed, seen_all, noted_after, noted_at}
 use Rattle.separation.specs.Settled.{IsPossible, IsSettling}
 use Rattle.octet_writer.specs.Writes.{FallsShort}
-use Rattle.line_reader.specs.LineReader.{hand, lines_left, script_past}
+use Rattle.line_reader.specs.LineReader.{EndsLine, hand, lines_left, script_past}
+use Rattle.line_reader.specs.declared.lines.TheConstants.{MAX_LINE_OCTETS}
 use Rattle.line_reader.specs.Script.{Line}
 use Rattle.line_reader.specs.declared.lines.LineReader.{LineReader}
 use Rattle.line_reader.proofs.RunLaws.{none_passed, one_passed, unended}
@@ -26,13 +27,21 @@ use Rattle.script.proofs.LeftLaws.{end-settled}
 use Rattle.summary.proofs.WantedLaws.{noted_after-one}
 
 -- a line that stands whole in front of what is left in hand is the next one
-pub next_in_hand : {R A : Type 0} (remaining : R → Option (List ℕ)) (lines : LineReader R A) (octets rest : List ℕ) (k n most left : ℕ) (event : Event) → rest ≡ drop k octets → octets ≡ hand lines → most ≡ lines_left lines
-    → left ≤ most → 0 < left → HasLine rest n event → n < 64
+pub next_in_hand : {R A : Type 0} (remaining : R → Option (List ℕ)) (lines : LineReader R A) (octets rest : List ℕ) (k n most left : ℕ) → rest ≡ drop k octets → octets ≡ hand lines → most ≡ lines_left lines
+    → left ≤ most → 0 < left → EndsLine rest n → n ≤ MAX_LINE_OCTETS
     → Advances (script_past remaining lines rest (most - left)) (Ok true) (lines.breaks + (most - left) + 1) (take n rest) (script_past remaining lines (drop (n + 1) rest) (most - (left - 1)))
-next_in_hand remaining lines octets rest k n most left event front all count few some line short =
-    let there : 0 < length (drop k (hand lines)) = omega (arith, line.ends.within, ap length (front ∙ ap (drop k) all)) in
-    let law = one_passed remaining lines rest (most - left) n (unended lines k there) line.ends (omega arith) (omega (arith, count)) in
+next_in_hand remaining lines octets rest k n most left front all count few some ends short =
+    let there : 0 < length (drop k (hand lines)) = omega (arith, ends.within, ap length (front ∙ ap (drop k) all)) in
+    let law = one_passed remaining lines rest (most - left) n (unended lines k there) ends short (omega (arith, count)) in
     subst (λ m. Advances (script_past remaining lines rest (most - left)) (Ok true) (lines.breaks + (most - left) + 1) (take n rest) (script_past remaining lines (drop (n + 1) rest) m)) (omega arith) law
+
+-- a command that stands whole in hand is the next line
+pub command_next : {R A : Type 0} (remaining : R → Option (List ℕ)) (lines : LineReader R A) (line : List ℕ) → IsCommandInHand lines line
+    → Advances (script_left remaining lines) (Ok true) (lines.breaks + 0 + 1) line (script_past remaining lines (drop (length line + 1) (hand lines)) 1)
+command_next remaining lines line here =
+    let law = one_passed remaining lines (hand lines) 0 (length line) (unended lines 0 (omega (arith, here.ends.within))) here.ends here.short here.left in
+    subst (λ s. Advances s (Ok true) (lines.breaks + 0 + 1) line (script_past remaining lines (drop (length line + 1) (hand lines)) 1)) (none_passed remaining lines)
+    (subst (λ l. Advances (script_past remaining lines (hand lines) 0) (Ok true) (lines.breaks + 0 + 1) l (script_past remaining lines (drop (length line + 1) (hand lines)) 1)) (sym here.front) law)
 
 -- octets end themselves
 pub end_whole : (octets : List ℕ) → octets ≡ drop (length octets - length octets) octets
@@ -186,13 +195,20 @@ module _ (read : List (List ℕ) → Result Command TcFault) (until : Option ℕ
       let none : most - most ≡ 0 = omega arith in
       subst (λ s. IsRunning first seen all old now s q o) (sym (ap (script_past remaining lines octets) none ∙ ap (λ rest. script_past remaining lines rest 0) all_hand ∙ none_passed remaining lines))
 
-  -- the reader goes past the lines in hand that were answered, and what was written is let out
+  -- the reader goes past the lines in hand that were answered
+  pub past_answered : {R A : Type 0} (remaining : R → Option (List ℕ)) (lines behind : LineReader R A) (octets rest : List ℕ) (n passed : ℕ) (first : PortState) (seen : Option Observed) (all : Option Script) (old now : Option (List ℕ)) (q : PortState) (o : Option Observed)
+      → IsRunning first seen all old now (script_past remaining lines rest passed) q o → rest ≡ drop n octets → octets ≡ hand lines
+      → script_left remaining behind ≡ script_past remaining lines (drop n (hand lines)) passed → IsRunning first seen all old now (script_left remaining behind) q o
+  past_answered remaining lines behind octets rest n passed first seen all old now q o i front all_hand past =
+      let same : script_past remaining lines rest passed ≡ script_left remaining behind = ap (λ left. script_past remaining lines left passed) (front ∙ ap (drop n) all_hand) ∙ sym past in
+      subst (λ s. IsRunning first seen all old now s q o) same i
+
+  -- and what was written is let out
   pub past_hand : {R A : Type 0} (remaining : R → Option (List ℕ)) (lines behind : LineReader R A) (octets rest : List ℕ) (n passed : ℕ) (first : PortState) (seen : Option Observed) (all : Option Script) (old now new : Option (List ℕ)) (q : PortState) (o : Option Observed)
       → IsRunning first seen all old now (script_past remaining lines rest passed) q o → rest ≡ drop n octets → octets ≡ hand lines
       → script_left remaining behind ≡ script_past remaining lines (drop n (hand lines)) passed → Keeps now new → IsRunning first seen all old new (script_left remaining behind) q o
   past_hand remaining lines behind octets rest n passed first seen all old now new q o i front all_hand past k =
-      let same : script_past remaining lines rest passed ≡ script_left remaining behind = ap (λ left. script_past remaining lines left passed) (front ∙ ap (drop n) all_hand) ∙ sym past in
-      kept first seen all old now new _ q o (subst (λ s. IsRunning first seen all old now s q o) same i) k
+      kept first seen all old now new _ q o (past_answered remaining lines behind octets rest n passed first seen all old now q o i front all_hand past) k
 
   -- a line before the rest, and what it asks
   after_line : (number : ℕ) (is : Result (Option Request) ScriptFault) (q r : AbstractPort) → ((rest : Reading) → port_after (events_of (with_line number is rest).requests) q ≡ port_after (events_of rest.requests) r)

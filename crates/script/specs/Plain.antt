@@ -1,8 +1,10 @@
 -- Lines as most are written, at the front of octets.
-use Rattle.std.specs.Prelude.{◌≡◌, ◌∷◌, ◌++◌, [], ℕ, List, Bool, true, false, Some, Ok, Result, codes, not, take, ◌&&◌, ◌==◌}
+use Rattle.std.specs.Prelude.{◌≡◌, ◌<◌, ◌≤◌, ◌∷◌, ◌++◌, [], ℕ, List, Bool, true, false, Some, Ok, Result, codes, length, not, take, ◌&&◌, ◌==◌}
 use Rattle.std.specs.List.{list_all}
 use Rattle.abstract_port.specs.declared.Event.{Event}
-use Rattle.line_reader.specs.LineReader.{EndsLine}
+use Rattle.line_reader.specs.LineReader.{EndsLine, hand, lines_left}
+use Rattle.line_reader.specs.declared.lines.LineReader.{LineReader}
+use Rattle.line_reader.specs.declared.lines.TheConstants.{MAX_LINE_OCTETS}
 use Rattle.line_reader.specs.Script.{joins}
 use Rattle.line_reader.specs.PhysicalLines.{is_unbroken}
 use Rattle.words.specs.Words.{words_of}
@@ -33,6 +35,14 @@ pub record BeginsWithLine (octets : List ℕ) (event : Event) (rest : List ℕ) 
   pub unbroken : is_unbroken line ≡ true
   pub unjoined : joins line ≡ false
   pub says : said_in line ≡ Ok (Some (Says.Asked event))
+
+-- the line of a command stands whole in front of the octets in hand of a reader, and is within the limits
+pub record IsCommandInHand {R A : Type 0} (r : LineReader R A) (line : List ℕ) : Type 0 where
+  pub front : line ≡ take (length line) (hand r)
+  pub ends : EndsLine (hand r) (length line)
+  pub short : length line ≤ MAX_LINE_OCTETS
+  pub left : 0 < lines_left r
+  pub says : said_in line ≡ Ok (Some Says.Tc)
 
 -- octets that begin with a line of so many octets, which asks an event
 pub record HasLine (octets : List ℕ) (length : ℕ) (event : Event) : Type 0 where

@@ -30,7 +30,7 @@ pub use Rattle.script.specs.Answered.{HasFewVisits, IsAnswered, IsSilent}
 pub use Rattle.script.specs.ScriptEnd.{IsEnding, IsRefusal, rate_given, settings_given, settings_or_usual, whole_script}
 pub use Rattle.script.specs.Given.{octets_of, words_of_values}
 pub use Rattle.script.specs.Outcome.{IsFaithfulTo, asked_in, bad_line, ending_text, limit_fault, long_line, outcome_after, outcome_from, outcome_of, reading_of}
-pub use Rattle.script.specs.Plain.{BeginsWithEvent, BeginsWithLine, HasLine, tag_text}
+pub use Rattle.script.specs.Plain.{BeginsWithEvent, BeginsWithLine, HasLine, IsCommandInHand, tag_text}
 pub use Rattle.script.specs.Requests.{Asks, NoCommand, Request, clock_event, count_event, frame_event, frame_with, query_event, request_of, said_in, tag_in, tc_request}
 pub use Rattle.script.specs.Responses.{Gave, end_lines, events_of, left_lines, left_text, lines_of, noted_by, responses_to}
 unfoldable pub use Rattle.script.specs.Responses.{left_from}

@@ -1,11 +1,15 @@
 //! Lines as most are written, read where they stand in hand.
 
-ghost use Rattle.std.specs.Prelude.{◌≡◌, ◌<◌, ◌∷◌, IfSome};
+ghost use Rattle.std.specs.Prelude.{◌≡◌, ◌<◌, ◌∷◌, IfSome, Ok, Some, true};
 ghost use Rattle.script.specs.declared.plain.TheConstants.{WINDOW};
-ghost use Rattle.script.specs.Words.{Arrive, Clock, BeginsWithEvent, BeginsWithLine, HasLine, clock_event, frame_event};
+ghost use Rattle.script.specs.Words.{Arrive, Clock, BeginsWithEvent, BeginsWithLine, HasLine, IsCommandInHand, clock_event, frame_event, said_in};
+ghost use Rattle.script.specs.declared.script_line.Said.TheVariants.{Tc};
 
 use crate::fronts::{behind_clock, behind_frame, behind_tag};
 use abstract_port::Event;
+use line_reader::LineReader;
+use std::alloc::Allocator;
+use std::io::Read;
 use wire_time::{Frame, MAX_MOMENT};
 use words::{front_digit, front_number, front_short};
 
@@ -98,4 +102,31 @@ pub(crate) fn front_line(octets: &[u8], left: u32) -> Option<(Event<'static>, us
     let window = octets.first_chunk::<WINDOW>()?;
     let (event, rest) = front_event(window)?;
     Some((event, WINDOW - rest.len() - 1))
+}
+
+/// Whether a line begins with `tc`, as most that do are written.
+#[inline(always)]
+fn is_command(line: &[u8]) -> bool
+    ensures { result ≡ true → said_in line.now ≡ Ok (Some Tc) }
+{
+    match line {
+        [b't', b'c', b' ', ..] => true,
+        _ => false,
+    }
+}
+
+/// The next line, where it is a command and stands whole in hand.
+pub(crate) fn command_in_hand<R: Read + Drop, A: Allocator>(
+    lines: &LineReader<R, A>,
+) -> Option<&[u8]>
+    ensures { IfSome result (λ line. IsCommandInHand lines.now line.now) }
+{
+    let hand = lines.hand();
+    // Asked first, so that no end is looked for where another line comes.
+    if !is_command(hand) {
+        return None;
+    }
+    let length = lines.line_in_hand()?;
+    let line = &hand[..length];
+    if is_command(line) { Some(line) } else { None }
 }

@@ -7,7 +7,7 @@ ghost use Rattle.abstract_port.specs.Answers.{port_after};
 use crate::answers::{RunningPort, put_answers, put_tc, rests};
 use crate::faults::{BadLine, RunFault};
 use crate::laws::faithful;
-use crate::plain::front_line;
+use crate::plain::{command_in_hand, front_line};
 use crate::script_line::{Said, read_line};
 use crate::settings::Settings;
 use crate::summary_lines::put_end;
@@ -79,6 +79,21 @@ fn run_lines<A: Allocator, B: Allocator, R: Read + Drop, W: PutLine, H: Watch>(
         }
         let octets = hand.len() - rest.len();
         lines.go_past(octets, most - left);
+        // A command that stands whole in hand is answered there, too.
+        if let Some(line) = command_in_hand(lines) {
+            put_tc(
+                &mut place,
+                port,
+                summary,
+                lines.next_number(),
+                line,
+                writer,
+                watch,
+            )?;
+            let octets = line.len() + 1;
+            lines.go_past(octets, 1);
+            continue;
+        }
         if !next_line::<BadLine, _, _, _>(lines, writer)? {
             break;
         }

@@ -1,11 +1,11 @@
-use Rattle.std.proofs.Common.{◌≡◌, ℕ, Bool, List, Option, Ok, Err, None, Some, refl, sym, ap, ◌∙◌, drop, length, take, subst, ◌+◌, ◌-◌, arith}
-use Rattle.script.specs.Words.{Advances, Script, words_of, Asks, request_of, said_in, tc_request, bad_line}
+use Rattle.std.proofs.Common.{◌≡◌, ℕ, Bool, true, List, Option, Ok, Err, None, Some, refl, sym, ap, ◌∙◌, drop, length, take, subst, ◌+◌, ◌-◌, arith}
+use Rattle.script.specs.Words.{Advances, Script, script_left, words_of, Asks, request_of, said_in, tc_request, bad_line}
 use Rattle.std.proofs.lemmas.List.{length-drop}
 use Rattle.std.proofs.lemmas.Result.{err_from_is_err_and}
 use Rattle.script.specs.Requests.{request_said}
 use Rattle.script.specs.declared.script_line.Said.TheVariants as Says
 use Rattle.job.specs.declared.fault.Fault.TheVariants as Faults
-use Rattle.script.proofs.LineSteps.{begins_in_hand, end_behind, end_whole, end_within, is_begun, goes_on, goes_past, goes_no_further, few_further, goes_wrong, ends_early, ends_well, next_in_hand, past_hand, stops}
+use Rattle.script.proofs.LineSteps.{begins_in_hand, end_behind, end_whole, end_within, is_begun, goes_on, goes_past, goes_no_further, few_further, goes_wrong, ends_early, ends_well, next_in_hand, past_answered, past_hand, command_next, stops}
 use Rattle.script.proofs.script_run.run_lines.Goals.{then-not-rests+in_ok-put_answers, else-not-rests}
 use Rattle.script.proofs.script_run.run_lines.Goals as goal
 
@@ -30,7 +30,7 @@ plain-preserved g c =
     record {
       running = λ read is lines all count i.
           let e = ap (request_said (read (words_of (take c.in-Some.length c.plain.rest.now)))) line.says in
-          let a = next_in_hand g.R.Read.remaining lines _ _ _ _ _ _ _ c.plain.invariant.front all count c.plain.invariant.few c.in-Some.ensures.some line c.in-Some.ensures.short in
+          let a = next_in_hand g.R.Read.remaining lines _ _ _ _ _ _ c.plain.invariant.front all count c.plain.invariant.few c.in-Some.ensures.some line.ends (omega (arith, c.in-Some.ensures.short)) in
           let run = c.plain.invariant.running read is lines all count i in
           rw c.split_at.ensures.back (elim c.if-not-rests.branch [
             | then-not-rests+in_ok-put_answers w ↦ rw (w.port-is, w.summary-is, w.writer-is) (goes_on read _ _ _ _ _ _ _ _ _ _ _ _ run c.settling.ensures _ _ _ (Asks c.in-Some.event) a e (rw (c.rests.ensures.kept w.if-not-rests.true) at w.in_ok-put_answers.ensures))
@@ -46,7 +46,7 @@ returns-in_err-put_answers-clause-script g c = λ read is.
     let p = err_from_is_err_and c.from_residual.result c.from_residual.ensures.1 in
     let line = c.in-Some.ensures.line in
     let e = ap (request_said (read (words_of (take c.in-Some.length c.plain.rest.now)))) line.says in
-    let a = next_in_hand g.R.Read.remaining c.lines.lines _ _ _ _ _ _ _ c.plain.invariant.front c.hand-hand.ensures c.lines_left-most.ensures c.plain.invariant.few c.in-Some.ensures.some line c.in-Some.ensures.short in
+    let a = next_in_hand g.R.Read.remaining c.lines.lines _ _ _ _ _ _ c.plain.invariant.front c.hand-hand.ensures c.lines_left-most.ensures c.plain.invariant.few c.in-Some.ensures.some line.ends (omega (arith, c.in-Some.ensures.short)) in
     let done = rw (c.rests.ensures.kept c.if-not-rests.true) at c.in_err-put_answers.ensures in
     goes_no_further read _ _ _ _ _ _ _ _ _ _ _ _ (c.plain.invariant.running read is c.lines.lines c.hand-hand.ensures c.lines_left-most.ensures (c.lines.invariant read is)) c.settling.ensures _ (Asks c.in-Some.event) a e done.text (p.1 ∙ ap Err p.2)
 
@@ -146,7 +146,7 @@ pub returns-in_err-put_answers-in-Ok-Some-Asked-clause-few : goal.returns-in_err
 returns-in_err-put_answers-in-Ok-Some-Asked-clause-few g c = λ read is. few_further read c.args.until _ _ _ _ _ _ _ _ (c.plain.invariant.running read is c.lines.lines c.hand-hand.ensures c.lines_left-most.ensures (c.lines.invariant read is)) c.put_answers-in-Ok-Some-Asked.new.port c.in_err-put_answers-in-Ok-Some-Asked.ensures.few
 
 pub returns-in_err-put_tc-in-Ok-Some-Tc-clause-few : goal.returns-in_err-put_tc-in-Ok-Some-Tc-clause-few
-returns-in_err-put_tc-in-Ok-Some-Tc-clause-few g c = λ read is. few_further read c.args.until _ _ _ _ _ _ _ _ (c.plain.invariant.running read is c.lines.lines c.hand-hand.ensures c.lines_left-most.ensures (c.lines.invariant read is)) c.put_tc.new.port c.put_tc.ensures.few
+returns-in_err-put_tc-in-Ok-Some-Tc-clause-few g c = λ read is. few_further read c.args.until _ _ _ _ _ _ _ _ (c.plain.invariant.running read is c.lines.lines c.hand-hand.ensures c.lines_left-most.ensures (c.lines.invariant read is)) c.put_tc-in-Ok-Some-Tc.new.port c.put_tc-in-Ok-Some-Tc.ensures.few
 
 pub returns-in-Err-clause-few : goal.returns-in-Err-clause-few
 returns-in-Err-clause-few g c = λ read is. (c.plain.invariant.running read is c.lines.lines c.hand-hand.ensures c.lines_left-most.ensures (c.lines.invariant read is)).few
@@ -156,3 +156,31 @@ returns-in_err-end-clause-few g c = λ read is. few_further read c.args.until _ 
 
 pub returns-clause-few : goal.returns-clause-few
 returns-clause-few g c = λ read is. few_further read c.args.until _ _ _ _ _ _ _ _ (c.plain.invariant.running read is c.lines.lines c.hand-hand.ensures c.lines_left-most.ensures (c.lines.invariant read is)) c.end.new.port c.end.ensures.few
+
+pub put_tc-requires-in-Ok-Some-Tc : goal.put_tc-requires-in-Ok-Some-Tc
+put_tc-requires-in-Ok-Some-Tc g c = (search c.requires-raw, search c.requires-raw)
+
+pub end-requires : goal.end-requires
+end-requires g c = (search c.requires-raw, search c.requires-raw)
+
+pub returns-in_err-put_tc-clause-script : goal.returns-in_err-put_tc-clause-script
+returns-in_err-put_tc-clause-script g c = λ read is.
+    let p = err_from_is_err_and c.from_residual-in_err-put_tc.result c.from_residual-in_err-put_tc.ensures.1 in
+    let line = c.in-Some-command_in_hand.line.now in
+    let here = c.in-Some-command_in_hand.ensures in
+    let e : request_of read line ≡ Ok (Some (tc_request (read (words_of line)))) = ap (request_said (read (words_of line))) here.says in
+    let i = past_answered read _ g.R.Read.remaining _ _ _ _ _ _ _ _ _ _ _ _ _ (c.plain.invariant.running read is c.lines.lines c.hand-hand.ensures c.lines_left-most.ensures (c.lines.invariant read is)) c.plain.invariant.front c.hand-hand.ensures c.go_past.ensures.script in
+    let done = c.in_err-put_tc.ensures.answered read is in
+    goes_no_further read _ _ _ _ _ _ _ _ _ _ _ _ i c.settling.ensures _ (tc_request (read (words_of line))) (command_next g.R.Read.remaining c.go_past.new.self line here) e done.text (p.1 ∙ ap Err p.2)
+
+pub returns-in_err-put_tc-clause-few : goal.returns-in_err-put_tc-clause-few
+returns-in_err-put_tc-clause-few g c = λ read is. few_further read c.args.until _ _ _ _ _ _ _ _ (c.plain.invariant.running read is c.lines.lines c.hand-hand.ensures c.lines_left-most.ensures (c.lines.invariant read is)) c.put_tc.new.port c.put_tc.ensures.few
+
+pub lines-preserved-in-Some-command_in_hand : goal.lines-preserved-in-Some-command_in_hand
+lines-preserved-in-Some-command_in_hand g c = λ read is.
+    let line = c.in-Some-command_in_hand.line.now in
+    let here = c.in-Some-command_in_hand.ensures in
+    let e : request_of read line ≡ Ok (Some (tc_request (read (words_of line)))) = ap (request_said (read (words_of line))) here.says in
+    let i = past_answered read _ g.R.Read.remaining _ _ _ _ _ _ _ _ _ _ _ _ _ (c.plain.invariant.running read is c.lines.lines c.hand-hand.ensures c.lines_left-most.ensures (c.lines.invariant read is)) c.plain.invariant.front c.hand-hand.ensures c.go_past.ensures.script in
+    let a = subst (λ t. Advances (script_left g.R.Read.remaining c.go_past.new.self) (Ok true) (c.go_past.new.self.breaks + 0 + 1) line t) (sym c.go_past-in-Some-command_in_hand.ensures.script) (command_next g.R.Read.remaining c.go_past.new.self line here) in
+    goes_on read _ _ _ _ _ _ _ _ _ _ _ _ i c.settling.ensures _ _ _ (tc_request (read (words_of line))) a e (c.in_ok-put_tc.ensures.answered read is)
