@@ -1,5 +1,5 @@
 -- The command that has a role.
-use Rattle.std.proofs.Common.{◌≡◌, ◌<◌, Bool, true, List, length, Option, Some, None, if◌then◌else◌, slice_index_or, ap, ◌∙◌}
+use Rattle.std.proofs.Common.{◌≡◌, ◌<◌, Bool, true, List, length, Some, None, if◌then◌else◌, slice_index_or, ap, ◌∙◌}
 use Rattle.std.proofs.lemmas.List.{get_or_default}
 use Rattle.accepted_commands.specs.Words.{AcceptedCommand, Delete, kept_in}
 use Rattle.accepted_commands.specs.declared.roles.Role.{Role}

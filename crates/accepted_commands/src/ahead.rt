@@ -186,6 +186,7 @@ fn through_lead<'a>(
     moment: u128,
     pending: &AcceptedCommand,
     announced: &'a AcceptedCommand,
+    held_next: Option<u128>,
     resumed: &'a Option<Position>,
 ) -> Ahead<'a>
     requires usable { ForSome (command_of in_force) IsUsable }
@@ -193,6 +194,7 @@ fn through_lead<'a>(
     requires announced { IsUsable (accepted_in announced.now) }
     requires last { IsFirst announced.now }
     requires held { held_from ≡ held_under (command_of in_force) (Some (accepted_in pending.now)) }
+    requires next { held_next ≡ held_under (command_of in_force) (Some (accepted_in announced.now)) }
     requires stands { Stands (command_of in_force) (Some (accepted_in pending.now)) moment (position_lent in_force) }
     requires resumes { Stands (command_of in_force) (Some (accepted_in announced.now)) (accepted_in announced.now).lead resumed.now }
     requires near { moment ≤ (accepted_in announced.now).lead }
@@ -215,7 +217,7 @@ fn through_lead<'a>(
                 in_force,
                 resumed.as_ref(),
                 lead,
-                held_under(in_force, Some(announced)),
+                held_next,
                 Some(announced.change()),
             )),
             last: Some(leg_from_change(announced, None, None)),
@@ -237,8 +239,7 @@ pub fn resumed(slots: &CommandSlots, visits: &mut Visits) -> Option<Position>
         return None;
     }
     let list = list_in(slots.in_force())?;
-    let held_from = list.held_from(Some(announced));
-    Some(list.position_at(held_from, announced.lead(), visits))
+    Some(list.position_at(slots.held_next(), announced.lead(), visits))
 }
 
 /// The legs of the commands that count.
@@ -256,17 +257,17 @@ pub fn legs_ahead<'a>(slots: &'a CommandSlots, resumed: &'a Option<Position>) ->
     match slots.pending() {
         None => match slots.announced() {
             None => alone(in_force, moment),
-            Some(announced) => {
-                let held_from = held_under(in_force, Some(announced));
-                into_change(in_force, held_from, moment, announced)
-            }
+            Some(announced) => into_change(in_force, slots.held_next(), moment, announced),
         },
         Some(pending) => match slots.announced() {
             None => into_change(in_force, held_from, moment, pending),
             Some(announced) => if pending.change() <= announced.lead() {
                 through_change(in_force, held_from, moment, pending, announced)
             } else {
-                through_lead(in_force, held_from, moment, pending, announced, resumed)
+                let held_next = slots.held_next();
+                through_lead(
+                    in_force, held_from, moment, pending, announced, held_next, resumed,
+                )
             },
         },
     }

@@ -1,5 +1,5 @@
 //! Which commands are in force, pending and announced, each in a place of its own.
-ghost use Rattle.std.specs.Prelude.{◌≡◌, ℕ, Option, false, ◌*◌, ◌+◌, ◌<◌, ◌≤◌, None, Some, option_map};
+ghost use Rattle.std.specs.Prelude.{◌≡◌, ℕ, Option, false, ◌*◌, ◌+◌, ◌<◌, ◌≤◌, IsTrue, None, Some, option_map};
 ghost use Rattle.std.specs.Option.{ForSome};
 ghost use Rattle.accepted_commands.specs.Words.{greatest_lead, greatest_moment, IsSchedule, accepted_at, deletion_at, entry_count, plan_of, start_of, BeginsAtMost, more, Accepted, IsUsable, accepted_in, settled_at, EndsSo, IsFirst, Stands, StandsHeld, boundary_in_force, held_under, option_position, shown_by, AreKept, IsLent, commands_at, kept_in};
 
@@ -118,18 +118,23 @@ impl Roles {
     }
 
     /// Goes on to a moment, in picoseconds: a command that is replaced before its change, or that another follows in
-    /// force, is dropped. The list in force stands where it stood.
-    pub fn settle(&mut self, t: u128)
+    /// force, is dropped. The list in force stands where it stood. Answers true only where nothing happens but that the
+    /// command that was announced is pending from now on.
+    pub fn settle(&mut self, t: u128) -> bool
         requires kept { (m : ℕ) × (m ≤ t) × AreKept m self.old }
         requires within { t ≤ greatest_moment }
         ensures value { commands_at t self.new ≡ settled_at (commands_at t self.old) t }
         ensures kept { AreKept t self.new }
+        ensures next { IsTrue result → self.new ≡ record self.old { pending = self.old.announced; announced = None } }
     {
+        let mut is_next = false;
         if let Some(announced) = self.announced() {
             if announced.lead() <= t {
+                is_next = true;
                 if let Some(pending) = self.pending() {
                     if pending.change() <= announced.lead() {
                         self.enforce();
+                        is_next = false;
                     }
                 }
                 self.pend();
@@ -138,8 +143,10 @@ impl Roles {
         if let Some(pending) = self.pending() {
             if pending.change() <= t {
                 self.enforce();
+                return false;
             }
         }
+        is_next
     }
 
     /// Announces the command of a schedule that is accepted for a lead moment; the change moment of that command. Both

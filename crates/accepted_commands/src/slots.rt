@@ -9,13 +9,15 @@ use crate::under::held_under;
 use gate_list::{Schedule, Visits};
 use std::marker::Model;
 
-/// The moment now, and the commands in force, pending and announced then. The moment from which the list in force is
-/// held for the change that is pending is kept, since it takes a division.
+/// The moment now, and the commands in force, pending and announced then. The moments from which the list in force is
+/// held for the change that is pending, and from which it would be for the command that is announced, are kept, since
+/// each takes a division.
 #[derive(Drop)]
 pub struct CommandSlots {
     moment: u128,
     roles: Roles,
     held_from: Option<u128>,
+    held_next: Option<u128>,
 }
 
 /// A contract sees the commands with the moment, and where the list in force stands.
@@ -29,7 +31,7 @@ impl Model for CommandSlots {
 
     ghost view = { λ s. record { commands = commands_at s.moment s.roles; position = option_position s.roles.in_force } };
 
-    ghost invariant = { λ s. AreKept s.moment s.roles × (s.held_from ≡ held_under (option_map accepted_in s.roles.in_force) (option_map accepted_in s.roles.pending)) };
+    ghost invariant = { λ s. AreKept s.moment s.roles × (s.held_from ≡ held_under (option_map accepted_in s.roles.in_force) (option_map accepted_in s.roles.pending)) × (s.held_next ≡ held_under (option_map accepted_in s.roles.in_force) (option_map accepted_in s.roles.announced)) };
 }
 
 /// Whether a command, if there is one, changes the gates after a moment, in picoseconds.
@@ -63,6 +65,7 @@ impl CommandSlots {
             moment: 0,
             roles: Roles::empty(),
             held_from: None,
+            held_next: None,
         }
     }
 
@@ -105,6 +108,14 @@ impl CommandSlots {
         self.held_from
     }
 
+    /// The moment from which the list in force would be held for the command that is announced, in picoseconds, if one
+    /// is.
+    pub fn held_next(&self) -> Option<u128>
+        ensures { result ≡ held_under self.now.commands.in_force self.now.commands.announced }
+    {
+        self.held_next
+    }
+
     /// Goes on to a moment, in picoseconds: a command that is replaced before its change, or that another follows in
     /// force, is dropped. The list in force stands where it stood.
     fn settle(&mut self, t: u128)
@@ -113,9 +124,16 @@ impl CommandSlots {
         ensures value { self.new.commands ≡ settled_at self.old.commands t }
         ensures sound { AreCommands self.new.commands }
     {
-        self.roles.settle(t);
+        let is_next = self.roles.settle(t);
         self.moment = t;
-        self.held_from = held_under(self.roles.in_force(), self.roles.pending());
+        if is_next {
+            // The same list is in force, and the same change is to come.
+            self.held_from = self.held_next;
+            self.held_next = None;
+        } else {
+            self.held_from = held_under(self.roles.in_force(), self.roles.pending());
+            self.held_next = held_under(self.roles.in_force(), self.roles.announced());
+        }
     }
 
     /// Goes on to a moment, in picoseconds, up to which no command comes: nothing but the moment changes.
@@ -232,7 +250,9 @@ impl CommandSlots {
     {
         // What holds of the slots is used below.
         let _ = &self.moment;
-        self.roles.announce_list(schedule, lead, visits)
+        let change = self.roles.announce_list(schedule, lead, visits);
+        self.held_next = held_under(self.roles.in_force(), self.roles.announced());
+        change
     }
 
     /// Announces a deletion whose lead moment, in picoseconds, is to come.
@@ -245,5 +265,6 @@ impl CommandSlots {
         ensures sound { AreCommands self.new.commands }
     {
         self.roles.announce_deletion(lead);
+        self.held_next = held_under(self.roles.in_force(), self.roles.announced());
     }
 }

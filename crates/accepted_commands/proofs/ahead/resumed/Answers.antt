@@ -4,13 +4,6 @@ use Rattle.accepted_commands.specs.Words.{Accepted, IsUsable, command_of, IsList
 use Rattle.accepted_commands.proofs.UnderLaws.{list_sound}
 use Rattle.accepted_commands.proofs.ahead.resumed.Goals as goal
 
-pub held_from-held_from-requires-clause-sound : goal.held_from-held_from-requires-clause-sound
-held_from-held_from-requires-clause-sound c =
-    let f = command_of c.in_force.result in
-    let position = position_lent c.in_force.result in
-    list_sound f position c.in_ok-list.list.now (subst (IsListOf f position) c.in_ok-list.was c.list_in.ensures)
-    (subst (λ (g : Option Accepted). ForSome g IsUsable) (sym c.in_force.ensures.command) c.requires.in_force_usable)
-
 pub position_at-requires-clause-sound : goal.position_at-requires-clause-sound
 position_at-requires-clause-sound c =
     let f = command_of c.in_force.result in

@@ -1,4 +1,4 @@
-use Rattle.std.proofs.Common.{Option, ap, sym, ◌∙◌, subst, option_map}
+use Rattle.std.proofs.Common.{ap, sym, ◌∙◌, subst, option_map}
 use Rattle.accepted_commands.specs.Words.{Accepted, gates, history_of, IsFlat, boundary_in_force, earlier}
 use Rattle.accepted_commands.proofs.CommandLaws.{edge_events, flat_now}
 use Rattle.accepted_commands.proofs.edge.edge_of.Goals as goal
