@@ -1,7 +1,7 @@
 //! The lines of frames, which are made where they are written.
 
 ghost use Rattle.std.specs.Prelude.{◌≡◌, ◌<◌, ◌≤◌, ◌+◌, ◌++◌, length, take, decimal};
-ghost use Rattle.octet_writer.specs.declared.put_line.TheConstants.{LINE_ROOM};
+ghost use Rattle.octet_writer.specs.declared.line_writer.TheConstants.{LINE_ROOM};
 ghost use Rattle.decimal_text.specs.declared.digits.TheConstants.{EIGHT_DIGITS};
 ghost use Rattle.decimal_text.specs.Placed.{Placed};
 ghost use Rattle.answer_text.specs.Lines.{dropped_line, installed_line, queued_line, start_line, start_text};

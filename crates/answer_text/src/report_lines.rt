@@ -1,7 +1,7 @@
 //! The lines of numbers that a query is answered by, which are made where they are written.
 
 ghost use Rattle.std.specs.Prelude.{◌≡◌, ◌≤◌, ◌+◌, length, take};
-ghost use Rattle.octet_writer.specs.declared.put_line.TheConstants.{LINE_ROOM};
+ghost use Rattle.octet_writer.specs.declared.line_writer.TheConstants.{LINE_ROOM};
 ghost use Rattle.answer_text.specs.Lines.{sent_text, dropped_text, waiting_text};
 ghost use Rattle.answer_text.specs.Reports.{now_line};
 

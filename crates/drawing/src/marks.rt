@@ -492,7 +492,7 @@ fn put_change_lines<W: Write>(writer: &mut W, left: u64, right: u64) -> Result<(
 
 /// Writes a change of the schedule, with its name where there is room, and answers from where on there is room for the
 /// next name. The places are in hundredths of a pixel.
-fn put_change<W: Write>(
+fn put_change_mark<W: Write>(
     writer: &mut W,
     page: &Page,
     shape: &Shape,
@@ -514,7 +514,7 @@ fn put_change<W: Write>(
 }
 
 /// Writes a line for each change of the schedule, with its name where there is room.
-pub(crate) fn put_changes<W: Write>(
+pub(crate) fn put_change_marks<W: Write>(
     writer: &mut W,
     page: &Page,
     shapes: &[Shape],
@@ -523,7 +523,7 @@ pub(crate) fn put_changes<W: Write>(
 {
     let mut free = 0;
     for shape in shapes {
-        free = put_change(writer, page, shape, free)?;
+        free = put_change_mark(writer, page, shape, free)?;
     }
     Ok(())
 }

@@ -8,7 +8,7 @@ ghost use Rattle.drawing.specs.Axis.{axis_step, axis_text, counted, origin_name,
 ghost use Rattle.drawing.specs.Picture.{all_bands, class_bands, class_name, class_names, foot_text, ground_text, has_mixed, head_text, height_of, is_mixed, is_seen, is_seen_joined, lane_text, lanes_text, legend, legend_mark, legend_path, legend_rect, legend_text, marks_text, mixed_legend, name_text, names_text, picture_text, size_text, speed_text, style_text, title_text, wire_name};
 
 use crate::marks::{
-    MIXED, digits, put_bands, put_bars, put_changes, put_drops, put_label, put_line, put_rect,
+    MIXED, digits, put_bands, put_bars, put_change_marks, put_drops, put_label, put_line, put_rect,
     put_waits,
 };
 use crate::page::{
@@ -557,7 +557,7 @@ fn put_marks<A: Allocator, W: Write>(
 {
     put_all_bands(writer, page, bands)?;
     put_lanes(writer, page, shapes)?;
-    put_changes(writer, page, shapes.changes())
+    put_change_marks(writer, page, shapes.changes())
 }
 
 /// Writes the legend, and the end of the picture.

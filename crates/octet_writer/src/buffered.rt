@@ -8,8 +8,8 @@ ghost use Rattle.octet_writer.specs.Buffered.{writer_buffer, writer_capacity, wr
 
 use crate::WriteFault;
 use crate::held::Held;
-use crate::put_line::{HEAD, Line, PutLine, put_apart, put_both};
-use crate::write_out::write_out;
+use crate::line_writer::{HEAD, Line, PutLine, put_apart, put_both};
+use crate::output::write_out;
 use std::alloc::{Allocator, Global};
 use std::io::{self, ErrorKind, Write};
 

@@ -1,9 +1,9 @@
 //! The octets that a writer keeps back.
 
 ghost use Rattle.std.specs.Prelude.{◌≡◌, ◌+◌, ◌-◌, ◌≤◌, ◌++◌, length, take, drop, true, false, IfOk, vec_len};
-ghost use Rattle.octet_writer.specs.declared.put_line.TheConstants.{HEAD, LINE_ROOM};
+ghost use Rattle.octet_writer.specs.declared.line_writer.TheConstants.{HEAD, LINE_ROOM};
 
-use crate::put_line::{HEAD, LINE_ROOM, Line};
+use crate::line_writer::{HEAD, LINE_ROOM, Line};
 use std::alloc::{AllocError, Allocator};
 
 /// The first `filled` of these octets are held. Their length is the most that can be.

@@ -7,11 +7,11 @@ ghost use Rattle.octet_writer.specs.Writes.{Writes};
 
 mod buffered;
 mod held;
-mod put_line;
-mod write_out;
+mod line_writer;
+mod output;
 
 pub use buffered::BufWriter;
-pub use put_line::{HEAD, LINE_ROOM, Line, PutLine};
+pub use line_writer::{HEAD, LINE_ROOM, Line, PutLine};
 use std::io::Write;
 
 /// A write failed, or took nothing.

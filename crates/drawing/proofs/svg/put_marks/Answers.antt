@@ -25,4 +25,4 @@ returns g c =
     let s0 = sent_none (g.W.Write.contents c.args.writer.now) (marks_text c.args.page.now c.args.bands.now c.args.shapes.now) in
     let s1 = sent_more _ _ (lanes_text c.args.page.now c.args.shapes.now ++ changes_text c.args.page.now 0 c.args.shapes.now.changes.shapes) s0 refl c.in_ok-put_all_bands.ensures in
     let s2 = sent_more _ _ (changes_text c.args.page.now 0 c.args.shapes.now.changes.shapes) s1 refl c.in_ok-put_lanes.ensures in
-    sent_last c.put_changes.result _ (sent_as _ (ap (λ (xs : List Shape). changes_text c.args.page.now 0 xs) (sym c.changes.ensures)) s2) c.put_changes.ensures
+    sent_last c.put_change_marks.result _ (sent_as _ (ap (λ (xs : List Shape). changes_text c.args.page.now 0 xs) (sym c.changes.ensures)) s2) c.put_change_marks.ensures

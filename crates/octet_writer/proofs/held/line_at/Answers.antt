@@ -1,7 +1,7 @@
 use Rattle.std.proofs.Common.{◌≡◌, ℕ, List, ◌+◌, ◌≤◌, ◌++◌, length, take, sym, ap, ◌∙◌, arith, rules, length-take-le}
 use Rattle.std.proofs.Math.Seq.{take-append-add, take-take}
 use Rattle.std.proofs.lemmas.Slice.{take-put_mid}
-use Rattle.octet_writer.specs.declared.put_line.TheConstants.{LINE_ROOM}
+use Rattle.octet_writer.specs.declared.line_writer.TheConstants.{LINE_ROOM}
 use Rattle.octet_writer.proofs.held.line_at.Goals as goal
 
 -- of a front and a room that stand in a list, the front and the front of the room

@@ -1,6 +1,6 @@
 use Rattle.std.proofs.Common.{◌+◌, ◌++◌, length, take, ap, ◌∙◌, rules}
 use Rattle.std.proofs.lemmas.List.{places, with_items_is}
-use Rattle.octet_writer.specs.declared.put_line.TheConstants.{HEAD}
+use Rattle.octet_writer.specs.declared.line_writer.TheConstants.{HEAD}
 use Rattle.octet_writer.proofs.held.Held.append_headed.Goals as goal
 
 pub returns-clause-held : goal.returns-clause-held

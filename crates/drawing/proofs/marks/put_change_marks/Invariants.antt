@@ -1,7 +1,7 @@
 use Rattle.std.proofs.Common.{drop}
 use Rattle.octet_writer.specs.Writes.{Sent}
 use Rattle.drawing.specs.Marks.{changes_text}
-use Rattle.drawing.proofs.marks.put_changes.Given as goal
+use Rattle.drawing.proofs.marks.put_change_marks.Given as goal
 
 abbrev pub invariant-loop-shape : goal.invariant-loop-shape
 invariant-loop-shape g l =

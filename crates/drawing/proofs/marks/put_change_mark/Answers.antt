@@ -7,7 +7,7 @@ use Rattle.picture.specs.declared.span.Shape.{Shape}
 use Rattle.picture.specs.declared.span.Span.{Span}
 use Rattle.drawing.specs.Marks.{at_x, change_lines, change_name, change_of, change_text, name_of_change}
 use Rattle.drawing.specs.declared.page.Page.{Page}
-use Rattle.drawing.proofs.marks.put_change.Goals as goal
+use Rattle.drawing.proofs.marks.put_change_mark.Goals as goal
 
 -- a change of which this time is shown, between these places
 shown_at : (page : Page) (free : ℕ) (shape : Shape) (cut : Option Span) (s : Span) (left right : ℕ) → cut ≡ cut_to page.viewport shape.span → cut ≡ Some s → left ≡ at_x page s.from → right ≡ at_x page s.to

@@ -2,7 +2,7 @@
 
 ghost use Rattle.std.specs.Prelude.{◌≡◌, ◌≤◌, ◌++◌, ℕ, List, length, take};
 ghost use Rattle.octet_writer.specs.Writes.{Writes};
-ghost use Rattle.octet_writer.specs.declared.put_line.TheConstants.{HEAD, LINE_ROOM};
+ghost use Rattle.octet_writer.specs.declared.line_writer.TheConstants.{HEAD, LINE_ROOM};
 
 use crate::{WriteFault, put};
 use std::alloc::Allocator;
