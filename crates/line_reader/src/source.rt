@@ -9,7 +9,7 @@ use std::alloc::{AllocError, Allocator, Global};
 use std::io::Read;
 
 /// How many octets a read asks for.
-pub(crate) const CHUNK: usize = 65_536;
+pub(crate) const CHUNK: usize = 131_072;
 
 /// A read failed.
 #[derive(Clone, Copy, Debug, PartialEq, Eq)]
