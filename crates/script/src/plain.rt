@@ -115,7 +115,9 @@ fn is_command(line: &[u8]) -> bool
     }
 }
 
-/// The next line, where it is a command and stands whole in hand.
+/// The next line, where it is a command and stands whole in hand. Apart, so that the loop over plain lines, which comes
+/// before it, stays small.
+#[inline(never)]
 pub(crate) fn command_in_hand<R: Read + Drop, A: Allocator>(
     lines: &LineReader<R, A>,
 ) -> Option<&[u8]>
