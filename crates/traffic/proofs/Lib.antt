@@ -8,6 +8,7 @@ mod FrameLaws
 mod LineLaws
 mod MergeLaws
 mod MergedLaws
+mod NodeLaws
 mod OrderLaws
 mod OutcomeLaws
 mod ReadLaws

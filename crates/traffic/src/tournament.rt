@@ -1,7 +1,7 @@
 //! Which of many streams comes next, found by a tournament: a frame costs as many comparisons as the streams have bits
 //! to count them.
 
-ghost use Rattle.std.specs.Prelude.{◌≡◌, ◌<◌, ◌+◌, ℕ, None, length, get_or, drop, slice_set, IfOk, IfSome};
+ghost use Rattle.std.specs.Prelude.{◌≡◌, ◌<◌, ◌≤◌, ◌+◌, ℕ, None, nat_lt, if◌then◌else◌, length, get_or, drop, slice_set, IfOk, IfSome};
 ghost use Rattle.traffic.specs.Words.{IsBefore, IsNode, IsTournament, first_of_two, first_place, found_at, head_of, heads_from, is_before};
 
 use crate::turn::Turn;
@@ -9,7 +9,7 @@ use std::alloc::{AllocError, Allocator};
 use std::marker::Model;
 
 /// A stream by its place in the table, and the moment of its next frame, in picoseconds.
-#[derive(Clone, Copy, Debug, PartialEq, Eq)]
+#[derive(Clone, Copy)]
 pub(crate) struct Head {
     /// The moment.
     pub moment: u128,
@@ -17,32 +17,35 @@ pub(crate) struct Head {
     pub place: usize,
 }
 
-/// The moment of a stream that has no next frame: after all moments, so that such a stream comes last by its moment.
+/// How many places there are: more than the streams of any table.
+const PLACES: u128 = 4_294_967_296;
+
+/// The key of a stream that has no next frame: after all others.
 const NEVER: u128 = u128::MAX;
 
-/// A stream, if it has a next frame.
-#[derive(Clone, Copy, Debug)]
+/// A stream, if it has a next frame: its moment and its place in one number, whose order is that of moments, and at one
+/// moment that of places.
+#[derive(Clone, Copy)]
 pub(crate) struct Node {
-    moment: u128,
-    place: usize,
+    key: u128,
 }
 
 /// A contract sees the head of the stream, or none.
 impl Model for Node {
-    ghost use Rattle.std.specs.Prelude.{◌≡◌, Option};
-    ghost use Rattle.traffic.specs.Kept.{head_kept, moment_back, moment_kept, place_back, place_kept};
+    ghost use Rattle.std.specs.Prelude.{◌≡◌, ◌≤◌, Option};
+    ghost use Rattle.traffic.specs.Kept.{head_kept, key_back, key_kept};
     ghost use Rattle.traffic.specs.declared.tournament.Head.{Head};
     ghost use Rattle.traffic.specs.declared.tournament.TheConstants.{NEVER};
 
     ghost Value = { Option Head };
 
-    ghost view = { λ n. head_kept n.moment n.place };
+    ghost view = { λ n. head_kept n.key };
 
-    ghost invariant = { λ n. n.moment ≡ NEVER → n.place ≡ 0 };
+    ghost invariant = { λ n. n.key ≤ NEVER };
 
-    ghost inverse = { λ head. record { moment = moment_kept head; place = place_kept head } };
+    ghost inverse = { λ head. record { key = key_kept head } };
 
-    ghost inverse_ok = { λ n h. Prim.rw (moment_back n.moment n.place, place_back n.moment n.place h) };
+    ghost inverse_ok = { λ n h. Prim.rw (key_back n.key) };
 }
 
 impl Node {
@@ -50,37 +53,46 @@ impl Node {
     fn none() -> Node
         ensures { result ≡ None }
     {
-        Node {
-            moment: NEVER,
-            place: 0,
-        }
+        Node { key: NEVER }
     }
 
     /// The head of the stream, if it has a next frame.
     fn head(&self) -> Option<Head>
-        ensures { result ≡ self.now }
+        ensures head { result ≡ self.now }
+        ensures few { IfSome result (λ head. head.place < PLACES) }
     {
-        if self.moment == NEVER {
+        if self.key == NEVER {
             return None;
         }
         Some(Head {
-            moment: self.moment,
-            place: self.place,
+            moment: self.key / PLACES,
+            place: (self.key % PLACES) as usize,
         })
     }
 }
 
 /// A stream at a place.
 fn head_of(place: usize, turn: &Turn) -> Node
+    requires few { place < PLACES }
     ensures { result ≡ head_of place turn.now }
 {
     match turn.next() {
         Some(coming) => Node {
-            moment: coming.moment,
-            place,
+            key: coming.moment * PLACES + place as u128,
         },
         None => Node::none(),
     }
+}
+
+/// The lesser of two numbers, with no branch: a processor can't guess which of two streams comes first.
+#[inline(always)]
+fn lesser(left: u128, right: u128) -> u128
+    ensures { result ≡ (if nat_lt right left then right else left) }
+{
+    // (all ones where the right one is less: of words, since of the whole number the compiler makes a branch again)
+    let word = 0u64.wrapping_sub(u64::from(right < left));
+    let mask = u128::from(word) * 0x1_0000_0000_0000_0001;
+    left.wrapping_sub(left.wrapping_sub(right) & mask)
 }
 
 /// The first of two.
@@ -88,10 +100,8 @@ fn head_of(place: usize, turn: &Turn) -> Node
 fn first_of_two(left: Node, right: Node) -> Node
     ensures { result ≡ first_of_two left right }
 {
-    if right.moment < left.moment || (right.moment == left.moment && right.place < left.place) {
-        right
-    } else {
-        left
+    Node {
+        key: lesser(left.key, right.key),
     }
 }
 
@@ -117,7 +127,8 @@ fn climb(nodes: &mut [Node], streams: usize, place: usize, head: Node)
 
 /// The streams among the nodes.
 fn put_leaves(nodes: &mut [Node], turns: &[Turn])
-    requires { length nodes.old ≡ length turns.now + length turns.now }
+    requires long { length nodes.old ≡ length turns.now + length turns.now }
+    requires few { length turns.now ≤ PLACES }
     ensures long { length nodes.new ≡ length nodes.old }
     ensures leaves { drop (length turns.now) nodes.new ≡ heads_from 0 turns.now }
 {
@@ -142,13 +153,14 @@ fn put_inner(nodes: &mut [Node], streams: usize)
     }
 }
 
-/// The tournament of streams.
+/// The tournament of streams; of more streams than there are places it fails as where memory is short.
 pub(crate) fn tournament<A: Allocator>(alloc: A, turns: &[Turn]) -> Result<Vec<Node, A>, AllocError>
     ensures { IfOk result (λ nodes. IsTournament turns.now nodes.items) }
 {
-    let Some(count) = turns.len().checked_mul(2) else {
+    if turns.len() as u128 > PLACES {
         return Err(AllocError);
-    };
+    }
+    let count = turns.len() * 2;
     let mut nodes = vec![in alloc; Node::none(); count]?;
     let slice = nodes.as_mut_slice();
     put_leaves(slice, turns);
@@ -161,6 +173,7 @@ pub(crate) fn first(nodes: &[Node], turns: &[Turn]) -> Option<Head>
     requires { IsTournament turns.now nodes.now }
     ensures found { found_at result ≡ first_place 0 turns.now }
     ensures within { IfSome result (λ head. head.place < length turns.now) }
+    ensures few { IfSome result (λ head. head.place < PLACES) }
 {
     if turns.is_empty() {
         return None;
@@ -171,6 +184,7 @@ pub(crate) fn first(nodes: &[Node], turns: &[Turn]) -> Option<Head>
 /// Has the tournament follow what became of the stream at a place.
 pub(crate) fn follow(nodes: &mut [Node], turns: &[Turn], place: usize)
     requires place { place < length turns.now }
+    requires few { place < PLACES }
     requires before { IsBefore turns.now place nodes.old }
     ensures { IsTournament turns.now nodes.new }
 {

@@ -10,7 +10,7 @@ use crate::table::Stream;
 use wire_time::Frame;
 
 /// A frame that is to come.
-#[derive(Clone, Copy, Debug, PartialEq, Eq)]
+#[derive(Clone, Copy)]
 pub(crate) struct Coming {
     /// When it comes, in picoseconds.
     pub moment: u128,
@@ -40,15 +40,12 @@ fn frame_after(stream: &Stream, come: u32) -> Option<Coming>
 }
 
 /// A stream, how many of its frames have come, and the one that comes next.
-#[derive(Clone, Copy, Debug)]
+#[derive(Clone, Copy)]
 pub(crate) struct Turn {
     stream: Stream,
     come: u32,
-    next: Option<Coming>,
     ghost fits: { IsStream stream },
     ghost few: { come ≤ stream.count },
-    ghost known: { next ≡ next_of_stream stream come },
-    ghost within: { ForSome next (λ f. f.moment ≤ greatest_moment) },
 }
 
 impl Turn {
@@ -61,12 +58,7 @@ impl Turn {
         requires { IsStream stream }
         ensures { left_of result ≡ frames_of stream }
     {
-        let next = frame_after(&stream, 0);
-        Turn {
-            stream,
-            come: 0,
-            next,
-        }
+        Turn { stream, come: 0 }
     }
 
     /// The next frame of the stream, if there is one.
@@ -74,7 +66,7 @@ impl Turn {
         ensures next { result ≡ next_of self.now }
         ensures within { ForSome result (λ f. f.moment ≤ greatest_moment) }
     {
-        self.next
+        frame_after(&self.stream, self.come)
     }
 
     /// Takes the next frame of the stream, if there is one.
@@ -85,13 +77,8 @@ impl Turn {
         if self.come == self.stream.count {
             return None;
         }
-        let next = self.next;
-        let come = self.come + 1;
-        *self = Turn {
-            stream: self.stream,
-            come,
-            next: frame_after(&self.stream, come),
-        };
-        next
+        let coming = frame_after(&self.stream, self.come);
+        self.come += 1;
+        coming
     }
 }

@@ -10,11 +10,11 @@ returns-then-is_empty-clause-found c = none_of_none c.args.turns.now (eqb-true (
 pub returns-clause-found : goal.returns-clause-found
 returns-clause-found c =
     let some = not_empty c.args.turns.now (sym c.is_empty.ensures ∙ c.if-is_empty.false) in
-    let root = c.head.ensures ∙ node_read c.args.nodes.now 1 _ c.index-nodes-1.is (omega (arith, some, c.requires.long)) in
+    let root = c.head.ensures.head ∙ node_read c.args.nodes.now 1 _ c.index-nodes-1.is (omega (arith, some, c.requires.long)) in
     ap found_at root ∙ root_found c.args.turns.now c.args.nodes.now c.requires some
 
 pub returns-clause-within : goal.returns-clause-within
 returns-clause-within c =
     let some = not_empty c.args.turns.now (sym c.is_empty.ensures ∙ c.if-is_empty.false) in
-    let root = c.head.ensures ∙ node_read c.args.nodes.now 1 _ c.index-nodes-1.is (omega (arith, some, c.requires.long)) in
+    let root = c.head.ensures.head ∙ node_read c.args.nodes.now 1 _ c.index-nodes-1.is (omega (arith, some, c.requires.long)) in
     found_within c.args.turns.now _ (ap found_at root ∙ root_found c.args.turns.now c.args.nodes.now c.requires some)

@@ -13,7 +13,7 @@ leaves-preserved c =
     let i = c.leaves.invariant in
     let place = c.leaves.place in
     let early : place < n = omega (arith, c.leaves-test.true) in
-    let room : n + place < length c.leaves.nodes = omega (arith, early, i.long, c.requires) in record {
+    let room : n + place < length c.leaves.nodes = omega (arith, early, i.long, c.requires.long) in record {
       long = length-set _ _ _ ∙ i.long;
       put = λ k below. elim (cases_eq k place) [
         | inl same ↦ ap (λ j. get_or (slice_set c.leaves.nodes (n + place) c.head_of.result) (n + j) None) same
@@ -37,6 +37,6 @@ returns-clause-leaves c =
     let n = length turns in
     let nodes = c.leaves.nodes in
     let i = c.leaves.invariant in
-    let same : length (drop n nodes) ≡ length (heads_from 0 turns) = length-drop n nodes ∙ (let l : length nodes - n ≡ n = omega (arith, i.long, c.requires) in l) ∙ sym (heads_long 0 turns) in
+    let same : length (drop n nodes) ≡ length (heads_from 0 turns) = length-drop n nodes ∙ (let l : length nodes - n ≡ n = omega (arith, i.long, c.requires.long) in l) ∙ sym (heads_long 0 turns) in
     ext_get_or None (drop n nodes) (heads_from 0 turns) same
     (λ k below. get_or-drop n nodes k None ∙ i.put k (omega (arith, below, same, heads_long 0 turns, c.leaves-test.false)))

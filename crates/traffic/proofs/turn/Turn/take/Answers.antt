@@ -1,12 +1,9 @@
 use Rattle.std.proofs.Common.{◌≡◌, ◌<◌, ◌+◌, ◌-◌, ◌∷◌, [], Option, Some, None, arith, sym, subst, ◌∙◌}
 use Rattle.std.specs.Prelude.{MatchOption, IfNone}
-use Rattle.traffic.specs.Words.{frame_after, frames_after, left_of, Turn, Coming}
+use Rattle.traffic.specs.Words.{frame_after, frames_after, left_of, Coming}
 use Rattle.traffic.proofs.FrameLaws.{first_left, nothing_left}
 use Rattle.traffic.proofs.OrderLaws.{taken}
 use Rattle.traffic.proofs.turn.Turn.take.Goals as goal
-
-is_next : (t : Turn) → t.come < t.stream.count → t.next ≡ Some (frame_after t.stream t.come)
-is_next t less = t.known ∙ first_left t.stream t.come (t.stream.count - t.come) (omega (arith, less))
 
 pub returns-then-self-clause-left : goal.returns-then-self-clause-left
 returns-then-self-clause-left c =
@@ -18,10 +15,11 @@ pub returns-clause-left : goal.returns-clause-left
 returns-clause-left c =
     let t = c.args.self.now in
     let less : t.come < t.stream.count = omega (arith, t.few, c.if-self.false) in
-    let next = is_next t less in
+    let next = c.frame_after-coming.ensures.next in
     let left = frames_after t.stream (t.come + 1) (t.stream.count - (t.come + 1)) in
-    subst (λ o. MatchOption o (left_of t ≡ []) (λ f. left_of t ≡ f ∷ left)) (sym next)
-    (taken t.stream t.come (t.stream.count - t.come) (t.stream.count - (t.come + 1)) (frame_after t.stream t.come) (sym t.known ∙ next) (omega arith))
+    let is = next ∙ first_left t.stream t.come (t.stream.count - t.come) (omega (arith, less)) in
+    subst (λ o. MatchOption o (left_of t ≡ []) (λ f. left_of t ≡ f ∷ left)) (sym is)
+    (taken t.stream t.come (t.stream.count - t.come) (t.stream.count - (t.come + 1)) (frame_after t.stream t.come) (sym next ∙ is) (omega arith))
 
 not_none : (o : Option Coming) (f : Coming) (P : Type 0) → o ≡ Some f → IfNone o P
 not_none None f P e = absurd cc
@@ -31,4 +29,4 @@ pub returns-clause-same : goal.returns-clause-same
 returns-clause-same c =
     let t = c.args.self.now in
     let less : t.come < t.stream.count = omega (arith, t.few, c.if-self.false) in
-    not_none t.next (frame_after t.stream t.come) _ (is_next t less)
+    not_none _ (frame_after t.stream t.come) _ (c.frame_after-coming.ensures.next ∙ first_left t.stream t.come (t.stream.count - t.come) (omega (arith, less)))
