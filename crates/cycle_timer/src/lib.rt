@@ -3,7 +3,7 @@
 //! The contract is that of each call of `CycleTimer`, in the terms of specs/Cycle.antt.
 #![tactic(auto)]
 
-ghost use Rattle.std.specs.Prelude.{◌≡◌, ℕ, ◌+◌, ◌*◌, ◌<◌, ◌≤◌};
+ghost use Rattle.std.specs.Prelude.{◌≡◌, ℕ, ◌+◌, ◌*◌, ◌/◌, ◌<◌, ◌≤◌};
 ghost use Rattle.wire_time.specs.Moment.{greatest_moment};
 ghost use Rattle.cycle_timer.specs.Cycle.{begun_at, fired, retargeted, jumped};
 
@@ -30,6 +30,17 @@ impl Model for CycleTimer {
     ghost invariant = { λ t. (t.started < t.next_start) × (0 < t.length) × (t.length ≤ 4 * greatest_moment) };
 
     ghost inverse = { λ c. record { started = c.started; next_start = c.next_start; length = c.length } };
+}
+
+/// How long the whole cycles last that are over after so long. Mostly none is over, and a division takes long.
+fn whole_cycles(past: u128, length: u128) -> u128
+    requires { 0 < length }
+    ensures { result ≡ length * (past / length) }
+{
+    if past < length {
+        return 0;
+    }
+    length * (past / length)
 }
 
 impl CycleTimer {
@@ -92,7 +103,7 @@ impl CycleTimer {
         ensures holds { t < self.new.next_start }
         ensures whole { (k : ℕ) → self.old.started + self.old.length * k ≤ t → self.old.started + self.old.length * k ≤ self.new.started }
     {
-        self.started += self.length * ((t - self.started) / self.length);
+        self.started += whole_cycles(t - self.started, self.length);
         self.next_start = self.started + self.length;
     }
 }

@@ -137,6 +137,7 @@ pub(crate) fn front_of(number: u128) -> u128
 }
 
 /// Puts a number of more than 64 bits at a place, and answers where it ends.
+#[cold]
 #[inline(never)]
 fn put_long(number: u128, line: &mut [u8], at: usize) -> usize
     requires { at + NUMBER_ROOM ≤ length line.old }

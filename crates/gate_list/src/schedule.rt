@@ -1,7 +1,7 @@
 //! Schedules: a gate control list with its times, and what it says about open time.
 ghost use Rattle.std.specs.Prelude.{◌≡◌, ◌<◌, ◌≤◌, ℕ, ◌+◌, ◌*◌, ◌^◌, None, OnErr, OnOk, Some, length, max, slice_get, sum_by};
 ghost use Rattle.gate_list.specs.Closed.{closed_plan};
-ghost use Rattle.gate_list.specs.Gate.{Plan, IsSchedule, IsShownAt, in_ps, mask_since, prefix, change_of, boundary_from, plan_with, plan_fault, ok_unless, least_interval, first_shorter, keeps_apart, is_apart_in};
+ghost use Rattle.gate_list.specs.Gate.{Plan, IsSchedule, IsShownAt, cycle_of, in_ps, mask_since, prefix, change_of, boundary_from, plan_with, plan_fault, ok_unless, least_interval, first_shorter, keeps_apart, is_apart_in};
 ghost use Rattle.gate_list.specs.Open.{open_while};
 ghost use Rattle.gate_list.specs.Stay.{AreStays, AreClosed, TellOpenTime, TellsOpenTime, stay_from};
 ghost use Rattle.gate_list.specs.Visits.{one_more};
@@ -62,6 +62,18 @@ fn total_of(entries: &[Entry]) -> u64
         total += u64::from(entry.interval);
     }
     total
+}
+
+/// The cycle that is asked for, in nanoseconds: 0 asks for the sum of the intervals.
+fn cycle_of(entries: &[Entry], cycle_ns: u64) -> u64
+    requires { length entries.now ≤ MAX_ENTRIES }
+    ensures { result ≡ cycle_of entries.now cycle_ns }
+{
+    if cycle_ns == 0 {
+        total_of(entries)
+    } else {
+        cycle_ns
+    }
 }
 
 /// The least interval or cycle at a rate, in nanoseconds.
@@ -188,6 +200,21 @@ impl Schedule {
         }
     }
 
+    /// Why a list with these times, in nanoseconds, is no schedule, as `new` refuses it; no schedule is made.
+    pub fn fault(
+        list: &GateList,
+        base_ns: u64,
+        cycle_ns: u64,
+        extension_ns: u64,
+        rate: Rate,
+    ) -> Option<PlanFault>
+        ensures { result ≡ plan_fault rate (plan_with list.now base_ns cycle_ns extension_ns) }
+    {
+        let entries = list.entries();
+        let cycle_ns = cycle_of(entries, cycle_ns);
+        fault_of(entries, base_ns, cycle_ns, extension_ns, rate)
+    }
+
     /// This list with these times takes the place of its own, unless they are refused, as `new` refuses them. A
     /// schedule takes six kilobytes, which are not moved so.
     pub fn set(
@@ -204,11 +231,7 @@ impl Schedule {
         ensures kept { OnErr result (self.new ≡ self.old) }
     {
         let entries = list.entries();
-        let cycle_ns = if cycle_ns == 0 {
-            total_of(entries)
-        } else {
-            cycle_ns
-        };
+        let cycle_ns = cycle_of(entries, cycle_ns);
         match fault_of(entries, base_ns, cycle_ns, extension_ns, rate) {
             Some(fault) => Err(fault),
             None => {

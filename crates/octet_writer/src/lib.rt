@@ -19,6 +19,7 @@ use std::io::Write;
 pub struct WriteFault;
 
 /// Writes all of the octets, by a loop apart. At a fault a prefix of them is written, and not all.
+#[cold]
 #[inline(never)]
 pub fn put_rest<W: Write>(writer: &mut W, octets: &[u8]) -> Result<(), WriteFault>
     ensures { Writes result (W.contents writer.old) (W.contents writer.new) octets.now }

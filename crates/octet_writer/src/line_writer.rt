@@ -25,6 +25,7 @@ pub trait Line {
 }
 
 /// A line by way of room of its own.
+#[cold]
 #[inline(never)]
 pub(crate) fn put_apart<W: Write, L: Line>(writer: &mut W, line: &L) -> Result<(), WriteFault>
     ensures { Writes result (W.contents writer.old) (W.contents writer.new) (L.text line.now) }
@@ -35,6 +36,7 @@ pub(crate) fn put_apart<W: Write, L: Line>(writer: &mut W, line: &L) -> Result<(
 }
 
 /// A head and what follows it, one after the other.
+#[cold]
 #[inline(never)]
 pub(crate) fn put_both<W: Write>(
     writer: &mut W,

@@ -1,6 +1,6 @@
 -- The refusals of a change, in their order.
 use Rattle.std.proofs.Common.{◌≡◌, ℕ, ◌+◌, List, [], ◌∷◌, ◌++◌, Option, Some, None, Ok, Err, refl, sym, ap, ◌∙◌}
-use Rattle.std.specs.Prelude.{unwrap_or}
+use Rattle.std.specs.Prelude.{unwrap_or, IsSome}
 use Rattle.class_map.specs.declared.ClassMap.{ClassMap}
 use Rattle.class_map.specs.declared.Queues.{Queues}
 use Rattle.list_config.specs.History.{Accepted, announced}
@@ -39,7 +39,7 @@ own_early p c r early = early_first (map_refusal p c) (limit_refusal p c) _ r ea
 
 -- what a port with these fields refuses of a change, by what a schedule at its rate answers
 module _ (q p : AbstractPort) (same : q ≡ p) (c : Change) (early : first_of (map_refusal p c) (limit_refusal p c) ≡ None) where
-  own_is : (o : Option PlanFault) → plan_fault q.ps (plan_asked c) ≡ o → own_refusal p c ≡ refused_for o
+  pub own_is : (o : Option PlanFault) → plan_fault q.ps (plan_asked c) ≡ o → own_refusal p c ≡ refused_for o
   own_is o is = first_last (map_refusal p c) (limit_refusal p c) _ (refused_for o) early (ap refused_for (ap (λ x. plan_fault x.ps (plan_asked c)) (sym same) ∙ is))
 
   pub own_none : {T : Type 0} (wanted x : T) → Ok x ≡ ok_unless (plan_fault q.ps (plan_asked c)) wanted → own_refusal p c ≡ None
@@ -76,6 +76,15 @@ only_busy p c e = ap (λ r. first_of r (busy_refusal p)) e
 
 pub own_refused : (p : AbstractPort) (c : Change) (r : Refused) → own_refusal p c ≡ Some r → installs p (Replace c) ≡ (Err r, p)
 own_refused p c r e = ap (λ o. installs_by (first_of o (busy_refusal p)) p (Replace c)) e
+
+-- a change that only the gates refuse, while a command is announced: it is refused as a deletion is
+module _ (p : AbstractPort) (c : Change) (own : own_refusal p c ≡ None) where
+  deleted_by : (o : Option Accepted) → busy_refusal p ≡ busy_by o → IsSome o → installs p Delete ≡ installs p (Replace c)
+  deleted_by None e some = absurd (cc)
+  deleted_by (Some waits) e some = ap (λ r. installs_by r p Delete) e ∙ sym (ap (λ r. installs_by r p (Replace c)) (only_busy p c own ∙ e))
+
+  pub as_deleted : IsSome (announced p.history p.now) → installs p Delete ≡ installs p (Replace c)
+  as_deleted some = deleted_by (announced p.history p.now) refl some
 
 -- the port after a change that is taken, or a command that is refused
 pub installed_port : (q p : AbstractPort) (c : Change) (now : ℕ) (h : List Accepted) (classes : Option (ClassMap × Queues)) (limits : List ℕ) → q ≡ p → now ≡ q.now

@@ -1,6 +1,6 @@
 //! Gates that are moved only when they are asked, and a memory of how long no class may start.
 
-ghost use Rattle.std.specs.Prelude.{◌≡◌, ℕ, ◌+◌, ◌*◌, ◌<◌, ◌≤◌, IsTrue, IfSome, IfNone, OnSome, [], ◌∷◌, Some, None, true, false, slice_index_or, slice_set};
+ghost use Rattle.std.specs.Prelude.{◌≡◌, ℕ, ◌+◌, ◌*◌, ◌<◌, ◌≤◌, ◌↔◌, IsTrue, IsSome, IfSome, IfNone, OnSome, [], ◌∷◌, Some, None, true, false, slice_index_or, slice_set};
 ghost use Rattle.std.specs.Option.{option_map, option_or, ForSome};
 ghost use Rattle.wire_time.specs.Moment.{greatest_moment, greatest_lead};
 ghost use Rattle.list_config.specs.History.{gates, in_force, pending, announced, kept};
@@ -242,6 +242,18 @@ impl<G: Gates> Lookout<G> {
             pending: self.gates.pending(),
             announced: self.gates.announced(),
         }
+    }
+
+    /// Whether a command is announced now, so that no other is accepted. Counts the entries that the gates look at on
+    /// the way there.
+    pub fn is_busy(&mut self, visits: &mut Visits) -> bool
+        ensures same { self.new ≡ self.old }
+        ensures busy { IsTrue result ↔ IsSome (announced self.old.history self.old.moment) }
+        ensures counted { visits.old ≤ visits.new }
+        ensures visits { IsTrue G.JUMPS → visits.new ≤ visits.old + 2 * (longest self.old.history + 1) }
+    {
+        self.gates.move_to(self.moment, visits);
+        self.gates.announced().is_some()
     }
 
     /// A command with the lead moment `lead`, in picoseconds; its change moment, or why it is not accepted.

@@ -163,6 +163,7 @@ fn put_command(
 
 /// Answers with a fault. Apart, since it is seldom: the compiler would clear two kilobytes for it in the body of each
 /// caller.
+#[cold]
 #[inline(never)]
 pub(crate) fn put_fault(fault: TcFault, answer: &mut Result<Command, TcFault>)
     ensures { answer.new ≡ Err fault }

@@ -14,15 +14,15 @@ returns-in-Delete-clause-hindsight g c =
     rw (← ends) c.delete.ensures.hindsight
 
 pub returns-in-Replace-clause-answer : goal.returns-in-Replace-clause-answer
-returns-in-Replace-clause-answer g c = rw c.in-Replace.is c.replace.ensures.answer
+returns-in-Replace-clause-answer g c = rw c.in-Replace.is c.give.ensures.answer
 
 pub returns-in-Replace-clause-port : goal.returns-in-Replace-clause-port
-returns-in-Replace-clause-port g c = rw c.in-Replace.is c.replace.ensures.port
+returns-in-Replace-clause-port g c = rw c.in-Replace.is c.give.ensures.port
 
 pub returns-in-Replace-clause-hindsight : goal.returns-in-Replace-clause-hindsight
 returns-in-Replace-clause-hindsight g c =
     let ends : c.now.result + c.lead.result ≡ c.args.self.now.port.now + lead_of c.args.self.now.port.ps c.args.self.now.port.mtu = rw (c.now.ensures.now, c.lead.ensures.value, ← c.self.view_is) refl in
-    rw (← ends) c.replace.ensures.hindsight
+    rw (← ends) c.give.ensures.hindsight
 
 pub delete-requires : goal.delete-requires
 delete-requires g c =
@@ -31,8 +31,8 @@ delete-requires g c =
     let lead = c.lead.ensures.within (rw (← c.self.view_is) at c.now.ensures.sound.mtu.1) in
     (search rules, (ends, (omega (arith, c.now.ensures.now, c.lead.ensures.above), omega (arith, c.now.ensures.now, now, lead))))
 
-pub replace-requires : goal.replace-requires
-replace-requires g c =
+pub give-requires : goal.give-requires
+give-requires g c =
     let ends : c.now.result + c.lead.result ≡ c.args.self.now.port.now + lead_of c.args.self.now.port.ps c.args.self.now.port.mtu = rw (c.now.ensures.now, c.lead.ensures.value, ← c.self.view_is) refl in
     let now = c.now.ensures.sound.current.within in
     let lead = c.lead.ensures.within (rw (← c.self.view_is) at c.now.ensures.sound.mtu.1) in
