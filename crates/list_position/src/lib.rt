@@ -279,7 +279,9 @@ impl Position {
         position
     }
 
-    /// Goes on to the end of the entry, where the next one begins in the same cycle and is looked at.
+    /// Goes on to the end of the entry, where the next one begins in the same cycle and is looked at. It stays apart:
+    /// the loops of all searches call it, and one copy of it stays in the cache.
+    #[inline(never)]
     pub fn next_entry(&mut self, schedule: &Schedule, visits: &mut Visits)
         requires sound { IsSchedule schedule.now }
         requires of { IsOf schedule.now self.old.walk }

@@ -190,8 +190,10 @@ fn take_run<T: ListValue, const N: usize>(words: &mut Words<'_>) -> Result<Array
     Ok(found)
 }
 
-/// The values of a list, or the first N where there are more.
+/// The values of a list, or the first N where there are more. Apart, so that the body that reads the entries, which
+/// are most words of a line, stays small.
 #[tactic(auto, unfolding(crate::specs::Options::some_at))]
+#[inline(never)]
 pub(crate) fn take_list<T: ListValue, const N: usize>(
     words: &mut Words<'_>,
 ) -> Result<ArrayVec<T, N>, TcFault>
