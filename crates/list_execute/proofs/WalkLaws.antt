@@ -1,11 +1,12 @@
 -- Where the entries of a cycle start and end.
 use Rattle.std.proofs.Common.{◌≡◌, ◌<◌, ◌≤◌, ℕ, zero, suc, ◌+◌, ◌-◌, ◌*◌, List, [], ◌∷◌, length, slice_get, Option, Some, None, cond, true, false, inl, inr, refl, sym, ap, ◌∙◌, subst, arith}
-use Rattle.std.proofs.lemmas.Bool.{lt-ltb, le-ltb, leb-true, leb-false, cases_lt, false≢true}
+use Rattle.std.proofs.Math.Dec.{eqb}
+use Rattle.std.proofs.lemmas.Bool.{lt-ltb, le-ltb, leb-true, leb-false, cases_lt, ne_eqb, eq-eqb, false≢true}
 use Rattle.std.proofs.lemmas.Option.{same_Some}
 use Rattle.gate_list.specs.Gate.{Plan, IsShownAt, in_ps, prefix, mask_at, has_come}
 use Rattle.gate_list.specs.declared.Entry.{Entry}
 use Rattle.gate_list.proofs.RowLaws.{prefix_next}
-use Rattle.list_execute.specs.Walk.{Walk, ShowsEntry, until_of, walk_mask}
+use Rattle.list_execute.specs.Walk.{Walk, ShowsEntry, end_unless, until_of, walk_mask}
 
 -- ---- the end of an entry
 
@@ -21,6 +22,14 @@ until_of_start es began i start e there next at =
     let ends = prefix_next es i e there in
     let same : began + prefix es (i + 1) ≡ start + 1000 * e.interval = omega arith in
     until_of_more es began i next ∙ ap Some same
+
+-- an entry has the end that it has unless it is the last
+pub until_unless : (es : List Entry) (began i start last : ℕ) (e : Entry) → slice_get es i ≡ Some e → i ≤ last → last + 1 ≡ length es → start ≡ began + prefix es i → end_unless (eqb i last) start e ≡ until_of es began i
+until_unless es began i start last e there within count at =
+    elim (cases_lt i last) [
+      | inl before ↦ ap (λ b. cond b None (Some (start + 1000 * e.interval))) (ne_eqb i last (λ same. (let again : last < last = subst (λ n. n < last) same before in omega (arith, again)))) ∙ sym (until_of_start es began i start e there (omega (arith, before, count)) at)
+      | inr after ↦ ap (λ b. cond b None (Some (start + 1000 * e.interval))) (eq-eqb i last (omega (arith, after, within))) ∙ sym (until_of_last es began i (omega (arith, after, count)))
+    ]
 
 -- an entry that has ended by a moment has one after it, which has begun
 pub until_come : (es : List Entry) (began phase i : ℕ) → has_come (until_of es began i) (began + phase) ≡ true → (i + 1 < length es) × (prefix es (i + 1) ≤ phase)

@@ -1,5 +1,5 @@
 -- List Execute (IEEE Std 802.1Q-2018, 8.6.9.2): a walk of the entries of a list, in picoseconds.
-use Rattle.std.specs.Prelude.{◌≡◌, ◌<◌, ℕ, ◌+◌, ◌⊎◌, min, if◌then◌else◌, nat_lt, List, Option, Some, None, length, slice_get}
+use Rattle.std.specs.Prelude.{◌≡◌, ◌<◌, ℕ, ◌+◌, ◌*◌, ◌⊎◌, Bool, true, false, min, if◌then◌else◌, nat_lt, List, Option, Some, None, length, slice_get}
 use Rattle.gate_list.specs.Gate.{Plan, prefix, last_mask}
 use Rattle.gate_list.specs.Visits.{greatest_count}
 use Rattle.gate_list.specs.declared.Entry.{Entry}
@@ -21,6 +21,14 @@ walk_mask walk = elim walk.held [ Some mask ↦ mask | None ↦ walk.entry.mask 
 -- the end of entry i of a cycle from a moment on; the last one has none
 abbrev pub until_of : List Entry → ℕ → ℕ → Option ℕ
 until_of entries began i = if nat_lt (i + 1) (length entries) then Some (began + prefix entries (i + 1)) else None
+
+-- the end of an entry that starts at a moment, unless it is the last of its list
+abbrev pub end_unless : Bool → ℕ → Entry → Option ℕ
+end_unless is_last start entry = if is_last then None else Some (start + 1000 * entry.interval)
+
+-- whether there is no end: the entry is the last
+abbrev pub has_no_end : Option ℕ → Bool
+has_no_end until = elim until [ Some u ↦ false | None ↦ true ]
 
 -- the end of what is shown; the last entry and a hold have none
 abbrev pub end_of : Walk → Option ℕ

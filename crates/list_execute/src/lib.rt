@@ -3,7 +3,7 @@
 //! The contract is that of each call of `ListExecute`, in the terms of specs/Walk.antt.
 #![tactic(auto)]
 
-ghost use Rattle.std.specs.Prelude.{◌≡◌, ◌+◌, ◌-◌, ◌*◌, ◌<◌, ◌≤◌, ◌^◌, None, Some, IsSome, length, slice_get};
+ghost use Rattle.std.specs.Prelude.{◌≡◌, ◌+◌, ◌-◌, ◌*◌, ◌<◌, ◌≤◌, ◌^◌, None, Some, IfSome, IsSome, length, slice_get};
 ghost use Rattle.wire_time.specs.Moment.{greatest_moment};
 ghost use Rattle.gate_list.specs.Gate.{IsShownAt, prefix, mask_at};
 ghost use Rattle.gate_list.specs.Visits.{one_more};
@@ -17,11 +17,11 @@ use std::marker::Model;
 #[derive(Clone, Copy, Debug, PartialEq, Eq)]
 pub struct ListExecute {
     began: u128,
-    index: usize,
     start: u128,
-    until: Option<u128>,
     entry: Entry,
+    index: u16,
     held: Option<u8>,
+    is_last: bool,
 }
 
 /// A contract sees where the walk stands.
@@ -29,15 +29,15 @@ impl Model for ListExecute {
     ghost use Rattle.std.specs.Prelude.{◌≤◌, ◌*◌, ◌<◌, ◌^◌, ◌+◌};
     ghost use Rattle.std.specs.Option.{ForSome};
     ghost use Rattle.wire_time.specs.Moment.{greatest_moment};
-    ghost use Rattle.list_execute.specs.Walk.{Walk};
+    ghost use Rattle.list_execute.specs.Walk.{Walk, end_unless, has_no_end};
 
     ghost Value = { Walk };
 
-    ghost view = { λ w. record { began = w.began; index = w.index; start = w.start; until = w.until; entry = w.entry; held = w.held } };
+    ghost view = { λ w. record { began = w.began; index = w.index; start = w.start; until = end_unless w.is_last w.start w.entry; entry = w.entry; held = w.held } };
 
-    ghost invariant = { λ w. (w.began ≤ 4 * greatest_moment) × (w.index < 256) × (w.start ≤ w.began + 2 ^ 42 * w.index) × ForSome w.until (λ u. u ≤ w.began + 2 ^ 42 * (w.index + 1)) };
+    ghost invariant = { λ w. (w.began ≤ 4 * greatest_moment) × (w.index < 256) × (w.start ≤ w.began + 2 ^ 42 * w.index) };
 
-    ghost inverse = { λ w. record { began = w.began; index = w.index; start = w.start; until = w.until; entry = w.entry; held = w.held } };
+    ghost inverse = { λ w. record { began = w.began; index = w.index; start = w.start; entry = w.entry; held = w.held; is_last = has_no_end w.until } };
 }
 
 /// The entry of an index.
@@ -83,18 +83,13 @@ fn walk_at(
     ensures counted { visits.old ≤ visits.new }
 {
     let entry = entry_of(schedule, index, visits);
-    let until = if index < last {
-        Some(end_after(start, entry))
-    } else {
-        None
-    };
     ListExecute {
         began,
-        index,
         start,
-        until,
         entry,
+        index: index as u16,
         held: None,
+        is_last: index == last,
     }
 }
 
@@ -119,13 +114,26 @@ impl ListExecute {
         }
     }
 
+    /// When the entry ends; none at the last entry. It isn't kept, so that a walk is small.
+    #[inline(always)]
+    fn until(&self) -> Option<u128>
+        ensures until { result ≡ self.now.until }
+        ensures bound { IfSome result (λ u. u ≤ self.now.start + 2 ^ 42) }
+    {
+        if self.is_last {
+            None
+        } else {
+            Some(end_after(self.start, self.entry))
+        }
+    }
+
     /// When the entry ends; none at the last entry, and in a hold.
     pub fn entry_end(&self) -> Option<u128>
         ensures { result ≡ end_of self.now }
     {
         match self.held {
             Some(_) => None,
-            None => self.until,
+            None => self.until(),
         }
     }
 
@@ -141,7 +149,7 @@ impl ListExecute {
     pub fn index(&self) -> usize
         ensures { result ≡ self.now.index }
     {
-        self.index
+        usize::from(self.index)
     }
 
     /// Goes on to the entry after.
@@ -152,8 +160,8 @@ impl ListExecute {
         ensures visit { visits.new ≡ one_more visits.old }
         ensures counted { visits.old ≤ visits.new }
     {
-        let Some(end) = self.until else { return };
-        let index = self.index + 1;
+        let Some(end) = self.until() else { return };
+        let index = usize::from(self.index) + 1;
         *self = walk_at(schedule, schedule.len() - 1, self.began, index, end, visits);
     }
 
@@ -186,12 +194,12 @@ impl ListExecute {
         // The count fits a u64, which makes it no less after none.
         let _ = visits.count();
         let moment = self.began + phase;
-        let Some(end) = self.until else { return };
+        let Some(end) = self.until() else { return };
         if moment < end {
             return;
         }
         let last = schedule.len() - 1;
-        let mut index = self.index + 1;
+        let mut index = usize::from(self.index) + 1;
         let mut start = end;
         let mut entry = entry_of(schedule, index, visits);
         while index < last && end_after(start, entry) <= moment {
@@ -199,13 +207,9 @@ impl ListExecute {
             index += 1;
             entry = entry_of(schedule, index, visits);
         }
-        self.index = index;
+        self.index = index as u16;
         self.start = start;
         self.entry = entry;
-        self.until = if index < last {
-            Some(end_after(start, entry))
-        } else {
-            None
-        };
+        self.is_last = index == last;
     }
 }

@@ -1,9 +1,9 @@
 use Rattle.std.proofs.Common.{Some, refl, sym, ap, ◌∙◌, arith}
 use Rattle.gate_list.proofs.RowLaws.{prefix_next}
 use Rattle.list_execute.specs.Walk.{Walk}
-use Rattle.list_execute.proofs.WalkLaws.{until_of_start, until_of_last, mask_of_shown}
+use Rattle.list_execute.proofs.WalkLaws.{until_unless, mask_of_shown}
 use Rattle.list_execute.proofs.ListExecute.go_on.Goals as goal
-use Rattle.list_execute.proofs.ListExecute.go_on.Goals.{then-index-last, else-index-last, then-loop-index-test+else-end_after-moment, else-loop-index-test}
+use Rattle.list_execute.proofs.ListExecute.go_on.Goals.{then-loop-index-test+else-end_after-moment, else-loop-index-test}
 
 pub loop-index-preserved : goal.loop-index-preserved
 loop-index-preserved c =
@@ -43,10 +43,7 @@ returns-clause-entry c =
       began_then = refl;
       index_is = refl;
       start_is = now.start;
-      until_is = elim c.if-index-last.branch [
-        | then-index-last w ↦ w.self-is ∙ (ap Some w.end_after-then-index-last.ensures.value ∙ sym (until_of_start plan.entries c.self.inside.began c.loop-index.index c.loop-index.start c.loop-index.entry now.entry (let more = w.if-index-last.true in omega (arith, more, count)) now.start))
-        | else-index-last w ↦ w.self-is ∙ sym (until_of_last plan.entries c.self.inside.began c.loop-index.index (let last = w.if-index-last.false in omega (arith, last, count)))
-      ];
+      until_is = until_unless plan.entries c.self.inside.began c.loop-index.index c.loop-index.start _ c.loop-index.entry now.entry (omega (arith, few)) (omega (arith, count, some)) now.start;
       entry_is = now.entry;
       unheld = ap (λ (walk : Walk). walk.held) c.self.view_is ∙ c.requires.shown.unheld;
     }
