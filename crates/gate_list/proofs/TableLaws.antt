@@ -404,6 +404,16 @@ pub row_others : (rows old : List ℕ) (slot class v : ℕ) → class < 8
 row_others rows old slot class v low rest i k lower other =
     get_or-set_other rows (8 * slot + class) (8 * i + k) v 0 (λ e. other (omega arith)) ∙ rest i k lower other
 
+-- the row that is kept is the one that is written
+pub row_kept : (row rows : List ℕ) (slot class v : ℕ) → class < length row → 8 * slot + class < length rows
+    → ((k : ℕ) → k < class → get_or row k 0 ≡ closing_at rows slot k)
+    → (k : ℕ) → k < class + 1 → get_or (set row class v) k 0 ≡ closing_at (set rows (8 * slot + class) v) slot k
+row_kept row rows slot class v short room rest k below =
+    elim (cases_eq k class) [
+      | inl here ↦ ap (λ n. get_or (set row class v) n 0) here ∙ (get_or-set_same row class v 0 short ∙ (sym (get_or-set_same rows (8 * slot + class) v 0 room) ∙ ap (λ n. closing_at (set rows (8 * slot + class) v) slot n) (sym here)))
+      | inr other ↦ get_or-set_other row class k v 0 other ∙ (rest k (grind arith) ∙ sym (get_or-set_other rows (8 * slot + class) (8 * slot + k) v 0 (λ e. other (omega arith))))
+    ]
+
 -- the rows from a slot on
 pub rows_more : (es : List Entry) (rows now old : List ℕ) (left : ℕ) → 0 < left → left ≤ length es
     → ((class i : ℕ) → class < 8 → left ≤ i → i ≤ length es → closing_at rows i class ≡ next_shut (drop i es) class i (closing_at old (length es) class))

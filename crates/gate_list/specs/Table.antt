@@ -30,6 +30,10 @@ pub record Closes (cycle : List Slot) (class i c : ℕ) : Type 0 where
 abbrev pub closing_at : List ℕ → ℕ → ℕ → ℕ
 closing_at rows i class = slice_index rows (8 * i + class)
 
+-- a row is that of a slot
+abbrev pub IsRow : List ℕ → ℕ → List ℕ → Type 0
+IsRow rows i row = (class : ℕ) → class < CLASSES → slice_index row class ≡ closing_at rows i class
+
 -- the bit of each class in a mask
 abbrev pub AreBits : List ℕ → Type 0
 AreBits bits = (class : ℕ) → class < CLASSES → slice_index bits class ≡ 2 ^ class

@@ -7,7 +7,7 @@ ghost use Rattle.gate_list.specs.Closed.{closed_entries};
 ghost use Rattle.gate_list.specs.Gate.{in_ps, opens};
 ghost use Rattle.gate_list.specs.declared.TheConstants.{MAX_CYCLE_NS};
 ghost use Rattle.gate_list.specs.Stay.{slots};
-ghost use Rattle.gate_list.specs.Table.{AreBits, AreStarts, GoesRound, HasStays, IsWithin, all_open, closing_at, next_shut, stay_at, time_to};
+ghost use Rattle.gate_list.specs.Table.{AreBits, AreStarts, GoesRound, HasStays, IsRow, IsWithin, all_open, closing_at, next_shut, stay_at, time_to};
 
 use crate::{Entry, MAX_ENTRIES, Stay, is_open};
 use wire_time::CLASSES;
@@ -97,21 +97,41 @@ fn one_of(first: bool, here: u8, there: u8) -> u8
     (here & kept) | (there & !kept)
 }
 
-/// What closes each class from a slot of this mask on, by the row after it, is written.
+/// What closes each class from a slot on.
 #[inline(always)]
-fn put_row(slot: usize, mask: u8, bits: &[u8; CLASSES], rows: &mut [u8; PLACES])
+fn row_at(rows: &[u8; PLACES], slot: usize) -> [u8; CLASSES]
+    requires few { slot ≤ MAX_ENTRIES }
+    ensures { IsRow rows.now slot result }
+{
+    let mut row = [0; CLASSES];
+    for class in 0..CLASSES {
+        row[class] = rows[CLASSES * slot + class];
+    }
+    row
+}
+
+/// What closes each class from a slot of this mask on is written, and takes the place of the row after it: one row
+/// waits for the other there, and not in memory.
+#[inline(always)]
+fn put_row(
+    slot: usize,
+    mask: u8,
+    bits: &[u8; CLASSES],
+    row: &mut [u8; CLASSES],
+    rows: &mut [u8; PLACES],
+)
     requires few { slot < MAX_ENTRIES }
     requires bits { AreBits bits.now }
+    requires after { IsRow rows.old (slot + 1) row.old }
+    ensures kept { IsRow rows.new slot row.new }
     ensures row { (class : ℕ) → class < CLASSES → closing_at rows.new slot class ≡ (if opens mask class then closing_at rows.old (slot + 1) class else slot) }
     ensures others { (i class : ℕ) → class < CLASSES → i ≢ slot → closing_at rows.new i class ≡ closing_at rows.old i class }
 {
     for class in 0..CLASSES {
         let is_open = mask & bits[class] != 0;
-        rows[CLASSES * slot + class] = one_of(
-            is_open,
-            rows[CLASSES * slot + CLASSES + class],
-            slot as u8,
-        );
+        let closing = one_of(is_open, row[class], slot as u8);
+        row[class] = closing;
+        rows[CLASSES * slot + class] = closing;
     }
 }
 
@@ -127,9 +147,10 @@ fn put_rows(entries: &[Entry], bits: &[u8; CLASSES], rows: &mut [u8; PLACES])
         bits[0], bits[1], bits[2], bits[3], bits[4], bits[5], bits[6], bits[7],
     ];
     let mut left = entries.len();
+    let mut row = row_at(rows, left);
     while left > 0 {
         left -= 1;
-        put_row(left, entries[left].mask, &bits, rows);
+        put_row(left, entries[left].mask, &bits, &mut row, rows);
     }
 }
 

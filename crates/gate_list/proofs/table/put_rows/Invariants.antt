@@ -1,5 +1,5 @@
 use Rattle.std.proofs.Common.{◌≡◌, ◌<◌, ◌≤◌, ℕ, drop, length}
-use Rattle.gate_list.specs.Table.{AreBits, closing_at, next_shut}
+use Rattle.gate_list.specs.Table.{AreBits, IsRow, closing_at, next_shut}
 use Rattle.gate_list.proofs.table.put_rows.Given as goal
 
 abbrev pub invariant-loop-left : goal.invariant-loop-left
@@ -7,6 +7,7 @@ invariant-loop-left l = record {
   size : length l.rows ≡ 2056;
   within : l.left ≤ length l.entries;
   bits : AreBits l.bits-2;
+  row : IsRow l.rows l.left l.row;
   told : (class i : ℕ) → class < 8 → l.left ≤ i → i ≤ length l.entries → closing_at l.rows i class ≡ next_shut (drop i l.entries) class i (closing_at l.fn.rows (length l.entries) class);
 }
 
