@@ -8,6 +8,7 @@ ghost use Rattle.wire_time.specs.Moment.{greatest_moment};
 ghost use Rattle.cycle_timer.specs.Cycle.{begun_at, fired, retargeted, jumped};
 
 use std::marker::Model;
+use wire_time::quotient;
 
 /// The cycle that runs, and when the next one starts. All moments are in picoseconds.
 #[derive(Clone, Copy, Debug, PartialEq, Eq)]
@@ -40,7 +41,7 @@ fn whole_cycles(past: u128, length: u128) -> u128
     if past < length {
         return 0;
     }
-    length * (past / length)
+    length * quotient(past, length)
 }
 
 impl CycleTimer {

@@ -14,7 +14,7 @@ use crate::{
 };
 use arrayvec::ArrayVec;
 use std::marker::Model;
-use wire_time::{CLASSES, Rate};
+use wire_time::{CLASSES, Rate, quotient};
 
 /// A gate control list with its base time, cycle and cycle time extension (IEEE Std 802.1Q-2018, 8.6.9).
 #[derive(Clone, Debug, Drop)]
@@ -49,7 +49,7 @@ fn boundary_from(start: u128, cycle: u128, t: u128) -> u128
     ensures near { result < max start t + cycle }
 {
     let away = if t > start { t - start } else { 0 };
-    start + cycle * ((away + cycle - 1) / cycle)
+    start + cycle * quotient(away + cycle - 1, cycle)
 }
 
 /// The sum of the intervals, in nanoseconds.

@@ -4,7 +4,7 @@
 //! `sdu` cite them.
 #![tactic(auto)]
 
-ghost use Rattle.std.specs.Prelude.{◌≡◌, ◌<◌, ◌≤◌, ◌+◌, ◌*◌, ℕ, Some};
+ghost use Rattle.std.specs.Prelude.{◌≡◌, ◌<◌, ◌≤◌, ◌+◌, ◌*◌, ◌/◌, ℕ, Some};
 ghost use Rattle.wire_time.specs.Moment.{greatest_moment, greatest_lead};
 ghost use Rattle.wire_time.specs.Wire.{lead_of, occupancy_of, rate_of, sdu_of};
 
@@ -30,6 +30,19 @@ pub const MIN_PS_PER_OCTET: u128 = 80;
 
 /// What an octet takes at the slowest rate, in picoseconds.
 pub const MAX_PS_PER_OCTET: u128 = 800_000;
+
+/// How many times one time goes into another. Mostly both fit a word of the machine, whose division is quick.
+#[inline]
+pub fn quotient(time: u128, by: u128) -> u128
+    requires { 0 < by }
+    ensures { result ≡ time / by }
+{
+    let most = u128::from(u64::MAX);
+    if time > most || by > most {
+        return time / by;
+    }
+    u128::from(time as u64 / by as u64)
+}
 
 /// A line rate, kept as the time that one octet takes.
 #[derive(Clone, Copy, Debug, PartialEq, Eq)]
