@@ -24,38 +24,51 @@ pub(crate) fn check_heads(seen: Seen) -> Result<(), TcFault>
     Ok(())
 }
 
-fn ranges_of(num_tc: u8, given: &CappedOptions) -> Result<Option<Queues>, TcFault>
-    ensures { result ≡ ranges_of num_tc (view given.now).ranges }
+/// Writes the ranges that the options give, or that they give none.
+fn put_ranges(num_tc: u8, given: &CappedOptions, queues: &mut Option<Queues>) -> Result<(), TcFault>
+    ensures { let wanted = ranges_of num_tc (view given.now).ranges in
+        MatchResult result (λ _. wanted ≡ Ok queues.new) (λ f. wanted ≡ Err f) }
 {
     let Some(ranges) = &given.ranges else {
-        return Ok(None);
+        *queues = None;
+        return Ok(());
     };
     match Queues::new(num_tc, ranges) {
-        Ok(queues) => Ok(Some(queues)),
+        Ok(new) => {
+            *queues = Some(new);
+            Ok(())
+        }
         Err(fault) => Err(TcFault::Ranges(fault)),
     }
 }
 
-/// The map and the ranges.
-fn classes_of(given: &CappedOptions) -> Result<(Option<ClassMap>, Option<Queues>), TcFault>
-    ensures { let g = view given.now in result ≡ classes_of g.num_tc g.priorities g.ranges }
+/// Writes the map and the ranges that the options give. They are written where they are kept: in a result they would
+/// be moved through the stack, which is slow for values of such odd sizes. After a fault each is the new or the old.
+fn put_classes(
+    given: &CappedOptions,
+    map: &mut Option<ClassMap>,
+    queues: &mut Option<Queues>,
+) -> Result<(), TcFault>
+    ensures { let g = view given.now in let wanted = classes_of g.num_tc g.priorities g.ranges in
+        MatchResult result (λ _. wanted ≡ Ok (map.new, queues.new)) (λ f. wanted ≡ Err f) }
 {
     match (given.num_tc, &given.priorities) {
         (None, None) => {
             if given.ranges.is_some() {
                 return Err(TcFault::MissingWord(Opt::NumTc));
             }
-            Ok((None, None))
+            *map = None;
+            *queues = None;
+            Ok(())
         }
         (None, Some(_)) => Err(TcFault::MissingWord(Opt::NumTc)),
         (Some(_), None) => Err(TcFault::MissingWord(Opt::Map)),
         (Some(num_tc), Some(priorities)) => {
-            let map = match ClassMap::new(num_tc, priorities) {
-                Ok(map) => map,
+            match ClassMap::new(num_tc, priorities) {
+                Ok(new) => *map = Some(new),
                 Err(fault) => return Err(TcFault::Map(fault)),
-            };
-            let queues = ranges_of(num_tc, given)?;
-            Ok((Some(map), queues))
+            }
+            put_ranges(num_tc, given, queues)
         }
     }
 }
@@ -116,25 +129,18 @@ impl CommandPlace {
     }
 }
 
-/// The change that the options give, with their map and ranges, takes the place of another one.
+/// The change that the options give takes the place of another one.
 #[inline(always)]
-fn give_change(
-    given: &CappedOptions,
-    map: Option<ClassMap>,
-    queues: Option<Queues>,
-    change: &mut Change,
-) -> Result<(), TcFault>
-    requires { let g = view given.now in classes_of g.num_tc g.priorities g.ranges ≡ Ok (map, queues) }
+fn give_change(given: &CappedOptions, change: &mut Change) -> Result<(), TcFault>
     ensures { MatchResult result
         (λ _. command_given (view given.now) ≡ Ok (Command.Replace change.new))
         (λ f. command_given (view given.now) ≡ Err f) }
 {
+    put_classes(given, &mut change.map, &mut change.queues)?;
     match change.list.set(&given.entries) {
         Ok(()) => {}
         Err(fault) => return Err(TcFault::Gates(fault)),
     }
-    change.map = map;
-    change.queues = queues;
     change.max_sdu = limits_of(given);
     change.base_ns = given.base_time.unwrap_or(0);
     change.cycle_ns = given.cycle_time.unwrap_or(0);
@@ -142,20 +148,14 @@ fn give_change(
     Ok(())
 }
 
-/// The command that the options give, with their map and ranges, where no list is written over. Apart, since it is
-/// seldom, and a command is large.
+/// The command that the options give, where no list is written over. Apart, since it is seldom, and a command is
+/// large.
 #[inline(never)]
-fn put_command(
-    given: &CappedOptions,
-    map: Option<ClassMap>,
-    queues: Option<Queues>,
-    answer: &mut Result<Command, TcFault>,
-)
-    requires { let g = view given.now in classes_of g.num_tc g.priorities g.ranges ≡ Ok (map, queues) }
+fn put_command(given: &CappedOptions, answer: &mut Result<Command, TcFault>)
     ensures { answer.new ≡ command_given (view given.now) }
 {
     let mut change = closed_change();
-    *answer = match give_change(given, map, queues, &mut change) {
+    *answer = match give_change(given, &mut change) {
         Ok(()) => Ok(Command::Replace(change)),
         Err(fault) => Err(fault),
     };
@@ -176,18 +176,11 @@ pub(crate) fn put_fault(fault: TcFault, answer: &mut Result<Command, TcFault>)
 pub(crate) fn give_command(given: &CappedOptions, answer: &mut Result<Command, TcFault>)
     ensures { answer.new ≡ command_given (view given.now) }
 {
-    let (map, queues) = match classes_of(given) {
-        Ok(classes) => classes,
-        Err(fault) => {
-            put_fault(fault, answer);
-            return;
-        }
-    };
     match answer {
-        Ok(Command::Replace(change)) => match give_change(given, map, queues, change) {
+        Ok(Command::Replace(change)) => match give_change(given, change) {
             Ok(()) => {}
             Err(fault) => put_fault(fault, answer),
         },
-        _ => put_command(given, map, queues, answer),
+        _ => put_command(given, answer),
     }
 }
