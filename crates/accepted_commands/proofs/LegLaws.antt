@@ -2,7 +2,7 @@
 use Rattle.std.proofs.Common.{◌≡◌, ◌≤◌, ℕ, ◌+◌, ◌-◌, ◌*◌, min, Bool, true, false, ◌&&◌, List, ◌∷◌, Option, Some, None, refl, sym, ap, ◌∙◌, subst, arith}
 use denote.Bor.{Bor}
 use Rattle.std.specs.Option.{ForSome}
-use Rattle.accepted_commands.specs.Words.{greatest_moment, open_while, mask_of, mask_in, Position, IsPlaced, Listed, ListedLeg, Rest, AreReady, DoFollow, from_of, until_of, stretch_of}
+use Rattle.accepted_commands.specs.Words.{greatest_moment, open_while, mask_of, mask_in, Position, IsPlaced, Listed, ListedLeg, Following, AreReady, DoFollow, from_of, until_of, stretch_of}
 use Rattle.list_config.specs.Stretch.{Stretch}
 use Rattle.list_config.proofs.StretchLaws.{IsBy, first_while, stretch_parts}
 use Rattle.list_position.specs.declared.Need.{Need}
@@ -50,7 +50,7 @@ module _ (leg : Leg) (rest : List Stretch) (need : Need) (u : ℕ) (ends : until
       ∙ sym parts))
 
 -- a list that stands elsewhere later
-pub ready_later : (leg : ListedLeg) (rest : Rest) (m : ℕ) (position : Bor Position) → AreReady (Listed leg) rest → IsPlaced leg.schedule.now leg.start leg.held_from m position.now → m ≤ 2 * greatest_moment → ForSome leg.until (λ u. m ≤ u) → AreReady (Listed (record leg { from = m; position = position })) rest
+pub ready_later : (leg : ListedLeg) (rest : Following) (m : ℕ) (position : Bor Position) → AreReady (Listed leg) rest → IsPlaced leg.schedule.now leg.start leg.held_from m position.now → m ≤ 2 * greatest_moment → ForSome leg.until (λ u. m ≤ u) → AreReady (Listed (record leg { from = m; position = position })) rest
 ready_later leg rest m position ready placed near before = record {
   first = record { stands = (((ready.first).stands).0, placed); near = near };
   follows = by rest.next ready.follows;

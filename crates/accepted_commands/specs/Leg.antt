@@ -1,4 +1,5 @@
 -- What the gates show from a moment on, as legs (IEEE Std 802.1Q-2018, 8.6.9.3 List Config).
+use denote.Bor.{Bor}
 use Rattle.std.specs.Prelude.{◌≡◌, ◌≤◌, ℕ, ◌*◌, List, [], ◌∷◌, Option, Some, None}
 use Rattle.std.specs.Option.{ForSome}
 use Rattle.wire_time.specs.Moment.{greatest_moment}
@@ -10,6 +11,7 @@ use Rattle.list_position.specs.Position.{IsPlaced}
 use Rattle.accepted_commands.specs.declared.leg.Leg.{Leg}
 use Rattle.accepted_commands.specs.declared.leg.Leg.TheVariants.{Listed, Open}
 use Rattle.accepted_commands.specs.declared.leg.Rest.{Rest}
+use Rattle.accepted_commands.specs.declared.ahead.Ahead.{Ahead}
 
 -- the moment from which a leg is looked at
 abbrev pub from_of : Leg → ℕ
@@ -36,8 +38,26 @@ abbrev pub stretches_in : Option Leg → Option Leg → List Stretch
 stretches_in None last = []
 stretches_in (Some next) last = stretch_of next ∷ stretch_in last
 
+-- what comes after a leg: one leg, two or none
+pub record Following : Type 0 where
+  pub next : Option Leg
+  pub last : Option Leg
+
+-- a leg, as it is lent
+abbrev pub lent_leg : Option (Bor Leg) → Option Leg
+lent_leg None = None
+lent_leg (Some leg) = Some leg.now
+
+-- what follows a leg, as it is lent
+abbrev pub lent_rest : Rest → Following
+lent_rest rest = record { next = lent_leg rest.next; last = lent_leg rest.last }
+
+-- what follows the first of the legs ahead
+abbrev pub rest_of : Ahead → Following
+rest_of ahead = record { next = ahead.next; last = ahead.last }
+
 -- what a leg and what follows it show
-abbrev pub stretches_ahead : Leg → Rest → List Stretch
+abbrev pub stretches_ahead : Leg → Following → List Stretch
 stretches_ahead leg rest = stretch_of leg ∷ stretches_in rest.next rest.last
 
 -- a list stands so at the leg's moment
@@ -56,7 +76,7 @@ DoFollow leg None = until_of leg ≡ None
 DoFollow leg (Some next) = (until_of leg ≡ Some (from_of next)) × (from_of leg ≤ from_of next) × IsReady next
 
 -- a leg and what follows it
-pub record AreReady (leg : Leg) (rest : Rest) : Type 0 where
+pub record AreReady (leg : Leg) (rest : Following) : Type 0 where
   pub first : IsReady leg
   pub follows : DoFollow leg rest.next
   pub then : ForSome rest.next (λ next. DoFollow next rest.last)

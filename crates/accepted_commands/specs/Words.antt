@@ -11,7 +11,7 @@ pub use Rattle.list_config.specs.Stretch.{hold_of, mask_in, mask_of, stretches_f
 pub use Rattle.list_position.specs.Position.{BeginsAtMost, IsFlat, IsPlaced, StoodBy, boundary_of}
 pub use Rattle.list_position.specs.declared.Position.{Position}
 pub use Rattle.accepted_commands.specs.Commands.{AreCommands, Commands, IsUsable, NoneBy, accepted_in, command_of, history_of, mask_ahead, no_commands, settled_at, stretches_of}
-pub use Rattle.accepted_commands.specs.Leg.{AreReady, DoFollow, IsReady, IsStanding, from_of, stretch_in, stretch_held, stretch_of, stretch_under, stretches_ahead, until_of}
+pub use Rattle.accepted_commands.specs.Leg.{AreReady, DoFollow, Following, IsReady, IsStanding, from_of, lent_leg, lent_rest, rest_of, stretch_in, stretch_held, stretch_of, stretch_under, stretches_ahead, until_of}
 pub use Rattle.accepted_commands.specs.Resume.{Resumes}
 pub use Rattle.accepted_commands.specs.Roles.{AreKept, IsLent, Kept, commands_at, kept_in}
 pub use Rattle.accepted_commands.specs.InForce.{EndsSo, IsFirst, IsListOf, Standing, Stands, StandsHeld, StandsUnder, accepted_list, boundary_in_force, earlier, edge_at, held_under, hold_for, lent_position, option_position, position_in, position_lent, shown_by, shows_under}
@@ -19,4 +19,3 @@ pub use Rattle.accepted_commands.specs.declared.command.AcceptedCommand.{Accepte
 pub use Rattle.accepted_commands.specs.declared.command.AcceptedCommand.TheVariants.{Delete, Install}
 pub use Rattle.accepted_commands.specs.declared.leg.Leg.TheVariants.{Listed}
 pub use Rattle.accepted_commands.specs.declared.leg.ListedLeg.{ListedLeg}
-pub use Rattle.accepted_commands.specs.declared.leg.Rest.{Rest}

@@ -1,7 +1,7 @@
 //! The legs of the commands that count.
 ghost use Rattle.std.specs.Prelude.{◌≡◌, ◌+◌, ◌*◌, ◌<◌, ◌≤◌, ◌∷◌, [], Some, None};
 ghost use Rattle.std.specs.Option.{ForSome};
-ghost use Rattle.accepted_commands.specs.Words.{greatest_moment, plan_of, stretches_from, entry_count, AreCommands, IsUsable, accepted_in, command_of, lent_position, stretches_of, IsFirst, Stands, StandsHeld, held_under, position_lent, AreReady, IsReady, from_of, until_of, stretch_held, stretch_of, stretch_under, stretches_ahead, Resumes};
+ghost use Rattle.accepted_commands.specs.Words.{greatest_moment, plan_of, stretches_from, entry_count, AreCommands, IsUsable, accepted_in, command_of, lent_position, stretches_of, IsFirst, Stands, StandsHeld, held_under, position_lent, AreReady, IsReady, from_of, lent_rest, rest_of, until_of, stretch_held, stretch_of, stretch_under, stretches_ahead, Resumes};
 
 use crate::command::AcceptedCommand;
 use crate::leg::{Leg, ListedLeg, OpenLeg, Rest};
@@ -15,8 +15,22 @@ use list_position::Position;
 pub struct Ahead<'a> {
     /// The leg from now on.
     pub leg: Leg<'a>,
-    /// What follows.
-    pub rest: Rest<'a>,
+    /// The one after it, if there is one.
+    pub next: Option<Leg<'a>>,
+    /// The one after that, if there is a leg before it.
+    pub last: Option<Leg<'a>>,
+}
+
+impl Ahead<'_> {
+    /// What follows the first leg, lent.
+    pub fn rest(&self) -> Rest<'_>
+        ensures { lent_rest result ≡ rest_of self.now }
+    {
+        Rest {
+            next: self.next.as_ref(),
+            last: self.last.as_ref(),
+        }
+    }
 }
 
 /// Where the list of a command stands, if it has one.
@@ -94,16 +108,14 @@ fn alone<'a>(in_force: Option<&'a AcceptedCommand>, moment: u128) -> Ahead<'a>
     requires usable { ForSome (command_of in_force) IsUsable }
     requires stands { Stands (command_of in_force) None moment (position_lent in_force) }
     requires near { moment ≤ 2 * greatest_moment }
-    ensures shows { stretches_ahead result.leg result.rest ≡ stretches_from (command_of in_force.entry) [] }
+    ensures shows { stretches_ahead result.leg (rest_of result) ≡ stretches_from (command_of in_force.entry) [] }
     ensures from { from_of result.leg ≡ moment }
-    ensures ready { AreReady result.leg result.rest }
+    ensures ready { AreReady result.leg (rest_of result) }
 {
     Ahead {
         leg: leg_at(in_force, position_of(in_force), moment, None, None),
-        rest: Rest {
-            next: None,
-            last: None,
-        },
+        next: None,
+        last: None,
     }
 }
 
@@ -121,9 +133,9 @@ fn into_change<'a>(
     requires held { held_from ≡ held_under (command_of in_force) (Some (accepted_in command.now)) }
     requires stands { Stands (command_of in_force) (Some (accepted_in command.now)) moment (position_lent in_force) }
     requires near { moment ≤ (accepted_in command.now).change }
-    ensures shows { stretches_ahead result.leg result.rest ≡ stretches_from (command_of in_force.entry) (accepted_in command.now ∷ []) }
+    ensures shows { stretches_ahead result.leg (rest_of result) ≡ stretches_from (command_of in_force.entry) (accepted_in command.now ∷ []) }
     ensures from { from_of result.leg ≡ moment }
-    ensures ready { AreReady result.leg result.rest }
+    ensures ready { AreReady result.leg (rest_of result) }
 {
     Ahead {
         leg: leg_at(
@@ -133,10 +145,8 @@ fn into_change<'a>(
             held_from,
             Some(command.change()),
         ),
-        rest: Rest {
-            next: Some(leg_from_change(command, None, None)),
-            last: None,
-        },
+        next: Some(leg_from_change(command, None, None)),
+        last: None,
     }
 }
 
@@ -158,9 +168,9 @@ fn through_change<'a>(
     requires stands { Stands (command_of in_force) (Some (accepted_in pending.now)) moment (position_lent in_force) }
     requires near { moment ≤ (accepted_in pending.now).change }
     requires timely { (accepted_in pending.now).change ≤ (accepted_in announced.now).lead }
-    ensures shows { stretches_ahead result.leg result.rest ≡ stretches_from (command_of in_force.entry) (accepted_in pending.now ∷ accepted_in announced.now ∷ []) }
+    ensures shows { stretches_ahead result.leg (rest_of result) ≡ stretches_from (command_of in_force.entry) (accepted_in pending.now ∷ accepted_in announced.now ∷ []) }
     ensures from { from_of result.leg ≡ moment }
-    ensures ready { AreReady result.leg result.rest }
+    ensures ready { AreReady result.leg (rest_of result) }
 {
     Ahead {
         leg: leg_at(
@@ -170,10 +180,8 @@ fn through_change<'a>(
             held_from,
             Some(pending.change()),
         ),
-        rest: Rest {
-            next: Some(leg_from_change(pending, Some(announced), Some(announced.change()))),
-            last: Some(leg_from_change(announced, None, None)),
-        },
+        next: Some(leg_from_change(pending, Some(announced), Some(announced.change()))),
+        last: Some(leg_from_change(announced, None, None)),
     }
 }
 
@@ -199,9 +207,9 @@ fn through_lead<'a>(
     requires resumes { Stands (command_of in_force) (Some (accepted_in announced.now)) (accepted_in announced.now).lead resumed.now }
     requires near { moment ≤ (accepted_in announced.now).lead }
     requires late { (accepted_in announced.now).lead < (accepted_in pending.now).change }
-    ensures shows { stretches_ahead result.leg result.rest ≡ stretches_from (command_of in_force.entry) (accepted_in pending.now ∷ accepted_in announced.now ∷ []) }
+    ensures shows { stretches_ahead result.leg (rest_of result) ≡ stretches_from (command_of in_force.entry) (accepted_in pending.now ∷ accepted_in announced.now ∷ []) }
     ensures from { from_of result.leg ≡ moment }
-    ensures ready { AreReady result.leg result.rest }
+    ensures ready { AreReady result.leg (rest_of result) }
 {
     let lead = announced.lead();
     Ahead {
@@ -212,16 +220,14 @@ fn through_lead<'a>(
             held_from,
             Some(lead),
         ),
-        rest: Rest {
-            next: Some(leg_at(
-                in_force,
-                resumed.as_ref(),
-                lead,
-                held_next,
-                Some(announced.change()),
-            )),
-            last: Some(leg_from_change(announced, None, None)),
-        },
+        next: Some(leg_at(
+            in_force,
+            resumed.as_ref(),
+            lead,
+            held_next,
+            Some(announced.change()),
+        )),
+        last: Some(leg_from_change(announced, None, None)),
     }
 }
 
@@ -247,9 +253,9 @@ pub fn legs_ahead<'a>(slots: &'a CommandSlots, resumed: &'a Option<Position>) ->
     requires sound { AreCommands slots.now.commands }
     requires stands { Stands slots.now.commands.in_force slots.now.commands.pending slots.now.commands.moment slots.now.position }
     requires resumes { Resumes slots.now.commands resumed.now }
-    ensures shows { stretches_ahead result.leg result.rest ≡ stretches_of slots.now.commands }
+    ensures shows { stretches_ahead result.leg (rest_of result) ≡ stretches_of slots.now.commands }
     ensures from { from_of result.leg ≡ slots.now.commands.moment }
-    ensures ready { AreReady result.leg result.rest }
+    ensures ready { AreReady result.leg (rest_of result) }
 {
     let in_force = slots.in_force();
     let held_from = slots.held_from();

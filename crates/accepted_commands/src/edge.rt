@@ -7,6 +7,7 @@ use crate::slots::CommandSlots;
 use crate::under::list_in;
 
 /// The earlier of two moments, in picoseconds, if any.
+#[inline(always)]
 fn earlier(a: Option<u128>, b: Option<u128>) -> Option<u128>
     ensures { result ≡ earlier a b }
 {
@@ -40,6 +41,7 @@ pub fn lead_moment(command: Option<&AcceptedCommand>) -> Option<u128>
 }
 
 /// The moment up to which the command in force shows one mask, in picoseconds; none: for ever.
+#[inline(always)]
 fn until_boundary(slots: &CommandSlots) -> Option<u128>
     requires sound { AreCommands slots.now.commands }
     ensures boundary { result ≡ boundary_in_force slots.now.commands.in_force slots.now.commands.pending slots.now.position }

@@ -2,7 +2,7 @@
 ghost use denote.Bor.{Bor};
 ghost use Rattle.std.specs.Prelude.{◌≡◌, ℕ, ◌+◌, ◌-◌, ◌*◌, ◌<◌, ◌≤◌, ◌∷◌, Some, None, min};
 ghost use Rattle.std.specs.Option.{ForSome};
-ghost use Rattle.accepted_commands.specs.Words.{greatest_moment, in_ps, one_more, open_while, mask_of, mask_in, Position, Rest, Listed, IsStanding, IsReady, AreReady, DoFollow, from_of, until_of, stretch_of, stretch_in, stretches_ahead};
+ghost use Rattle.accepted_commands.specs.Words.{greatest_moment, in_ps, one_more, open_while, mask_of, mask_in, Position, Listed, IsStanding, IsReady, AreReady, DoFollow, Following, from_of, lent_leg, lent_rest, until_of, stretch_of, stretch_in, stretches_ahead};
 
 use gate_list::{Schedule, Visits};
 use list_position::{Need, Position};
@@ -68,13 +68,13 @@ pub enum Leg<'a> {
     Open(OpenLeg),
 }
 
-/// What comes after a leg: one leg, two or none.
-#[derive(Drop)]
+/// What comes after a leg: one leg, two or none. The legs are lent, so that none is copied.
+#[derive(Clone, Copy)]
 pub struct Rest<'a> {
     /// The leg after.
-    pub next: Option<Leg<'a>>,
+    pub next: Option<&'a Leg<'a>>,
     /// The one after that, if there is a leg before it.
-    pub last: Option<Leg<'a>>,
+    pub last: Option<&'a Leg<'a>>,
 }
 
 impl<'a> ListedLeg<'a> {
@@ -102,7 +102,7 @@ impl<'a> ListedLeg<'a> {
         requires within { t ≤ 2 * greatest_moment }
         requires unheld { ForSome self.now.held_from (λ h. t < h) }
         requires unended { ForSome self.now.until (λ u. t < u) }
-        ensures ready { (from : ℕ) (position : Bor Position) (rest : Rest) → from ≡ result.timer.started → position.now ≡ result → AreReady (Listed self.now) rest → AreReady (Listed (record self.now { from = from; position = position })) rest }
+        ensures ready { (from : ℕ) (position : Bor Position) (rest : Following) → from ≡ result.timer.started → position.now ≡ result → AreReady (Listed self.now) rest → AreReady (Listed (record self.now { from = from; position = position })) rest }
         ensures reached { result.timer.started ≤ t }
         ensures holds { t < result.timer.next_start }
         ensures cycle { result.timer.next_start ≡ result.timer.started + in_ps self.now.schedule.now.cycle }
@@ -152,14 +152,14 @@ impl Leg<'_> {
     }
 
     /// Whether a class stays open from the leg on, through the last one, if there is one.
-    fn stays_open_into(&self, next: &Option<Leg<'_>>, need: Need) -> bool
+    fn stays_open_into(&self, next: Option<&Leg<'_>>, need: Need) -> bool
         requires ready { IsReady self.now }
-        requires follows { DoFollow self.now next.now }
-        requires last { ForSome next.now (λ g. until_of g ≡ None) }
+        requires follows { DoFollow self.now (lent_leg next) }
+        requires last { ForSome (lent_leg next) (λ g. until_of g ≡ None) }
         requires at { need.from ≡ from_of self.now }
         requires class { need.class < CLASSES }
         requires within { need.length ≤ greatest_moment }
-        ensures { result ≡ open_while (mask_in (stretch_of self.now ∷ stretch_in next.now)) need.class need.from need.length }
+        ensures { result ≡ open_while (mask_in (stretch_of self.now ∷ stretch_in (lent_leg next.entry))) need.class need.from need.length }
     {
         match next {
             None => self.stays_open(need),
@@ -172,35 +172,18 @@ impl Leg<'_> {
 
     /// Whether a class stays open from the leg on, through what follows.
     pub fn stays_open_ahead(&self, rest: &Rest<'_>, need: Need) -> bool
-        requires ready { AreReady self.now rest.now }
+        requires ready { AreReady self.now (lent_rest rest.now) }
         requires at { need.from ≡ from_of self.now }
         requires class { need.class < CLASSES }
         requires within { need.length ≤ greatest_moment }
-        ensures { result ≡ open_while (mask_in (stretches_ahead self.now rest.now)) need.class need.from need.length }
+        ensures { result ≡ open_while (mask_in (stretches_ahead self.now (lent_rest rest.now))) need.class need.from need.length }
     {
-        match &rest.next {
+        match rest.next {
             None => self.stays_open(need),
             Some(next) => {
                 self.stays_open(before(need, next.from()))
-                    && next.stays_open_into(&rest.last, after(need, next.from()))
+                    && next.stays_open_into(rest.last, after(need, next.from()))
             }
         }
-    }
-}
-
-/// A copy of a leg, if there is one.
-pub fn copied<'a>(leg: &Option<Leg<'a>>) -> Option<Leg<'a>>
-    ensures { result ≡ leg.now }
-{
-    match leg {
-        None => None,
-        Some(leg) => match leg {
-            Leg::Listed(listed) => Some(Leg::Listed(listed.at(listed.from, listed.position))),
-            Leg::Open(open) => Some(Leg::Open(OpenLeg {
-                start: open.start,
-                from: open.from,
-                until: open.until,
-            })),
-        },
     }
 }

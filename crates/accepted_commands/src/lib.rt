@@ -17,7 +17,7 @@ mod under;
 pub use ahead::{Ahead, legs_ahead, resumed};
 pub use command::{AcceptedCommand, AcceptedList, installed};
 pub use edge::{edge_of, lead_moment};
-pub use leg::{Leg, ListedLeg, OpenLeg, Rest, copied};
+pub use leg::{Leg, ListedLeg, OpenLeg, Rest};
 pub use slots::CommandSlots;
 pub use stay::stays_open;
 pub use under::{list_in, mask_under};

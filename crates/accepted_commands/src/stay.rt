@@ -38,7 +38,7 @@ fn stays_open_through(slots: &CommandSlots, resumed: &Option<Position>, need: Ne
     ensures { result ≡ open_while (mask_ahead slots.now.commands) need.class need.from need.length }
 {
     let ahead = legs_ahead(slots, resumed);
-    ahead.leg.stays_open_ahead(&ahead.rest, need)
+    ahead.leg.stays_open_ahead(&ahead.rest(), need)
 }
 
 /// Whether a class that needs some time is shut now, by the mask that shows.

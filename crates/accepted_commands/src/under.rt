@@ -41,8 +41,9 @@ impl AcceptedList {
         ensures counted { visits.old ≤ visits.new }
         ensures visits { visits.new ≤ visits.old + (length self.now.schedule.entries + 1) }
     {
-        self.position
-            .at(&self.schedule, self.change, held_from, t, visits)
+        let mut position = self.position;
+        position.jump_to(&self.schedule, self.change, held_from, t, visits);
+        position
     }
 
     /// Lets the list go on to a later moment `t`, where the same hold counts. Both are in picoseconds.

@@ -31,7 +31,8 @@ pub fn fit(
     let mut visits = Visits::zero();
     let stop = from + 1000 * u128::from(schedule.cycle_ns());
     let mut moment = from;
-    let mut position = first.at(schedule, 0, None, from, &mut visits);
+    let mut position = *first;
+    position.jump_to(schedule, 0, None, from, &mut visits);
     while !position.stays_open(
         schedule,
         None,
@@ -45,7 +46,7 @@ pub fn fit(
         if stop <= end {
             return None;
         }
-        position = position.later(schedule, 0, None, end, &mut visits);
+        position.go_on(schedule, 0, None, end, &mut visits);
         moment = end;
     }
     Some(moment)

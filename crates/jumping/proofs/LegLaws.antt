@@ -2,7 +2,7 @@
 use Rattle.std.proofs.Common.{◌≡◌, ◌<◌, ◌≤◌, ℕ, min, List, ◌∷◌, Option, Some, None, inl, inr, refl, sym, ap, ◌∙◌, subst, arith, le_refl}
 use Rattle.std.proofs.lemmas.Bool.{cases_lt, le-leb}
 use Rattle.std.specs.Option.{ForSome}
-use Rattle.jumping.specs.Words.{has_come, Stretch, mask_of, mask_in, IsFlat, Rest, from_of, until_of, stretch_of, stretches_in, stretches_ahead, NoneFits, Searched}
+use Rattle.jumping.specs.Words.{has_come, Stretch, mask_of, mask_in, IsFlat, Following, from_of, until_of, stretch_of, stretches_in, stretches_ahead, NoneFits, Searched}
 use Rattle.accepted_commands.specs.declared.leg.Leg.{Leg}
 use Rattle.accepted_commands.specs.declared.leg.Leg.TheVariants.{Open}
 use Rattle.accepted_commands.specs.declared.leg.OpenLeg.{OpenLeg}
@@ -11,7 +11,7 @@ use Rattle.jumping.proofs.SearchLaws.{searched_join, searched_over}
 use Rattle.jumping.proofs.RepeatLaws.{not_yet, shows_own}
 
 -- a leg that shows one mask
-pub flat_leg : (leg : Leg) (rest : Rest) (stop : ℕ) → from_of leg < stop → ForSome (until_of leg) (λ u. stop ≤ u) → IsFlat (mask_of (stretch_of leg)) (from_of leg) None → (n : ℕ) → from_of leg ≤ n → n < stop → mask_in (stretches_ahead leg rest) n ≡ mask_in (stretches_ahead leg rest) (from_of leg)
+pub flat_leg : (leg : Leg) (rest : Following) (stop : ℕ) → from_of leg < stop → ForSome (until_of leg) (λ u. stop ≤ u) → IsFlat (mask_of (stretch_of leg)) (from_of leg) None → (n : ℕ) → from_of leg ≤ n → n < stop → mask_in (stretches_ahead leg rest) n ≡ mask_in (stretches_ahead leg rest) (from_of leg)
 flat_leg leg rest stop some unended flat n from below =
     own n below
     ∙ (flat.same n from (λ u none. cc)

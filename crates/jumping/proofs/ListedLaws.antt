@@ -3,7 +3,7 @@ use Rattle.std.proofs.Common.{◌≡◌, ◌<◌, ◌≤◌, ℕ, ◌+◌, ◌*�
 use Rattle.std.proofs.lemmas.Bool.{false≢true}
 use denote.Bor.{Bor}
 use Rattle.std.specs.Option.{ForSome}
-use Rattle.jumping.specs.Words.{greatest_moment, Plan, has_come, in_ps, mask_since, opens, open_while, mask_in, end_of, Position, IsPlaced, IsFlat, boundary_in, Listed, ListedLeg, Rest, AreReady, DoFollow, stretch_of, stretches_in, stretches_ahead, Fits, IsSearch, NoneFits}
+use Rattle.jumping.specs.Words.{greatest_moment, Plan, has_come, in_ps, mask_since, opens, open_while, mask_in, end_of, Position, IsPlaced, IsFlat, boundary_in, Listed, ListedLeg, Following, AreReady, DoFollow, lent_rest, stretch_of, stretches_in, stretches_ahead, Fits, IsSearch, NoneFits}
 use Rattle.list_execute.specs.Walk.{walk_mask}
 use Rattle.list_position.specs.Position.{Shows}
 use Rattle.list_position.proofs.PositionLaws.{placed_hold, placed_mask, flat_min, flat_cycle, shut_now}
@@ -17,7 +17,7 @@ pub end_there : (c : ℕ) (ends : Option ℕ) → boundary_in c ends < c → end
 end_there c None l = absurd (omega arith)
 end_there c (Some e) l = ap Some (omega arith)
 
-module _ (leg : ListedLeg) (rest : Rest) (ready : AreReady (Listed leg) rest) (stop : ℕ) (some : leg.from < stop) (unheld : ForSome leg.held_from (λ h. stop ≤ h)) (unended : ForSome leg.until (λ u. stop ≤ u)) where
+module _ (leg : ListedLeg) (rest : Following) (ready : AreReady (Listed leg) rest) (stop : ℕ) (some : leg.from < stop) (unheld : ForSome leg.held_from (λ h. stop ≤ h)) (unended : ForSome leg.until (λ u. stop ≤ u)) where
   abbrev plan : Plan
   plan = leg.schedule.now
 
@@ -54,7 +54,7 @@ module _ (leg : ListedLeg) (rest : Rest) (ready : AreReady (Listed leg) rest) (s
       fits_flat (mask_in (stretches_ahead (Listed leg) rest)) needs leg.from u (λ n from below. flat_ahead n from (omega arith) (omega arith)) fails
 
 -- a class that the mask of a list shuts does not stay open from there on
-pub shut_here : (leg : ListedLeg) (rest : Rest) → AreReady (Listed leg) rest → ForSome leg.until (λ u. leg.from < u) → (class d : ℕ) → 0 < d → opens (walk_mask leg.position.now.walk) class ≡ false → open_while (mask_in (stretches_ahead (Listed leg) rest)) class leg.from d ≡ false
+pub shut_here : (leg : ListedLeg) (rest : Following) → AreReady (Listed leg) rest → ForSome leg.until (λ u. leg.from < u) → (class d : ℕ) → 0 < d → opens (walk_mask leg.position.now.walk) class ≡ false → open_while (mask_in (stretches_ahead (Listed leg) rest)) class leg.from d ≡ false
 shut_here leg rest ready unended class d some shut =
     shut_now (mask_in (stretches_ahead (Listed leg) rest)) class leg.from d some
     (ap (λ mask. opens mask class) (shows_own (stretch_of (Listed leg)) (stretches_in rest.next rest.last) leg.from (not_yet leg.until leg.from (leg.from + 1) (omega arith) (λ u is. (let late = unended u is in omega arith)))
@@ -70,7 +70,7 @@ entry_listed plan start held n position p unheld = by (has_come held position.ti
     by false e shows = (shows.shows).listed
 
 -- where a list stands later, before a stop
-module _ (leg : ListedLeg) (rest : Rest) (ready : AreReady (Listed leg) rest) (stop : ℕ) (within : stop ≤ 2 * greatest_moment) (unheld : ForSome leg.held_from (λ h. stop ≤ h)) (unended : ForSome leg.until (λ u. stop ≤ u)) (m : ℕ) (position : Bor Position) (placed : IsPlaced leg.schedule.now leg.start leg.held_from m position.now) (some : m < stop) where
+module _ (leg : ListedLeg) (rest : Following) (ready : AreReady (Listed leg) rest) (stop : ℕ) (within : stop ≤ 2 * greatest_moment) (unheld : ForSome leg.held_from (λ h. stop ≤ h)) (unended : ForSome leg.until (λ u. stop ≤ u)) (m : ℕ) (position : Bor Position) (placed : IsPlaced leg.schedule.now leg.start leg.held_from m position.now) (some : m < stop) where
   pub ready_here : AreReady (Listed (record leg { from = m; position = position })) rest
   ready_here = ready_later leg rest m position ready placed (omega arith) (λ u is. let far : stop ≤ u = unended u is in omega arith)
 
@@ -90,7 +90,7 @@ pub placed_after : (plan : Plan) (start : ℕ) (held : Option ℕ) (n : ℕ) (po
 placed_after plan start held n position p = let at = p.started_is in let begun = p.begun in omega arith
 
 -- what a list shows repeats, up to a stop
-pub leg_repeats : (leg : ListedLeg) (rest : Rest) → AreReady (Listed leg) rest → (stop : ℕ) → ForSome leg.held_from (λ h. stop ≤ h) → ForSome leg.until (λ u. stop ≤ u) → (m : ℕ) → leg.from ≤ m → m + in_ps leg.schedule.now.cycle < stop → mask_in (stretches_ahead (Listed leg) rest) (m + in_ps leg.schedule.now.cycle) ≡ mask_in (stretches_ahead (Listed leg) rest) m
+pub leg_repeats : (leg : ListedLeg) (rest : Following) → AreReady (Listed leg) rest → (stop : ℕ) → ForSome leg.held_from (λ h. stop ≤ h) → ForSome leg.until (λ u. stop ≤ u) → (m : ℕ) → leg.from ≤ m → m + in_ps leg.schedule.now.cycle < stop → mask_in (stretches_ahead (Listed leg) rest) (m + in_ps leg.schedule.now.cycle) ≡ mask_in (stretches_ahead (Listed leg) rest) m
 leg_repeats leg rest ready stop unheld unended m from below =
     stretch_repeats (stretch_of (Listed leg)) (stretches_in rest.next rest.last) leg.schedule.now m refl
     (le_trans (placed_after leg.schedule.now leg.start leg.held_from leg.from leg.position.now ((ready.first).stands).1) from)
@@ -98,7 +98,7 @@ leg_repeats leg rest ready stop unheld unended m from below =
     (not_yet leg.held_from (m + in_ps leg.schedule.now.cycle) stop below unheld)
 
 -- a search goes on where the same list stands elsewhere
-pub search_at : (search : ListSearch) (leg next : ListedLeg) (m : ℕ) (position : Bor Position) → IsSearch search leg → next ≡ record leg { from = m; position = position } → AreReady (Listed (record leg { from = m; position = position })) search.rest.now → m < search.stop → IsSearch search next
+pub search_at : (search : ListSearch) (leg next : ListedLeg) (m : ℕ) (position : Bor Position) → IsSearch search leg → next ≡ record leg { from = m; position = position } → AreReady (Listed (record leg { from = m; position = position })) (lent_rest search.rest.now) → m < search.stop → IsSearch search next
 search_at search leg next m position is same ready some = subst (IsSearch search) (sym same) (record {
   ready = ready;
   some = some;
@@ -107,11 +107,11 @@ search_at search leg next m position is same ready some = subst (IsSearch search
 })
 
 -- a list that nothing follows shows what it shows by itself
-pub alone_while : (leg : ListedLeg) (rest : Rest) → AreReady (Listed leg) rest → rest.next ≡ None → (class n d : ℕ) → open_while (mask_in (stretches_ahead (Listed leg) rest)) class n d ≡ open_while (mask_since (Some leg.schedule.now) leg.start leg.held_from) class n d
+pub alone_while : (leg : ListedLeg) (rest : Following) → AreReady (Listed leg) rest → rest.next ≡ None → (class n d : ℕ) → open_while (mask_in (stretches_ahead (Listed leg) rest)) class n d ≡ open_while (mask_since (Some leg.schedule.now) leg.start leg.held_from) class n d
 alone_while leg rest ready none class n d =
     endless_while (stretch_of (Listed leg)) (stretches_in rest.next rest.last) class n d (subst (DoFollow (Listed leg)) none ready.follows)
 
-pub alone_fits : (leg : ListedLeg) (rest : Rest) → AreReady (Listed leg) rest → rest.next ≡ None → (needs : List (Option ℕ)) (u : ℕ) → Fits (mask_since (Some leg.schedule.now) leg.start leg.held_from) needs u → Fits (mask_in (stretches_ahead (Listed leg) rest)) needs u
+pub alone_fits : (leg : ListedLeg) (rest : Following) → AreReady (Listed leg) rest → rest.next ≡ None → (needs : List (Option ℕ)) (u : ℕ) → Fits (mask_since (Some leg.schedule.now) leg.start leg.held_from) needs u → Fits (mask_in (stretches_ahead (Listed leg) rest)) needs u
 alone_fits leg rest ready none needs u at = record {
   class = at.class;
   need = at.need;

@@ -8,7 +8,7 @@ use Rattle.list_config.specs.Stretch.{Stretch}
 use Rattle.list_config.specs.Current.{entry_count}
 use Rattle.accepted_commands.specs.declared.leg.ListedLeg.{ListedLeg}
 use Rattle.accepted_commands.specs.declared.leg.Leg.TheVariants.{Listed}
-use Rattle.accepted_commands.specs.Leg.{AreReady}
+use Rattle.accepted_commands.specs.Leg.{AreReady, lent_rest}
 use Rattle.jumping.specs.declared.search.ListSearch.{ListSearch}
 
 -- no class with a need is open through it from t on and below u
@@ -29,7 +29,7 @@ Searched mask needs t stop (Some u) = (t ≤ u) × (u < stop) × NoneFits mask n
 
 -- A search in a list from where it stands: up to its stop the list is in force.
 pub record IsSearch (search : ListSearch) (leg : ListedLeg) : Type 0 where
-  pub ready : AreReady (Listed leg) search.rest.now
+  pub ready : AreReady (Listed leg) (lent_rest search.rest.now)
   pub some : leg.from < search.stop
   pub within : search.stop ≤ 2 * greatest_moment
   pub unended : ForSome leg.until (λ u. search.stop ≤ u)

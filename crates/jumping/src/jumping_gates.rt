@@ -57,6 +57,7 @@ fn is_before(moment: u128, edge: Option<u128>) -> bool
 
 /// The next moment at which a boundary of the list in force comes, or a command does, in picoseconds; none: there is
 /// none.
+#[inline(always)]
 fn next_edge(slots: &CommandSlots) -> Option<u128>
     requires sound { AreCommands slots.now.commands }
     requires stands { Stands slots.now.commands.in_force slots.now.commands.pending slots.now.commands.moment slots.now.position }
@@ -183,7 +184,7 @@ fn search_legs(
     ensures visits { visits.new ≤ visits.old + most_in (stretches_of slots.now.commands) }
 {
     let ahead = legs_ahead(slots, resumed);
-    search(&ahead.leg, &ahead.rest, heads, before, visits)
+    search(&ahead.leg, &ahead.rest(), heads, before, visits)
 }
 
 impl Gates for Jumping {

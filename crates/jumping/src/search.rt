@@ -1,9 +1,9 @@
 //! The search for the first moment at which some class with a need stays open through it.
 ghost use Rattle.std.specs.Prelude.{◌≡◌, ℕ, ◌+◌, ◌-◌, ◌*◌, ◌<◌, ◌≤◌, ◌∷◌, Some, None, true, false, All, length, min, slice_get};
 ghost use Rattle.std.specs.Option.{ForSome};
-ghost use Rattle.jumping.specs.Words.{greatest_moment, IsSchedule, has_come, in_ps, mask_since, opens, open_while, mask_in, mask_of, end_of, IsFlat, IsPlaced, boundary_in, Listed, AreReady, DoFollow, IsReady, stretch_in, from_of, until_of, stretch_of, stretches_ahead, Fits, IsSearch, Searched, up_to, most_visits, most_in};
+ghost use Rattle.jumping.specs.Words.{greatest_moment, IsSchedule, has_come, in_ps, mask_since, opens, open_while, mask_in, mask_of, end_of, IsFlat, IsPlaced, boundary_in, Listed, AreReady, DoFollow, IsReady, stretch_in, from_of, lent_leg, lent_rest, until_of, stretch_of, stretches_ahead, Fits, IsSearch, Searched, up_to, most_visits, most_in};
 
-use accepted_commands::{Leg, ListedLeg, Rest, copied};
+use accepted_commands::{Leg, ListedLeg, Rest};
 use gate_list::Visits;
 use list_position::{Need, Position};
 use queue_heads::Heads;
@@ -11,9 +11,9 @@ use wire_time::CLASSES;
 
 /// Whether some class with a need, in picoseconds, stays open through it from a leg on.
 fn fits(leg: &Leg<'_>, rest: &Rest<'_>, needs: &Heads) -> bool
-    requires ready { AreReady leg.now rest.now }
-    ensures some { result ≡ true → Fits (mask_in (stretches_ahead leg.now rest.now)) needs.now (from_of leg.now) }
-    ensures none { result ≡ false → (class d : ℕ) → slice_get needs.now class ≡ Some (Some d) → open_while (mask_in (stretches_ahead leg.now rest.now)) class (from_of leg.now) d ≡ false }
+    requires ready { AreReady leg.now (lent_rest rest.now) }
+    ensures some { result ≡ true → Fits (mask_in (stretches_ahead leg.now (lent_rest rest.now))) needs.now (from_of leg.now) }
+    ensures none { result ≡ false → (class d : ℕ) → slice_get needs.now class ≡ Some (Some d) → open_while (mask_in (stretches_ahead leg.now (lent_rest rest.now))) class (from_of leg.now) d ≡ false }
 {
     // The needs are of all classes.
     let _ = needs.waits();
@@ -90,12 +90,12 @@ impl ListSearch<'_> {
     /// Whether some class fits where a list stands so at a moment. Where nothing follows it, its position decides. Else
     /// the mask shows first whether what follows is worth asking.
     fn fits_at(&self, leg: &ListedLeg<'_>, from: u128, position: &Position) -> bool
-        requires ready { AreReady (Listed (record leg.now { from = from; position = position })) self.now.rest.now }
+        requires ready { AreReady (Listed (record leg.now { from = from; position = position })) (lent_rest self.now.rest.now) }
         requires unended { ForSome leg.now.until (λ u. from < u) }
-        ensures some { result ≡ true → Fits (mask_in (stretches_ahead (Listed leg.now) self.now.rest.now)) self.now.needs.now from }
-        ensures none { result ≡ false → (class d : ℕ) → slice_get self.now.needs.now class ≡ Some (Some d) → open_while (mask_in (stretches_ahead (Listed leg.now) self.now.rest.now)) class from d ≡ false }
+        ensures some { result ≡ true → Fits (mask_in (stretches_ahead (Listed leg.now) (lent_rest self.now.rest.now))) self.now.needs.now from }
+        ensures none { result ≡ false → (class d : ℕ) → slice_get self.now.needs.now class ≡ Some (Some d) → open_while (mask_in (stretches_ahead (Listed leg.now) (lent_rest self.now.rest.now))) class from d ≡ false }
     {
-        match &self.rest.next {
+        match self.rest.next {
             None => fits_alone(leg, from, position, self.needs),
             Some(_) => {
                 opens_some(position.walk.mask(), self.needs)
@@ -109,7 +109,7 @@ impl ListSearch<'_> {
     fn in_cycle(&self, leg: &ListedLeg<'_>, visits: &mut Visits) -> Option<u128>
         requires search { IsSearch self.now leg.now }
         requires unheld { ForSome leg.now.held_from (λ h. self.now.stop ≤ h) }
-        ensures searched { Searched (mask_in (stretches_ahead (Listed leg.now) self.now.rest.now)) self.now.needs.now leg.now.from (min self.now.stop leg.now.position.now.timer.next_start) result }
+        ensures searched { Searched (mask_in (stretches_ahead (Listed leg.now) (lent_rest self.now.rest.now))) self.now.needs.now leg.now.from (min self.now.stop leg.now.position.now.timer.next_start) result }
         ensures counted { visits.old ≤ visits.new }
         ensures visits { visits.new + leg.now.position.now.walk.index + 1 ≤ visits.old + length leg.now.schedule.now.entries }
     {
@@ -132,7 +132,7 @@ impl ListSearch<'_> {
         requires search { IsSearch self.now leg.now }
         requires unheld { ForSome leg.now.held_from (λ h. self.now.stop ≤ h) }
         requires near { self.now.stop ≤ leg.now.position.now.timer.next_start + in_ps leg.now.schedule.now.cycle }
-        ensures searched { Searched (mask_in (stretches_ahead (Listed leg.now) self.now.rest.now)) self.now.needs.now leg.now.from self.now.stop result }
+        ensures searched { Searched (mask_in (stretches_ahead (Listed leg.now) (lent_rest self.now.rest.now))) self.now.needs.now leg.now.from self.now.stop result }
         ensures counted { visits.old ≤ visits.new }
         ensures visits { visits.new + leg.now.position.now.walk.index + 1 ≤ visits.old + 2 * length leg.now.schedule.now.entries }
     {
@@ -154,7 +154,7 @@ impl ListSearch<'_> {
         requires search { IsSearch self.now leg.now }
         requires unheld { ForSome leg.now.held_from (λ h. self.now.stop ≤ h) }
         requires begins { leg.now.from ≡ leg.now.position.now.timer.started }
-        ensures searched { Searched (mask_in (stretches_ahead (Listed leg.now) self.now.rest.now)) self.now.needs.now leg.now.from self.now.stop result }
+        ensures searched { Searched (mask_in (stretches_ahead (Listed leg.now) (lent_rest self.now.rest.now))) self.now.needs.now leg.now.from self.now.stop result }
         ensures counted { visits.old ≤ visits.new }
         ensures visits { visits.new + leg.now.position.now.walk.index + 1 ≤ visits.old + 3 * length leg.now.schedule.now.entries }
     {
@@ -175,7 +175,7 @@ impl ListSearch<'_> {
     fn in_list(&self, leg: &ListedLeg<'_>, visits: &mut Visits) -> Option<u128>
         requires search { IsSearch self.now leg.now }
         requires unheld { ForSome leg.now.held_from (λ h. self.now.stop ≤ h) }
-        ensures searched { Searched (mask_in (stretches_ahead (Listed leg.now) self.now.rest.now)) self.now.needs.now leg.now.from self.now.stop result }
+        ensures searched { Searched (mask_in (stretches_ahead (Listed leg.now) (lent_rest self.now.rest.now))) self.now.needs.now leg.now.from self.now.stop result }
         ensures counted { visits.old ≤ visits.new }
         ensures visits { visits.new + leg.now.position.now.walk.index + 1 ≤ visits.old + 4 * length leg.now.schedule.now.entries }
     {
@@ -195,7 +195,7 @@ impl ListSearch<'_> {
     fn in_hold(&self, leg: &ListedLeg<'_>) -> Option<u128>
         requires search { IsSearch self.now leg.now }
         requires held { has_come leg.now.held_from leg.now.from ≡ true }
-        ensures { Searched (mask_in (stretches_ahead (Listed leg.now) self.now.rest.now)) self.now.needs.now leg.now.from self.now.stop result }
+        ensures { Searched (mask_in (stretches_ahead (Listed leg.now) (lent_rest self.now.rest.now))) self.now.needs.now leg.now.from self.now.stop result }
     {
         search_flat(
             &Leg::Listed(leg.at(leg.from, leg.position)),
@@ -207,7 +207,7 @@ impl ListSearch<'_> {
     /// The first such moment from where a list stands, up to its hold and in it.
     fn in_listed(&self, leg: &ListedLeg<'_>, visits: &mut Visits) -> Option<u128>
         requires { IsSearch self.now leg.now }
-        ensures searched { Searched (mask_in (stretches_ahead (Listed leg.now) self.now.rest.now)) self.now.needs.now leg.now.from self.now.stop result }
+        ensures searched { Searched (mask_in (stretches_ahead (Listed leg.now) (lent_rest self.now.rest.now))) self.now.needs.now leg.now.from self.now.stop result }
         ensures counted { visits.old ≤ visits.new }
         ensures visits { visits.new ≤ visits.old + (4 * length leg.now.schedule.now.entries + 1) }
     {
@@ -228,17 +228,16 @@ impl ListSearch<'_> {
         if self.stop <= held_from {
             return None;
         }
-        let held = leg
-            .position
-            .at(leg.schedule, leg.start, leg.held_from, held_from, visits);
+        let mut held = *leg.position;
+        held.jump_to(leg.schedule, leg.start, leg.held_from, held_from, visits);
         self.in_hold(&leg.at(held_from, &held))
     }
 }
 
 /// The leg's own moment, if some class with a need stays open through it from then on.
 fn search_flat(leg: &Leg<'_>, rest: &Rest<'_>, needs: &Heads) -> Option<u128>
-    requires ready { AreReady leg.now rest.now }
-    ensures { (stop : ℕ) → from_of leg.now < stop → ForSome (until_of leg.now) (λ u. stop ≤ u) → IsFlat (mask_of (stretch_of leg.now)) (from_of leg.now) None → Searched (mask_in (stretches_ahead leg.now rest.now)) needs.now (from_of leg.now) stop result }
+    requires ready { AreReady leg.now (lent_rest rest.now) }
+    ensures { (stop : ℕ) → from_of leg.now < stop → ForSome (until_of leg.now) (λ u. stop ≤ u) → IsFlat (mask_of (stretch_of leg.now)) (from_of leg.now) None → Searched (mask_in (stretches_ahead leg.now (lent_rest rest.now))) needs.now (from_of leg.now) stop result }
 {
     if fits(leg, rest, needs) {
         Some(leg.from())
@@ -255,11 +254,11 @@ fn search_leg(
     stop: u128,
     visits: &mut Visits,
 ) -> Option<u128>
-    requires ready { AreReady leg.now rest.now }
+    requires ready { AreReady leg.now (lent_rest rest.now) }
     requires some { from_of leg.now < stop }
     requires within { stop ≤ 2 * greatest_moment }
     requires unended { ForSome (until_of leg.now) (λ u. stop ≤ u) }
-    ensures searched { Searched (mask_in (stretches_ahead leg.now rest.now)) needs.now (from_of leg.now) stop result }
+    ensures searched { Searched (mask_in (stretches_ahead leg.now (lent_rest rest.now))) needs.now (from_of leg.now) stop result }
     ensures counted { visits.old ≤ visits.new }
     ensures visits { visits.new ≤ visits.old + most_visits (stretch_of leg.now) }
 {
@@ -277,9 +276,9 @@ fn search_to(
     before: u128,
     visits: &mut Visits,
 ) -> Option<u128>
-    requires ready { AreReady leg.now rest.now }
+    requires ready { AreReady leg.now (lent_rest rest.now) }
     requires within { before ≤ 2 * greatest_moment }
-    ensures searched { Searched (mask_in (stretches_ahead leg.now rest.now)) needs.now (from_of leg.now) (up_to (until_of leg.now) before) result }
+    ensures searched { Searched (mask_in (stretches_ahead leg.now (lent_rest rest.now))) needs.now (from_of leg.now) (up_to (until_of leg.now) before) result }
     ensures counted { visits.old ≤ visits.new }
     ensures visits { visits.new ≤ visits.old + most_visits (stretch_of leg.now) }
 {
@@ -297,21 +296,21 @@ fn search_to(
 /// The first such moment from a leg on, through the last one, if there is one, and before `before`.
 fn search_into(
     leg: &Leg<'_>,
-    last: &Option<Leg<'_>>,
+    last: Option<&Leg<'_>>,
     needs: &Heads,
     before: u128,
     visits: &mut Visits,
 ) -> Option<u128>
     requires ready { IsReady leg.now }
-    requires follows { DoFollow leg.now last.now }
-    requires ends { ForSome last.now (λ g. until_of g ≡ None) }
+    requires follows { DoFollow leg.now (lent_leg last) }
+    requires ends { ForSome (lent_leg last) (λ g. until_of g ≡ None) }
     requires within { before ≤ 2 * greatest_moment }
-    ensures searched { Searched (mask_in (stretch_of leg.now ∷ stretch_in last.now)) needs.now (from_of leg.now) before result }
+    ensures searched { Searched (mask_in (stretch_of leg.now ∷ stretch_in (lent_leg last.entry))) needs.now (from_of leg.now) before result }
     ensures counted { visits.old ≤ visits.new }
-    ensures visits { visits.new ≤ visits.old + most_in (stretch_of leg.now ∷ stretch_in last.now) }
+    ensures visits { visits.new ≤ visits.old + most_in (stretch_of leg.now ∷ stretch_in (lent_leg last.entry)) }
 {
     let rest = Rest {
-        next: copied(last),
+        next: last,
         last: None,
     };
     if let Some(found) = search_to(leg, &rest, needs, before, visits) {
@@ -338,17 +337,17 @@ pub(crate) fn search(
     before: u128,
     visits: &mut Visits,
 ) -> Option<u128>
-    requires ready { AreReady leg.now rest.now }
+    requires ready { AreReady leg.now (lent_rest rest.now) }
     requires within { before ≤ 2 * greatest_moment }
-    ensures searched { Searched (mask_in (stretches_ahead leg.now rest.now)) needs.now (from_of leg.now) before result }
+    ensures searched { Searched (mask_in (stretches_ahead leg.now (lent_rest rest.now))) needs.now (from_of leg.now) before result }
     ensures counted { visits.old ≤ visits.new }
-    ensures visits { visits.new ≤ visits.old + most_in (stretches_ahead leg.now rest.now) }
+    ensures visits { visits.new ≤ visits.old + most_in (stretches_ahead leg.now (lent_rest rest.now)) }
 {
     if let Some(found) = search_to(leg, rest, needs, before, visits) {
         return Some(found);
     }
-    match &rest.next {
+    match rest.next {
         None => None,
-        Some(next) => search_into(next, &rest.last, needs, before, visits),
+        Some(next) => search_into(next, rest.last, needs, before, visits),
     }
 }

@@ -113,26 +113,28 @@ impl Position {
         begin_cycle(schedule, timer, last.mask, None, visits)
     }
 
-    /// The position of the same list at the moment `t`, whose cycles began at `start`, and whose last state is held
-    /// from `held_from` on; none: from no moment on. All are in picoseconds.
-    pub fn at(
-        &self,
+    /// Goes to where the same list stands at the moment `t`, wherever it stood. Its cycles began at `start`, and its
+    /// last state is held from `held_from` on; none: from no moment on. All are in picoseconds. It stays apart, so that
+    /// what mostly goes on in the cycle that runs stays small.
+    #[inline(never)]
+    pub fn jump_to(
+        &mut self,
         schedule: &Schedule,
         start: u128,
         held_from: Option<u128>,
         t: u128,
         visits: &mut Visits,
-    ) -> Position
+    )
         requires sound { IsSchedule schedule.now }
         requires begun { start ≤ t }
         requires within { t ≤ 2 * greatest_moment }
         requires held { IsCycleStart schedule.now start held_from }
-        requires last { self.now.last_mask ≡ last_mask schedule.now.entries }
-        ensures placed { IsPlaced schedule.now start held_from t result }
+        requires last { self.old.last_mask ≡ last_mask schedule.now.entries }
+        ensures placed { IsPlaced schedule.now start held_from t self.new }
         ensures counted { visits.old ≤ visits.new }
         ensures visits { visits.new ≤ visits.old + (length schedule.now.entries + 1) }
         ensures held { has_come held_from t ≡ true → visits.new ≤ visits.old + 2 }
-        ensures listed { has_come held_from t ≡ false → visits.new ≡ more visits.old (result.walk.index + 1) }
+        ensures listed { has_come held_from t ≡ false → visits.new ≡ more visits.old (self.new.walk.index + 1) }
     {
         let mut timer = timer_from(schedule, start);
         timer.jump_to(t);
@@ -142,11 +144,8 @@ impl Position {
         } else {
             walk.go_on(schedule, t - timer.started(), visits);
         }
-        Position {
-            timer,
-            walk,
-            last_mask: self.last_mask,
-        }
+        self.timer = timer;
+        self.walk = walk;
     }
 
     /// Whether a class stays open, by the stay of the entry that is shown then.
@@ -251,32 +250,10 @@ impl Position {
             return;
         }
         if self.timer.next_start() <= t {
-            *self = self.at(schedule, start, held_from, t, visits);
+            self.jump_to(schedule, start, held_from, t, visits);
             return;
         }
         self.walk.go_on(schedule, t - self.timer.started(), visits);
-    }
-
-    /// The position of the same list at a later moment `t`, as `go_on` goes there. All are in picoseconds.
-    pub fn later(
-        &self,
-        schedule: &Schedule,
-        start: u128,
-        held_from: Option<u128>,
-        t: u128,
-        visits: &mut Visits,
-    ) -> Position
-        requires sound { IsSchedule schedule.now }
-        requires within { t ≤ 2 * greatest_moment }
-        requires stood { StoodBy schedule.now start held_from t self.now }
-        ensures placed { IsPlaced schedule.now start held_from t result }
-        ensures counted { visits.old ≤ visits.new }
-        ensures visits { visits.new ≤ visits.old + (length schedule.now.entries + 1) }
-        ensures next { (n e : ℕ) → IsPlaced schedule.now start held_from n self.now → BeginsAtMost (Some schedule.now) start n t e → visits.new ≤ visits.old + 2 }
-    {
-        let mut position = *self;
-        position.go_on(schedule, start, held_from, t, visits);
-        position
     }
 
     /// Goes on to the end of the entry, where the next one begins in the same cycle and is looked at. It stays apart:

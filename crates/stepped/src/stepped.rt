@@ -92,7 +92,7 @@ impl Gates for Stepped {
             from: self.slots.moment(),
             length: for_ps,
         };
-        ahead.leg.stays_open_ahead(&ahead.rest, need)
+        ahead.leg.stays_open_ahead(&ahead.rest(), need)
     }
 
     fn next_boundary(&self, before: u128) -> Option<u128> {

@@ -25,7 +25,7 @@ loop-visits-preserved c =
     let shut : open_while (mask_since (Some plan) 0 None) c.args.class c.loop-visits.moment c.args.length ≡ false = sym (c.stays_open.ensures 0 inv.2) ∙ c.loop-visits-test.true in (
       omega (arith, from, later_than (mask_since (Some plan) 0 None) c.loop-visits.moment c.in_ok-end.end flat),
       c.if-stop-end.false,
-      c.later-position.ensures.placed,
+      c.go_on.ensures.placed,
       flat_to (mask_since (Some plan) 0 None) c.args.class c.args.length c.args.from c.loop-visits.moment c.in_ok-end.end flat inv.3 shut,
     )
 

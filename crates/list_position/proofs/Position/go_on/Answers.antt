@@ -10,27 +10,27 @@ returns-then-has_come-clause-placed c =
     let on = ap (has_come c.args.held_from) (sym c.started.ensures.value) ∙ (sym c.has_come.ensures ∙ c.if-has_come.true) in
     held_still c.args.schedule.now c.requires.sound c.args.start c.args.held_from stood.0 c.args.self.now stood.2 on c.args.t stood.1
 
-pub at-requires-clause-begun : goal.at-requires-clause-begun
-at-requires-clause-begun c =
+pub jump_to-requires-clause-begun : goal.jump_to-requires-clause-begun
+jump_to-requires-clause-begun c =
     let stood = c.requires.stood in
     let at = stood.2.started_is in
     let begun = stood.2.begun in
     let upto : stood.0 ≤ c.args.t = stood.1 in
     omega (arith, at, begun, upto)
 
-pub at-requires-clause-held : goal.at-requires-clause-held
-at-requires-clause-held c = c.requires.stood.2.held_at
+pub jump_to-requires-clause-held : goal.jump_to-requires-clause-held
+jump_to-requires-clause-held c = c.requires.stood.2.held_at
 
-pub at-requires-clause-last : goal.at-requires-clause-last
-at-requires-clause-last c = c.requires.stood.2.last_is
+pub jump_to-requires-clause-last : goal.jump_to-requires-clause-last
+jump_to-requires-clause-last c = c.requires.stood.2.last_is
 
 pub returns-then-next_start-t-clause-next : goal.returns-then-next_start-t-clause-next
 returns-then-next_start-t-clause-next c = λ n e placed only.
     let off = ap (has_come c.args.held_from) (sym c.started.ensures.value) ∙ (sym c.has_come.ensures ∙ c.if-has_come.false) in
     let at = c.next_start.ensures.value in
     let come = c.if-next_start-t.true in
-    next_cycle c.args.schedule.now c.requires.sound c.args.start c.args.held_from n c.args.t e c.args.self.now c.at.result placed c.at.ensures.placed off (omega (arith, at, come)) only
-    c.args.visits.now c.at.new.visits c.at.ensures.held c.at.ensures.listed
+    next_cycle c.args.schedule.now c.requires.sound c.args.start c.args.held_from n c.args.t e c.args.self.now c.jump_to.new.self placed c.jump_to.ensures.placed off (omega (arith, at, come)) only
+    c.args.visits.now c.jump_to.new.visits c.jump_to.ensures.held c.jump_to.ensures.listed
 
 pub go_on-requires-clause-shown : goal.go_on-requires-clause-shown
 go_on-requires-clause-shown c =

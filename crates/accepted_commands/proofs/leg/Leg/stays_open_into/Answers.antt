@@ -1,14 +1,14 @@
 use Rattle.std.proofs.Common.{◌≤◌, ◌∷◌, [], sym, ap, ◌∙◌, subst}
-use Rattle.accepted_commands.specs.Words.{open_while, mask_in, DoFollow, from_of, stretch_of, stretch_in}
+use Rattle.accepted_commands.specs.Words.{open_while, mask_in, DoFollow, from_of, lent_leg, stretch_of, stretch_in}
 use Rattle.accepted_commands.proofs.LegLaws.{open_last, open_through, shut_before}
 use Rattle.accepted_commands.proofs.leg.Leg.stays_open_into.Goals as goal
 
 pub returns-then-stays_open : goal.returns-then-stays_open
 returns-then-stays_open c =
     let leg = c.args.self.now in
-    let next = c.in-Some.next in
+    let next = c.in-Some.next.now in
     let need = c.args.need in
-    let is = c.in-Some.is in
+    let is = ap lent_leg c.in-Some.is in
     let follows = subst (DoFollow leg) is c.requires.follows in
     let early = subst (λ m. m ≤ from_of next) (sym c.requires.at) follows.1 in
     let second = open_last next [] c.after.result c.stays_open-then-stays_open.result (c.requires.last next is) c.stays_open-then-stays_open.ensures in
@@ -20,9 +20,9 @@ returns-then-stays_open c =
 pub returns-else-stays_open : goal.returns-else-stays_open
 returns-else-stays_open c =
     let leg = c.args.self.now in
-    let next = c.in-Some.next in
+    let next = c.in-Some.next.now in
     let need = c.args.need in
-    let is = c.in-Some.is in
+    let is = ap lent_leg c.in-Some.is in
     let follows = subst (DoFollow leg) is c.requires.follows in
     let early = subst (λ m. m ≤ from_of next) (sym c.requires.at) follows.1 in
     shut_before leg (stretch_of next ∷ []) need (from_of next) follows.0 early

@@ -1,6 +1,6 @@
 use Rattle.std.proofs.Common.{ℕ, ◌<◌, ◌≤◌, min, refl, sym, ap, ◌∙◌, subst, arith}
 use denote.Bor.{Bor}
-use Rattle.jumping.specs.Words.{Cycle, mask_in, end_of, Position, IsPlaced, boundary_in, Listed, stretches_ahead}
+use Rattle.jumping.specs.Words.{Cycle, mask_in, end_of, Position, IsPlaced, boundary_in, Listed, lent_rest, stretches_ahead}
 use Rattle.jumping.proofs.SearchLaws.{fits_join}
 use Rattle.jumping.proofs.ListedLaws.{ahead_here, end_there, entry_listed, none_here, off_here}
 use Rattle.jumping.proofs.search.ListSearch.in_cycle.Goals as goal
@@ -8,7 +8,7 @@ use Rattle.jumping.proofs.search.ListSearch.in_cycle.Goals as goal
 pub returns-then-limit-end-clause-searched : goal.returns-then-limit-end-clause-searched
 returns-then-limit-end-clause-searched c =
     let leg = c.args.leg.now in
-    let rest = c.args.self.now.rest.now in
+    let rest = lent_rest c.args.self.now.rest.now in
     let from = c.loop-position.from in
     let inv = c.loop-position.invariant in
     let some = inv.0 in
@@ -23,7 +23,7 @@ returns-then-limit-end-clause-searched c =
 pub loop-position-preserved : goal.loop-position-preserved
 loop-position-preserved c =
     let leg = c.args.leg.now in
-    let rest = c.args.self.now.rest.now in
+    let rest = lent_rest c.args.self.now.rest.now in
     let plan = leg.schedule.now in
     let from = c.loop-position.from in
     let position = c.loop-position.position in

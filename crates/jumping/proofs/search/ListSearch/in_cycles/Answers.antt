@@ -1,5 +1,5 @@
 use Rattle.std.proofs.Common.{refl, ◌≡◌, ℕ, ◌+◌, min, subst, arith}
-use Rattle.jumping.specs.Words.{in_ps, mask_in, Listed, ListedLeg, stretches_ahead, NoneFits, Searched}
+use Rattle.jumping.specs.Words.{in_ps, mask_in, Listed, ListedLeg, lent_rest, stretches_ahead, NoneFits, Searched}
 use Rattle.jumping.proofs.ListedLaws.{leg_repeats, search_at}
 use Rattle.jumping.proofs.SearchLaws.{none_jump, searched_join, searched_none}
 use Rattle.jumping.proofs.search.ListSearch.in_cycles.Goals as goal
@@ -13,12 +13,12 @@ in_two-requires-clause-search c =
     let reached = later.reached in
     let started = c.started.ensures.before in
     let begun = c.started-2.ensures.value in
-    search_at c.args.self.now c.args.leg.now c.at-near.result c.started-2.result _ c.requires.search c.at-near.ensures (later.ready c.started-2.result _ c.args.self.now.rest.now begun refl c.requires.search.ready) (omega (arith, end, started, past, target, reached, begun))
+    search_at c.args.self.now c.args.leg.now c.at-near.result c.started-2.result _ c.requires.search c.at-near.ensures (later.ready c.started-2.result _ (lent_rest c.args.self.now.rest.now) begun refl c.requires.search.ready) (omega (arith, end, started, past, target, reached, begun))
 
 pub returns-clause-searched : goal.returns-clause-searched
 returns-clause-searched c =
     let leg = c.args.leg.now in
-    let rest = c.args.self.now.rest.now in
+    let rest = lent_rest c.args.self.now.rest.now in
     let needs = c.args.self.now.needs.now in
     let stop = c.args.self.now.stop in
     let f : ℕ → ℕ = mask_in (stretches_ahead (Listed leg) rest) in

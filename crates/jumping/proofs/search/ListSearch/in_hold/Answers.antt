@@ -1,5 +1,5 @@
 use Rattle.std.proofs.Common.{◌<◌, ◌≤◌, None, sym, ◌∙◌, subst}
-use Rattle.jumping.specs.Words.{mask_in, mask_of, IsFlat, ListedLeg, Listed, stretch_of, stretches_ahead, Searched}
+use Rattle.jumping.specs.Words.{mask_in, mask_of, IsFlat, ListedLeg, Listed, lent_rest, stretch_of, stretches_ahead, Searched}
 use Rattle.std.specs.Option.{ForSome}
 use Rattle.list_position.proofs.PositionLaws.{flat_held, placed_hold}
 use Rattle.jumping.proofs.search.ListSearch.in_hold.Goals as goal
@@ -7,7 +7,7 @@ use Rattle.jumping.proofs.search.ListSearch.in_hold.Goals as goal
 pub returns : goal.returns
 returns c =
     let leg = c.args.leg.now in
-    let rest = c.args.self.now.rest.now in
+    let rest = lent_rest c.args.self.now.rest.now in
     let stands = (c.requires.search.ready.first).stands in
     let held = sym (placed_hold leg.schedule.now stands.0 leg.start leg.held_from leg.from leg.position.now stands.1) ∙ c.requires.held in
     let flat = flat_held leg.schedule.now stands.0 leg.start leg.held_from leg.from leg.position.now stands.1 held in
