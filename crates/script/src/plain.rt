@@ -44,14 +44,11 @@ fn behind_feed(octets: &[u8]) -> Option<&[u8]>
 fn front_frame(octets: &[u8]) -> Option<(Frame, &[u8])>
     ensures { IfSome result (λ x. BeginsWithEvent frame_event octets.now (Arrive x.0) x.1.now) }
 {
-    let (id, rest) = front_number(octets)?;
+    let (id, rest) = front_number(octets, u128::from(u64::MAX))?;
     let (priority, rest) = front_digit(behind_space(rest)?)?;
     let (len, rest) = front_short(behind_space(rest)?)?;
     let (tagged, rest) = behind_tag(rest);
     let rest = behind_feed(rest)?;
-    if id > u128::from(u64::MAX) {
-        return None;
-    }
     let frame = Frame {
         id: id as u64,
         priority: priority as u8,
@@ -66,11 +63,8 @@ fn front_frame(octets: &[u8]) -> Option<(Frame, &[u8])>
 fn front_clock(octets: &[u8]) -> Option<(u128, &[u8])>
     ensures { IfSome result (λ x. BeginsWithEvent clock_event octets.now (Clock x.0) x.1.now) }
 {
-    let (moment, rest) = front_number(octets)?;
+    let (moment, rest) = front_number(octets, MAX_MOMENT)?;
     let rest = behind_feed(rest)?;
-    if moment > MAX_MOMENT {
-        return None;
-    }
     Some((moment, rest))
 }
 

@@ -162,7 +162,8 @@ fn wide_digits(octets: &[u8; LANES], count: usize) -> u64
     requires some { 8 < count }
     requires few { count ≤ LANES }
     requires digits { list_all is_digit (take count octets.now) ≡ true }
-    ensures { value_behind 10 0 (take count octets.now) ≡ Some result }
+    ensures value { value_behind 10 0 (take count octets.now) ≡ Some result }
+    ensures bound { result < 10 ^ 16 }
 {
     let (_, last) = octets.split_at(count - 8);
     digits_of(octets, count - 8) * 100_000_000 + digits_of(last, 8)
@@ -213,14 +214,21 @@ pub fn front_short(octets: &[u8]) -> Option<(u64, &[u8])>
     Some((digits_of(front, count), rest))
 }
 
-/// The number that digits at the front of octets are, of which the first 16 are this number, and what comes after them.
-/// None where they are more than 24, or fewer than 32 octets are there.
+/// The number of at most `most` that digits at the front of octets are, of which the first 16 are this number, and what
+/// comes after them. None where they are more than 24, or fewer than 32 octets are there.
 #[inline(always)]
-fn long_number<'a>(octets: &'a [u8], number: u64, rest: &'a [u8]) -> Option<(u128, &'a [u8])>
+fn long_number<'a>(
+    octets: &'a [u8],
+    number: u64,
+    rest: &'a [u8],
+    most: u128,
+) -> Option<(u128, &'a [u8])>
     requires there { LANES ≤ length octets.now }
     requires value { value_behind 10 0 (take LANES octets.now) ≡ Some number }
     requires rest { rest.now ≡ drop LANES octets.now }
-    ensures { IfSome result (λ x. BeginsWithNumber octets.now x.0 x.1.now) }
+    requires within { number ≤ most }
+    ensures number { IfSome result (λ x. BeginsWithNumber octets.now x.0 x.1.now) }
+    ensures bound { IfSome result (λ x. x.0 ≤ most) }
 {
     let more = digits_in_front(rest.first_chunk::<LANES>()?);
     if more == 0 {
@@ -231,17 +239,21 @@ fn long_number<'a>(octets: &'a [u8], number: u64, rest: &'a [u8]) -> Option<(u12
     }
     let (_, behind) = rest.split_at(more);
     let last = digits_of(rest, more);
-    Some((
-        u128::from(number) * u128::from(TENS[more]) + u128::from(last),
-        behind,
-    ))
+    let long = u128::from(number) * u128::from(TENS[more]) + u128::from(last);
+    if long > most {
+        return None;
+    }
+    Some((long, behind))
 }
 
-/// The number that digits at the front of octets are, and what comes after them. None where it has none or more than
-/// 24, or fewer octets are there than are looked at: 16 for 15 digits, and 32 for more.
+/// The number of at most `most` that digits at the front of octets are, and what comes after them. None where it has
+/// none or more than 24, or fewer octets are there than are looked at: 16 for 15 digits, and 32 for more. Since up to
+/// 16 digits are within `most`, a longer number alone is compared with it.
 #[inline(always)]
-pub fn front_number(octets: &[u8]) -> Option<(u128, &[u8])>
-    ensures { IfSome result (λ x. BeginsWithNumber octets.now x.0 x.1.now) }
+pub fn front_number(octets: &[u8], most: u128) -> Option<(u128, &[u8])>
+    requires { 10 ^ 16 ≤ most }
+    ensures number { IfSome result (λ x. BeginsWithNumber octets.now x.0 x.1.now) }
+    ensures bound { IfSome result (λ x. x.0 ≤ most) }
 {
     let front = octets.first_chunk::<LANES>()?;
     let count = digits_in_front(front);
@@ -256,7 +268,7 @@ pub fn front_number(octets: &[u8]) -> Option<(u128, &[u8])>
     if count < LANES {
         return Some((u128::from(number), rest));
     }
-    long_number(octets, number, rest)
+    long_number(octets, number, rest, most)
 }
 
 // The number that the decimal digits at the front of octets are, but for those past 38, and how many these are.

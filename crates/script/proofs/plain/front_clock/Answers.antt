@@ -6,4 +6,4 @@ use Rattle.script.proofs.plain.front_clock.Goals as goal
 pub returns : goal.returns
 returns c =
     let within : c.in_ok-moment.moment ≤ greatest_moment = search (rules, arith) in
-    clock_front _ _ _ _ c.in_ok-moment.ensures c.in_ok-rest.ensures within
+    clock_front _ _ _ _ c.in_ok-moment.ensures.number c.in_ok-rest.ensures within

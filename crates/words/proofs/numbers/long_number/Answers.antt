@@ -6,8 +6,8 @@ use Rattle.words.proofs.FrontLaws.{begins}
 use Rattle.words.proofs.RunLaws.{joined_runs, tens}
 use Rattle.words.proofs.numbers.long_number.Goals as goal
 
-pub returns-then-more-eq0 : goal.returns-then-more-eq0
-returns-then-more-eq0 c =
+pub returns-then-more-eq0-clause-number : goal.returns-then-more-eq0-clause-number
+returns-then-more-eq0-clause-number c =
     let same : c.args.number ≡ c.from.result = search rules in
     begins 16 _ c.args.octets.now _ (omega arith) c.requires.there (c.requires.value ∙ ap Some same) c.requires.rest
 
@@ -17,8 +17,8 @@ digits_of-last-requires-clause-digits c =
     let front : c.in_ok-first_chunk.field-0.now ≡ take 16 c.args.rest.now = search rules in
     ap (list_all is_digit) (sym (take-take more 16 c.args.rest.now c.digits_in_front-more.ensures.within) ∙ ap (take more) (sym front)) ∙ c.digits_in_front-more.ensures.digits
 
-pub returns : goal.returns
-returns c =
+pub returns-clause-number : goal.returns-clause-number
+returns-clause-number c =
     let octets = c.args.octets.now in
     let more = c.digits_in_front-more.result in
     let number = c.args.number in

@@ -15,8 +15,8 @@ digits_of-requires-2-clause-digits c =
     ap (λ xs. list_all is_digit (take 8 xs)) c.split_at.ensures.back
     ∙ (cut_digits (c.args.count - 8) 8 c.args.octets.now (ap (λ k. list_all is_digit (take k c.args.octets.now)) all ∙ c.requires.digits)).1
 
-pub returns : goal.returns
-returns c =
+pub returns-clause-value : goal.returns-clause-value
+returns-clause-value c =
     let octets = c.args.octets.now in
     let all : c.args.count - 8 + 8 ≡ c.args.count = omega (arith, c.requires.some) in
     ap (λ k. value_behind 10 0 (take k octets)) (sym all)
