@@ -1,4 +1,4 @@
-use Rattle.std.proofs.Common.{◌≡◌, ◌+◌, ◌*◌, cond, length-set, arith, ap, ◌∙◌, get_or, get_or-set_other}
+use Rattle.std.proofs.Common.{◌≡◌, ◌+◌, cond, length-set, arith, ap, ◌∙◌, get_or, get_or-set_other}
 use Rattle.gate_list.specs.Gate.{opens}
 use Rattle.gate_list.specs.Table.{closing_at}
 use Rattle.gate_list.proofs.TableLaws.{opens_tested, row_kept, row_more, row_others}

@@ -1,4 +1,4 @@
-use Rattle.std.proofs.Common.{Some, refl, sym, ap, ◌∙◌, arith}
+use Rattle.std.proofs.Common.{refl, ap, ◌∙◌, arith}
 use Rattle.gate_list.proofs.RowLaws.{prefix_next}
 use Rattle.list_execute.specs.Walk.{Walk}
 use Rattle.list_execute.proofs.WalkLaws.{until_unless, mask_of_shown}
