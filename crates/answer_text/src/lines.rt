@@ -85,13 +85,13 @@ pub fn put_installation<W: PutLine>(
     }
 }
 
-/// The line of any frame that starts.
+/// The line of any frame that starts. It has a copy of its own, so that what starts mostly stays in registers.
 #[cold]
 #[inline(never)]
-fn put_any_start<W: PutLine>(writer: &mut W, start: &Start) -> Result<(), WriteFault>
-    ensures { Writes result (W.contents writer.old) (W.contents writer.new) (start_line start.now) }
+fn put_any_start<W: PutLine>(writer: &mut W, start: Start) -> Result<(), WriteFault>
+    ensures { Writes result (W.contents writer.old) (W.contents writer.new) (start_line start) }
 {
-    writer.put_line(&StartLine { start })
+    writer.put_line(&StartLine { start: &start })
 }
 
 /// Writes the line of a frame that starts, and keeps the digits of its moments for the next. At a fault a prefix of the
@@ -105,7 +105,7 @@ pub fn put_start<W: PutLine>(
     ensures { Writes result (W.contents writer.old) (W.contents writer.new) (start_line start.now) }
 {
     if start.id >= EIGHT_DIGITS || start.class >= 10 || !moments.take(start.at, start.end) {
-        return put_any_start(writer, start);
+        return put_any_start(writer, *start);
     }
     writer.put_line(&UsualStartLine { start, moments })
 }
@@ -133,7 +133,7 @@ pub fn put_answer<W: PutLine>(writer: &mut W, answer: &Answer) -> Result<(), Wri
         Answer::Dropped { id, why } => put_dropped(writer, *id, *why),
         Answer::Installed(change) => put_installed(writer, *change),
         Answer::Refused(why) => put_refused(writer, *why),
-        Answer::Start(start) => put_any_start(writer, start),
+        Answer::Start(start) => put_any_start(writer, *start),
         Answer::Backward => put(writer, b"backward\n"),
         Answer::Report(report) => put_report(writer, report),
         Answer::Counters { class, counters } => put_counters(writer, *class, counters),
