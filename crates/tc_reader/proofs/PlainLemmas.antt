@@ -1,11 +1,11 @@
 -- An entry whose words stand in front.
-use Rattle.std.proofs.Common.{◌≡◌, ◌<◌, ◌≤◌, ℕ, suc, ◌+◌, ◌-◌, ◌*◌, ◌^◌, Bool, true, false, cond, eqb, List, [], ◌∷◌, Option, None, Some, Ok, refl, sym, ap, ◌∙◌, get_or, arith, option_and_then}
-use Rattle.std.proofs.lemmas.Bool.{agree_below_at, eqb-true, le-leb, le-ltb}
+use Rattle.std.proofs.Common.{◌≡◌, ◌<◌, ◌≤◌, ℕ, suc, ◌+◌, ◌-◌, ◌*◌, ◌^◌, Bool, true, false, cond, List, [], ◌∷◌, Option, None, Some, Ok, refl, sym, ap, ◌∙◌, get_or, arith, option_and_then}
+use Rattle.std.proofs.lemmas.Bool.{le-leb}
 use Rattle.std.specs.Str.{bytes_eq}
 use Rattle.std.proofs.lemmas.Slice.Eq.{bytes_eq-Decides}
-use Rattle.std.specs.Prelude.{◌||◌, IfSome, codes, length, nat_lt}
-use Rattle.tc_reader.specs.Words.{DIGITS, at_most, digit_in, number_in, value_behind, Word, after_0x, hex_in, Options, sched_entry, value_at, value_or, command_at, entry_at, values_at, item_at, SchedEntry}
-use Rattle.words.specs.Numbers.{behind_first, first_number}
+use Rattle.std.specs.Prelude.{codes, length}
+use Rattle.tc_reader.specs.Words.{at_most, digit_in, number_in, value_behind, Word, after_0x, hex_in, Options, sched_entry, value_at, value_or, command_at, entry_at, values_at, item_at, SchedEntry}
+use Rattle.words.specs.Numbers.{IsHexPair, behind_first, first_number}
 
 pub plain_entry : (place : ℕ) (behind after rest : List Word) (mask interval : ℕ)
     → value_at SchedEntry (hex_in 255) (place + 2) behind ≡ Ok (mask, after)
@@ -32,24 +32,6 @@ no_prefix high low d digit false is = refl
 -- a number that is not over the greatest
 within : (most n : ℕ) → n ≤ most → at_most most (Some n) ≡ Some n
 within most n small = ap (λ b. cond b (Some n) None) (le-leb n most small)
-
--- the table has the digit that an octet is
-abbrev is_one : Option ℕ → ℕ → Bool
-is_one None d = false
-is_one (Some e) d = eqb e d
-
-abbrev pub tabled : ℕ → ℕ
-tabled octet = get_or DIGITS octet 0
-
-says_digit : (octet : ℕ) → octet < 256 → (nat_lt 15 (tabled octet) || is_one (digit_in 16 octet) (tabled octet)) ≡ true
-says_digit octet small = agree_below_at (λ x. nat_lt 15 (tabled x) || is_one (digit_in 16 x) (tabled x)) (λ x. true) 256 octet refl small
-
-pub tabled_digit : (octet : ℕ) → octet < 256 → tabled octet ≤ 15 → digit_in 16 octet ≡ Some (tabled octet)
-tabled_digit octet small few = by_digit (digit_in 16 octet) (ap (λ b. b || is_one (digit_in 16 octet) (tabled octet)) (sym (le-ltb _ _ few)) ∙ says_digit octet small)
-  where
-    by_digit : (o : Option ℕ) → is_one o (tabled octet) ≡ true → o ≡ Some (tabled octet)
-    by_digit None e = absurd cc
-    by_digit (Some d) e = ap Some (eqb-true d (tabled octet) e)
 
 pub two_digits : (high low a b : ℕ) → digit_in 16 high ≡ Some a → digit_in 16 low ≡ Some b → a < 16 → b < 16 → hex_in 255 (high ∷ low ∷ []) ≡ Some (a * 16 + b)
 unfolding value_behind
@@ -83,15 +65,8 @@ behind_one [] rest n number is = absurd (none_some (number 0))
     none_some e = cc
 behind_one (w ∷ ws) rest n number is = ap (λ (r : List Word). suc (length r)) (sym is)
 
-two_of : (w : Word) → 2 ≤ length w → length w < 3 → w ≡ get_or w 0 0 ∷ get_or w 1 0 ∷ []
-two_of [] some few = absurd (omega arith)
-two_of (a ∷ []) some few = absurd (omega arith)
-two_of (a ∷ b ∷ []) some few = refl
-two_of (a ∷ b ∷ d ∷ w) some few = absurd (omega arith)
-
-pub mask_told : (place : ℕ) (left rest : List Word) (w : Word) (found : Option ℕ) → left ≡ w ∷ rest → 2 ≤ length w → length w < 3
-    → IfSome found (λ n. hex_in 255 (get_or w 0 0 ∷ get_or w 1 0 ∷ []) ≡ Some n) → IfSome found (λ n. value_at SchedEntry (hex_in 255) place left ≡ Ok (n, rest))
+pub mask_told : (place : ℕ) (left rest : List Word) (w : Word) (a b : ℕ) → IsHexPair w a b → left ≡ w ∷ rest → a < 16 → b < 16
+    → value_at SchedEntry (hex_in 255) place left ≡ Ok (a * 16 + b, rest)
 unfolding value_at
-mask_told place left rest w None is some few hex = tt
-mask_told place left rest w (Some n) is some few hex =
-    ap (value_at SchedEntry (hex_in 255) place) is ∙ ap (value_or place rest) (ap (hex_in 255) (two_of w some few) ∙ hex)
+mask_told place left rest w a b pair is few less =
+    ap (value_at SchedEntry (hex_in 255) place) is ∙ ap (value_or place rest) (ap (hex_in 255) pair.word_is ∙ two_digits pair.high pair.low a b pair.front_is pair.behind_is few less)

@@ -25,4 +25,4 @@ pub use Rattle.tc_reader.specs.declared.fault.Opt.TheVariants.{BaseTime, Clockid
 pub use Rattle.tc_reader.specs.declared.fault.TcFault.{TcFault}
 pub use Rattle.tc_reader.specs.declared.line.Verb.{Verb}
 pub use Rattle.tc_reader.specs.declared.line.Verb.TheVariants.{Delete, Replace}
-pub use Rattle.tc_reader.specs.declared.values.TheConstants.{DIGITS, MAX_SDU_VALUES}
+pub use Rattle.tc_reader.specs.declared.values.TheConstants.{MAX_SDU_VALUES}

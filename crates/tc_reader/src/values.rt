@@ -87,37 +87,6 @@ pub(crate) fn take_entry(words: &mut Words<'_>) -> Result<Entry, TcFault>
     Ok(Entry { mask, interval })
 }
 
-/// The hexadecimal digit that each octet is; 255 where it is none.
-const DIGITS: [u8; 256] = [
-    255, 255, 255, 255, 255, 255, 255, 255, 255, 255, 255, 255, 255, 255, 255, 255, 255, 255, 255,
-    255, 255, 255, 255, 255, 255, 255, 255, 255, 255, 255, 255, 255, 255, 255, 255, 255, 255, 255,
-    255, 255, 255, 255, 255, 255, 255, 255, 255, 255, 0, 1, 2, 3, 4, 5, 6, 7, 8, 9, 255, 255, 255,
-    255, 255, 255, 255, 10, 11, 12, 13, 14, 15, 255, 255, 255, 255, 255, 255, 255, 255, 255, 255,
-    255, 255, 255, 255, 255, 255, 255, 255, 255, 255, 255, 255, 255, 255, 255, 255, 10, 11, 12, 13,
-    14, 15, 255, 255, 255, 255, 255, 255, 255, 255, 255, 255, 255, 255, 255, 255, 255, 255, 255,
-    255, 255, 255, 255, 255, 255, 255, 255, 255, 255, 255, 255, 255, 255, 255, 255, 255, 255, 255,
-    255, 255, 255, 255, 255, 255, 255, 255, 255, 255, 255, 255, 255, 255, 255, 255, 255, 255, 255,
-    255, 255, 255, 255, 255, 255, 255, 255, 255, 255, 255, 255, 255, 255, 255, 255, 255, 255, 255,
-    255, 255, 255, 255, 255, 255, 255, 255, 255, 255, 255, 255, 255, 255, 255, 255, 255, 255, 255,
-    255, 255, 255, 255, 255, 255, 255, 255, 255, 255, 255, 255, 255, 255, 255, 255, 255, 255, 255,
-    255, 255, 255, 255, 255, 255, 255, 255, 255, 255, 255, 255, 255, 255, 255, 255, 255, 255, 255,
-    255, 255, 255, 255, 255, 255, 255, 255, 255, 255, 255, 255, 255, 255, 255, 255, 255, 255, 255,
-    255, 255, 255,
-];
-
-/// The number that two hexadecimal digits are.
-#[inline(always)]
-fn two_digits(high: u8, low: u8) -> Option<u8>
-    ensures { IfSome result (λ n. hex_in 255 (high ∷ low ∷ []) ≡ Some n) }
-{
-    let front = DIGITS[usize::from(high)];
-    let behind = DIGITS[usize::from(low)];
-    if front > 15 || behind > 15 {
-        return None;
-    }
-    Some(front * 16 + behind)
-}
-
 /// The next word as a mask, where it has two hexadecimal digits. Else None, and some words are taken or none.
 #[inline(always)]
 fn take_plain_mask(words: &mut Words<'_>) -> Option<u8>
@@ -125,8 +94,8 @@ fn take_plain_mask(words: &mut Words<'_>) -> Option<u8>
     ensures place { IfSome result (λ _. words_taken words.new ≡ words_taken words.old + 1) }
     ensures moves { Moves words.old words.new }
 {
-    let [high, low] = words.next_pair()?;
-    two_digits(high, low)
+    let (front, behind) = words.next_hex_pair()?;
+    Some(front * 16 + behind)
 }
 
 /// The next word as an interval, where it has one digit to eight, no blank before it and a space after it. Else None.

@@ -1,7 +1,8 @@
 -- A first word that stands before a space, or ends the line.
-use Rattle.std.proofs.Common.{◌≡◌, ◌<◌, ◌≤◌, ℕ, ◌+◌, zero, suc, Bool, true, false, List, [], ◌∷◌, ◌++◌, length, get_or, take, drop, refl, sym, ap, ◌∙◌, arith}
+use Rattle.std.proofs.Common.{◌≡◌, ◌<◌, ◌≤◌, ℕ, ◌+◌, zero, suc, Bool, true, false, List, [], ◌∷◌, ◌++◌, length, get_or, take, drop, refl, sym, ap, ◌∙◌, subst, arith}
 use Rattle.std.specs.Prelude.{nat_lt, not, ◌&&◌}
 use Rattle.std.specs.List.{list_all}
+use Rattle.std.proofs.lemmas.Bool.{lt-ltb}
 use Rattle.std.proofs.lemmas.List.{take-append-drop, take-take, take_more}
 use Rattle.words.specs.Words.{is_blank, starts_blank, starts_with_break, words_of}
 use Rattle.words.proofs.JoinedLaws.{and_first, and_second, word_before}
@@ -38,3 +39,13 @@ plain_first zero octets some within unblank blank whole = absurd (omega arith)
 plain_first (suc k) [] some within unblank blank whole = absurd (omega arith)
 plain_first (suc k) (b ∷ bs) some within unblank blank whole =
     sym (ap (λ (l : List ℕ). words_of (b ∷ l)) (take-append-drop k bs)) ∙ word_before b (take k bs) (drop k bs) unblank blank whole
+
+-- two octets above the space, before a space, are the first word
+pub pair_first : (octets : List ℕ) → 3 ≤ length octets → 32 < get_or octets 0 0 → 32 < get_or octets 1 0 → get_or octets 2 0 ≡ 32 → words_of octets ≡ (get_or octets 0 0 ∷ get_or octets 1 0 ∷ []) ∷ words_of (drop 3 octets)
+pair_first [] there first second is = absurd (omega arith)
+pair_first (a ∷ []) there first second is = absurd (omega arith)
+pair_first (a ∷ b ∷ []) there first second is = absurd (omega arith)
+pair_first (a ∷ b ∷ s ∷ bs) there first second is = subst (λ c. words_of (a ∷ b ∷ c ∷ bs) ≡ (a ∷ b ∷ []) ∷ words_of bs) (sym is) spaced
+  where
+    spaced : words_of (a ∷ b ∷ 32 ∷ bs) ≡ (a ∷ b ∷ []) ∷ words_of bs
+    spaced = plain_first 2 (a ∷ b ∷ 32 ∷ bs) (omega arith) (omega arith) (above_unblank (a ∷ b ∷ []) (both _ _ (lt-ltb 32 a first) (both _ _ (lt-ltb 32 b second) refl))) refl refl

@@ -40,6 +40,14 @@ pub record IsNumber (word : List ℕ) (n : ℕ) : Type 0 where
   pub digits : is_digits word ≡ true
   pub number : (most : ℕ) → number_in 10 most word ≡ at_most most (Some n)
 
+-- a word of two hexadecimal digits
+pub record IsHexPair (word : List ℕ) (front behind : ℕ) : Type 0 where
+  pub high : ℕ
+  pub low : ℕ
+  pub word_is : word ≡ high ∷ low ∷ []
+  pub front_is : digit_in 16 high ≡ Some front
+  pub behind_is : digit_in 16 low ≡ Some behind
+
 -- octets that begin with a number, and what comes after its digits
 pub record BeginsWithNumber (octets : List ℕ) (n : ℕ) (rest : List ℕ) : Type 0 where
   pub word : List ℕ

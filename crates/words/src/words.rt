@@ -3,10 +3,10 @@
 ghost use Rattle.std.specs.Prelude.{◌≡◌, ◌≤◌, ◌<◌, ◌+◌, ◌^◌, ◌∷◌, ◌++◌, [], ℕ, List, drop, get_or, length, map, nat_lt, not, take, MatchOption, IfSome, Some, true, false};
 ghost use Rattle.std.specs.List.{list_all};
 ghost use Rattle.std.specs.Simd.Lanes.{mask_l};
-ghost use Rattle.words.specs.Numbers.{FirstIsNumber, IsNumber, at_most, first_number, behind_first};
+ghost use Rattle.words.specs.Numbers.{FirstIsNumber, IsHexPair, IsNumber, at_most, first_number, behind_first};
 ghost use Rattle.words.specs.Words.{is_blank, starts_blank, starts_with_break, word_length, words_of};
 
-use crate::numbers::{LANES, decimal_run, front_digit, front_short, number, short_run};
+use crate::numbers::{LANES, decimal_run, front_digit, front_short, hex_digit, number, short_run};
 use std::simd::prelude::*;
 
 /// Whether an octet is no blank, whatever comes after it.
@@ -376,20 +376,22 @@ impl<'a> Words<'a> {
         true
     }
 
-    /// The next word, where it has two octets, no blank before it and a space after it. Else None, and nothing changes.
+    /// The digits of the next word, where it has two that are hexadecimal, no blank before it and a space after it. Else
+    /// None, and nothing changes.
     #[inline(always)]
-    pub fn next_pair(&mut self) -> Option<[u8; 2]>
-        ensures word { IfSome result (λ pair. words_left self.old ≡ pair ∷ words_left self.new) }
+    pub fn next_hex_pair(&mut self) -> Option<(u8, u8)>
+        ensures word { IfSome result (λ pair. (word : List ℕ) × IsHexPair word pair.0 pair.1 × (words_left self.old ≡ word ∷ words_left self.new)) }
+        ensures bound { IfSome result (λ pair. (pair.0 < 16) × (pair.1 < 16)) }
         ensures taken { IfSome result (λ _. words_taken self.new ≡ words_taken self.old + 1) }
         ensures kept { result ≡ None → self.new ≡ self.old }
     {
-        match self.rest {
-            [first, second, b' ', rest @ ..] if *first > b' ' && *second > b' ' => {
-                self.go_on(rest, 1);
-                Some([*first, *second])
-            }
-            _ => None,
-        }
+        let [first, second, b' ', rest @ ..] = self.rest else {
+            return None;
+        };
+        let front = hex_digit(*first)?;
+        let behind = hex_digit(*second)?;
+        self.go_on(rest, 1);
+        Some((front, behind))
     }
 
     /// The octets that no word was taken of. Its words are those that are still to come.
