@@ -16,6 +16,14 @@ use words::{front_digit, front_number, front_short};
 /// How many octets have to be in hand where a line is read here: more than such a line has.
 const WINDOW: usize = 64;
 
+/// How many digits, up to 16, are expected of the next ID of a frame and of the next moment: as many as the last had.
+/// What is read doesn't depend on it.
+#[derive(Clone, Copy, Default)]
+pub(crate) struct Expected {
+    id: usize,
+    moment: usize,
+}
+
 /// What comes after a space, where octets begin with it.
 #[inline(always)]
 fn behind_space(octets: &[u8]) -> Option<&[u8]>
@@ -41,10 +49,10 @@ fn behind_feed(octets: &[u8]) -> Option<&[u8]>
 /// The frame that a line is, after its first word, and what comes after the line: with a priority of one digit, and a
 /// length of at most eight.
 #[inline(always)]
-fn front_frame(octets: &[u8]) -> Option<(Frame, &[u8])>
+fn front_frame<'a>(octets: &'a [u8], digits: &mut usize) -> Option<(Frame, &'a [u8])>
     ensures { IfSome result (λ x. BeginsWithEvent frame_event octets.now (Arrive x.0) x.1.now) }
 {
-    let (id, rest) = front_number(octets, u128::from(u64::MAX))?;
+    let (id, rest) = front_number(octets, u128::from(u64::MAX), digits)?;
     let (priority, rest) = front_digit(behind_space(rest)?)?;
     let (len, rest) = front_short(behind_space(rest)?)?;
     let (tagged, rest) = behind_tag(rest);
@@ -60,10 +68,10 @@ fn front_frame(octets: &[u8]) -> Option<(Frame, &[u8])>
 
 /// The moment that a line is, after its first word, and what comes after the line.
 #[inline(always)]
-fn front_clock(octets: &[u8]) -> Option<(u128, &[u8])>
+fn front_clock<'a>(octets: &'a [u8], digits: &mut usize) -> Option<(u128, &'a [u8])>
     ensures { IfSome result (λ x. BeginsWithEvent clock_event octets.now (Clock x.0) x.1.now) }
 {
-    let (moment, rest) = front_number(octets, MAX_MOMENT)?;
+    let (moment, rest) = front_number(octets, MAX_MOMENT, digits)?;
     let rest = behind_feed(rest)?;
     Some((moment, rest))
 }
@@ -71,21 +79,25 @@ fn front_clock(octets: &[u8]) -> Option<(u128, &[u8])>
 /// The event that the first line asks, where it is a frame or a moment as most are written, and what comes after the
 /// line.
 #[inline(always)]
-fn front_event(octets: &[u8]) -> Option<(Event<'static>, &[u8])>
+fn front_event<'a>(octets: &'a [u8], expected: &mut Expected) -> Option<(Event<'static>, &'a [u8])>
     ensures { IfSome result (λ x. BeginsWithLine octets.now x.0 x.1.now) }
 {
     if let Some(rest) = behind_frame(octets) {
-        let (frame, rest) = front_frame(rest)?;
+        let (frame, rest) = front_frame(rest, &mut expected.id)?;
         return Some((Event::Arrive(frame), rest));
     }
-    let (moment, rest) = front_clock(behind_clock(octets)?)?;
+    let (moment, rest) = front_clock(behind_clock(octets)?, &mut expected.moment)?;
     Some((Event::Clock(moment), rest))
 }
 
 /// The event that the first line asks, where one is left that is as most are written and stands whole among the octets,
 /// and how many octets it has. It is looked for in a window, so that its numbers are known to be within the octets.
 #[inline(always)]
-pub(crate) fn front_line(octets: &[u8], left: u32) -> Option<(Event<'static>, usize)>
+pub(crate) fn front_line(
+    octets: &[u8],
+    left: u32,
+    expected: &mut Expected,
+) -> Option<(Event<'static>, usize)>
     ensures some { IfSome result (λ x. 0 < left) }
     ensures line { IfSome result (λ x. HasLine octets.now x.1 x.0) }
     ensures short { IfSome result (λ x. x.1 < WINDOW) }
@@ -94,7 +106,7 @@ pub(crate) fn front_line(octets: &[u8], left: u32) -> Option<(Event<'static>, us
         return None;
     }
     let window = octets.first_chunk::<WINDOW>()?;
-    let (event, rest) = front_event(window)?;
+    let (event, rest) = front_event(window, expected)?;
     Some((event, WINDOW - rest.len() - 1))
 }
 

@@ -7,7 +7,7 @@ ghost use Rattle.abstract_port.specs.Answers.{port_after};
 use crate::answers::{RunningPort, put_answers, put_tc, rests};
 use crate::faults::{BadLine, RunFault};
 use crate::laws::faithful;
-use crate::plain::{command_in_hand, front_line};
+use crate::plain::{Expected, command_in_hand, front_line};
 use crate::script_line::{Said, read_line};
 use crate::settings::Settings;
 use crate::summary_lines::put_end;
@@ -63,13 +63,14 @@ fn run_lines<A: Allocator, B: Allocator, R: Read + Drop, W: PutLine, H: Watch>(
     let _now = port.now();
     let mut place = CommandPlace::new();
     let mut moments = NearNumbers::new();
+    let mut expected = Expected::default();
     'lines: loop {
         // Lines as most are written are answered where they stand in hand, and passed together.
         let most = lines.lines_left();
         let hand = lines.hand();
         let mut rest = hand;
         let mut left = most;
-        'plain: while let Some((event, length)) = front_line(rest, left) {
+        'plain: while let Some((event, length)) = front_line(rest, left, &mut expected) {
             if !rests(port, &event) {
                 put_answers(&mut moments, port, summary, &event, writer)?;
             }

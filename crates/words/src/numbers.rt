@@ -116,6 +116,35 @@ fn digits_in_front(octets: &[u8; LANES]) -> usize
     }
 }
 
+/// How many decimal digits stand at the front of 16 octets: as many are expected from then on. Apart, since mostly they
+/// are as many as were expected.
+#[inline(never)]
+fn expect_digits(octets: &[u8; LANES], expected: &mut usize) -> usize
+    ensures expected { expected.new ≡ result }
+    ensures within { result ≤ LANES }
+    ensures digits { list_all is_digit (take result octets.now) ≡ true }
+{
+    let count = digits_in_front(octets);
+    *expected = count;
+    count
+}
+
+/// How many decimal digits stand at the front of 16 octets, where mostly they are as many as expected. Nothing that is
+/// done with them waits for the count then: a processor guesses how the comparison ends, and goes on.
+#[inline(always)]
+fn digits_as_expected(octets: &[u8; LANES], expected: &mut usize) -> usize
+    ensures expected { expected.new ≡ result }
+    ensures within { result ≤ LANES }
+    ensures digits { list_all is_digit (take result octets.now) ≡ true }
+{
+    let before = *expected;
+    if digits_in_front(octets) == before {
+        before
+    } else {
+        expect_digits(octets, expected)
+    }
+}
+
 /// The number that the first digits of eight octets are, so many. They are moved to the end of a word, the first in its
 /// lowest octet, so that zeros stand before them. There each digit is put together with the next one, of the pairs
 /// every second one counts, and these are put together in the same way.
@@ -248,15 +277,20 @@ fn long_number<'a>(
 
 /// The number of at most `most` that digits at the front of octets are, and what comes after them. None where it has
 /// none or more than 24, or fewer octets are there than are looked at: 16 for 15 digits, and 32 for more. Since up to
-/// 16 digits are within `most`, a longer number alone is compared with it.
+/// 16 digits are within `most`, a longer number alone is compared with it. It is read soonest where it has as many
+/// digits as are expected, up to 16; as many as it has are expected then.
 #[inline(always)]
-pub fn front_number(octets: &[u8], most: u128) -> Option<(u128, &[u8])>
+pub fn front_number<'a>(
+    octets: &'a [u8],
+    most: u128,
+    expected: &mut usize,
+) -> Option<(u128, &'a [u8])>
     requires { 10 ^ 16 ≤ most }
     ensures number { IfSome result (λ x. BeginsWithNumber octets.now x.0 x.1.now) }
     ensures bound { IfSome result (λ x. x.0 ≤ most) }
 {
     let front = octets.first_chunk::<LANES>()?;
-    let count = digits_in_front(front);
+    let count = digits_as_expected(front, expected);
     if count == 0 {
         return None;
     }
@@ -268,6 +302,8 @@ pub fn front_number(octets: &[u8], most: u128) -> Option<(u128, &[u8])>
     if count < LANES {
         return Some((u128::from(number), rest));
     }
+    // At a fixed place, so that the second count doesn't wait for the first.
+    let (_, rest) = octets.split_at(LANES);
     long_number(octets, number, rest, most)
 }
 
