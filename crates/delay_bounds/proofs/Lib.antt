@@ -21,3 +21,4 @@ pub mod WalkedLaws
 pub mod BacklogLaws
 pub mod AnswerLaws
 pub mod ClaimLaws
+pub mod LongestWaitLaws

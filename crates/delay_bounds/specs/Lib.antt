@@ -8,6 +8,7 @@ pub mod Full
 pub mod Never
 pub mod Less
 pub mod AnyMoment
+pub mod LongestWait
 pub mod Noted
 pub mod Stuck
 pub mod Overloaded

@@ -5,6 +5,7 @@ ghost use Rattle.delay_bounds.specs.Claim.{AnswerLaw};
 ghost use Rattle.delay_bounds.specs.ForEver.{ForEverLaw};
 ghost use Rattle.delay_bounds.specs.Full.{FullLaw};
 ghost use Rattle.delay_bounds.specs.Less.{LessLaw};
+ghost use Rattle.delay_bounds.specs.LongestWait.{LongestWaitLaw};
 ghost use Rattle.delay_bounds.specs.Never.{NeverLaw, StuckLaw};
 ghost use Rattle.delay_bounds.specs.Overloaded.{OverloadLaw};
 ghost use Rattle.delay_bounds.specs.Waits.{BoundsLaw, DropsLaw};
@@ -73,4 +74,10 @@ pub fn less()
 /// schedule alone.
 pub fn any_moment()
     ensures { AnyMomentLaw }
+{}
+
+/// What `longest_wait` answers is the longest wait over all time of the schedule alone, or there is no moment from which
+/// a window is long enough.
+pub fn longest()
+    ensures { LongestWaitLaw }
 {}

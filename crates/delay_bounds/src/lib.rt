@@ -7,12 +7,14 @@ use std::alloc::{Allocator, Global};
 
 mod extremes;
 mod fit;
+mod idle_wait;
 pub mod laws;
 mod line;
 mod look;
 mod moments;
 mod walk;
 
+pub use idle_wait::longest_wait;
 pub use walk::bound_flows;
 
 /// A flow, or stream: frames that come for ever, one each period. Times are in picoseconds.
