@@ -32,7 +32,8 @@ fn status_of<I: InputFault>(fault: &Fault<I>) -> u8
 /// How a run of the program ends: its exit status, and whether the text that goes with it was written whole.
 #[derive(Clone, Copy, Debug, PartialEq, Eq)]
 pub struct Ended {
-    /// 0 done, 2 a value is refused, 3 the input is, 4 a read, a write or memory failed.
+    /// 0 done, 1 a strict run has found something, 2 a value is refused, 3 the input is, 4 a read, a write or memory
+    /// failed.
     pub status: u8,
     /// Whether all of the text was written; else a prefix of it was.
     pub told: bool,
