@@ -10,8 +10,8 @@ from rows import run
 
 RUNS = 150
 LEFT, RIGHT = 64, 32
-# The least width of a band and of a bar, and of what has an edge, in hundredths of a pixel.
-LEAST = {"o": 100, "f": 200}
+# The least width of a light band and of a bar, and of what has an edge, in hundredths of a pixel.
+LEAST_LIGHT, LEAST_BAR = 100, 200
 LEAST_EDGED = 400
 PS = {"ps": 1, "ns": 10**3, "us": 10**6, "ms": 10**9, "s": 10**12}
 TOPS = [310, 274, 238, 202, 166, 130, 94, 58, 346]
@@ -71,10 +71,24 @@ class Run:
         inside = min(max(moment, self.begin), self.to) - self.begin
         return LEFT * 100 + inside * (self.width - LEFT - RIGHT) * 100 // (self.to - self.begin)
 
-    def rect(self, kind, begin, end):
-        """Where a band or a bar lies that shows a time: within its row, and how wide it is."""
-        width = max(LEAST[kind], self.x(end) - self.x(begin))
+    def bar(self, begin, end):
+        """Where a bar lies that shows a time: within its row, and how wide it is."""
+        width = max(LEAST_BAR, self.x(end) - self.x(begin))
         return min(self.x(begin), (self.width - RIGHT) * 100 - width), width
+
+    def light(self, bands):
+        """Where the light bands of a class lie, and how wide they are: those that are a pixel wide at least."""
+        return [(self.x(begin), self.x(end) - self.x(begin)) for begin, end in bands if self.x(end) - self.x(begin) >= LEAST_LIGHT]
+
+    def grey(self, bands):
+        """The grey pixels of a class, as they touch: those into which a band or a gap reaches that is narrower than a pixel."""
+        edges, pixels = [self.x(moment) for band in bands for moment in band], set()
+        for left, right in zip(edges, edges[1:]):
+            if right - left < LEAST_LIGHT:
+                pixels |= set(range(left // 100, max(left // 100 + 1, -(-right // 100))))
+        first = sorted(it for it in pixels if it - 1 not in pixels)
+        last = sorted(it for it in pixels if it + 1 not in pixels)
+        return [(begin * 100, (end + 1 - begin) * 100) for begin, end in zip(first, last)]
 
     def shows(self, begin, end):
         """Whether something of a time is drawn; one of no length is where its moment is."""
@@ -129,7 +143,7 @@ def expected(one, answers):
             came, _ = one.frames[identifier - 1]
             waiting.remove(identifier)
             if one.shows(at, end):
-                marks["f"] += [(TOPS[lane] + 10, *one.rect("f", at, end)) for lane in (number, WIRE)]
+                marks["f"] += [(TOPS[lane] + 10, *one.bar(at, end)) for lane in (number, WIRE)]
             if came < at and one.shows(came, at):
                 marks["w"].append((TOPS[number] + 6, one.x(came), one.x(at), False))
     for identifier in waiting:
@@ -137,7 +151,9 @@ def expected(one, answers):
         if came < one.to:
             marks["w"].append((TOPS[number] + 6, one.x(came), one.x(one.to), True))
     for number, bands in enumerate(one.bands(change)):
-        marks["o"] += [(TOPS[number], *one.rect("o", begin, end)) for begin, end in bands if one.shows(begin, end)]
+        shown = [band for band in bands if one.shows(*band)]
+        marks["o"] += [(TOPS[number], *where) for where in one.light(shown)]
+        marks["p"] += [(TOPS[number], *where) for where in one.grey(shown)]
     return marks
 
 
@@ -176,6 +192,17 @@ def case_pictures_of_random_runs_are_their_answers(program):
     """Bands, bars, waits, drops and changes of seeded runs lie where the answers say."""
     for number in range(RUNS):
         compare(program, number)
+
+
+def case_an_axis_has_two_ticks(program):
+    """Two lines of the axis at least, wherever a picture begins, however long it is, and however wide."""
+    rng = random.Random("ticks")
+    for _ in range(RUNS):
+        length = rng.randint(1, 10 ** rng.randint(1, 21))
+        begin = rng.randint(0, 9223372036854775807000 - length)
+        words = ["draw", "--from", str(begin), "--to", str(begin + length), "--width", str(rng.choice([400, 401, 640, 2400]))]
+        picture = run(program, words).output
+        assert picture.count(b'\n<path class="g" ') >= 2, words
 
 
 def case_far_clocks_show_who_is_open_when(program):

@@ -72,3 +72,12 @@ def case_a_picture_has_20000_shapes_as_they_are(program):
         # The legend has one, too.
         found = ran.output.count(b'\n<path class="d" ') - 1
         assert found == marks, (frames, found)
+
+
+def case_bands_are_the_same_however_many_parts_there_are(program):
+    """A class that is open ten pixels and closed half of one is light, with one grey pixel or two at each gap, beside 30,000 dropped frames, too."""
+    command = b"tc qdisc replace dev eth0 root taprio num_tc 1 map 0 base-time 0 sched-entry S 01 1000000 sched-entry S 00 50000\n"
+    few, many = (run(program, ["draw", "--to", "100ms", "--width", "1096"], command + b"frame 1 0 13\nclock 1\n" * count) for count in (0, 30_000))
+    assert (few.status, many.status) == (0, 0)
+    bands = [[line for line in ran.output.split(b"\n") if line.startswith(b"<rect") and b' y="310" ' in line] for ran in (few, many)]
+    assert bands[0] == bands[1] and sum(b'class="o"' in line for line in bands[0]) == 94, bands

@@ -7,3 +7,4 @@ pub mod WaitLaws
 pub mod TextLaws
 pub mod FitLaws
 pub mod FollowLaws
+pub mod AxisLaws

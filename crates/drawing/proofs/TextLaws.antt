@@ -48,22 +48,22 @@ sent_as other same s = record { done = s.done; appended = s.appended; parts = s.
 -- 2. Steps
 
 -- a step is longer than there are steps before it
-late : (n : ℕ) → n < tick n
+pub late : (n : ℕ) → n < tick n
 unfolding tick
 late zero = omega arith
 late (suc zero) = omega arith
 late (suc (suc zero)) = omega arith
 late (suc (suc (suc n))) = let before = late n in omega (arith, before)
 
-step_last : (place length most : ℕ) → step_from zero place length most ≡ tick place
+pub step_last : (place length most : ℕ) → step_from zero place length most ≡ tick place
 unfolding step_from
 step_last place length most = refl
 
-step_here : (tries place length most : ℕ) → nat_le length (tick place * most) ≡ true → step_from (suc tries) place length most ≡ tick place
+pub step_here : (tries place length most : ℕ) → nat_le length (tick place * most) ≡ true → step_from (suc tries) place length most ≡ tick place
 unfolding step_from
 step_here tries place length most enough = ap (λ b. if b then tick place else step_from tries (place + 1) length most) enough
 
-step_on : (tries place length most : ℕ) → nat_le length (tick place * most) ≡ false → step_from (suc tries) place length most ≡ step_from tries (place + 1) length most
+pub step_on : (tries place length most : ℕ) → nat_le length (tick place * most) ≡ false → step_from (suc tries) place length most ≡ step_from tries (place + 1) length most
 unfolding step_from
 step_on tries place length most short = ap (λ b. if b then tick place else step_from tries (place + 1) length most) short
 
@@ -94,6 +94,9 @@ module _ (length most step : ℕ) (s : IsTickStep length most step) where
   within : 0 < most → (n : ℕ) → s.place ≡ n → n ≤ length
   within some zero e = omega arith
   within some (suc n) e = let short = s.least n (omega (arith, e)) in let long = late n in let more : tick n ≤ tick n * most = le-mul_of_pos_right (tick n) some in omega (arith, short, long, more)
+
+  pub step_some : 0 < step
+  step_some = let more = late s.place in subst (λ n. 0 < n) (sym s.is) (omega (arith, more))
 
   -- the step that is found is the first that is long enough
   pub step_found : 0 < most → step ≡ step_of length most

@@ -1,5 +1,5 @@
 -- The marks of a picture, as text. Places are in hundredths of a pixel, heights in pixels.
-use Rattle.std.specs.Prelude.{ℕ, ◌+◌, ◌-◌, ◌*◌, ◌/◌, ◌%◌, max, nat_lt, nat_le, ◌==◌, Bool, Option, Some, None, List, [], ◌∷◌, ◌++◌, length, codes, decimal, if◌then◌else◌}
+use Rattle.std.specs.Prelude.{ℕ, ◌≤◌, ◌+◌, ◌-◌, ◌*◌, ◌/◌, ◌%◌, max, nat_lt, nat_le, ◌==◌, ◌&&◌, ◌||◌, not, is_some, Bool, Option, Some, None, List, [], ◌∷◌, ◌++◌, length, codes, decimal, if◌then◌else◌}
 use Rattle.std.specs.List.{concat, flat_map}
 use Rattle.picture.specs.Viewports.{cut_to, x_in}
 use Rattle.picture.specs.declared.span.Shape.{Shape}
@@ -7,7 +7,8 @@ use Rattle.picture.specs.declared.span.Span.{Span}
 use Rattle.drawing.specs.Layout.{label_at, place_of}
 use Rattle.drawing.specs.declared.page.Page.{Page}
 use Rattle.drawing.specs.declared.page.Place.{Place}
-use Rattle.drawing.specs.declared.page.TheConstants.{BOTTOM, CLASS_TOP, LANE_HEIGHT, LEFT, RIGHT}
+use Rattle.drawing.specs.declared.page.TheConstants.{BOTTOM, CLASS_TOP, LANE_HEIGHT, LEFT, MAX_WIDTH, RIGHT}
+use Rattle.drawing.specs.declared.marks.Grey.{Grey}
 use Rattle.drawing.specs.declared.marks.TheConstants.{LABEL_WIDTH, LEAST_BAND, LEAST_BAR, LEAST_EDGED}
 
 -- a place in pixels, with two digits behind the point, before what follows it
@@ -100,38 +101,80 @@ drop_text page top shape = drop_of page top (cut_to page.viewport shape.span)
 abbrev pub drops_text : Page → ℕ → List Shape → List ℕ
 drops_text page top shapes = flat_map (drop_text page top) shapes
 
--- how a band looks, which is of one time, or, where it has no identifier, of times at which a class is open and closed
-abbrev pub band_look : List ℕ → Option ℕ → List ℕ
-band_look look None = codes "p"
-band_look look (Some id) = look
+-- a band is light where it is one open time, and a pixel wide at least
+abbrev pub is_light : Option ℕ → (left right : ℕ) → Bool
+is_light id left right = is_some id && nat_le (left + LEAST_BAND) right
 
--- where it ends
-abbrev pub right_of : Place → ℕ
-right_of p = p.left + p.width
+-- what of a light band is shown, in a row that begins at this height
+abbrev pub light_at : (top : ℕ) → Option ℕ → (left right : ℕ) → List ℕ
+light_at top id left right = if is_light id left right then rect_text (codes "o") left (right - left) top LANE_HEIGHT else []
 
--- a band, in a row that begins at this height and is covered up to a place: what of it is shown, unless that is covered
-abbrev pub band_of : Page → ℕ → List ℕ → ℕ → Option ℕ → Option Span → List ℕ
-band_of page top look covered id None = []
-band_of page top look covered id (Some s) =
-    if nat_lt covered (right_of (place_in page LEAST_BAND s))
-    then rect_text (band_look look id) (place_in page LEAST_BAND s).left (place_in page LEAST_BAND s).width top LANE_HEIGHT
-    else []
+abbrev pub light_of : Page → ℕ → Option ℕ → Option Span → List ℕ
+light_of page top id None = []
+light_of page top id (Some s) = light_at top id (at_x page s.from) (at_x page s.to)
 
-abbrev pub band_text : Page → ℕ → List ℕ → ℕ → Shape → List ℕ
-band_text page top look covered shape = band_of page top look covered shape.id (cut_to page.viewport shape.span)
+abbrev pub light_text : Page → ℕ → Shape → List ℕ
+light_text page top shape = light_of page top shape.id (cut_to page.viewport shape.span)
 
--- up to where the row is covered then
-abbrev pub covered_by : Page → ℕ → Option Span → ℕ
-covered_by page covered None = covered
-covered_by page covered (Some s) = max covered (right_of (place_in page LEAST_BAND s))
+-- the light bands of a row, one after another
+abbrev pub lights_text : Page → ℕ → List Shape → List ℕ
+lights_text page top shapes = flat_map (light_text page top) shapes
 
-abbrev pub covered_after : Page → ℕ → Shape → ℕ
-covered_after page covered shape = covered_by page covered (cut_to page.viewport shape.span)
+-- The grey of a row: pixels from one on and before another, none where both are 0; and where the band before ends, 0 where there is none.
+abbrev pub no_grey : Grey
+no_grey = record { from = 0; to = 0; edge = 0 }
 
--- the bands of a row, one after another
-abbrev pub bands_text : Page → ℕ → List ℕ → ℕ → List Shape → List ℕ
-bands_text page top look covered [] = []
-bands_text page top look covered (shape ∷ rest) = band_text page top look covered shape ++ bands_text page top look (covered_after page covered shape) rest
+-- it lies in a row
+pub record IsInRow (g : Grey) : Type 0 where
+  pub forward : g.from ≤ g.to
+  pub within : g.to ≤ LEFT + MAX_WIDTH + 1
+  pub near : g.edge ≤ 100 * (LEFT + MAX_WIDTH)
+
+-- with the pixels that a time reaches into from one place to another: one with the grey before it, where the two touch
+abbrev pub more_grey : (first after edge : ℕ) → Grey → Grey
+more_grey first after edge g =
+    if nat_lt g.to first || g.to == 0
+    then record { from = first; to = after; edge = edge }
+    else record { from = g.from; to = max g.to after; edge = edge }
+
+abbrev pub grey_over : (left right edge : ℕ) → Grey → Grey
+grey_over left right edge g = more_grey (left / 100) (max (left / 100 + 1) ((right + 99) / 100)) edge g
+
+-- Where a band follows: grey is what is nearer than a pixel to the one before, and what isn't light.
+abbrev pub grey_by : Bool → (left right : ℕ) → Grey → Grey
+grey_by is_light left right g =
+    if nat_lt left (g.edge + LEAST_BAND)
+    then grey_over g.edge (if is_light then left else right) right g
+    else if is_light then record g { edge = right } else grey_over left right right g
+
+abbrev pub grey_of : Page → Bool → Option ℕ → Option Span → Grey → Grey
+grey_of page is_mixed id None g = g
+grey_of page is_mixed id (Some s) g = grey_by (not is_mixed && is_light id (at_x page s.from) (at_x page s.to)) (at_x page s.from) (at_x page s.to) g
+
+abbrev pub grey_after : Page → Bool → Shape → Grey → Grey
+grey_after page is_mixed shape g = grey_of page is_mixed shape.id (cut_to page.viewport shape.span) g
+
+-- the grey of a row after all its bands, or after all times at which its class is mixed
+abbrev pub grey_after_all : Page → Bool → List Shape → Grey → Grey
+grey_after_all page is_mixed [] g = g
+grey_after_all page is_mixed (shape ∷ rest) g = grey_after_all page is_mixed rest (grey_after page is_mixed shape g)
+
+-- whether something of it is grey
+abbrev pub has_grey : Page → Bool → List Shape → Bool
+has_grey page is_mixed shapes = nat_lt 0 (grey_after_all page is_mixed shapes no_grey).to
+
+-- grey pixels in a row that begins at this height, and those that no later band adds to
+abbrev pub grey_text : ℕ → Grey → List ℕ
+grey_text top g = if g.to == 0 then [] else rect_text (codes "p") (g.from * 100) (g.to * 100 - g.from * 100) top LANE_HEIGHT
+
+abbrev pub grey_before : ℕ → (old new : Grey) → List ℕ
+grey_before top old new = if old.from == new.from then [] else grey_text top old
+
+-- the grey pixels of a row, one after another
+abbrev pub greys_text : Page → ℕ → Bool → List Shape → Grey → List ℕ
+greys_text page top is_mixed [] g = grey_text top g
+greys_text page top is_mixed (shape ∷ rest) g =
+    grey_before top g (grey_after page is_mixed shape g) ++ greys_text page top is_mixed rest (grey_after page is_mixed shape g)
 
 -- the beginning of a label whose middle lies at this place, on this line
 abbrev pub label_text : (middle line : ℕ) → List ℕ

@@ -1,14 +1,13 @@
 -- The text of a picture, part by part. Places are in pixels, but for those of shapes.
-use Rattle.std.specs.Prelude.{ℕ, zero, suc, ◌+◌, ◌-◌, ◌*◌, ◌/◌, Bool, false, ◌&&◌, ◌||◌, not, is_some, nat_lt, List, [], ◌∷◌, ◌++◌, map, codes, decimal, if◌then◌else◌}
-use Rattle.std.specs.List.{concat, list_any}
-use Rattle.picture.specs.Drawn.{Drawing, bands_joined, class_at}
+use Rattle.std.specs.Prelude.{ℕ, zero, suc, ◌+◌, ◌-◌, ◌*◌, ◌/◌, Bool, true, false, ◌||◌, nat_lt, List, [], ◌∷◌, ◌++◌, map, codes, decimal, if◌then◌else◌}
+use Rattle.std.specs.List.{concat}
+use Rattle.picture.specs.Drawn.{Drawing, class_at}
 use Rattle.picture.specs.Lanes.{joined_at}
-use Rattle.picture.specs.Viewports.{cut_to, pixel_of}
-use Rattle.picture.specs.declared.span.Shape.{Shape}
+use Rattle.picture.specs.Viewports.{pixel_of}
 use Rattle.drawing.specs.Axis.{axis_text, origin_text}
 unfoldable use Rattle.drawing.specs.Axis.{each}
 use Rattle.drawing.specs.Layout.{top_of}
-use Rattle.drawing.specs.Marks.{bands_text, bars_text, changes_text, drops_text, rect_text, waits_text}
+use Rattle.drawing.specs.Marks.{bars_text, changes_text, drops_text, greys_text, has_grey, lights_text, no_grey, rect_text, waits_text}
 use Rattle.drawing.specs.Shapes.{Shown, lane_at, shape_count}
 unfoldable use Rattle.drawing.specs.Shapes.{bands_to}
 use Rattle.drawing.specs.declared.page.Page.{Page}
@@ -71,11 +70,12 @@ ground_text page height = head_text page height ++ (axis_text page ++ (origin_te
 
 -- 2. The marks
 
--- the bands of a class, and over them the times at which it is open and closed
+-- the bands of a class: the light ones, and over them what is grey, by the bands and by the times at which it is open and closed
 abbrev pub class_bands : Page → Drawing → ℕ → List ℕ
 class_bands page bands class =
-    bands_text page (top_of class) (codes "o") 0 (class_at bands.classes class).lane.shapes
-    ++ bands_text page (top_of class) (codes "p") 0 (class_at bands.mixed class).lane.shapes
+    lights_text page (top_of class) (class_at bands.classes class).lane.shapes
+    ++ (greys_text page (top_of class) false (class_at bands.classes class).lane.shapes no_grey
+    ++ greys_text page (top_of class) true (class_at bands.mixed class).lane.shapes no_grey)
 
 abbrev pub all_bands : Page → Drawing → List ℕ
 all_bands page bands = each (class_bands page bands) 0 WIRE
@@ -115,16 +115,10 @@ legend =
     ++ (legend_mark (codes "d") (LEFT + 216) (codes "l8 -8m0 8l-8 -8") 14 (codes "dropped")
     ++ legend_mark (codes "c") (LEFT + 290) (codes "v-12") 8 (codes "change"))))
 
--- whether a shape is shown, and whether it is one of several that are joined
-abbrev pub is_seen : Page → Shape → Bool
-is_seen page shape = is_some (cut_to page.viewport shape.span)
-
-abbrev pub is_seen_joined : Page → Shape → Bool
-is_seen_joined page shape = not (is_some shape.id) && is_seen page shape
-
--- whether a class is open and closed at some of its times, as the picture shows it, and whether some class of so many is
+-- whether something of a class's lane is grey, and whether something of one of so many is
 abbrev pub is_mixed : Page → Drawing → ℕ → Bool
-is_mixed page bands class = list_any (is_seen page) (class_at bands.mixed class).lane.shapes || list_any (is_seen_joined page) (class_at bands.classes class).lane.shapes
+is_mixed page bands class =
+    has_grey page false (class_at bands.classes class).lane.shapes || has_grey page true (class_at bands.mixed class).lane.shapes
 
 unfoldable pub some_mixed : Page → Drawing → (first count : ℕ) → Bool
 some_mixed page bands first zero = false
@@ -133,7 +127,7 @@ some_mixed page bands first (suc count) = is_mixed page bands first || some_mixe
 abbrev pub has_mixed : Page → Drawing → Bool
 has_mixed page bands = some_mixed page bands 0 WIRE
 
--- what the look of such times means
+-- what grey means
 abbrev pub mixed_legend : Bool → List ℕ
 mixed_legend mixed = if mixed then legend_rect (codes "p") LEFT (LEGEND + MIXED_LINE) (codes "open and closed, too close to show each") else []
 
@@ -142,7 +136,7 @@ foot_text mixed = legend ++ (mixed_legend mixed ++ codes "</svg>\n")
 
 -- 4. All of it
 
--- how high a picture is, in pixels: with such times it has one line more
+-- how high a picture is, in pixels: where something is grey it has one line more
 abbrev pub height_of : Bool → ℕ
 height_of mixed = if mixed then HEIGHT + MIXED_LINE else HEIGHT
 
@@ -153,14 +147,11 @@ picture_text page bands shown =
 
 -- 5. Too much for a picture
 
--- whether there are so many shapes that those are joined that are nearer to one another than a pixel
+-- whether there are so many bands and shapes that those shapes are joined that are nearer to one another than a pixel
 abbrev pub is_crowded : Drawing → Shown → Bool
 is_crowded bands shown = nat_lt MOST_APART (bands_to WIRE bands.classes bands.mixed + shape_count shown)
 
 -- all that are nearer than a gap
-abbrev pub coarse_bands : ℕ → Drawing → Drawing
-coarse_bands gap bands = record bands { classes = map (bands_joined gap) bands.classes; mixed = map (bands_joined gap) bands.mixed }
-
 abbrev pub coarse_shown : ℕ → Shown → Shown
 coarse_shown gap x = record x {
   frames = map (joined_at gap) x.frames;
@@ -169,9 +160,9 @@ coarse_shown gap x = record x {
   changes = joined_at gap x.changes;
 }
 
--- the picture of all bands and shapes, or where there are too many of them so joined
+-- the picture of all bands and shapes, where there are too many of them with the shapes so joined
 abbrev pub fitted_text : Page → Drawing → Shown → List ℕ
 fitted_text page bands shown =
     if is_crowded bands shown
-    then picture_text page (coarse_bands (pixel_of page.viewport) bands) (coarse_shown (pixel_of page.viewport) shown)
+    then picture_text page bands (coarse_shown (pixel_of page.viewport) shown)
     else picture_text page bands shown

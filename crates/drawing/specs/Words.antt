@@ -10,7 +10,6 @@ pub use Rattle.line_reader.specs.Script.{Script}
 pub use Rattle.tc_reader.specs.Reader.{IsReader}
 pub use Rattle.tc_reader.specs.declared.fault.TcFault.{TcFault}
 pub use Rattle.job.specs.declared.fault.Fault.{Fault}
-pub use Rattle.picture.specs.Drawn.{bands_joined}
 pub use Rattle.picture.specs.Lanes.{Filled, joined_at, no_shapes}
 pub use Rattle.picture.specs.Viewports.{pixel_of, x_in}
 pub use Rattle.picture.specs.declared.TheConstants.{MOST_SHAPES}

@@ -350,13 +350,13 @@ fn end_bands<A: Allocator>(port: &RunningPort<A>, bands: &mut Bands<A>, view: Vi
 
 /// Writes the picture of what is drawn.
 fn put_course<A: Allocator, W: Write>(
-    bands: &mut Bands<A>,
+    bands: &Bands<A>,
     course: &mut Course<A>,
     writer: &mut W,
     page: &Page,
 ) -> Result<(), WriteFault>
-    ensures text { Writes result (W.contents writer.old) (W.contents writer.new) (fitted_text page.now bands.old course.old.shown) }
-    ensures few { bands_to WIRE bands.old.classes bands.old.mixed ≤ 2 * WIRE * MOST_SHAPES }
+    ensures text { Writes result (W.contents writer.old) (W.contents writer.new) (fitted_text page.now bands.now course.old.shown) }
+    ensures few { bands_to WIRE bands.now.classes bands.now.mixed ≤ 2 * WIRE * MOST_SHAPES }
 {
     fit(bands, course, &page.viewport);
     put_picture(writer, page, bands, course.shapes())

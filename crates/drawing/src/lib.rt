@@ -10,6 +10,7 @@ mod arrivals;
 mod course;
 mod draw_job;
 mod draw_run;
+pub mod laws;
 mod marks;
 mod options;
 mod page;

@@ -1,8 +1,8 @@
 //! The marks of a picture: bands, frames, waits, drops and changes.
 
-ghost use Rattle.std.specs.Prelude.{◌≡◌, ◌≤◌, ◌+◌, ◌*◌, IfOk, decimal, length, nat_le};
+ghost use Rattle.std.specs.Prelude.{◌≡◌, ◌≤◌, ◌<◌, ◌+◌, ◌*◌, IfOk, decimal, length, nat_le};
 ghost use Rattle.octet_writer.specs.Writes.{Writes};
-ghost use Rattle.drawing.specs.Marks.{arrival_text, band_look, band_text, bands_text, bar_text, bars_text, change_lines, change_name, change_number, change_text, changes_text, covered_after, cross_text, drop_text, drops_text, free_after, id_text, label_text, last_change, line_text, number_length, number_text, point_text, rect_text, second_cross, wait_line, wait_text, waits_text};
+ghost use Rattle.drawing.specs.Marks.{arrival_text, bar_text, bars_text, change_lines, change_name, change_number, change_text, changes_text, cross_text, drop_text, drops_text, free_after, grey_after, grey_before, grey_by, grey_over, grey_text, greys_text, has_grey, id_text, is_light, IsInRow, label_text, last_change, light_text, lights_text, line_text, more_grey, no_grey, number_length, number_text, point_text, rect_text, second_cross, wait_line, wait_text, waits_text};
 
 use crate::page::{BOTTOM, CLASS_TOP, LANE_HEIGHT, LEFT, MAX_WIDTH, Page, Place};
 use answer_text::{Part, WriteFault, put, put_parts};
@@ -12,7 +12,7 @@ use std::io::Write;
 /// How times look at which a class is open and closed.
 pub(crate) const MIXED: &[u8] = b"p";
 
-/// The least width of a band, in hundredths of a pixel: what is narrower would vanish.
+/// The least width of a light band, and of what is between two, in hundredths of a pixel: what is narrower is grey.
 const LEAST_BAND: u64 = 100;
 
 /// The least width of a bar, in hundredths of a pixel: it is to be seen beside the line of a wait.
@@ -91,59 +91,207 @@ pub(crate) fn put_line<W: Write>(
     )
 }
 
-/// How a band looks: one of several as times at which a class is open and closed.
-fn band_look(look: &[u8], id: Option<u64>) -> &[u8]
-    ensures { result.now ≡ band_look look.now id }
+/// Whether a band is light, from one place to another, in hundredths of a pixel: it is one open time, and a pixel wide
+/// at least.
+fn is_light(id: Option<u64>, left: u64, right: u64) -> bool
+    requires { left ≤ 100 * (LEFT + MAX_WIDTH) }
+    ensures { result ≡ is_light id left right }
 {
-    match id {
-        Some(_) => look,
-        None => MIXED,
-    }
+    id.is_some() && left + LEAST_BAND <= right
 }
 
-/// Writes a band in a row that begins at this height, and answers up to where the row is covered then; both ends are in
-/// hundredths of a pixel. What a band before it covers isn't written.
-fn put_band<W: Write>(
+/// Writes a band in a row that begins at this height, where it is light.
+fn put_light<W: Write>(
     writer: &mut W,
     page: &Page,
     top: u32,
     shape: &Shape,
-    look: &[u8],
-    covered: u64,
-) -> Result<u64, WriteFault>
-    requires { top ≤ BOTTOM }
-    ensures text { Writes result (W.contents writer.old) (W.contents writer.new) (band_text page.now top look.now covered shape.now) }
-    ensures covered { IfOk result (λ right. right ≡ covered_after page.now covered shape.now) }
+) -> Result<(), WriteFault>
+    ensures { Writes result (W.contents writer.old) (W.contents writer.new) (light_text page.now top shape.now) }
 {
     let Some(span) = page.viewport.cut(shape.span) else {
-        return Ok(covered);
+        return Ok(());
     };
-    let place = page.place(span, LEAST_BAND);
-    let right = place.left + place.width;
-    if covered < right {
-        let look = band_look(look, shape.id);
-        put_rect(writer, look, place.left, place.width, top, LANE_HEIGHT)?;
-        return Ok(right);
+    let left = page.x(span.from);
+    let right = page.x(span.to);
+    if is_light(shape.id, left, right) {
+        return put_rect(writer, b"o", left, right - left, top, LANE_HEIGHT);
     }
-    Ok(covered)
+    Ok(())
 }
 
-/// Writes the bands of a class, whose lane begins at this height.
-pub(crate) fn put_bands<W: Write>(
+/// Writes the light bands of a class, whose lane begins at this height.
+pub(crate) fn put_lights<W: Write>(
     writer: &mut W,
     page: &Page,
     top: u32,
     shapes: &[Shape],
-    look: &[u8],
 ) -> Result<(), WriteFault>
-    requires { top ≤ BOTTOM }
-    ensures { Writes result (W.contents writer.old) (W.contents writer.new) (bands_text page.now top look.now 0 shapes.now) }
+    ensures { Writes result (W.contents writer.old) (W.contents writer.new) (lights_text page.now top shapes.now) }
 {
-    let mut covered = 0;
     for shape in shapes {
-        covered = put_band(writer, page, top, shape, look, covered)?;
+        put_light(writer, page, top, shape)?;
     }
     Ok(())
+}
+
+/// Grey pixels of a row, and where the band before ends.
+#[derive(Clone, Copy, Debug)]
+struct Grey {
+    /// The first, from the left; 0: there are none yet.
+    from: u64,
+    /// The first after them; 0: there are none yet.
+    to: u64,
+    /// Where the band before ends, in hundredths of a pixel; 0: none is before.
+    edge: u64,
+}
+
+/// Nothing is grey yet.
+fn no_grey() -> Grey
+    ensures { result ≡ no_grey }
+{
+    Grey {
+        from: 0,
+        to: 0,
+        edge: 0,
+    }
+}
+
+/// More grey pixels, from one on and before another: one with those before them, where the two touch. The band ends at
+/// this place, in hundredths of a pixel.
+fn more_grey(first: u64, after: u64, edge: u64, grey: Grey) -> Grey
+    requires some { first < after }
+    requires within { after ≤ LEFT + MAX_WIDTH + 1 }
+    requires near { edge ≤ 100 * (LEFT + MAX_WIDTH) }
+    requires row { IsInRow grey }
+    ensures value { result ≡ more_grey first after edge grey }
+    ensures row { IsInRow result }
+{
+    if grey.to < first || grey.to == 0 {
+        return Grey {
+            from: first,
+            to: after,
+            edge,
+        };
+    }
+    Grey {
+        from: grey.from,
+        to: grey.to.max(after),
+        edge,
+    }
+}
+
+/// The pixels are grey that a time reaches into from one place to another. The band ends at this place. All are in
+/// hundredths of a pixel.
+fn grey_over(left: u64, right: u64, edge: u64, grey: Grey) -> Grey
+    requires left { left ≤ 100 * (LEFT + MAX_WIDTH) }
+    requires right { right ≤ 100 * (LEFT + MAX_WIDTH) }
+    requires near { edge ≤ 100 * (LEFT + MAX_WIDTH) }
+    requires row { IsInRow grey }
+    ensures value { result ≡ grey_over left right edge grey }
+    ensures row { IsInRow result }
+{
+    let first = left / 100;
+    let after = right.div_ceil(100).max(first + 1);
+    more_grey(first, after, edge, grey)
+}
+
+/// A band follows, light or not, from one place to another, in hundredths of a pixel. Grey are the pixels between the
+/// band before and this one, where the two are nearer than a pixel, and those of the band, where it isn't light.
+fn grey_by(is_light: bool, left: u64, right: u64, grey: Grey) -> Grey
+    requires left { left ≤ 100 * (LEFT + MAX_WIDTH) }
+    requires right { right ≤ 100 * (LEFT + MAX_WIDTH) }
+    requires row { IsInRow grey }
+    ensures value { result ≡ grey_by is_light left right grey }
+    ensures row { IsInRow result }
+{
+    if left < grey.edge + LEAST_BAND {
+        let to = if is_light { left } else { right };
+        return grey_over(grey.edge, to, right, grey);
+    }
+    if is_light {
+        return Grey {
+            from: grey.from,
+            to: grey.to,
+            edge: right,
+        };
+    }
+    grey_over(left, right, right, grey)
+}
+
+/// What of a row is grey after this band, or after this time at which its class is mixed.
+fn grey_after(page: &Page, is_mixed: bool, shape: &Shape, grey: Grey) -> Grey
+    requires row { IsInRow grey }
+    ensures value { result ≡ grey_after page.now is_mixed shape.now grey }
+    ensures row { IsInRow result }
+{
+    let Some(span) = page.viewport.cut(shape.span) else {
+        return grey;
+    };
+    let left = page.x(span.from);
+    let right = page.x(span.to);
+    let is_light = !is_mixed && is_light(shape.id, left, right);
+    grey_by(is_light, left, right, grey)
+}
+
+/// Whether something of a row is grey after its bands, or after the times at which its class is mixed.
+pub(crate) fn has_grey(page: &Page, shapes: &[Shape], is_mixed: bool) -> bool
+    ensures { result ≡ has_grey page.now is_mixed shapes.now }
+{
+    let mut grey = no_grey();
+    for shape in shapes {
+        grey = grey_after(page, is_mixed, shape, grey);
+    }
+    grey.to > 0
+}
+
+/// Writes grey pixels in a row that begins at this height, where there are some.
+fn put_grey<W: Write>(writer: &mut W, top: u32, grey: Grey) -> Result<(), WriteFault>
+    requires { IsInRow grey }
+    ensures { Writes result (W.contents writer.old) (W.contents writer.new) (grey_text top grey) }
+{
+    if grey.to == 0 {
+        return Ok(());
+    }
+    let left = grey.from * 100;
+    let right = grey.to * 100;
+    put_rect(writer, MIXED, left, right - left, top, LANE_HEIGHT)
+}
+
+/// Writes grey pixels in a row that begins at this height, where no later band adds to them.
+fn put_grey_before<W: Write>(
+    writer: &mut W,
+    top: u32,
+    old: Grey,
+    new: Grey,
+) -> Result<(), WriteFault>
+    requires { IsInRow old }
+    ensures { Writes result (W.contents writer.old) (W.contents writer.new) (grey_before top old new) }
+{
+    if old.from == new.from {
+        return Ok(());
+    }
+    put_grey(writer, top, old)
+}
+
+/// Writes the grey pixels of a class, whose lane begins at this height: of its bands, or of the times at which it is
+/// mixed.
+pub(crate) fn put_greys<W: Write>(
+    writer: &mut W,
+    page: &Page,
+    top: u32,
+    shapes: &[Shape],
+    is_mixed: bool,
+) -> Result<(), WriteFault>
+    ensures { Writes result (W.contents writer.old) (W.contents writer.new) (greys_text page.now top is_mixed shapes.now no_grey) }
+{
+    let mut grey = no_grey();
+    for shape in shapes {
+        let next = grey_after(page, is_mixed, shape, grey);
+        put_grey_before(writer, top, grey, next)?;
+        grey = next;
+    }
+    put_grey(writer, top, grey)
 }
 
 /// How many decimal digits a number has.

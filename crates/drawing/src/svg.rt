@@ -1,15 +1,14 @@
 //! The picture as SVG: its head, its axis, its lanes and its legend.
 
 ghost use Rattle.std.specs.Prelude.{◌≡◌, ◌<◌, ◌≤◌, ◌+◌, ◌*◌};
-ghost use Rattle.std.specs.List.{list_any};
 ghost use Rattle.octet_writer.specs.Writes.{Writes};
 ghost use Rattle.drawing.specs.Words.{greatest_moment};
-ghost use Rattle.drawing.specs.Axis.{axis_step, axis_text, counted, origin_name, origin_text, step_of, tick_at, tick_name, tick_text, ticks_text};
-ghost use Rattle.drawing.specs.Picture.{all_bands, class_bands, class_name, class_names, foot_text, ground_text, has_mixed, head_text, height_of, is_mixed, is_seen, is_seen_joined, lane_text, lanes_text, legend, legend_mark, legend_path, legend_rect, legend_text, marks_text, mixed_legend, name_text, names_text, picture_text, size_text, speed_text, style_text, title_text, wire_name};
+ghost use Rattle.drawing.specs.Axis.{axis_step, axis_text, counted, first_tick, last_tick, origin_name, origin_text, roomy_step, step_for, tick_at, tick_name, tick_text, ticks_text, two_or};
+ghost use Rattle.drawing.specs.Picture.{all_bands, class_bands, class_name, class_names, foot_text, ground_text, has_mixed, head_text, height_of, is_mixed, lane_text, lanes_text, legend, legend_mark, legend_path, legend_rect, legend_text, marks_text, mixed_legend, name_text, names_text, picture_text, size_text, speed_text, style_text, title_text, wire_name};
 
 use crate::marks::{
-    MIXED, digits, put_bands, put_bars, put_change_marks, put_drops, put_label, put_line, put_rect,
-    put_waits,
+    MIXED, digits, has_grey, put_bars, put_change_marks, put_drops, put_greys, put_label,
+    put_lights, put_line, put_rect, put_waits,
 };
 use crate::page::{
     AXIS, BOTTOM, CLASS_TOP, HALF_CHARACTER, HEIGHT, LANES, LEFT, LEGEND, MAX_WIDTH, ORIGIN, Page,
@@ -17,7 +16,7 @@ use crate::page::{
 };
 use crate::shapes::Shapes;
 use answer_text::{Part, WriteFault, put, put_parts};
-use picture::{Bands, Shape, Unit, tick_step, unit_of};
+use picture::{Bands, Unit, tick_step, unit_of};
 use std::alloc::Allocator;
 use std::io::Write;
 
@@ -145,28 +144,70 @@ fn counted(page: &Page, moment: u128) -> u128
     moment.saturating_sub(page.origin)
 }
 
-/// The step of an axis over a time of this length of which at most so many are as long, both in picoseconds.
-fn step_of(length: u128, most: u32) -> u128
-    requires some { 0 < most }
-    requires within { length ≤ greatest_moment }
-    ensures { result ≡ step_of length most }
-{
-    tick_step(length, most)
-}
-
-/// The step of the axis, in picoseconds, such that the labels of its ticks stand apart.
-fn axis_step(page: &Page) -> u128
-    ensures value { result ≡ axis_step page.now }
+/// The step of an axis of which at most so many are as long as the time that is shown, in picoseconds.
+fn step_for(page: &Page, most: u32) -> u128
+    requires { 0 < most }
+    ensures value { result ≡ step_for page.now most }
     ensures some { 0 < result }
 {
-    let length = page.viewport.to() - page.viewport.from();
+    tick_step(page.viewport.to() - page.viewport.from(), most)
+}
+
+/// The step at which the labels of the ticks stand apart, in picoseconds.
+fn roomy_step(page: &Page) -> u128
+    ensures value { result ≡ roomy_step page.now }
+    ensures some { 0 < result }
+{
     let plot = u128::from(page.viewport.width()) * 100;
-    let coarse = step_of(length, (plot / 8_000) as u32);
+    let coarse = step_for(page, (plot / 8_000) as u32);
     let unit = unit_of(coarse);
     let last = counted(page, page.viewport.to());
     let label = u128::from(digits(last / unit.ps())) + 3;
     let most = (plot / (label * u128::from(2 * HALF_CHARACTER) + 1_200)).max(2);
-    step_of(length, most as u32).max(coarse).max(1)
+    step_for(page, most as u32).max(coarse)
+}
+
+/// The first multiple of a step that is shown; the step is in picoseconds.
+fn first_tick(page: &Page, step: u128) -> u128
+    requires { 0 < step }
+    ensures { result ≡ first_tick page.now step }
+{
+    counted(page, page.viewport.from()).div_ceil(step)
+}
+
+/// The last multiple of a step that is shown; the step is in picoseconds.
+fn last_tick(page: &Page, step: u128) -> u128
+    requires { 0 < step }
+    ensures value { result ≡ last_tick page.now step }
+    ensures few { result ≤ greatest_moment }
+    ensures within { result * step ≤ greatest_moment }
+{
+    counted(page, page.viewport.to()) / step
+}
+
+/// A step, where it shows two ticks at least; else another. Both are in picoseconds.
+fn two_or(page: &Page, step: u128, other: u128) -> u128
+    requires some { 0 < step }
+    requires other { 0 < other }
+    ensures value { result ≡ two_or page.now step other }
+    ensures some { 0 < result }
+{
+    if first_tick(page, step) < last_tick(page, step) {
+        return step;
+    }
+    other
+}
+
+/// The step of the axis, in picoseconds, such that the labels of its ticks stand apart, and there are two at least.
+fn axis_step(page: &Page) -> u128
+    ensures value { result ≡ axis_step page.now }
+    ensures some { 0 < result }
+{
+    let mut step = step_for(page, 5);
+    step = two_or(page, step_for(page, 4), step);
+    step = two_or(page, step_for(page, 3), step);
+    step = two_or(page, step_for(page, 2), step);
+    two_or(page, roomy_step(page), step)
 }
 
 /// Writes what a tick of the axis says.
@@ -242,9 +283,8 @@ fn put_axis<W: Write>(writer: &mut W, page: &Page) -> Result<(), WriteFault>
     ensures { Writes result (W.contents writer.old) (W.contents writer.new) (axis_text page.now) }
 {
     let step = axis_step(page);
-    let first = counted(page, page.viewport.from()).div_ceil(step);
-    let last = counted(page, page.viewport.to()) / step;
-    put_ticks(writer, page, step, first, last)
+    let first = first_tick(page, step);
+    put_ticks(writer, page, step, first, last_tick(page, step))
 }
 
 /// Writes that the axis counts from so many of a unit.
@@ -433,39 +473,15 @@ fn put_mixed_legend<W: Write>(writer: &mut W, mixed: bool) -> Result<(), WriteFa
     )
 }
 
-/// Whether some of these shapes are shown.
-fn is_some_seen(page: &Page, shapes: &[Shape]) -> bool
-    ensures { result ≡ list_any (is_seen page.now) shapes.now }
-{
-    for shape in shapes {
-        if page.viewport.cut(shape.span).is_some() {
-            return true;
-        }
-    }
-    false
-}
-
-/// Whether some of the bands that are shown are joined.
-fn is_joined(page: &Page, shapes: &[Shape]) -> bool
-    ensures { result ≡ list_any (is_seen_joined page.now) shapes.now }
-{
-    for shape in shapes {
-        if shape.id.is_none() && page.viewport.cut(shape.span).is_some() {
-            return true;
-        }
-    }
-    false
-}
-
-/// Whether a class is open and closed at some of its times, as the picture shows it.
+/// Whether something of a class's lane is grey.
 fn is_mixed<A: Allocator>(page: &Page, bands: &Bands<A>, class: u8) -> bool
     requires { class < WIRE }
     ensures { result ≡ is_mixed page.now bands.now class }
 {
-    is_some_seen(page, bands.mixed(class)) || is_joined(page, bands.lane(class))
+    has_grey(page, bands.lane(class), false) || has_grey(page, bands.mixed(class), true)
 }
 
-/// Whether some class is.
+/// Whether something of some class's lane is.
 fn has_mixed<A: Allocator>(page: &Page, bands: &Bands<A>) -> bool
     ensures { result ≡ has_mixed page.now bands.now }
 {
@@ -488,8 +504,10 @@ fn put_class_bands<A: Allocator, W: Write>(
     ensures { Writes result (W.contents writer.old) (W.contents writer.new) (class_bands page.now bands.now class) }
 {
     let top = lane_top(class);
-    put_bands(writer, page, top, bands.lane(class), b"o")?;
-    put_bands(writer, page, top, bands.mixed(class), MIXED)
+    let shapes = bands.lane(class);
+    put_lights(writer, page, top, shapes)?;
+    put_greys(writer, page, top, shapes, false)?;
+    put_greys(writer, page, top, bands.mixed(class), true)
 }
 
 /// Writes the bands of the classes.

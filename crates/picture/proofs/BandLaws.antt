@@ -1,6 +1,6 @@
 -- Bands over the moments of a stretch, and in lanes.
 use Rattle.std.proofs.Common.{◌≡◌, ◌<◌, ◌≤◌, ℕ, zero, suc, ◌+◌, Bool, true, false, List, [], ◌∷◌, ◌++◌, Option, Some, None, unwrap_or, refl, sym, ap, ◌∙◌, arith, le_refl, append_assoc, append-nil}
-use Rattle.picture.specs.Words.{opens, Span, Filled, pushed, Going, after, bands_from, ClassLane, begun, with_bands, stepped, drawn}
+use Rattle.picture.specs.Words.{opens, Span, Filled, band_pushed, Going, after, bands_from, ClassLane, begun, with_bands, stepped, drawn}
 use Rattle.picture.specs.Bands.{closed}
 use Rattle.picture.specs.Drawn.{push_all}
 
@@ -10,7 +10,7 @@ pub step_open : (c : ClassLane) (m x : ℕ) → x ≡ unwrap_or c.since m → re
 unfolding push_all
 step_open c m x e = ap (λ y. let r : ClassLane = record { since = Some y; lane = c.lane } in r) e
 
-pub step_closed : (since : Option ℕ) (lane next : Filled) (from m : ℕ) → since ≡ Some from → next ≡ pushed (record { span = record { from = from; to = m }; id = Some 0 }) lane
+pub step_closed : (since : Option ℕ) (lane next : Filled) (from m : ℕ) → since ≡ Some from → next ≡ band_pushed (record { span = record { from = from; to = m }; id = Some 0 }) lane
     → record { since = None; lane = next } ≡ stepped false m (record { since = since; lane = lane })
 unfolding push_all
 step_closed since lane next from m is e =
@@ -61,10 +61,10 @@ bands_same f g class m (suc n) s e =
 
 -- ---- in lanes
 
-push_one : (bs : List Span) (b : Span) (lane : Filled) → push_all (bs ++ b ∷ []) lane ≡ pushed (record { span = b; id = Some 0 }) (push_all bs lane)
+push_one : (bs : List Span) (b : Span) (lane : Filled) → push_all (bs ++ b ∷ []) lane ≡ band_pushed (record { span = b; id = Some 0 }) (push_all bs lane)
 unfolding push_all
 push_one [] b lane = refl
-push_one (a ∷ rest) b lane = push_one rest b (pushed (record { span = a; id = Some 0 }) lane)
+push_one (a ∷ rest) b lane = push_one rest b (band_pushed (record { span = a; id = Some 0 }) lane)
 
 -- one moment more, in the lane and in the bands
 pub step_on : (b : Bool) (m : ℕ) (c : ClassLane) (g : Going) → stepped b m (with_bands c g) ≡ with_bands c (after b m g)
@@ -116,7 +116,7 @@ bands_append masks class m (suc n) since bs = by (opens (masks m) class) since (
 push_both : (xs ys : List Span) (lane : Filled) → push_all (xs ++ ys) lane ≡ push_all ys (push_all xs lane)
 unfolding push_all
 push_both [] ys lane = refl
-push_both (x ∷ xs) ys lane = push_both xs ys (pushed (record { span = x; id = Some 0 }) lane)
+push_both (x ∷ xs) ys lane = push_both xs ys (band_pushed (record { span = x; id = Some 0 }) lane)
 
 -- what is drawn in two parts is drawn in one
 pub drawn_both : (masks : ℕ → ℕ) (class m n k : ℕ) (c : ClassLane) → drawn masks class (m + n) k (drawn masks class m n c) ≡ drawn masks class m (n + k) c

@@ -1,43 +1,53 @@
 -- Neighbours that are joined in place, from the first on.
-use Rattle.std.proofs.Common.{◌≡◌, ◌<◌, ◌≤◌, ℕ, zero, suc, ◌+◌, ◌-◌, ◌*◌, Bool, true, false, min, max, cond, List, [], ◌∷◌, ◌++◌, length, take, drop, ◌==◌, slice_index_or, slice_set, None, inl, inr, refl, sym, ap, ◌∙◌, arith, le_refl, append_assoc}
-use Rattle.std.proofs.lemmas.Bool.{eqb-true, eq-eqb, false≢true, cases_lt, lt-ltb, le-ltb}
+use Rattle.std.proofs.Common.{◌≡◌, ◌<◌, ◌≤◌, ℕ, zero, suc, ◌+◌, ◌-◌, ◌*◌, Bool, true, false, min, max, cond, nat_le, List, [], ◌∷◌, ◌++◌, length, take, drop, ◌==◌, slice_index_or, slice_set, None, inl, inr, refl, sym, ap, ◌∙◌, arith, le_refl, append_assoc}
+use Rattle.std.proofs.lemmas.Bool.{eqb-true, eq-eqb, false≢true, cases_lt, le-leb, lt-leb, lt-ltb, le-ltb}
 use Rattle.std.proofs.lemmas.List.{drop_more, take-set, get_or-set_same, drop-set-lt, length-set, take_more, drop_all}
-use Rattle.picture.specs.Words.{greatest_moment, Shape, MOST_SHAPES, distance, is_near, joined, join_from, join, put, least_distance, wider, AreEarly}
+use Rattle.picture.specs.Words.{greatest_moment, Shape, MOST_SHAPES, distance, are_joined, bunched, is_near, joined, join_all_by, join_by, join_from, join, pixel_to, put, least_distance, roomy, wider, AreEarly}
 use Rattle.picture.specs.Lanes.{IsLane}
 
 -- a shape where there is none
 abbrev pub no_shape : Shape
 no_shape = record { span = record { from = 0; to = 0 }; id = None }
 
--- what is joined so far, up to the shape at `last`, and the shapes from `next` on that are not looked at
-pub record Joining (gap : ℕ) (old now : List Shape) (last next : ℕ) : Type 0 where
+-- what is joined so far by a test, up to the shape at `last`, and the shapes from `next` on that are not looked at
+pub record Joining (test : Shape → Shape → Bool) (old now : List Shape) (last next : ℕ) : Type 0 where
   pub same_length : length now ≡ length old
   pub behind : last < next
   pub within : next ≤ length old
-  pub so_far : take last now ++ join_from gap (slice_index_or now last no_shape) (drop next now) ≡ join gap old
+  pub so_far : take last now ++ join_by test (slice_index_or now last no_shape) (drop next now) ≡ join_all_by test old
+
+module _ (test : Shape → Shape → Bool) where
+  pub by_near : (a b : Shape) (rest : List Shape) → test a b ≡ true → join_by test a (b ∷ rest) ≡ join_by test (joined a b) rest
+  unfolding join_by
+  by_near a b rest e = ap (λ t. cond t (join_by test (joined a b) rest) (a ∷ join_by test b rest)) e
+
+  pub by_far : (a b : Shape) (rest : List Shape) → test a b ≡ false → join_by test a (b ∷ rest) ≡ a ∷ join_by test b rest
+  unfolding join_by
+  by_far a b rest e = ap (λ t. cond t (join_by test (joined a b) rest) (a ∷ join_by test b rest)) e
+
+  pub by_alone : (a : Shape) → join_by test a [] ≡ a ∷ []
+  unfolding join_by
+  by_alone a = refl
 
 pub join_near : (gap : ℕ) (a b : Shape) (rest : List Shape) → is_near gap a b ≡ true → join_from gap a (b ∷ rest) ≡ join_from gap (joined a b) rest
-unfolding join_from
-join_near gap a b rest e = ap (λ t. cond t (join_from gap (joined a b) rest) (a ∷ join_from gap b rest)) e
+join_near gap a b rest e = by_near (are_joined gap false) a b rest e
 
 pub join_far : (gap : ℕ) (a b : Shape) (rest : List Shape) → is_near gap a b ≡ false → join_from gap a (b ∷ rest) ≡ a ∷ join_from gap b rest
-unfolding join_from
-join_far gap a b rest e = ap (λ t. cond t (join_from gap (joined a b) rest) (a ∷ join_from gap b rest)) e
+join_far gap a b rest e = by_far (are_joined gap false) a b rest e
 
 pub join_alone : (gap : ℕ) (a : Shape) → join_from gap a [] ≡ a ∷ []
-unfolding join_from
-join_alone gap a = refl
+join_alone gap a = by_alone (are_joined gap false) a
 
-pub first_joining : (gap : ℕ) (old : List Shape) → 0 < length old → Joining gap old old 0 1
-first_joining gap [] some = absurd (omega arith)
-first_joining gap (a ∷ rest) some = record { same_length = refl; behind = omega arith; within = omega arith; so_far = refl }
+pub first_joining : (test : Shape → Shape → Bool) (old : List Shape) → 0 < length old → Joining test old old 0 1
+first_joining test [] some = absurd (omega arith)
+first_joining test (a ∷ rest) some = record { same_length = refl; behind = omega arith; within = omega arith; so_far = refl }
 
-module _ (gap : ℕ) (old now : List Shape) (last next : ℕ) (j : Joining gap old now last next) (more : next < length old) where
+module _ (test : Shape → Shape → Bool) (old now : List Shape) (last next : ℕ) (j : Joining test old now last next) (more : next < length old) where
   left_over : next < length now
   left_over = omega (arith, j.same_length)
 
   -- the next shape is joined to the last
-  pub joins_on : is_near gap (slice_index_or now last no_shape) (slice_index_or now next no_shape) ≡ true → Joining gap old (slice_set now last (joined (slice_index_or now last no_shape) (slice_index_or now next no_shape))) last (next + 1)
+  pub joins_on : test (slice_index_or now last no_shape) (slice_index_or now next no_shape) ≡ true → Joining test old (slice_set now last (joined (slice_index_or now last no_shape) (slice_index_or now next no_shape))) last (next + 1)
   joins_on near =
       let a : Shape = slice_index_or now last no_shape in
       let b : Shape = slice_index_or now next no_shape in
@@ -48,11 +58,11 @@ module _ (gap : ℕ) (old now : List Shape) (last next : ℕ) (j : Joining gap o
         within = omega arith;
         so_far =
             rw (take-set now last (joined a b), get_or-set_same now last (joined a b) no_shape inside, drop-set-lt (next + 1) now last (joined a b) (omega (arith, j.behind)))
-            (ap (λ tail. take last now ++ tail) (sym (join_near gap a b (drop (next + 1) now) near) ∙ ap (join_from gap a) (sym (drop_more now next no_shape left_over))) ∙ j.so_far);
+            (ap (λ tail. take last now ++ tail) (sym (by_near test a b (drop (next + 1) now) near) ∙ ap (join_by test a) (sym (drop_more now next no_shape left_over))) ∙ j.so_far);
       }
 
   -- the next shape stands alone
-  pub stands_on : is_near gap (slice_index_or now last no_shape) (slice_index_or now next no_shape) ≡ false → Joining gap old (slice_set now (last + 1) (slice_index_or now next no_shape)) (last + 1) (next + 1)
+  pub stands_on : test (slice_index_or now last no_shape) (slice_index_or now next no_shape) ≡ false → Joining test old (slice_set now (last + 1) (slice_index_or now next no_shape)) (last + 1) (next + 1)
   stands_on far =
       let a : Shape = slice_index_or now last no_shape in
       let b : Shape = slice_index_or now next no_shape in
@@ -64,16 +74,16 @@ module _ (gap : ℕ) (old now : List Shape) (last next : ℕ) (j : Joining gap o
         within = omega arith;
         so_far =
             rw (take-set now (last + 1) b, get_or-set_same now (last + 1) b no_shape inside_next, drop-set-lt (next + 1) now (last + 1) b (omega (arith, j.behind)), take_more now last no_shape inside)
-            (append_assoc (take last now) (a ∷ []) (join_from gap b (drop (next + 1) now))
-            ∙ (ap (λ tail. take last now ++ tail) (sym (join_far gap a b (drop (next + 1) now) far) ∙ ap (join_from gap a) (sym (drop_more now next no_shape left_over))) ∙ j.so_far));
+            (append_assoc (take last now) (a ∷ []) (join_by test b (drop (next + 1) now))
+            ∙ (ap (λ tail. take last now ++ tail) (sym (by_far test a b (drop (next + 1) now) far) ∙ ap (join_by test a) (sym (drop_more now next no_shape left_over))) ∙ j.so_far));
       }
 
 -- all are looked at
-pub all_joined : (gap : ℕ) (old now : List Shape) (last next : ℕ) → Joining gap old now last next → length old ≤ next → take (last + 1) now ≡ join gap old
-all_joined gap old now last next j over =
+pub all_joined : (test : Shape → Shape → Bool) (old now : List Shape) (last next : ℕ) → Joining test old now last next → length old ≤ next → take (last + 1) now ≡ join_all_by test old
+all_joined test old now last next j over =
     let inside : last < length now = omega (arith, j.same_length, j.behind, j.within) in
     take_more now last no_shape inside
-    ∙ (ap (λ tail. take last now ++ tail) (sym (join_alone gap (slice_index_or now last no_shape)) ∙ ap (join_from gap (slice_index_or now last no_shape)) (sym (drop_all next now (omega (arith, j.same_length))))) ∙ j.so_far)
+    ∙ (ap (λ tail. take last now ++ tail) (sym (by_alone test (slice_index_or now last no_shape)) ∙ ap (join_by test (slice_index_or now last no_shape)) (sym (drop_all next now (omega (arith, j.same_length))))) ∙ j.so_far)
 
 -- ---- one shape more at the end
 
@@ -154,23 +164,26 @@ length-put gap (a ∷ []) s = either (is_near gap a s)
     either false = omega arith
 length-put gap (a ∷ b ∷ rest) s = let l = length-put gap (b ∷ rest) s in omega arith
 
-pub early_join : (gap : ℕ) (a : Shape) (rest : List Shape) → a.span.from ≤ greatest_moment → AreEarly rest → AreEarly (join_from gap a rest)
-unfolding join_from
-early_join gap a [] e all = (e, tt)
-early_join gap a (b ∷ rest) e all = either (is_near gap a b) (early_join gap (joined a b) rest e all.1) (early_join gap b rest all.0 all.1)
+early_by : (test : Shape → Shape → Bool) (a : Shape) (rest : List Shape) → a.span.from ≤ greatest_moment → AreEarly rest → AreEarly (join_by test a rest)
+unfolding join_by
+early_by test a [] e all = (e, tt)
+early_by test a (b ∷ rest) e all = either (test a b) (early_by test (joined a b) rest e all.1) (early_by test b rest all.0 all.1)
   where
-    either : (t : Bool) → AreEarly (join_from gap (joined a b) rest) → AreEarly (join_from gap b rest) → AreEarly (cond t (join_from gap (joined a b) rest) (a ∷ join_from gap b rest))
+    either : (t : Bool) → AreEarly (join_by test (joined a b) rest) → AreEarly (join_by test b rest) → AreEarly (cond t (join_by test (joined a b) rest) (a ∷ join_by test b rest))
     either true near far = near
     either false near far = (e, far)
 
-pub length-join_from : (gap : ℕ) (a : Shape) (rest : List Shape) → length (join_from gap a rest) ≤ suc (length rest)
-unfolding join_from
-length-join_from gap a [] = omega arith
-length-join_from gap a (b ∷ rest) = either (is_near gap a b) (length-join_from gap (joined a b) rest) (length-join_from gap b rest)
+pub length-join_by : (test : Shape → Shape → Bool) (a : Shape) (rest : List Shape) → length (join_by test a rest) ≤ suc (length rest)
+unfolding join_by
+length-join_by test a [] = omega arith
+length-join_by test a (b ∷ rest) = either (test a b) (length-join_by test (joined a b) rest) (length-join_by test b rest)
   where
-    either : (t : Bool) → length (join_from gap (joined a b) rest) ≤ suc (length rest) → length (join_from gap b rest) ≤ suc (length rest) → length (cond t (join_from gap (joined a b) rest) (a ∷ join_from gap b rest)) ≤ suc (suc (length rest))
+    either : (t : Bool) → length (join_by test (joined a b) rest) ≤ suc (length rest) → length (join_by test b rest) ≤ suc (length rest) → length (cond t (join_by test (joined a b) rest) (a ∷ join_by test b rest)) ≤ suc (suc (length rest))
     either true near far = omega arith
     either false near far = omega arith
+
+pub length-join_from : (gap : ℕ) (a : Shape) (rest : List Shape) → length (join_from gap a rest) ≤ suc (length rest)
+length-join_from gap a rest = length-join_by (are_joined gap false) a rest
 
 -- Where some distance is below the gap, fewer shapes are left. The shape in front may reach further than it did.
 pub shorter_from : (gap : ℕ) (first a b : Shape) (rest : List Shape) → first.span.to ≤ a.span.to → AreEarly (b ∷ rest) → least_distance (first ∷ b ∷ rest) < gap → length (join_from gap a (b ∷ rest)) ≤ suc (length rest)
@@ -200,27 +213,44 @@ fewer (a ∷ b ∷ rest) early many =
     above : (n : ℕ) → n < max (2 * n) 1
     above n = omega arith
 
+early_all_by : (test : Shape → Shape → Bool) (xs : List Shape) → AreEarly xs → AreEarly (join_all_by test xs)
+early_all_by test [] all = tt
+early_all_by test (a ∷ rest) all = early_by test a rest all.0 all.1
+
 pub early_all : (gap : ℕ) (xs : List Shape) → AreEarly xs → AreEarly (join gap xs)
-early_all gap [] all = tt
-early_all gap (a ∷ rest) all = early_join gap a rest all.0 all.1
+early_all gap xs all = early_all_by (are_joined gap false) xs all
 
--- a lane with one shape more, which has room for it
-pub lane_put : (gap : ℕ) (xs : List Shape) (s : Shape) → IsLane xs → s.span.from ≤ greatest_moment → length (put gap xs s) ≤ MOST_SHAPES → IsLane (put gap xs s)
-lane_put gap xs s lane early few = record { few = few; early = early_put gap xs s lane.early early }
+length-all : (test : Shape → Shape → Bool) (xs : List Shape) → length (join_all_by test xs) ≤ length xs
+length-all test [] = omega arith
+length-all test (a ∷ rest) = length-join_by test a rest
 
--- a lane with one shape more, for which near shapes are joined
-pub lane_joined : (gap : ℕ) (xs : List Shape) (s : Shape) → IsLane xs → s.span.from ≤ greatest_moment → MOST_SHAPES < length (put gap xs s) → IsLane (join (wider (put gap xs s)) (put gap xs s))
-lane_joined gap xs s lane early many =
-    let all = early_put gap xs s lane.early early in
-    record {
-      few = (let l = fewer (put gap xs s) all (omega arith) in let n = length-put gap xs s in omega (arith, l, n, lane.few));
-      early = early_all (wider (put gap xs s)) (put gap xs s) all;
-    }
+-- shapes of which there may be one too many
+pub record IsFull (xs : List Shape) : Type 0 where
+  pub few : length xs ≤ MOST_SHAPES + 1
+  pub early : AreEarly xs
+
+pub full_put : (gap : ℕ) (xs : List Shape) (s : Shape) → IsLane xs → s.span.from ≤ greatest_moment → IsFull (put gap xs s)
+full_put gap xs s lane early = record { few = (let n = length-put gap xs s in omega (arith, n, lane.few)); early = early_put gap xs s lane.early early }
+
+pub full_bunched : (upto : ℕ) (xs : List Shape) → IsFull xs → IsFull (bunched upto xs)
+full_bunched upto xs full = either (nat_le (length xs) MOST_SHAPES)
+  where
+    test : Shape → Shape → Bool
+    test = are_joined (pixel_to upto xs) true
+
+    either : (t : Bool) → IsFull (cond t xs (join_all_by test xs))
+    either true = full
+    either false = record { few = (let n = length-all test xs in omega (arith, n, full.few)); early = early_all_by test xs full.early }
+
+-- a lane has room once near shapes are joined, where there is one too many
+pub lane_roomy : (gap : ℕ) (xs : List Shape) → IsFull xs → IsLane (roomy gap xs).shapes
+lane_roomy gap xs full = elim (cases_lt MOST_SHAPES (length xs)) [
+  | inl many ↦ rw (lt-leb _ _ many)
+      (record { few = (let l = fewer xs full.early (omega arith) in omega (arith, l, full.few)); early = early_all (wider xs) xs full.early })
+  | inr few ↦ rw (le-leb _ _ few) (record { few = few; early = full.early })
+]
 
 -- a lane whose neighbours are joined at some gap
 pub lane_at : (gap : ℕ) (xs : List Shape) → IsLane xs → IsLane (join gap xs)
-lane_at gap xs lane = record { few = few_left gap xs lane.few; early = early_all gap xs lane.early }
-  where
-    few_left : (gap : ℕ) (xs : List Shape) → length xs ≤ MOST_SHAPES → length (join gap xs) ≤ MOST_SHAPES
-    few_left gap [] few = few
-    few_left gap (a ∷ rest) few = let l = length-join_from gap a rest in omega (arith, few, l)
+lane_at gap xs lane =
+    record { few = (let l = length-all (are_joined gap false) xs in omega (arith, l, lane.few)); early = early_all gap xs lane.early }

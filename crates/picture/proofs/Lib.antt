@@ -9,3 +9,4 @@ pub mod JoinLaws
 pub mod MixLaws
 pub mod PieceLaws
 pub mod LookLaws
+pub mod BunchLaws

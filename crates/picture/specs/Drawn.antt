@@ -13,7 +13,7 @@ use Rattle.abstract_port.specs.declared.Command.{Command}
 use Rattle.abstract_port.specs.declared.Command.TheVariants.{Replace, Delete}
 use Rattle.gate_list.specs.declared.PlanFault.{PlanFault}
 use Rattle.picture.specs.declared.span.Span.{Span}
-use Rattle.picture.specs.Lanes.{Filled, pushed, joined_at, no_shapes}
+use Rattle.picture.specs.Lanes.{Filled, band_pushed, no_shapes}
 use Rattle.picture.specs.Bands.{Going, after, bands_from}
 
 -- 1. One class
@@ -30,7 +30,7 @@ no_bands = record { since = None; lane = no_shapes }
 -- a lane with bands, one after another; a band that is joined to another has no identifier any more
 unfoldable pub push_all : List Span → Filled → Filled
 push_all [] lane = lane
-push_all (band ∷ rest) lane = push_all rest (pushed (record { span = band; id = Some 0 }) lane)
+push_all (band ∷ rest) lane = push_all rest (band_pushed (record { span = band; id = Some 0 }) lane)
 
 -- where its bands go on
 abbrev pub begun : ClassLane → Going
@@ -109,10 +109,6 @@ whole_pieces masks class m (next ∷ rest) c = whole_pieces masks class next res
 unfoldable pub mixed_pieces : (ℕ → ℕ) → ℕ → ℕ → List ℕ → ClassLane → ClassLane
 mixed_pieces masks class m [] c = c
 mixed_pieces masks class m (next ∷ rest) c = mixed_pieces masks class next rest (drawn_mixed masks class m (next - m) c)
-
--- where its bands are joined at a gap
-abbrev pub bands_joined : ℕ → ClassLane → ClassLane
-bands_joined gap c = record c { lane = joined_at gap c.lane }
 
 -- 2. All classes
 

@@ -1,7 +1,7 @@
 -- The shapes of a lane: where there are too many, neighbours that are close to one another are joined.
-use Rattle.std.specs.Prelude.{◌≤◌, ℕ, ◌-◌, ◌*◌, Bool, min, max, nat_lt, nat_le, if◌then◌else◌, List, [], ◌∷◌, length, None}
+use Rattle.std.specs.Prelude.{◌≤◌, ℕ, ◌-◌, ◌*◌, ◌/◌, ◌&&◌, ◌||◌, not, is_some, Bool, false, true, min, max, nat_lt, nat_le, if◌then◌else◌, List, [], ◌∷◌, length, None}
 use Rattle.wire_time.specs.Moment.{greatest_moment}
-use Rattle.picture.specs.declared.TheConstants.{MOST_SHAPES}
+use Rattle.picture.specs.declared.TheConstants.{MAX_WIDTH, MOST_SHAPES}
 use Rattle.picture.specs.declared.span.Shape.{Shape}
 
 -- 1. Joining
@@ -18,15 +18,30 @@ is_near gap a b = nat_lt (distance a b) gap
 abbrev pub joined : Shape → Shape → Shape
 joined a b = record { span = record { from = a.span.from; to = max a.span.to b.span.to }; id = None }
 
--- a shape and those that follow it, where a shape that is near to what was joined before it is joined to it
-unfoldable pub join_from : ℕ → Shape → List Shape → List Shape
-join_from gap a [] = a ∷ []
-join_from gap a (b ∷ rest) = if is_near gap a b then join_from gap (joined a b) rest else a ∷ join_from gap b rest
+-- whether a shape is shorter than a gap, or joined already
+abbrev pub is_short : ℕ → Shape → Bool
+is_short gap s = not (is_some s.id) || nat_lt (s.span.to - s.span.from) gap
 
--- a list of shapes with those that are near joined
+-- whether neighbours are joined at a gap: those that are near, or of those only the short
+abbrev pub are_joined : ℕ → Bool → Shape → Shape → Bool
+are_joined gap only_short a b = if only_short then is_near gap a b && (is_short gap a && is_short gap b) else is_near gap a b
+
+-- a shape and those that follow it, where one is joined to what was joined before it by such a test
+unfoldable pub join_by : (Shape → Shape → Bool) → Shape → List Shape → List Shape
+join_by test a [] = a ∷ []
+join_by test a (b ∷ rest) = if test a b then join_by test (joined a b) rest else a ∷ join_by test b rest
+
+-- a list of shapes, so joined
+abbrev pub join_all_by : (Shape → Shape → Bool) → List Shape → List Shape
+join_all_by test [] = []
+join_all_by test (a ∷ rest) = join_by test a rest
+
+-- by whether they are near
+abbrev pub join_from : ℕ → Shape → List Shape → List Shape
+join_from gap a rest = join_by (are_joined gap false) a rest
+
 abbrev pub join : ℕ → List Shape → List Shape
-join gap [] = []
-join gap (a ∷ rest) = join_from gap a rest
+join gap shapes = join_all_by (are_joined gap false) shapes
 
 -- one shape more at the end, joined to the last where it is near to it
 unfoldable pub put : ℕ → List Shape → Shape → List Shape
@@ -58,9 +73,22 @@ roomy gap shapes =
     then record { shapes = shapes; gap = gap }
     else record { shapes = join (wider shapes) shapes; gap = wider shapes }
 
+-- how long a pixel is at most that shows these shapes in the widest picture, to the end of the last, rounded down
+abbrev pub pixel_to : ℕ → List Shape → ℕ
+pixel_to upto [] = 0
+pixel_to upto (a ∷ rest) = (upto - a.span.from) / MAX_WIDTH
+
+-- where there are too many, the short are joined: those that no pixel shows apart
+abbrev pub bunched : ℕ → List Shape → List Shape
+bunched upto shapes = if nat_le (length shapes) MOST_SHAPES then shapes else join_all_by (are_joined (pixel_to upto shapes) true) shapes
+
 -- a lane with one shape more
 abbrev pub pushed : Shape → Filled → Filled
 pushed s lane = roomy lane.gap (put lane.gap lane.shapes s)
+
+-- a lane with one band more: where there are too many, bands that are as long as a pixel stay as they are
+abbrev pub band_pushed : Shape → Filled → Filled
+band_pushed s lane = roomy lane.gap (bunched s.span.to (put lane.gap lane.shapes s))
 
 -- a lane whose neighbours are joined at a gap
 abbrev pub joined_at : ℕ → Filled → Filled

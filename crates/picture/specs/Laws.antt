@@ -6,7 +6,7 @@ use Rattle.picture.specs.declared.TheConstants.{MAX_WIDTH, MOST_SHAPES}
 use Rattle.picture.specs.declared.span.Span.{Span}
 use Rattle.picture.specs.declared.span.Shape.{Shape}
 use Rattle.picture.specs.Bands.{Going}
-use Rattle.picture.specs.Lanes.{Filled, distance, join, pushed}
+use Rattle.picture.specs.Lanes.{Filled, distance, is_short, join, pushed}
 
 -- 1. Bands
 
@@ -135,3 +135,8 @@ pub record Joins (gap : ℕ) (shapes : List Shape) : Type 0 where
   pub apart : AreApart gap (join gap shapes)
   pub own : AreOwn (join gap shapes) shapes
   pub whole : AreRising shapes → AreWithin shapes (join gap shapes)
+
+-- each of these shapes is shorter than a gap or joined already, or one of others
+abbrev pub AreLongKept : ℕ → List Shape → List Shape → Type 0
+AreLongKept gap [] others = Unit {0}
+AreLongKept gap (s ∷ rest) others = ((is_short gap s ≡ true) ⊎ IsOneOf s others) × AreLongKept gap rest others

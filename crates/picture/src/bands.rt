@@ -1,7 +1,7 @@
 //! The bands of eight classes: when each is open, by gates of their own.
 
 ghost use Rattle.std.specs.Prelude.{◌≡◌, ◌≤◌, ◌<◌, ◌+◌, ◌-◌, ◌*◌, ℕ, IfOk, Ok, Some, false, if◌then◌else◌, is_some, length, max, min, slice_set};
-ghost use Rattle.picture.specs.Words.{greatest_lead, greatest_moment, lead_of, opens, plan_fault, gates, kept, IsCurrent, accepted_at, deletion_at, with_command, AbstractPort, installs, plan_asked, MAX_WIDTH, MOST_BOUNDARIES, MOST_SHAPES, AreUsedUp, bands_joined, class_at, drawn, IsDrawnInPieces, IsGoneOn, IsPiece, is_mixed, most_asked, most_mixed, most_moved, no_needs, open_while, opens_within, history_with, new_drawing, no_bands, piece_of, stepped, up_to, with_plan};
+ghost use Rattle.picture.specs.Words.{greatest_lead, greatest_moment, lead_of, opens, plan_fault, gates, kept, IsCurrent, accepted_at, deletion_at, with_command, AbstractPort, installs, plan_asked, MAX_WIDTH, MOST_BOUNDARIES, MOST_SHAPES, AreUsedUp, class_at, drawn, IsDrawnInPieces, IsGoneOn, IsPiece, is_mixed, most_asked, most_mixed, most_moved, no_needs, open_while, opens_within, history_with, new_drawing, no_bands, piece_of, stepped, up_to, with_plan};
 
 use crate::class_bands::ClassBands;
 use crate::span::Shape;
@@ -46,23 +46,6 @@ fn step_all<A: Allocator>(classes: &mut [ClassBands<A>; CLASSES], mask: u8, mome
 {
     for class in 0..CLASSES as u8 {
         step_in(classes, class, is_open(mask, class), moment);
-    }
-}
-
-/// The bands of one class are joined at a gap, in picoseconds.
-fn join_in<A: Allocator>(classes: &mut [ClassBands<A>; CLASSES], class: u8, gap: u128)
-    requires { class < CLASSES }
-    ensures { classes.new ≡ slice_set classes.old class (bands_joined gap (class_at classes.old class)) }
-{
-    classes[class as usize].join(gap)
-}
-
-/// The bands of each class are joined at a gap, in picoseconds.
-fn join_all<A: Allocator>(classes: &mut [ClassBands<A>; CLASSES], gap: u128)
-    ensures { (class : ℕ) → class < CLASSES → class_at classes.new class ≡ bands_joined gap (class_at classes.old class) }
-{
-    for class in 0..CLASSES as u8 {
-        join_in(classes, class, gap);
     }
 }
 
@@ -425,16 +408,6 @@ impl<A: Allocator> Bands<A> {
         let upto = up_to(self.to, self.gates.now());
         step_all(&mut self.classes, 0, upto);
         step_all(&mut self.mixed, 0, upto);
-    }
-
-    /// Bands of a class that are closer to one another than a gap, in picoseconds, are joined.
-    pub fn join(&mut self, gap: u128)
-        ensures same { (self.new.history ≡ self.old.history) × (self.new.moment ≡ self.old.moment) × (self.new.from ≡ self.old.from) × (self.new.to ≡ self.old.to) × (self.new.left ≡ self.old.left) }
-        ensures classes { (class : ℕ) → class < CLASSES → class_at self.new.classes class ≡ bands_joined gap (class_at self.old.classes class) }
-        ensures mixed { (class : ℕ) → class < CLASSES → class_at self.new.mixed class ≡ bands_joined gap (class_at self.old.mixed class) }
-    {
-        join_all(&mut self.classes, gap);
-        join_all(&mut self.mixed, gap);
     }
 
     /// The moment from which on bands are drawn, in picoseconds.

@@ -45,7 +45,7 @@ impl<A: Allocator + Clone> PerClass<A> for ClassBands<A> {
 }
 
 impl<A: Allocator> ClassBands<A> {
-    ghost use Rattle.picture.specs.Drawn.{bands_joined, stepped};
+    ghost use Rattle.picture.specs.Drawn.{stepped};
 
     /// At a moment, in picoseconds, the class is open or closed.
     pub(crate) fn step(&mut self, is_open: bool, moment: u128)
@@ -60,19 +60,12 @@ impl<A: Allocator> ClassBands<A> {
             None => {}
             Some(from) => {
                 self.since = None;
-                self.lane.push(Shape {
+                self.lane.push_band(Shape {
                     span: Span { from, to: moment },
                     id: Some(0),
                 });
             }
         }
-    }
-
-    /// Bands that are closer to one another than a gap, in picoseconds, are joined.
-    pub(crate) fn join(&mut self, gap: u128)
-        ensures { self.new ≡ bands_joined gap self.old }
-    {
-        self.lane.join(gap);
     }
 
     /// No bands any more; the room stays.

@@ -1,10 +1,10 @@
 //! A lane of a picture, which has a bounded number of shapes.
 
 ghost use Rattle.std.specs.Prelude.{◌≡◌, ◌≤◌, ◌<◌, ◌++◌, ◌∷◌, [], IfOk, false, length, take, true, vec_capacity};
-ghost use Rattle.picture.specs.Words.{greatest_moment, distance, join, joined, least_distance, no_shapes, pushed, put, joined_at};
+ghost use Rattle.picture.specs.Words.{greatest_moment, are_joined, band_pushed, bunched, distance, is_short, join_all_by, joined, least_distance, no_shapes, pixel_to, pushed, put, joined_at, roomy};
 
-use crate::MOST_SHAPES;
 use crate::span::{Shape, Span};
+use crate::{MAX_WIDTH, MOST_SHAPES};
 use std::alloc::{AllocError, Allocator, Global};
 use std::marker::Model;
 use wire_time::MAX_MOMENT;
@@ -27,9 +27,28 @@ fn joined(shape: &Shape, next: &Shape) -> Shape
     Shape { span, id: None }
 }
 
-/// Joins shapes that are nearer to one another than a gap, in picoseconds; how many are left, at the front.
-fn join(shapes: &mut [Shape], gap: u128) -> usize
-    ensures joined { take result shapes.new ≡ join gap shapes.old }
+/// Whether a shape is shorter than a gap, in picoseconds, or joined already.
+fn is_short(shape: &Shape, gap: u128) -> bool
+    ensures { result ≡ is_short gap shape.now }
+{
+    shape.id.is_none() || shape.span.to.saturating_sub(shape.span.from) < gap
+}
+
+/// Whether neighbours are joined at a gap, in picoseconds: those that are nearer than it, or of those only the short.
+fn are_joined(shape: &Shape, next: &Shape, gap: u128, only_short: bool) -> bool
+    ensures { result ≡ are_joined gap only_short shape.now next.now }
+{
+    let is_near = distance(shape, next) < gap;
+    if only_short {
+        return is_near && is_short(shape, gap) && is_short(next, gap);
+    }
+    is_near
+}
+
+/// Joins shapes that are nearer to one another than a gap, in picoseconds, or of those only the short; how many are
+/// left, at the front.
+fn join(shapes: &mut [Shape], gap: u128, only_short: bool) -> usize
+    ensures joined { take result shapes.new ≡ join_all_by (are_joined gap only_short) shapes.old }
     ensures within { result ≤ length shapes.old }
 {
     if shapes.is_empty() {
@@ -37,7 +56,7 @@ fn join(shapes: &mut [Shape], gap: u128) -> usize
     }
     let mut last = 0;
     for next in 1..shapes.len() {
-        if distance(&shapes[last], &shapes[next]) < gap {
+        if are_joined(&shapes[last], &shapes[next], gap, only_short) {
             shapes[last] = joined(&shapes[last], &shapes[next]);
         } else {
             last += 1;
@@ -90,13 +109,48 @@ fn put<A: Allocator>(shapes: &mut Vec<Shape, A>, gap: u128, shape: Shape)
     let _ = shapes.push(shape);
 }
 
-/// Joins shapes that are nearer to one another than a gap, in picoseconds.
-fn join_all<A: Allocator>(shapes: &mut Vec<Shape, A>, gap: u128)
-    ensures items { shapes.new.items ≡ join gap shapes.old.items }
+/// Joins shapes that are nearer to one another than a gap, in picoseconds, or of those only the short.
+fn join_all<A: Allocator>(shapes: &mut Vec<Shape, A>, gap: u128, only_short: bool)
+    ensures items { shapes.new.items ≡ join_all_by (are_joined gap only_short) shapes.old.items }
     ensures capacity { vec_capacity shapes.old ≤ vec_capacity shapes.new }
 {
-    let left = join(shapes.as_mut_slice(), gap);
+    let left = join(shapes.as_mut_slice(), gap, only_short);
     shapes.truncate(left);
+}
+
+/// How long a pixel is at most that shows these shapes in the widest picture, to a moment; both are in picoseconds.
+fn pixel_to(shapes: &[Shape], upto: u128) -> u128
+    ensures { result ≡ pixel_to upto shapes.now }
+{
+    match shapes.first() {
+        None => 0,
+        Some(first) => upto.saturating_sub(first.span.from) / u128::from(MAX_WIDTH),
+    }
+}
+
+/// Where there are too many shapes, joins the short: those that no pixel shows apart. The last ends at this moment, in
+/// picoseconds.
+fn bunch<A: Allocator>(shapes: &mut Vec<Shape, A>, upto: u128)
+    ensures items { shapes.new.items ≡ bunched upto shapes.old.items }
+    ensures capacity { vec_capacity shapes.old ≤ vec_capacity shapes.new }
+{
+    if shapes.len() > MOST_SHAPES {
+        let gap = pixel_to(shapes.as_slice(), upto);
+        join_all(shapes, gap, true);
+    }
+}
+
+/// Where there are too many shapes, joins neighbours at a gap at which some are near. Answers the gap, in picoseconds.
+fn make_room<A: Allocator>(shapes: &mut Vec<Shape, A>, gap: u128) -> u128
+    ensures room { record { shapes = shapes.new.items; gap = result } ≡ roomy gap shapes.old.items }
+    ensures capacity { vec_capacity shapes.old ≤ vec_capacity shapes.new }
+{
+    if shapes.len() <= MOST_SHAPES {
+        return gap;
+    }
+    let wide = (2 * least_distance(shapes.as_slice())).max(1);
+    join_all(shapes, wide, false);
+    wide
 }
 
 /// The shapes of a lane, by rising start where they come so; their starts are at most `MAX_MOMENT`. There are at most
@@ -137,10 +191,18 @@ impl<A: Allocator> Lane<A> {
         ensures { self.new ≡ pushed shape self.old }
     {
         put(&mut self.shapes, self.gap, shape);
-        if self.shapes.len() > MOST_SHAPES {
-            self.gap = (2 * least_distance(self.shapes.as_slice())).max(1);
-            join_all(&mut self.shapes, self.gap);
-        }
+        self.gap = make_room(&mut self.shapes, self.gap);
+    }
+
+    /// One band more. Where there are too many, those are joined that no pixel shows apart: the short, to one another.
+    /// One that is as long as a pixel stays as it is.
+    pub fn push_band(&mut self, band: Shape)
+        requires { band.span.from ≤ greatest_moment }
+        ensures { self.new ≡ band_pushed band self.old }
+    {
+        put(&mut self.shapes, self.gap, band);
+        bunch(&mut self.shapes, band.span.to);
+        self.gap = make_room(&mut self.shapes, self.gap);
     }
 
     /// Neighbours that are closer to one another than a gap, in picoseconds, are joined, and from now on each shape
@@ -148,7 +210,7 @@ impl<A: Allocator> Lane<A> {
     pub fn join(&mut self, gap: u128)
         ensures { self.new ≡ joined_at gap self.old }
     {
-        join_all(&mut self.shapes, gap);
+        join_all(&mut self.shapes, gap, false);
         self.gap = self.gap.max(gap);
     }
 

@@ -1,7 +1,7 @@
 //! Laws of bands and of lanes. The functions run nothing: the contract of each is its law.
 ghost use Rattle.std.specs.Prelude.{◌≡◌, ℕ, ◌+◌, ◌-◌, ◌<◌, ◌≤◌, [], List, Option, None, true, unwrap_or};
 ghost use Rattle.picture.specs.Pane.{Pane, IsPane};
-ghost use Rattle.picture.specs.Words.{Shape, Going, bands_from, AreEarly, no_shapes, ClassLane, drawn, AreBands, IsLaneOf, IsPiece, Joins, is_mixed, piece_of, pixel_of, push_shapes};
+ghost use Rattle.picture.specs.Words.{Shape, Going, bands_from, bunched, AreEarly, no_shapes, ClassLane, drawn, AreBands, AreLongKept, IsLaneOf, IsPiece, Joins, is_mixed, piece_of, pixel_of, pixel_to, push_shapes};
 
 /// Where drawing begins there are no bands, and from one moment to another they go on as the longest times for which
 /// the class is open.
@@ -32,6 +32,11 @@ pub fn lane_law()
 /// What joining neighbours does to shapes.
 pub fn join_law()
     ensures { (gap : ℕ) (shapes : List Shape) → Joins gap shapes }
+{}
+
+/// Where there are too many bands, one that is as long as a pixel of the widest picture stays as it is.
+pub fn bunch_law()
+    ensures { (upto : ℕ) (bands : List Shape) → AreLongKept (pixel_to upto bands) bands (bunched upto bands) }
 {}
 
 /// Where not each change of the gates is looked at, a class is grey in pieces alone that are at most so long; and a

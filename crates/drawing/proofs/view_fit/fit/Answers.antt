@@ -1,6 +1,5 @@
 use Rattle.std.proofs.Common.{refl, ap, ◌∙◌, arith, rules, subst}
-use Rattle.drawing.specs.Words.{bands_joined, IsJoined, shape_count}
-use Rattle.picture.specs.Drawn.{class_at}
+use Rattle.drawing.specs.Words.{IsJoined, shape_count}
 use Rattle.drawing.proofs.view_fit.fit.Goals as goal
 
 pub overflow_add-count : goal.overflow_add-count
@@ -11,30 +10,12 @@ returns-then-count-gt-MOST_APART-clause-few g c = λ few.
     let all = c.count.ensures.value ∙ ap shape_count c.shapes.ensures in
     absurd (omega (arith, few, c.if-count-gt-MOST_APART.true, c.count_bands.ensures.value, all))
 
-pub returns-then-count-gt-MOST_APART-clause-bands : goal.returns-then-count-gt-MOST_APART-clause-bands
-returns-then-count-gt-MOST_APART-clause-bands g c = λ many class below.
-    c.join.ensures.classes class below ∙ ap (λ pixel. bands_joined pixel (class_at c.args.bands.now.classes class)) c.pixel-pixel.ensures
-
-pub returns-then-count-gt-MOST_APART-clause-mixed : goal.returns-then-count-gt-MOST_APART-clause-mixed
-returns-then-count-gt-MOST_APART-clause-mixed g c = λ many class below.
-    c.join.ensures.mixed class below ∙ ap (λ pixel. bands_joined pixel (class_at c.args.bands.now.mixed class)) c.pixel-pixel.ensures
-
 pub returns-then-count-gt-MOST_APART-clause-shapes : goal.returns-then-count-gt-MOST_APART-clause-shapes
 returns-then-count-gt-MOST_APART-clause-shapes g c = λ many.
-    subst (λ pixel. IsJoined pixel c.args.course.now.shown c.join-then-count-gt-MOST_APART.new.self.shown) c.pixel-pixel.ensures c.join-then-count-gt-MOST_APART.ensures.shown
+    subst (λ pixel. IsJoined pixel c.args.course.now.shown c.join.new.self.shown) c.pixel.ensures c.join.ensures.shown
 
 pub returns-else-count-gt-MOST_APART-clause-few : goal.returns-else-count-gt-MOST_APART-clause-few
-returns-else-count-gt-MOST_APART-clause-few g c = λ few. (refl, refl)
-
-pub returns-else-count-gt-MOST_APART-clause-bands : goal.returns-else-count-gt-MOST_APART-clause-bands
-returns-else-count-gt-MOST_APART-clause-bands g c = λ many.
-    let all = c.count.ensures.value ∙ ap shape_count c.shapes.ensures in
-    absurd (omega (arith, many, c.if-count-gt-MOST_APART.false, c.count_bands.ensures.value, all))
-
-pub returns-else-count-gt-MOST_APART-clause-mixed : goal.returns-else-count-gt-MOST_APART-clause-mixed
-returns-else-count-gt-MOST_APART-clause-mixed g c = λ many.
-    let all = c.count.ensures.value ∙ ap shape_count c.shapes.ensures in
-    absurd (omega (arith, many, c.if-count-gt-MOST_APART.false, c.count_bands.ensures.value, all))
+returns-else-count-gt-MOST_APART-clause-few g c = λ few. refl
 
 pub returns-else-count-gt-MOST_APART-clause-shapes : goal.returns-else-count-gt-MOST_APART-clause-shapes
 returns-else-count-gt-MOST_APART-clause-shapes g c = λ many.
@@ -50,11 +31,8 @@ shapes-requires g c = search rules
 pub count-requires : goal.count-requires
 count-requires g c = search rules
 
-pub pixel-pixel-requires : goal.pixel-pixel-requires
-pixel-pixel-requires g c = search
+pub pixel-requires : goal.pixel-requires
+pixel-requires g c = search
 
 pub join-requires : goal.join-requires
 join-requires g c = search
-
-pub join-requires-then-count-gt-MOST_APART : goal.join-requires-then-count-gt-MOST_APART
-join-requires-then-count-gt-MOST_APART g c = search

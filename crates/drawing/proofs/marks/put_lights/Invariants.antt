@@ -1,0 +1,7 @@
+use Rattle.std.proofs.Common.{drop}
+use Rattle.octet_writer.specs.Writes.{Sent}
+use Rattle.drawing.specs.Marks.{lights_text}
+use Rattle.drawing.proofs.marks.put_lights.Given as goal
+
+abbrev pub invariant-loop-shape : goal.invariant-loop-shape
+invariant-loop-shape g l = Sent (g.W.Write.contents l.fn.writer) (g.W.Write.contents l.writer) (lights_text l.page l.top l.shapes) (lights_text l.page l.top (drop l.shape-index l.shapes))
