@@ -9,9 +9,9 @@ _taprio_port() {
     case ${COMP_WORDS[1]} in
         script) words='--rate --mtu --room --until --summary --strict --explain --help' values='--rate --mtu --room --until' ;;
         replay) words='--rate --mtu --room --until --stamp --summary --progress --strict --explain --help' values='--rate --mtu --room --until --stamp' ;;
-        check) words='--rate --windows --script --strict --explain --help' values='--rate' ;;
+        check) words='--rate --mtu --map --windows --frame --script --strict --explain --help' values='--rate --mtu --map --frame' ;;
         streams) words='--with --from --strict --explain --help' values='--with --from' ;;
-        bounds) words='--rate --mtu --room --frames --strict --explain --help' values='--rate --mtu --room --frames' ;;
+        bounds) words='--rate --mtu --room --map --frames --strict --explain --help' values='--rate --mtu --room --map --frames' ;;
         draw) words='--rate --mtu --room --until --from --to --width --strict --explain --help' values='--rate --mtu --room --until --from --to --width' ;;
         frames) words='--rate --mtu --room --until --capture --by-stream --strict --explain --help' values='--rate --mtu --room --until --capture --by-stream' ;;
         *) return ;;

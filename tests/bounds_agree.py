@@ -160,20 +160,25 @@ def agrees_bounded(world, run, number, said, bounds):
     assert int(own[b"greatest"]) == max(greatest for _, greatest in found.values()), (found, own)
 
 
-def first_drop(world, run, number, said):
-    """The first frame that the run drops of a class is the one that is told, and at that moment."""
-    identity = next(it for it in run.dropped if world.streams[it // 10**6 - 1].priority == number)
+def is_told(world, run, identity, said):
+    """A frame is the one that is told, and comes at that moment."""
     place, before = identity // 10**6 - 1, identity % 10**6
     got = [str(run.arrivals[identity] - world.change), str(world.streams[place].first_id), str(before + 1)]
-    assert got == [said[2], said[4], said[6]], (number, said, got)
+    assert got == [said[2], said[4], said[6]], (said, got)
+
+
+def first_drop(world, run, number, said):
+    """The first frame that the run drops of a class is the one that is told."""
+    is_told(world, run, next(it for it in run.dropped if world.streams[it // 10**6 - 1].priority == number), said)
 
 
 def agrees_stuck(world, run, number, said):
-    """A class that is stuck: the first frame that waits for ever fits into no window, and none behind it has started."""
+    """A class that is stuck: the first frame that waits for ever is the one that is told, fits into no window, and none behind it has started."""
     started = {identity for identity, its_class, _ in run.starts if its_class == number}
     queued = [it for it in run.arrivals if world.streams[it // 10**6 - 1].priority == number and it not in run.dropped]
     head = next(it for it in queued if it not in started)
     assert started == set(queued[: queued.index(head)]), (number, said, head)
+    is_told(world, run, head, said)
     need = (max(world.streams[head // 10**6 - 1].len, 60) + 24) * 8 * 10**6 // world.rate
     longest = longest_open(world, number)
     assert longest is not None and need > longest, (number, said, need, longest)
@@ -196,14 +201,14 @@ def agrees(program, seed, folder):
     """A case; and what is told of its classes."""
     it = world(seed)
     classes, bounds = told(program, it, folder)
-    ends = [int(said[2]) for said in classes.values() if said[0] in ("full", "stuck")]
+    ends = [int(said[-5]) for said in classes.values() if said[0] in ("full", "stuck")]
     every = math.lcm(it.cycle, *(stream.period for stream in it.streams))
     run = simulated(program, it, max([max(stream.offset for stream in it.streams) + HYPERPERIODS * every, *ends]), folder)
     for number, said in classes.items():
         if said[0] == "most":
             agrees_bounded(it, run, number, said, bounds)
         elif said[0] in ("full", "stuck"):
-            first_drop(it, run, number, said)
+            first_drop(it, run, number, said[-7:])
             if said[0] == "stuck":
                 agrees_stuck(it, run, number, said)
     return [*(said[0] for said in classes.values()), *agrees_large(program, it, classes, bounds, folder)]

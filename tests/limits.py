@@ -100,7 +100,7 @@ def of_entries(program, entries):
     output, _files = answered(program, ["frames", *until], script)
     assert output.endswith(b"\n1,1,60,%d,%d,%d,%d,sent\n" % (change, start, start + SHORT, start - change)), output
     output, _files = answered(program, ["check", "--windows"], command)
-    assert b"\nwindow class 1 open 1000000 closed %d share 1000000 of %d frame 101\n" % (cycle - 1_000_000, cycle) in output, output
+    assert b"\nwindow class 1 open 1000000 closed %d share 1000000 of %d frame 101 wait %d\n" % (cycle - 1_000_000, cycle, cycle - 1) in output, output
     output, _files = answered(program, ["draw", "--from", str(start), "--to", str(start + SHORT)], script)
     assert output.count(b'<rect class="f"') == 3, output[-3000:]
     table = {"table": b"stream 1 1 60 1s %dps 1\n" % (cycle - 1_000_000)}
@@ -125,6 +125,13 @@ def of_streams(program, streams):
     table = b"".join(b"stream %d %d 60 10s %dus 1\n" % (it + 1, it % 2, 1000 * (it // 2) + 500 * (1 - it % 2)) for it in range(streams))
     output, _files = answered(program, ["bounds", "table"], HALVES, {"table": table})
     assert output.endswith(b"".join(b"bound %d class %d wait 0 to 0 end 672000 to 672000\n" % (it + 1, it % 2) for it in range(streams))), output[:300]
+
+
+def case_a_table_has_as_many_streams_as_memory_holds(program):
+    """No number of streams is a limit: one above 2^16, and half a million."""
+    for streams in (70_000, 500_000):
+        table = b"".join(b"stream %d %d 60 1s %dus 1\n" % (it + 1, it % 2, it) for it in range(streams))
+        has(program, ["streams"], table, b"".join(b"clock %d\nframe %d %d 60\n" % (it * 1_000_000, it + 1, it % 2) for it in range(streams)))
 
 
 def of_octets(program, octets):

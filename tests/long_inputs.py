@@ -83,8 +83,8 @@ def rows():
         input=b"tc qdisc replace dev eth0 root taprio num_tc 2 map 0 1"
         + b" sched-entry S 01 1000 sched-entry S 02 1000" * 128,
         output=b"apart 0 1\n"
-        b"window class 0 open 1000000 closed 1000000 share 128000000 of 256000000 frame 101\n"
-        b"window class 1 open 1000000 closed 1000000 share 128000000 of 256000000 frame 101\n",
+        b"window class 0 open 1000000 closed 1000000 share 128000000 of 256000000 frame 101 wait 1999999\n"
+        b"window class 1 open 1000000 closed 1000000 share 128000000 of 256000000 frame 101 wait 1999999\n",
     )
 
 

@@ -114,11 +114,7 @@ fn check_agrees<R: Files + AllocGlobal>(
     let Ok(rate) = Rate::from_mbps(1000) else {
         return Ok(false);
     };
-    let settings = CheckSettings {
-        rate,
-        windows,
-        script: false,
-    };
+    let settings = CheckSettings::usual(rate, windows);
     let mut got = Vec::new(rt.alloc());
     let checked = check(
         rt.alloc(),

@@ -7,11 +7,9 @@ use Rattle.job.specs.declared.fault.Fault.{Fault}
 use Rattle.job.specs.declared.fault.Fault.TheVariants as Faults
 use Rattle.job.specs.declared.report.Ended.{Ended}
 use Rattle.line_reader.specs.Script.{script_of}
-use Rattle.script.specs.ScriptEnd.{IsRefusal}
 use Rattle.script.specs.Setup.{Setup}
 use Rattle.script.specs.declared.faults.BadLine.{BadLine}
 use Rattle.script.specs.declared.faults.ScriptFault.{ScriptFault}
-use Rattle.script.specs.declared.settings.BadValue.{BadValue}
 use Rattle.tc_reader.specs.Reader.{IsReader}
 use Rattle.tc_reader.specs.declared.fault.TcFault.{TcFault}
 use Rattle.traffic.specs.Faults.{streams_telling}
@@ -69,8 +67,7 @@ ReadsTable (Err Faults.Memory) table old new = ⊤
 
 -- The end of a run on a table of streams and a script: what the writer got, with what no write let out, is what is to be written for the octets of both,
 -- or after a fault of a call's a prefix of it.
-abbrev pub IsByStreamEnding : Result Setup BadValue → (table input : Option (List ℕ)) → Ended → (old got errors_old errors_new : Option (List ℕ)) → Type 0
-IsByStreamEnding (Ok setup) table input ended old got errors_old errors_new =
+abbrev pub IsByStreamEnding : Setup → (table input : Option (List ℕ)) → Ended → (old got errors_old errors_new : Option (List ℕ)) → Type 0
+IsByStreamEnding setup table input ended old got errors_old errors_new =
     IsRunEnding streams_telling (λ run. IsLetOut run got (λ out. (read : List (List ℕ) → Result Command TcFault) → IsReader read
     → IfSome table (λ streams. IfSome input (λ script. RunsOut run old out (frames_by_stream read setup streams script))))) ended errors_old errors_new
-IsByStreamEnding (Err value) table input ended old got errors_old errors_new = IsRefusal value ended old got errors_old errors_new

@@ -65,8 +65,8 @@ pub fn answer_frames_of_capture<
     end_run(run, answers, errors)
 }
 
-/// The same as `answer_frames` with the stream of each frame, by the table of streams that `table` gives, as
-/// `run_frames_by_stream` writes it. Where a value is bad nothing is read.
+/// The same as `answer_frames` with settings, and with the stream of each frame, by the table of streams that `table`
+/// gives, as `run_frames_by_stream` writes it.
 pub fn answer_frames_by_stream<
     A: Allocator,
     B: Allocator,
@@ -77,22 +77,15 @@ pub fn answer_frames_by_stream<
     H: Watch,
 >(
     alloc: A,
-    values: Values<'_>,
+    settings: Settings,
     table: S,
     reader: &mut R,
     mut answers: BufWriter<W, B>,
     errors: &mut E,
     watch: &mut H,
 ) -> (Ended, W)
-    ensures ending { IsByStreamEnding (settings_given greatest_moment (words_of_values values.entry)) (S.remaining table)
-        (R.remaining reader.old) result.0 (writer_contents W.contents answers) (W.contents result.1) (E.contents errors.old) (E.contents errors.new) }
-    ensures unread { IfErr (settings_given greatest_moment (words_of_values values.entry)) (λ _. reader.new ≡ reader.old) }
+    ensures { IsByStreamEnding settings (S.remaining table) (R.remaining reader.old) result.0 (writer_contents W.contents answers) (W.contents result.1) (E.contents errors.old) (E.contents errors.new) }
 {
-    match settings_given(values, MAX_MOMENT) {
-        Ok(settings) => {
-            let run = run_frames_by_stream(alloc, table, reader, &mut answers, settings, watch);
-            end_run(run, answers, errors)
-        }
-        Err(value) => end_with_value(value, answers, errors),
-    }
+    let run = run_frames_by_stream(alloc, table, reader, &mut answers, settings, watch);
+    end_run(run, answers, errors)
 }

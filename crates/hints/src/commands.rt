@@ -236,7 +236,7 @@ fn refused_hint(line: &[u8], why: Refused) -> Hint {
     match why {
         Refused::MapMissing => Hint::marked(
             Some(span_behind(line)),
-            b"the first schedule of a port has num_tc and map",
+            b"the first schedule of a port has num_tc and map; check and bounds take a port that has a map by --map",
         ),
         Refused::MapChanged => Hint::marked(
             span_of_word(line, b"num_tc", 0),
@@ -253,8 +253,49 @@ fn refused_hint(line: &[u8], why: Refused) -> Hint {
     }
 }
 
-/// Writes that the line of this number, which begins with `tc`, changes nothing, and why; then, where that is wanted,
-/// what helps with it.
+/// A mask that has one class in decimal, and another, or several, in hexadecimal as it is read.
+fn decimal_mask(mask: &[u8]) -> Option<&'static [u8]> {
+    match mask {
+        b"16" => Some(
+            b"a mask is hexadecimal: 16 opens classes 1, 2 and 4, and 10 is class 4 alone",
+        ),
+        b"32" => Some(
+            b"a mask is hexadecimal: 32 opens classes 1, 4 and 5, and 20 is class 5 alone",
+        ),
+        b"64" => Some(
+            b"a mask is hexadecimal: 64 opens classes 2, 5 and 6, and 40 is class 6 alone",
+        ),
+        b"128" => Some(b"a mask is hexadecimal, and has two digits at most: 80 is class 7 alone"),
+        _ => None,
+    }
+}
+
+/// What helps with a schedule that never opens a class that a priority leads to.
+fn never_hint(line: &[u8]) -> Hint {
+    let mut words = Words::new(line);
+    for _ in 0..line.len() {
+        let Some(word) = words.next_word() else {
+            break;
+        };
+        if word != b"sched-entry".as_slice() {
+            continue;
+        }
+        let _set = words.next_word();
+        let Some(mask) = words.next_word() else {
+            break;
+        };
+        if let Some(text) = decimal_mask(mask) {
+            return Hint::marked(Some(span_of(line, &words, mask)), text);
+        }
+    }
+    Hint::marked(
+        span_of_word(line, b"sched-entry", 0),
+        b"a priority leads to this class, and no entry opens it: none of its frames ever leaves",
+    )
+}
+
+/// Writes what is wrong with the line of this number, which begins with `tc`; then, where that is wanted, what helps
+/// with it.
 pub fn put_failure<W: Write>(
     writer: &mut W,
     number: u32,
@@ -278,6 +319,17 @@ pub fn put_failure<W: Write>(
         Failure::Refused(why) => {
             put_refused(writer, why)?;
             refused_hint(line, why)
+        }
+        Failure::NeverOpens(class) => {
+            put_parts(
+                writer,
+                &[
+                    Part::Text(b"class "),
+                    Part::Number(u128::from(class)),
+                    Part::Text(b" never opens\n"),
+                ],
+            )?;
+            never_hint(line)
         }
     };
     if explain {

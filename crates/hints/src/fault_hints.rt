@@ -7,7 +7,7 @@ use std::io::Write;
 use words::Words;
 
 /// What a name or an option says more plainly.
-const TEXTS: [(&[u8], &[u8]); 21] = [
+const TEXTS: [(&[u8], &[u8]); 25] = [
     (
         b"LongLine",
         b"a line has at most 65536 octets, with those that backslashes join to it",
@@ -22,7 +22,7 @@ const TEXTS: [(&[u8], &[u8]); 21] = [
     ),
     (
         b"BadMagic",
-        b"this is no classic pcap file. If it is pcapng: editcap -F pcap IN OUT",
+        b"this is no classic pcap file. If it is pcapng: editcap -F nsecpcap IN OUT",
     ),
     (b"BadVersion", b"the version of a classic pcap file is 2.4"),
     (
@@ -62,12 +62,28 @@ const TEXTS: [(&[u8], &[u8]); 21] = [
         b"--frames is a whole number from 1 to 1000000000",
     ),
     (
+        b"--map",
+        b"--map is 1 to 16 classes from 0 to 7 in one word, those of the priorities from 0 up: --map \"0 1 2\"",
+    ),
+    (
+        b"--frame",
+        b"--frame is a whole number of octets from 0 to 4294967295",
+    ),
+    (
+        b"judged",
+        b"a schedule of standard input that a new port accepts is judged: in a pipe, perhaps what comes before failed",
+    ),
+    (
+        b"table",
+        b"the file has no line such as: stream 1 7 60 250us 0us 1 deadline 1ms",
+    ),
+    (
         b"--until",
         b"--until is picoseconds, or a number with its unit such as 2ms, at most 9223372036854775807000 ps; of a replay 4294967296 s",
     ),
     (
         b"--from",
-        b"--from is picoseconds, or a number with its unit such as 2ms, at most 9223372036854774807000 ps",
+        b"--from is picoseconds, or a number with its unit such as 2ms, at most 9223372036854775807000 ps; of a picture 9223372036854774807000 ps",
     ),
     (
         b"--to",
@@ -162,7 +178,7 @@ fn hint_of(text: &[u8], line: &[u8]) -> Option<Hint> {
 /// What a file is that begins like this, and is no capture that a replay reads.
 fn kind_of(octets: &[u8]) -> Option<&'static [u8]> {
     match octets {
-        [0x0a, 0x0d, 0x0d, 0x0a, ..] => Some(b"this is a pcapng file: editcap -F pcap IN OUT"),
+        [0x0a, 0x0d, 0x0d, 0x0a, ..] => Some(b"this is a pcapng file: editcap -F nsecpcap IN OUT"),
         [0x1f, 0x8b, ..] => Some(b"this is a gzip file: gunzip it first"),
         [0x28, 0xb5, 0x2f, 0xfd, ..] => Some(b"this is a zstd file: unzstd it first"),
         [b'f', b'r', b'a', b'm', b'e', b' ', ..]

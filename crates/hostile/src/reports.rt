@@ -64,6 +64,9 @@ fn script_tells(alloc: Global) -> io::Result<bool> {
 /// A check with windows.
 const WINDOWS: CheckWords<'static> = CheckWords {
     rate: None,
+    mtu: None,
+    map: None,
+    frame: None,
     windows: true,
     script: false,
 };

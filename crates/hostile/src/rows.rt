@@ -106,11 +106,7 @@ impl Given {
             rate,
             settings: Settings::new(rate, 1500, 2, None).ok()?,
             to_the_end: Settings::new(rate, 1500, 2, Some(END)).ok()?,
-            checked: CheckSettings {
-                rate,
-                windows: false,
-                script: false,
-            },
+            checked: CheckSettings::usual(rate, false),
         })
     }
 }

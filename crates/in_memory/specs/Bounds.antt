@@ -17,7 +17,7 @@ frames_at frames = if nat_le 1 frames && nat_le frames MAX_FRAMES then Some fram
 
 -- the settings of values and of so many frames, or the first that is bad; they are not strict
 abbrev pub bounds_settings_at : PortValues → ℕ → Result BoundsSettings BoundsValue
-bounds_settings_at v frames = with_port (settings_at v) (frames_at frames) false
+bounds_settings_at v frames = with_port (settings_at v) (Some None) (frames_at frames) false
 
 -- a bad value, with status 2 and no output
 abbrev pub refused_bounds : BoundsValue → Told

@@ -40,6 +40,7 @@ fn bounds_settings_at(values: PortValues, frames: u64) -> Result<BoundsSettings,
     match frames_at(frames) {
         Some(frames) => Ok(BoundsSettings {
             port,
+            map: None,
             frames,
             strict: false,
         }),

@@ -1,9 +1,10 @@
 //! Schedule commands in memory.
 
-ghost use Rattle.std.specs.Prelude.{List, ℕ, Result, false};
+ghost use Rattle.std.specs.Prelude.{List, ℕ, Result};
 ghost use Rattle.abstract_port.specs.declared.Command.{Command};
 ghost use Rattle.in_memory.specs.Slices.{Answers, slices, told_by};
 ghost use Rattle.in_memory.specs.Values.{rate_at};
+ghost use Rattle.schedule_check.specs.CheckEnd.{usual};
 ghost use Rattle.schedule_check.specs.Checked.{whole_check};
 ghost use Rattle.schedule_check.specs.Windows.{IsTeller, Teller};
 ghost use Rattle.script.specs.Texts.{script_telling};
@@ -31,17 +32,13 @@ pub fn check_octets<A: Allocator>(
     fault: &mut [u8],
 ) -> Ran
     ensures { (tell : Teller) → IsTeller tell → (read : List (List ℕ) → Result Command TcFault) → IsReader read →
-        Answers (told_by script_telling (λ ps. whole_check tell windows false ps read schedules.now) (rate_at rate)) result (slices output.old fault.old) (slices output.new fault.new) }
+        Answers (told_by script_telling (λ ps. whole_check tell (usual windows ps) read schedules.now) (rate_at rate)) result (slices output.old fault.old) (slices output.new fault.new) }
 {
     let rate = match rate_at(rate) {
         Ok(rate) => rate,
         Err(value) => return refuse_value(alloc, value, output, fault),
     };
-    let settings = CheckSettings {
-        rate,
-        windows,
-        script: false,
-    };
+    let settings = CheckSettings::usual(rate, windows);
     let mut written = Vec::new(alloc);
     let run = check(alloc, schedules, &mut written, settings, &mut Unwatched);
     end_in_memory(alloc, run, written.as_slice(), output, fault)

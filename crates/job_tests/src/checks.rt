@@ -25,12 +25,18 @@ const TOLD: &[u8] =
 
 /// What is reported of them with windows.
 const TOLD_WITH_WINDOWS: &[u8] = b"apart 0 1 2\n\
-window class 0 open 300000000 closed 700000000 share 300000000 of 1000000000 frame 37476\n\
-window class 1 open 300000000 closed 700000000 share 300000000 of 1000000000 frame 37476\n\
-window class 2 open 400000000 closed 600000000 share 400000000 of 1000000000 frame 49976\n\
+window class 0 open 300000000 closed 700000000 share 300000000 of 1000000000 frame 37476 wait 999999999\n\
+window class 1 open 300000000 closed 700000000 share 300000000 of 1000000000 frame 37476 wait 999999999\n\
+window class 2 open 400000000 closed 600000000 share 400000000 of 1000000000 frame 49976 wait 999999999\n\
 apart 2 3 4 5 6 7\n\
-window class 0 open always closed 0 share 600000000 of 600000000 frame any\n\
-window class 1 open 300000000 closed 300000000 share 300000000 of 600000000 frame 37476\n\
+window class 0 open always closed 0 share 600000000 of 600000000 frame any wait 0\n\
+window class 1 open 300000000 closed 300000000 share 300000000 of 600000000 frame 37476 wait 599999999\n\
+never 2\n\
+never 3\n\
+never 4\n\
+never 5\n\
+never 6\n\
+never 7\n\
 apart none\n\
 refused IntervalTooShort 0\n\
 tc-fault NoEntries\n";
@@ -49,11 +55,7 @@ fn check_of<A: Allocator, R: Read + Drop, W: Write>(
         alloc,
         reader,
         writer,
-        CheckSettings {
-            rate,
-            windows,
-            script: false,
-        },
+        CheckSettings::usual(rate, windows),
         &mut Unwatched,
     )
 }

@@ -23,7 +23,7 @@ pub(crate) fn count_dropped(why: Dropped, mut counts: Counts) -> Counts
 }
 
 /// The class of a priority before there is a map: its own up to 7, and class 0 up to 15.
-pub(crate) fn default_class(priority: u8) -> Option<u8>
+pub fn default_class(priority: u8) -> Option<u8>
     ensures class { result ≡ default_class priority }
     ensures within { IfSome result (λ c. c < CLASSES) }
 {
@@ -73,7 +73,7 @@ pub(crate) fn judge(
 }
 
 /// Whether a map is given that differs from the installed one.
-pub(crate) fn changes_map(given: Option<ClassMap>, installed: ClassMap) -> bool
+pub fn changes_map(given: Option<ClassMap>, installed: ClassMap) -> bool
     ensures { result ≡ changes_map given installed }
 {
     match given {
@@ -83,7 +83,7 @@ pub(crate) fn changes_map(given: Option<ClassMap>, installed: ClassMap) -> bool
 }
 
 /// Whether ranges are given that differ from the installed ones.
-pub(crate) fn changes_queues(given: Option<Queues>, installed: Queues) -> bool
+pub fn changes_queues(given: Option<Queues>, installed: Queues) -> bool
     ensures { result ≡ changes_queues given installed }
 {
     match given {
@@ -93,7 +93,7 @@ pub(crate) fn changes_queues(given: Option<Queues>, installed: Queues) -> bool
 }
 
 /// The refusal of the least class whose limit is over the mtu, if any.
-pub(crate) fn first_over(mtu: u32, limits: &[u32; CLASSES]) -> Option<Refused>
+pub fn first_over(mtu: u32, limits: &[u32; CLASSES]) -> Option<Refused>
     ensures { result ≡ first_over mtu 0 limits.now }
 {
     for class in 0..CLASSES as u8 {

@@ -17,13 +17,15 @@ use Rattle.replay.specs.Stamps.{stamp_given}
 use Rattle.replay.specs.Texts.{open_text}
 use Rattle.replay.specs.declared.stamps.Stamp.{Stamp}
 use Rattle.job.specs.RunEnd.{IsUnanswered}
-use Rattle.script.specs.ScriptEnd.{IsEnding, IsRefusal, rate_given, settings_given}
+use Rattle.schedule_check.specs.CheckEnd.{checks_given}
+use Rattle.schedule_check.specs.declared.settings.CheckSettings.{CheckSettings}
+use Rattle.script.specs.ScriptEnd.{IsEnding, IsRefusal, settings_given}
 use Rattle.script.specs.Given.{GivenWords}
 use Rattle.script.specs.Setup.{Setup}
 use Rattle.job.specs.declared.report.Ended.{Ended}
 use Rattle.script.specs.declared.settings.BadValue.{BadValue}
 use Rattle.traffic.specs.StreamsEnd.{IsStreamsEnding, from_given}
-use Rattle.stream_bounds.specs.BoundsEnd.{IsBoundsEnding, bounds_given}
+use Rattle.stream_bounds.specs.BoundsEnd.{IsBoundsEnding, IsBoundsRefusal, bounds_given}
 use Rattle.stream_bounds.specs.declared.settings.BoundsSettings.{BoundsSettings}
 use Rattle.stream_bounds.specs.declared.settings.BoundsValue.{BoundsValue}
 
@@ -52,9 +54,11 @@ settings_in greatest found = settings_given greatest (words_in found)
 abbrev pub stamp_in : Found → Option Stamp
 stamp_in found = stamp_given (first_value found (codes "stamp"))
 
--- the rate of the value that is given to its option
-abbrev pub rate_in : Found → Result ℕ BadValue
-rate_in found = rate_given (first_value found (codes "rate"))
+-- the settings of the values that are given to the options of a check
+abbrev pub checks_in : Found → Result CheckSettings BadValue
+checks_in found =
+    checks_given (first_value found (codes "rate")) (first_value found (codes "mtu")) (first_value found (codes "map")) (first_value found (codes "frame"))
+    (flag_in (codes "windows") found) (flag_in (codes "script") found)
 
 -- what the values that are given to the options say of a picture
 abbrev pub draws_in : Found → Result DrawOptions BadValue
@@ -65,22 +69,24 @@ abbrev pub from_in : Found → Result ℕ BadValue
 from_in found = from_given (first_value found (codes "from"))
 
 -- The end of a run on a table, where a script is named or none is. Without one, that of the table and a script of no octets; else that of
--- the table and of some octets, since what a file gives is not known, or of the path that can't be opened.
+-- the table and of some octets, since what a file gives is not known, or of the path that can't be opened; or of a moment that is bad, which comes first.
 abbrev pub IsGivenStreams : Result ℕ BadValue → Option (List ℕ) → Option (List ℕ) → Ended → (old got errors_old errors_new : Option (List ℕ)) → Type 0
 IsGivenStreams from None table ended old got errors_old errors_new = IsStreamsEnding from table (Some []) ended old got errors_old errors_new
-IsGivenStreams from (Some path) table ended old got errors_old errors_new =
-    ((script : Option (List ℕ)) × IsStreamsEnding from table script ended old got errors_old errors_new) ⊎ IsUnanswered 4 (open_text path) ended old got errors_old errors_new
+IsGivenStreams (Ok from) (Some path) table ended old got errors_old errors_new =
+    ((script : Option (List ℕ)) × IsStreamsEnding (Ok from) table script ended old got errors_old errors_new) ⊎ IsUnanswered 4 (open_text path) ended old got errors_old errors_new
+IsGivenStreams (Err value) (Some path) table ended old got errors_old errors_new = IsRefusal value ended old got errors_old errors_new
 
 -- the settings of the values that are given to the options of bounds
 abbrev pub bounds_in : Found → Result BoundsSettings BoundsValue
-bounds_in found = bounds_given (words_in found) (first_value found (codes "frames")) (flag_in (codes "strict") found)
+bounds_in found = bounds_given (words_in found) (first_value found (codes "map")) (first_value found (codes "frames")) (flag_in (codes "strict") found)
 
 -- The end of a run on schedules and the table that the words name: that of the schedules and of some octets, since what a file gives is not known, or
--- of the path that can't be opened. There is no end where the words name no table: they are refused then.
+-- of the path that can't be opened; or of a value that is bad, which comes first. There is no end where the words name no table: they are refused then.
 abbrev pub IsGivenBounds : Result BoundsSettings BoundsValue → Option (List ℕ) → Option (List ℕ) → Ended → (old got errors_old errors_new : Option (List ℕ)) → Type 0
 IsGivenBounds settings None schedules ended old got errors_old errors_new = Unit {0}
-IsGivenBounds settings (Some path) schedules ended old got errors_old errors_new =
+IsGivenBounds (Ok settings) (Some path) schedules ended old got errors_old errors_new =
     ((table : Option (List ℕ)) × IsBoundsEnding settings table schedules ended old got errors_old errors_new) ⊎ IsUnanswered 4 (open_text path) ended old got errors_old errors_new
+IsGivenBounds (Err value) (Some path) schedules ended old got errors_old errors_new = IsBoundsRefusal value ended old got errors_old errors_new
 
 -- the settings of the values that are given to `frames`: with a capture the moment to run to is one of a replay
 abbrev pub frames_settings : Option (List ℕ) → Found → Result Setup BadValue
@@ -95,11 +101,13 @@ IsGivenCapture (Ok setup) path input ended old got errors_old errors_new =
 IsGivenCapture (Err value) path input ended old got errors_old errors_new = IsRefusal value ended old got errors_old errors_new
 
 -- The end of a run on a script, where the words name a table of streams or none. With none, that of the table of the script's frames; else that of the
--- table with their streams and of some octets, since what a file gives is not known, or of the path that can't be opened.
+-- table with their streams and of some octets, since what a file gives is not known, or of the path that can't be opened; or of a value that is bad, which
+-- comes first.
 abbrev pub IsGivenTable : Result Setup BadValue → Option (List ℕ) → Option (List ℕ) → Ended → (old got errors_old errors_new : Option (List ℕ)) → Type 0
 IsGivenTable settings None input ended old got errors_old errors_new = IsEnding whole_frames settings input ended old got errors_old errors_new
-IsGivenTable settings (Some path) input ended old got errors_old errors_new =
+IsGivenTable (Ok settings) (Some path) input ended old got errors_old errors_new =
     ((table : Option (List ℕ)) × IsByStreamEnding settings table input ended old got errors_old errors_new) ⊎ IsUnanswered 4 (open_text path) ended old got errors_old errors_new
+IsGivenTable (Err value) (Some path) input ended old got errors_old errors_new = IsRefusal value ended old got errors_old errors_new
 
 -- the end of a run of `frames`, where the words name a capture or none: a table of streams does not go with one
 abbrev pub IsGivenFrames : Found → (capture streams : Option (List ℕ)) → Option (List ℕ) → Ended → (old got errors_old errors_new : Option (List ℕ)) → Type 0

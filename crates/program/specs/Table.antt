@@ -47,10 +47,11 @@ rules_of Names.Replay =
     ∷ flag (codes "summary") ∷ flag (codes "progress") ∷ flag (codes "strict") ∷ flag (codes "explain")
     ∷ file (codes "script") ∷ file (codes "capture") ∷ file (codes "out") ∷ []
 rules_of Names.Check =
-    option (codes "rate") ∷ flag (codes "windows") ∷ flag (codes "script") ∷ flag (codes "strict") ∷ flag (codes "explain") ∷ []
+    option (codes "rate") ∷ option (codes "mtu") ∷ option (codes "map") ∷ flag (codes "windows") ∷ option (codes "frame")
+    ∷ flag (codes "script") ∷ flag (codes "strict") ∷ flag (codes "explain") ∷ []
 rules_of Names.Streams = option (codes "with") ∷ option (codes "from") ∷ flag (codes "strict") ∷ flag (codes "explain") ∷ []
 rules_of Names.Bounds =
-    option (codes "rate") ∷ option (codes "mtu") ∷ option (codes "room") ∷ option (codes "frames")
+    option (codes "rate") ∷ option (codes "mtu") ∷ option (codes "room") ∷ option (codes "map") ∷ option (codes "frames")
     ∷ flag (codes "strict") ∷ flag (codes "explain") ∷ file (codes "table") ∷ []
 rules_of Names.Draw =
     option (codes "rate") ∷ option (codes "mtu") ∷ option (codes "room") ∷ option (codes "until") ∷ option (codes "from")

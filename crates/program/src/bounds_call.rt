@@ -1,6 +1,6 @@
 //! The delays of the streams of a table from a file.
 
-ghost use Rattle.std.specs.Prelude.{Some, codes};
+ghost use Rattle.std.specs.Prelude.{◌≡◌, IfErr, Some, codes};
 ghost use Rattle.octet_writer.specs.Buffered.{writer_contents};
 ghost use Rattle.clap.specs.Matches.{first_value, found_of};
 ghost use Rattle.program.specs.Given.{IsGivenBounds, bounds_in};
@@ -14,11 +14,11 @@ use script::Watch;
 use std::alloc::{Allocator, Global};
 use std::io::{Read, Write};
 use std::rt::Files;
-use stream_bounds::answer_bounds;
+use stream_bounds::{answer_bounds, bounds_given as settings_given, end_with_bounds_value};
 
 /// Answers about the schedules that `reader` gives and the streams of the table whose file the words name, through
-/// `answers`, with the text of a fault on `errors`; and gives the writer of the answers back. The file is opened before
-/// anything is read; where it can't be, nothing is answered.
+/// `answers`, with the text of a fault on `errors`; and gives the writer of the answers back. The values are judged
+/// first; then the file is opened, before anything is read. Where it can't be, nothing is answered.
 pub fn bounds_given<F: Files, B: Allocator, R: Read, W: Write + Drop, E: Write, H: Watch>(
     files: &F,
     alloc: Global,
@@ -28,7 +28,8 @@ pub fn bounds_given<F: Files, B: Allocator, R: Read, W: Write + Drop, E: Write, 
     errors: &mut E,
     watch: &mut H,
 ) -> (Ended, W)
-    ensures { IsGivenBounds (bounds_in (found_of matches.now)) (first_value (found_of matches.now) (codes "table")) (R.remaining reader.old) result.0 (writer_contents W.contents answers) (W.contents result.1) (E.contents errors.old) (E.contents errors.new) }
+    ensures ending { IsGivenBounds (bounds_in (found_of matches.now)) (first_value (found_of matches.now) (codes "table")) (R.remaining reader.old) result.0 (writer_contents W.contents answers) (W.contents result.1) (E.contents errors.old) (E.contents errors.new) }
+    ensures unread { IfErr (bounds_in (found_of matches.now)) (λ _. reader.new ≡ reader.old) }
 {
     let words = bounds_of(matches);
     let Some(path) = matches.get_str("table") else {
@@ -38,8 +39,12 @@ pub fn bounds_given<F: Files, B: Allocator, R: Read, W: Write + Drop, E: Write, 
         };
         return end_told(ended, answers);
     };
+    let settings = match settings_given(words) {
+        Ok(settings) => settings,
+        Err(value) => return end_with_bounds_value(value, answers, errors),
+    };
     match open(files, path) {
-        Ok(table) => answer_bounds(alloc, words, table, reader, answers, errors, watch),
+        Ok(table) => answer_bounds(alloc, settings, table, reader, answers, errors, watch),
         Err(path) => end_unopened(path, answers, errors),
     }
 }

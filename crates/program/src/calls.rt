@@ -8,9 +8,8 @@ ghost use Rattle.program.specs.Jobs.{IsFound, IsJobEnding, IsProgramEnding, IsHe
 ghost use Rattle.schedule_check.specs.Checked.{whole_check};
 ghost use Rattle.schedule_check.specs.Windows.{IsTeller, Teller};
 ghost use Rattle.drawing.specs.PictureEnd.{IsDrawEnding};
-ghost use Rattle.std.specs.Prelude.{codes};
 ghost use Rattle.program.specs.Table.{name_of};
-ghost use Rattle.program.specs.Given.{draws_in, flag_in, rate_in, settings_in};
+ghost use Rattle.program.specs.Given.{checks_in, draws_in, settings_in};
 ghost use Rattle.script.specs.ScriptEnd.{IsEnding, whole_script};
 ghost use Rattle.wire_time.specs.Moment.{greatest_moment};
 
@@ -53,9 +52,8 @@ pub fn answer_given<B: Allocator, R: Read, W: Write + Drop, E: Write, H: Watch>(
     answer_script(alloc, values_of(matches), reader, answers, errors, watch)
 }
 
-/// Checks the schedules that `reader` gives, by the value that the words give to the rate, with windows where they ask
-/// for them, and of a script where they say so, through `answers`, with the text of a fault on `errors`; and gives the
-/// writer of the answers back.
+/// Checks the schedules that `reader` gives, by the values that the words give to the options, through `answers`, with
+/// the text of a fault on `errors`; and gives the writer of the answers back.
 pub fn check_given<B: Allocator, R: Read, W: Write + Drop, E: Write, H: Watch>(
     alloc: Global,
     matches: &ArgMatches<'_>,
@@ -64,9 +62,9 @@ pub fn check_given<B: Allocator, R: Read, W: Write + Drop, E: Write, H: Watch>(
     errors: &mut E,
     watch: &mut H,
 ) -> (Ended, W)
-    ensures ending { (tell : Teller) → IsTeller tell → IsEnding (whole_check tell (flag_in (codes "windows") (found_of matches.now)) (flag_in (codes "script") (found_of matches.now))) (rate_in (found_of matches.now))
+    ensures ending { (tell : Teller) → IsTeller tell → IsEnding (whole_check tell) (checks_in (found_of matches.now))
         (R.remaining reader.old) result.0 (writer_contents W.contents answers) (W.contents result.1) (E.contents errors.old) (E.contents errors.new) }
-    ensures unread { IfErr (rate_in (found_of matches.now)) (λ _. reader.new ≡ reader.old) }
+    ensures unread { IfErr (checks_in (found_of matches.now)) (λ _. reader.new ≡ reader.old) }
 {
     answer_check(alloc, checks_of(matches), reader, answers, errors, watch)
 }

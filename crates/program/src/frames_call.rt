@@ -19,6 +19,7 @@ use script::{Watch, end_with_value, settings_given};
 use std::alloc::{Allocator, Global};
 use std::io::{Read, Write};
 use std::rt::Files;
+use wire_time::MAX_MOMENT;
 
 /// Writes the table of the frames of a replay of the script that `reader` gives and of the capture in the file of this
 /// path, by the values that the words give to the options. The values are judged first, as those of a replay; then the
@@ -50,8 +51,8 @@ fn frames_of_capture<F: Files, B: Allocator, R: Read, W: Write + Drop, E: Write,
 }
 
 /// Writes the table of the frames of the script that `reader` gives, by the values that the words give to the options,
-/// and with the stream of each frame where the words name a file with a table of streams. The file is opened before
-/// anything is read.
+/// and with the stream of each frame where the words name a file with a table of streams. The values are judged first;
+/// then the file is opened, before anything is read.
 fn frames_of_script<F: Files, B: Allocator, R: Read, W: Write + Drop, E: Write, H: Watch>(
     files: &F,
     alloc: Global,
@@ -69,9 +70,13 @@ fn frames_of_script<F: Files, B: Allocator, R: Read, W: Write + Drop, E: Write, 
     let Some(path) = matches.get_str("by-stream") else {
         return answer_frames(alloc, values, reader, answers, errors, watch);
     };
+    let settings = match settings_given(values, MAX_MOMENT) {
+        Ok(settings) => settings,
+        Err(value) => return end_with_value(value, answers, errors),
+    };
     match open(files, path) {
         Ok(table) => {
-            answer_frames_by_stream(alloc, values, table, reader, answers, errors, watch)
+            answer_frames_by_stream(alloc, settings, table, reader, answers, errors, watch)
         }
         Err(path) => end_unopened(path, answers, errors),
     }

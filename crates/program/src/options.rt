@@ -66,11 +66,13 @@ pub(crate) fn draws_of<'a>(matches: &ArgMatches<'a>) -> DrawValues<'a>
 /// The values that bounds are given.
 pub(crate) fn bounds_of<'a>(matches: &ArgMatches<'a>) -> BoundsWords<'a>
     ensures port { words_of_values result.port ≡ words_in (found_of matches.now) }
+    ensures map { octets_of result.map ≡ first_value (found_of matches.now) (codes "map") }
     ensures frames { octets_of result.frames ≡ first_value (found_of matches.now) (codes "frames") }
     ensures strict { result.strict ≡ flag_in (codes "strict") (found_of matches.now) }
 {
     BoundsWords {
         port: values_of(matches),
+        map: matches.get_str("map"),
         frames: matches.get_str("frames"),
         strict: is_given(matches, "strict"),
     }
@@ -86,14 +88,20 @@ pub(crate) fn looks_of(matches: &ArgMatches<'_>, terminal: bool) -> Looks
     }
 }
 
-/// The rate that a check is given, and what it is asked for.
+/// What a check is given, and asked for.
 pub(crate) fn checks_of<'a>(matches: &ArgMatches<'a>) -> CheckWords<'a>
     ensures rate { octets_of result.rate ≡ first_value (found_of matches.now) (codes "rate") }
+    ensures mtu { octets_of result.mtu ≡ first_value (found_of matches.now) (codes "mtu") }
+    ensures map { octets_of result.map ≡ first_value (found_of matches.now) (codes "map") }
+    ensures frame { octets_of result.frame ≡ first_value (found_of matches.now) (codes "frame") }
     ensures windows { result.windows ≡ flag_in (codes "windows") (found_of matches.now) }
     ensures script { result.script ≡ flag_in (codes "script") (found_of matches.now) }
 {
     CheckWords {
         rate: matches.get_str("rate"),
+        mtu: matches.get_str("mtu"),
+        map: matches.get_str("map"),
+        frame: matches.get_str("frame"),
         windows: is_given(matches, "windows"),
         script: is_given(matches, "script"),
     }
@@ -214,11 +222,27 @@ const OUT: Word = Word {
     without: None,
 };
 
+const MAP: Word = Word {
+    given: Given::Value,
+    name: "map",
+    value: "CLASSES",
+    help: "The map that the port has already: the classes of the priorities from 0 up, as \"0 1 2\" [default: it is a new port]",
+    without: None,
+};
+
 const WINDOWS: Word = Word {
     given: Given::Flag,
     name: "windows",
     value: "",
-    help: "Report for how long each class is open and closed, and its longest frame",
+    help: "Report for how long each class is open and closed, its longest frame, and how long that can wait",
+    without: None,
+};
+
+const FRAME: Word = Word {
+    given: Given::Value,
+    name: "frame",
+    value: "OCTETS",
+    help: "With --windows, report how long a frame of this length can wait, too",
     without: None,
 };
 
@@ -266,7 +290,7 @@ const STRICT: Word = Word {
     given: Given::Flag,
     name: "strict",
     value: "",
-    help: "End with status 1 where a deadline is missed or unknown, or a command is refused",
+    help: "End with status 1 where a deadline is missed or unknown, frames are lost, a command is refused, or nothing is judged",
     without: None,
 };
 
@@ -279,7 +303,7 @@ const STRICT_COMMANDS: Word = Word {
 };
 
 const STRICT_CHECK: Word = Word {
-    help: "End with status 1 where a tc line is no command, its command is refused, or there is no command",
+    help: "End with status 1 where a tc line is no command, a new port refuses it, it never opens a class that is used, or there is no command",
     ..STRICT_COMMANDS
 };
 
@@ -363,7 +387,16 @@ pub(crate) const JOBS: [Job; 7] = [
     Job {
         name: JobName::Check,
         about: "Reports which classes the schedule commands on standard input keep apart",
-        words: &[RATE, WINDOWS, SCRIPT_LINES, STRICT_CHECK, EXPLAIN],
+        words: &[
+            RATE,
+            MTU,
+            MAP,
+            WINDOWS,
+            FRAME,
+            SCRIPT_LINES,
+            STRICT_CHECK,
+            EXPLAIN,
+        ],
     },
     Job {
         name: JobName::Streams,
@@ -373,7 +406,7 @@ pub(crate) const JOBS: [Job; 7] = [
     Job {
         name: JobName::Bounds,
         about: "Reports how long the frames of the streams in a table can ever wait, by the schedule commands on standard input",
-        words: &[RATE, MTU, ROOM, FRAMES, STRICT, EXPLAIN, TABLE],
+        words: &[RATE, MTU, ROOM, MAP, FRAMES, STRICT, EXPLAIN, TABLE],
     },
     Job {
         name: JobName::Draw,

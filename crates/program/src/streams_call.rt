@@ -1,6 +1,6 @@
 //! A table of streams, and a script from a file, become a script.
 
-ghost use Rattle.std.specs.Prelude.{Some, codes};
+ghost use Rattle.std.specs.Prelude.{◌≡◌, IfErr, Some, codes};
 ghost use Rattle.octet_writer.specs.Buffered.{writer_contents};
 ghost use Rattle.clap.specs.Matches.{first_value, found_of};
 ghost use Rattle.program.specs.Given.{IsGivenStreams, from_in};
@@ -9,16 +9,16 @@ use crate::replay_call::{end_unopened, open};
 use clap::ArgMatches;
 use job::Ended;
 use octet_writer::BufWriter;
-use script::Watch;
+use script::{Watch, end_with_value};
 use std::alloc::{Allocator, Global};
 use std::io::{Read, Write};
 use std::rt::Files;
-use traffic::answer_streams;
+use traffic::{answer_streams, from_given};
 
 /// Writes the script of the table of streams that `reader` gives through `answers`, with the lines of the script among
 /// the frames whose file the words name, if they do, and from the moment that they give, with the text of a fault on
-/// `errors`; and gives the writer of the answers back. The file is opened before anything is read; where it can't be,
-/// nothing is answered.
+/// `errors`; and gives the writer of the answers back. The moment is judged first; then the file is opened, before
+/// anything is read. Where it can't be, nothing is answered.
 pub fn streams_given<F: Files, B: Allocator, R: Read, W: Write + Drop, E: Write, H: Watch>(
     files: &F,
     alloc: Global,
@@ -28,12 +28,16 @@ pub fn streams_given<F: Files, B: Allocator, R: Read, W: Write + Drop, E: Write,
     errors: &mut E,
     watch: &mut H,
 ) -> (Ended, W)
-    ensures { IsGivenStreams (from_in (found_of matches.now)) (first_value (found_of matches.now) (codes "with")) (R.remaining reader.old) result.0 (writer_contents W.contents answers) (W.contents result.1) (E.contents errors.old) (E.contents errors.new) }
+    ensures ending { IsGivenStreams (from_in (found_of matches.now)) (first_value (found_of matches.now) (codes "with")) (R.remaining reader.old) result.0 (writer_contents W.contents answers) (W.contents result.1) (E.contents errors.old) (E.contents errors.new) }
+    ensures unread { IfErr (from_in (found_of matches.now)) (λ _. reader.new ≡ reader.old) }
 {
     let from = matches.get_str("from");
     let Some(path) = matches.get_str("with") else {
         return answer_streams(alloc, from, reader, b"".as_slice(), answers, errors, watch);
     };
+    if let Err(value) = from_given(from) {
+        return end_with_value(value, answers, errors);
+    }
     match open(files, path) {
         Ok(script) => answer_streams(alloc, from, reader, script, answers, errors, watch),
         Err(path) => end_unopened(path, answers, errors),

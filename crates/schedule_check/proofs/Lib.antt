@@ -1,6 +1,7 @@
 pub mod ApartLaws
 pub mod ChangeLaws
 pub mod LineLaws
+pub mod MapLaws
 pub mod OpenLineLaws
 pub mod WindowLaws
 pub mod ShareLaws

@@ -1,29 +1,34 @@
 -- Which classes are reported on, and their lines one after another.
-use Rattle.std.proofs.Common.{◌≡◌, ◌<◌, ◌≤◌, ℕ, zero, suc, ◌+◌, ◌-◌, ◌%◌, true, false, cond, List, [], ◌++◌, Option, inl, inr, sym, ap, ◌∙◌, subst, arith, mod-lt, mod-eq_of_lt}
+use Rattle.std.proofs.Common.{◌≡◌, ◌<◌, ◌≤◌, ℕ, zero, suc, ◌+◌, ◌-◌, ◌%◌, true, false, cond, List, [], ◌++◌, Option, inl, inr, sym, ap, ◌∙◌, subst, arith, append_assoc, append-nil, mod-lt, mod-eq_of_lt}
 use Rattle.std.proofs.lemmas.Bool.{cases_Bool, cases_lt}
-use Rattle.schedule_check.specs.Words.{Plan, in_ps, mask_at, opens, Sent, Window, alone, open_total, open_line, open_lines}
+use Rattle.schedule_check.specs.Words.{Plan, in_ps, mask_at, opens, Sent, alone, open_total, open_lines}
 use Rattle.octet_writer.proofs.Fronts.{sent_none}
 
 -- ---- lines
 
--- before the first
-pub lines_first : (tell : ℕ → Window) (count : ℕ) (old : Option (List ℕ)) → Sent old old (open_lines tell count 0) (open_lines tell (count - 0) 0)
-lines_first tell count old =
-    let same : count ≡ count - 0 = omega arith in
-    subst (λ n. Sent old old (open_lines tell count 0) (open_lines tell n 0)) same (sent_none old (open_lines tell count 0))
+-- two parts that are written together, before the rest
+pub two_parts : (a b rest : List ℕ) → a ++ (b ++ rest) ≡ (a ++ (b ++ [])) ++ rest
+two_parts a b rest = sym (append_assoc a (b ++ []) rest ∙ ap (λ t. a ++ (t ++ rest)) (append-nil b))
 
--- the lines of one class more
-pub lines_more : (tell : ℕ → Window) (count class : ℕ) (w : Window) → class < count → w ≡ tell class
-    → open_lines tell (count - class) class ≡ open_line class w ++ open_lines tell (count - (class + 1)) (class + 1)
-unfolding open_lines
-lines_more tell count class w less is =
-    let step : count - class ≡ suc (count - (class + 1)) = omega arith in
-    ap (λ n. open_lines tell n class) step ∙ ap (λ v. open_line class v ++ open_lines tell (count - (class + 1)) (class + 1)) (sym is)
+module _ (line : ℕ → List ℕ) where
+  -- before the first
+  pub lines_first : (count : ℕ) (old : Option (List ℕ)) → Sent old old (open_lines line count 0) (open_lines line (count - 0) 0)
+  lines_first count old =
+      let same : count ≡ count - 0 = omega arith in
+      subst (λ n. Sent old old (open_lines line count 0) (open_lines line n 0)) same (sent_none old (open_lines line count 0))
 
--- there are no more
-pub lines_end : (tell : ℕ → Window) (count class : ℕ) → count ≤ class → open_lines tell (count - class) class ≡ []
-unfolding open_lines
-lines_end tell count class over = ap (λ n. open_lines tell n class) (let none : count - class ≡ 0 = omega arith in none)
+  -- the lines of one class more
+  pub lines_more : (count class : ℕ) (text : List ℕ) → class < count → text ≡ line class
+      → open_lines line (count - class) class ≡ text ++ open_lines line (count - (class + 1)) (class + 1)
+  unfolding open_lines
+  lines_more count class text less is =
+      let step : count - class ≡ suc (count - (class + 1)) = omega arith in
+      ap (λ n. open_lines line n class) step ∙ ap (λ t. t ++ open_lines line (count - (class + 1)) (class + 1)) (sym is)
+
+  -- there are no more
+  pub lines_end : (count class : ℕ) → count ≤ class → open_lines line (count - class) class ≡ []
+  unfolding open_lines
+  lines_end count class over = ap (λ n. open_lines line n class) (let none : count - class ≡ 0 = omega arith in none)
 
 -- ---- classes that are ever open
 

@@ -14,6 +14,7 @@ use Rattle.script.specs.declared.faults.ScriptFault.TheVariants.{UnknownLine}
 use Rattle.script.specs.ScriptEnd.{Whole}
 use Rattle.schedule_check.specs.Apart.{verdict_lines}
 use Rattle.schedule_check.specs.Windows.{Teller}
+use Rattle.schedule_check.specs.declared.settings.CheckSettings.{CheckSettings}
 
 -- whether the words of a line begin with tc; a line without words and a comment are skipped; other lines are passed over where they are those
 -- of a script, and else there are none
@@ -38,6 +39,6 @@ checked_in script read told (Line number octets rest) =
 abbrev pub checked_of : Bool → (List (List ℕ) → Result Command TcFault) → (Result Command TcFault → List ℕ) → List ℕ → Outcome BadLine
 checked_of script read told input = checked_in script read told (script_of input)
 
--- what is reported of the octets of an input at a rate, those of a script or of commands alone, with windows or without, as what is to be written
-abbrev pub whole_check : Teller → (windows script : Bool) → ℕ → Whole
-whole_check tell windows script ps read input = checked_of script read (verdict_lines tell (record { rate = ps; windows = windows; script = script })) input
+-- what is reported of the octets of an input by settings, as what is to be written
+abbrev pub whole_check : Teller → CheckSettings → Whole
+whole_check tell s read input = checked_of s.script read (verdict_lines tell s) input

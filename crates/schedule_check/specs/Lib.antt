@@ -1,4 +1,6 @@
 pub mod Apart
+pub mod CheckEnd
+pub mod Refusals
 pub mod Checked
 pub mod Windows
 pub mod WindowLines

@@ -17,13 +17,13 @@ pub use Rattle.tc_reader.specs.Reader.{IsReader}
 pub use Rattle.tc_reader.specs.declared.fault.TcFault.{TcFault}
 pub use Rattle.answer_text.specs.Part.{text_of}
 pub use Rattle.job.specs.Outcome.{RunsOut}
-pub use Rattle.script.specs.ScriptEnd.{IsEnding, rate_given}
+pub use Rattle.script.specs.ScriptEnd.{IsEnding}
 pub use Rattle.script.specs.Given.{octets_of}
 pub use Rattle.script.specs.Outcome.{bad_line, long_line}
-pub use Rattle.schedule_check.specs.Apart.{apart_line, change_lines, class_count, class_word, itself_apart, some_line, verdict_lines}
+pub use Rattle.schedule_check.specs.Apart.{apart_line, change_lines, class_count, class_line, class_word, itself_apart, some_line, verdict_lines}
 unfoldable pub use Rattle.schedule_check.specs.Apart.{classes_apart}
 pub use Rattle.schedule_check.specs.Checked.{checked_in, checked_of, is_command, whole_check}
-pub use Rattle.schedule_check.specs.WindowLines.{asked_lines, frame_text, open_line, time_text, window_line}
+pub use Rattle.schedule_check.specs.WindowLines.{asked_lines, frame_text, given_wait_text, longest_wait_of, never_line, time_text, told_line, wait_text, waits_text, window_line}
 unfoldable pub use Rattle.schedule_check.specs.WindowLines.{open_lines}
 pub use Rattle.schedule_check.specs.Windows.{IsLengthened, IsLongestFrame, IsLonger, IsLongestOpen, IsOpenStay, IsTeller, IsWindow, Teller, alone, turned, turned_entry, turned_mask, turned_plan}
 unfoldable pub use Rattle.schedule_check.specs.Windows.{open_total}

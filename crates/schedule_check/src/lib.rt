@@ -7,15 +7,17 @@
 
 mod check_job;
 mod laws;
+mod refusals;
 mod schedule_report;
 mod schedules;
 mod settings;
 mod window_lines;
 mod windows;
 
-pub use check_job::{CheckWords, answer_check};
+pub use check_job::answer_check;
 pub use laws::{ever_open, one_teller, turned_masks};
+pub use refusals::{early_refusal, given_map, is_led, map_after, read_map};
 pub use schedule_report::{class_count, classes_apart, put_apart};
 pub use schedules::{check, is_command};
-pub use settings::CheckSettings;
+pub use settings::{CheckSettings, CheckWords, checks_given};
 pub use windows::{Longest, Window, Windows};

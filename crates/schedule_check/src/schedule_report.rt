@@ -4,8 +4,10 @@ ghost use Rattle.std.specs.Prelude.{◌≡◌, ◌<◌, ◌≤◌, ◌+◌, ◌+
 ghost use Rattle.schedule_check.specs.Words.{array_vec_len, apart_line, change_lines, class_count, class_word, classes_apart, itself_apart, some_line, verdict_lines, IsTeller, Teller, Writes, plan_asked, Command, plan_fault, IsReader, TcFault, CLASSES, words_of};
 ghost use Rattle.std.specs.List.{flat_map};
 
+use crate::refusals::{early_refusal, is_led_after, map_after};
 use crate::settings::CheckSettings;
 use crate::window_lines::put_asked;
+use crate::windows::shares_of;
 use abstract_port::{Change, Command, Refused};
 use answer_text::{Part, WriteFault, put, put_parts, put_refused, put_tc_fault};
 use arrayvec::ArrayVec;
@@ -87,20 +89,43 @@ pub fn put_apart<W: Write>(writer: &mut W, classes: &[u8]) -> Result<(), WriteFa
     }
 }
 
+/// Tells who watches of the first thing that is wrong with an accepted schedule: a new port refuses its map or its
+/// limits; or a priority leads to a class that it never opens.
+fn tell_wrong<H: Watch>(
+    settings: &CheckSettings,
+    number: u32,
+    line: &[u8],
+    change: &Change,
+    schedule: &Schedule,
+    watch: &mut H,
+) {
+    if let Some(why) = early_refusal(settings.mtu, settings.map, change) {
+        watch.command_failed(number, line, Failure::Refused(why));
+        return;
+    }
+    let shares = shares_of(schedule);
+    for class in 0..CLASSES as u8 {
+        if shares[usize::from(class)] == 0 && is_led_after(settings.map, change.map, class) {
+            watch.command_failed(number, line, Failure::NeverOpens(class));
+            return;
+        }
+    }
+}
+
 /// Reports on an accepted schedule: the classes that it keeps apart and, where windows are asked for, what it gives
 /// each class.
 fn put_schedule<W: Write>(
     writer: &mut W,
-    settings: CheckSettings,
+    settings: &CheckSettings,
     change: &Change,
     schedule: &Schedule,
 ) -> Result<(), WriteFault>
     requires plan { schedule.now ≡ plan_asked change.now }
-    requires accepted { plan_fault settings.rate (plan_asked change.now) ≡ None }
+    requires accepted { plan_fault settings.now.rate (plan_asked change.now) ≡ None }
     ensures { (tell : Teller) → IsTeller tell →
-        Writes result (W.contents writer.old) (W.contents writer.new) (change_lines tell settings change.now) }
+        Writes result (W.contents writer.old) (W.contents writer.new) (change_lines tell settings.now change.now) }
 {
-    let count = class_count(change.map);
+    let count = class_count(map_after(settings.map, change.map));
     put_apart(writer, &classes_apart(schedule, count))?;
     put_asked(writer, settings, change, schedule, count)
 }
@@ -108,14 +133,14 @@ fn put_schedule<W: Write>(
 /// Reports on the change that the line of this number asks: the refusal of its schedule, or what the schedule promises.
 fn put_change<W: Write, H: Watch>(
     writer: &mut W,
-    settings: CheckSettings,
+    settings: &CheckSettings,
     number: u32,
     line: &[u8],
     change: &Change,
     watch: &mut H,
 ) -> Result<(), WriteFault>
     ensures { (tell : Teller) → IsTeller tell →
-        Writes result (W.contents writer.old) (W.contents writer.new) (change_lines tell settings change.now) }
+        Writes result (W.contents writer.old) (W.contents writer.new) (change_lines tell settings.now change.now) }
 {
     let schedule = Schedule::new(
         &change.list,
@@ -125,7 +150,10 @@ fn put_change<W: Write, H: Watch>(
         settings.rate,
     );
     match schedule {
-        Ok(schedule) => put_schedule(writer, settings, change, &schedule),
+        Ok(schedule) => {
+            tell_wrong(settings, number, line, change, &schedule, watch);
+            put_schedule(writer, settings, change, &schedule)
+        }
         Err(fault) => {
             let why = Refused::Schedule(fault);
             watch.command_failed(number, line, Failure::Refused(why));
@@ -137,14 +165,14 @@ fn put_change<W: Write, H: Watch>(
 /// Writes what is reported of the command that the line of this number is, or why it is none.
 fn put_verdict<W: Write, H: Watch>(
     writer: &mut W,
-    settings: CheckSettings,
+    settings: &CheckSettings,
     number: u32,
     line: &[u8],
     read: Result<Command, TcFault>,
     watch: &mut H,
 ) -> Result<(), WriteFault>
     ensures { (tell : Teller) → IsTeller tell →
-        Writes result (W.contents writer.old) (W.contents writer.new) (verdict_lines tell settings read) }
+        Writes result (W.contents writer.old) (W.contents writer.new) (verdict_lines tell settings.now read) }
 {
     match read {
         Ok(Command::Replace(change)) => put_change(writer, settings, number, line, &change, watch),
@@ -157,16 +185,17 @@ fn put_verdict<W: Write, H: Watch>(
 }
 
 /// Writes what is reported of the line of this number, which begins with `tc`, by settings. Who watches is called where
-/// it is no command or its schedule is refused. At a fault a prefix of that is written.
+/// it is no command, where a port would refuse it, and where it never opens a class that a priority leads to. At a fault
+/// a prefix of that is written.
 pub(crate) fn put_line<W: Write, H: Watch>(
     writer: &mut W,
-    settings: CheckSettings,
+    settings: &CheckSettings,
     number: u32,
     line: &[u8],
     watch: &mut H,
 ) -> Result<(), WriteFault>
     ensures { (tell : Teller) → IsTeller tell → (read : List (List ℕ) → Result Command TcFault) → IsReader read →
-        Writes result (W.contents writer.old) (W.contents writer.new) (verdict_lines tell settings (read (words_of line.now))) }
+        Writes result (W.contents writer.old) (W.contents writer.new) (verdict_lines tell settings.now (read (words_of line.now))) }
 {
     put_verdict(writer, settings, number, line, read_tc(line), watch)
 }

@@ -60,7 +60,7 @@ fn check_lines<A: Allocator, R: Read + Drop, W: Write, H: Watch>(
         let line = lines.line();
         match is_command(line, settings.script) {
             Ok(false) => watch.line_passed(lines.line_number(), line),
-            Ok(true) => put_line(writer, *settings, lines.line_number(), line, watch)?,
+            Ok(true) => put_line(writer, settings, lines.line_number(), line, watch)?,
             Err(fault) => {
                 watch.line_failed(line);
                 return Err(fault_here(lines, fault));
@@ -70,15 +70,17 @@ fn check_lines<A: Allocator, R: Read + Drop, W: Write, H: Watch>(
     Ok(())
 }
 
-/// Reads schedule commands to the end of the input, and reports on each at the line rate: its fault where it is no
+/// Reads schedule commands to the end of the input, and reports on each by the settings: its fault where it is no
 /// command; the refusal of its schedule; or `apart` with the classes that the schedule keeps apart, in rising order, of
-/// those that the command's map has, or of all eight where it gives no map; a deletion keeps none apart. Where windows
-/// are asked for, a line follows for each of these classes that the schedule ever opens, of what it gives the class.
+/// those of the map that the port then has, or of all eight where that isn't known; a deletion keeps none apart. Where
+/// windows are asked for, a line follows for each of these classes: of what the schedule gives it, or that it is never
+/// open, where some priority leads to it.
 ///
 /// Lines without words and comments are skipped, and other lines too where they are those of a script; else any other
 /// line is an `UnknownLine`, which ends the call after what is reported of the lines before it. What was reported is
 /// let out before more input is waited for. A read or a write that fails, or takes nothing, isn't tried again. Who
-/// watches is called for such a line, and for each command that is malformed or refused.
+/// watches is called for such a line, for each command that is malformed or that a port would refuse, and for each whose
+/// schedule never opens a class that a priority leads to.
 pub fn check<A: Allocator, R: Read + Drop, W: Write, H: Watch>(
     alloc: A,
     reader: R,

@@ -8,12 +8,11 @@ use Rattle.tc_reader.specs.declared.fault.TcFault.{TcFault}
 use Rattle.tc_reader.specs.Reader.{IsReader}
 use Rattle.script.specs.Given.{GivenWords}
 use Rattle.script.specs.Setup.{Setup}
-use Rattle.script.specs.Settings.{rate_in, settings_of, summarized}
+use Rattle.script.specs.Settings.{settings_of, summarized}
 use Rattle.script.specs.Outcome.{outcome_of}
 use Rattle.script.specs.Texts.{script_telling, value_text}
 use Rattle.script.specs.declared.faults.BadLine.{BadLine}
 use Rattle.script.specs.declared.settings.BadValue.{BadValue}
-use Rattle.script.specs.declared.settings.BadValue.TheVariants as Values
 
 -- The settings of the values that are given, with a moment of at most `greatest`: 1000 Mb/s, an mtu of 1500 octets and room for 128
 -- frames a class where none is.
@@ -23,15 +22,6 @@ settings_or_usual greatest given = settings_of (unwrap_or given.rate (codes "100
 -- the settings of the values that are given or usual, with a summary where one is wanted
 abbrev pub settings_given : ℕ → GivenWords → Result Setup BadValue
 settings_given greatest given = summarized given.summary (settings_or_usual greatest given)
-
--- a rate in picoseconds an octet, if there is one
-abbrev pub rate_where_good : Option ℕ → Result ℕ BadValue
-rate_where_good (Some ps) = Ok ps
-rate_where_good None = Err Values.Rate
-
--- the rate of the value that is given, alone: 1000 Mb/s where none is
-abbrev pub rate_given : Option (List ℕ) → Result ℕ BadValue
-rate_given rate = rate_where_good (rate_in (unwrap_or rate (codes "1000")))
 
 -- What is to be written for the octets of an input, by the function that reads tc lines.
 abbrev pub Whole : Type 0

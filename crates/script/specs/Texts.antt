@@ -27,6 +27,8 @@ option_name Values.Until = codes "--until"
 option_name Values.From = codes "--from"
 option_name Values.To = codes "--to"
 option_name Values.Width = codes "--width"
+option_name Values.Map = codes "--map"
+option_name Values.Frame = codes "--frame"
 
 -- the text of a bad value
 abbrev pub value_text : BadValue → List ℕ

@@ -27,7 +27,7 @@ unfoldable pub use Rattle.summary.specs.Lines.{classes_from}
 pub use Rattle.summary.specs.Observed.{Observed, class_at, seen_all}
 pub use Rattle.summary.specs.Wanted.{noted_after, noted_all, noted_at}
 pub use Rattle.script.specs.Answered.{HasFewVisits, IsAnswered, IsSilent}
-pub use Rattle.script.specs.ScriptEnd.{IsEnding, IsRefusal, rate_given, settings_given, settings_or_usual, whole_script}
+pub use Rattle.script.specs.ScriptEnd.{IsEnding, IsRefusal, settings_given, settings_or_usual, whole_script}
 pub use Rattle.script.specs.Given.{octets_of, words_of_values}
 pub use Rattle.script.specs.Outcome.{IsFaithfulTo, asked_in, bad_line, ending_text, limit_fault, long_line, outcome_after, outcome_from, outcome_of, reading_of}
 pub use Rattle.script.specs.Plain.{BeginsWithEvent, BeginsWithLine, HasLine, IsCommandInHand, tag_text}

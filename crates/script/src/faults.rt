@@ -127,6 +127,8 @@ fn option_name(value: BadValue) -> &'static [u8]
         BadValue::From => b"--from",
         BadValue::To => b"--to",
         BadValue::Width => b"--width",
+        BadValue::Map => b"--map",
+        BadValue::Frame => b"--frame",
     }
 }
 

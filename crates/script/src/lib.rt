@@ -20,7 +20,7 @@ pub use answers::{RunningPort, put_all_left, put_answers, put_tc};
 pub use faults::{
     BadLine, RunFault, ScriptFault, limit_fault, put_line_fault, put_value, say_value,
 };
-pub use script_job::{Values, answer_script, end_with_value, rate_given, settings_given};
+pub use script_job::{Values, answer_script, end_with_value, settings_given};
 pub use script_line::{Said, read_line, read_tc};
 pub use script_run::run_script;
 pub use settings::{BadValue, Settings};

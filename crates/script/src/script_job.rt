@@ -2,17 +2,17 @@
 
 ghost use Rattle.std.specs.Prelude.{◌≡◌, ◌≤◌, IfErr};
 ghost use Rattle.octet_writer.specs.Buffered.{writer_contents};
-ghost use Rattle.script.specs.Words.{greatest_moment, octets_of, words_of_values, IsEnding, IsRefusal, rate_given, settings_given, settings_or_usual, whole_script};
+ghost use Rattle.script.specs.Words.{greatest_moment, octets_of, words_of_values, IsEnding, IsRefusal, settings_given, settings_or_usual, whole_script};
 
 use crate::faults::say_value;
 use crate::script_run::run_script;
-use crate::settings::{BadValue, Settings, read_rate};
+use crate::settings::{BadValue, Settings};
 use crate::watch::Watch;
 use job::{Ended, end_run, end_told};
 use octet_writer::BufWriter;
 use std::alloc::Allocator;
 use std::io::{Read, Write};
-use wire_time::{MAX_MOMENT, Rate};
+use wire_time::MAX_MOMENT;
 
 /// The line rate where none is given, in Mb/s.
 const RATE: &str = "1000";
@@ -36,16 +36,6 @@ pub struct Values<'a> {
     pub until: Option<&'a str>,
     /// Whether a summary is wanted at the end.
     pub summary: bool,
-}
-
-/// The line rate of a value in Mb/s, or, where none is given, 1000 Mb/s.
-pub fn rate_given(rate: Option<&str>) -> Result<Rate, BadValue>
-    ensures { result ≡ rate_given (octets_of rate.entry) }
-{
-    match read_rate(rate.unwrap_or(RATE)) {
-        Some(rate) => Ok(rate),
-        None => Err(BadValue::Rate),
-    }
 }
 
 /// The settings of the values that are given, without a summary.

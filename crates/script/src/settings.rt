@@ -52,6 +52,10 @@ pub enum BadValue {
     To,
     /// The width of a picture is not 400 to 2400 pixels.
     Width,
+    /// The map that a port has already is not 1 to 16 classes of 0 to 7, one for each priority from 0 up.
+    Map,
+    /// The length of a frame is not 0 to 4294967295 octets.
+    Frame,
 }
 
 /// The rate of a decimal number of Mb/s, if there is one.

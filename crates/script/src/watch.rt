@@ -3,13 +3,15 @@
 use abstract_port::Refused;
 use tc_reader::TcFault;
 
-/// Why a line that begins with `tc` changes nothing.
+/// What is wrong with a line that begins with `tc`: why it changes nothing, or what of its schedule can not be meant.
 #[derive(Clone, Copy, Debug, PartialEq, Eq)]
 pub enum Failure {
     /// It is no command.
     Malformed(TcFault),
     /// Its command is refused.
     Refused(Refused),
+    /// A priority leads to this class, and no entry of its schedule opens it: no frame of it ever leaves.
+    NeverOpens(u8),
 }
 
 /// Who watches a run. Nothing that it does changes what is written.
@@ -17,7 +19,7 @@ pub trait Watch {
     /// So many records of a capture are taken, the last at this moment, in picoseconds.
     fn records_taken(&mut self, _records: u32, _moment: u128) {}
 
-    /// The line of this number, whose text this is, begins with `tc` and changes nothing. The run goes on.
+    /// The line of this number, whose text this is, begins with `tc`, and this is wrong with it. The run goes on.
     fn command_failed(&mut self, _number: u32, _line: &[u8], _why: Failure) {}
 
     /// The line whose text this is has a fault that ends the run.

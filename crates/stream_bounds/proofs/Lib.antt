@@ -1,4 +1,5 @@
 mod CommandLaws
 mod LineLaws
 mod PickLaws
+mod RefusalLaws
 mod TableLaws

@@ -2,7 +2,7 @@
 use Rattle.std.proofs.Common.{◌≡◌, ◌<◌, ◌≤◌, ℕ, suc, ◌+◌, ◌-◌, List, [], ◌∷◌, ◌++◌, length, drop, get_or, Option, Some, None, Result, refl, sym, ap, ◌∙◌, arith}
 use Rattle.std.proofs.lemmas.List.{at_drop_all, at_drop_more}
 use Rattle.abstract_port.specs.declared.Change.{Change}
-use Rattle.stream_bounds.specs.BoundLines.{bound_line, bound_lines, class_line, class_lines, deadline_finding, finding_in, first_of}
+use Rattle.stream_bounds.specs.BoundLines.{bound_line, bound_lines, class_finding, class_finding_in, class_line, class_lines, finding_in, first_of, stream_finding}
 use Rattle.stream_bounds.specs.Classes.{class_of}
 use Rattle.stream_bounds.specs.Verdicts.{ClassAnswer, answer_at, delay_of, left_after}
 use Rattle.stream_bounds.specs.declared.faults.Finding.{Finding}
@@ -35,9 +35,36 @@ none_later : (a : Option Finding) → first_of a None ≡ a
 none_later (Some x) = refl
 none_later None = refl
 
+module _ (answers : List ClassAnswer) where
+  one_class : (n class : ℕ) → class_finding_in answers (suc n) class ≡ first_of (class_finding class (answer_at answers class).verdict) (class_finding_in answers n (class + 1))
+  unfolding class_finding_in
+  one_class n class = refl
+
+  no_class : (class : ℕ) → class_finding_in answers 0 class ≡ None
+  unfolding class_finding_in
+  no_class class = refl
+
+  -- the finding about one class more
+  pub class_found_more : (class : ℕ) (v : Verdict) (first found now all : Option Finding) → class < 8
+      → v ≡ (answer_at answers class).verdict → found ≡ class_finding class v → now ≡ first_of first found
+      → first_of first (class_finding_in answers (8 - class) class) ≡ all → first_of now (class_finding_in answers (8 - (class + 1)) (class + 1)) ≡ all
+  class_found_more class v first found now all less is found_is now_is so_far =
+      let rest : Option Finding = class_finding_in answers (8 - (class + 1)) (class + 1) in
+      let step : 8 - class ≡ suc (8 - (class + 1)) = omega arith in
+      let whole = ap (λ n. class_finding_in answers n class) step ∙ one_class (8 - (class + 1)) class in
+      ap (λ f. first_of f rest) (now_is ∙ ap (first_of first) (found_is ∙ ap (class_finding class) is))
+      ∙ (first_of_three first (class_finding class (answer_at answers class).verdict) rest
+      ∙ (sym (ap (first_of first) whole) ∙ so_far))
+
+  -- there are no more
+  pub class_found_end : (class : ℕ) (first all : Option Finding) → 8 ≤ class → first_of first (class_finding_in answers (8 - class) class) ≡ all → first ≡ all
+  class_found_end class first all over so_far =
+      let none : 8 - class ≡ 0 = omega arith in
+      sym (none_later first) ∙ (sym (ap (first_of first) (ap (λ n. class_finding_in answers n class) none ∙ no_class class)) ∙ so_far)
+
 module _ (s : BoundsSettings) (c : Change) where
   one_line : (answers : List ClassAnswer) (x : Stream) (xs : List Stream) → bound_lines s c answers (x ∷ xs)
-      ≡ bound_line (occupancy_of s.port.rate x.len) x (delay_of answers (class_of s.port c x)) ++ bound_lines s c (left_after answers (class_of s.port c x)) xs
+      ≡ bound_line (occupancy_of s.port.rate x.len) x (delay_of answers (class_of s c x)) ++ bound_lines s c (left_after answers (class_of s c x)) xs
   unfolding bound_lines
   one_line answers x xs = refl
 
@@ -46,7 +73,7 @@ module _ (s : BoundsSettings) (c : Change) where
   no_line answers = refl
 
   one_finding : (answers : List ClassAnswer) (x : Stream) (xs : List Stream) → finding_in s c answers (x ∷ xs)
-      ≡ first_of (deadline_finding (occupancy_of s.port.rate x.len) x (delay_of answers (class_of s.port c x)) x.deadline) (finding_in s c (left_after answers (class_of s.port c x)) xs)
+      ≡ first_of (stream_finding (occupancy_of s.port.rate x.len) x (delay_of answers (class_of s c x)) x.deadline) (finding_in s c (left_after answers (class_of s c x)) xs)
   unfolding finding_in
   one_finding answers x xs = refl
 
@@ -57,7 +84,7 @@ module _ (s : BoundsSettings) (c : Change) where
   -- the line of one stream more
   pub stream_more : (answers : List ClassAnswer) (xs : List Stream) (i : ℕ) (d : Stream) → i < length xs
       → bound_lines s c answers (drop i xs)
-      ≡ bound_line (occupancy_of s.port.rate (get_or xs i d).len) (get_or xs i d) (delay_of answers (class_of s.port c (get_or xs i d))) ++ bound_lines s c (left_after answers (class_of s.port c (get_or xs i d))) (drop (i + 1) xs)
+      ≡ bound_line (occupancy_of s.port.rate (get_or xs i d).len) (get_or xs i d) (delay_of answers (class_of s c (get_or xs i d))) ++ bound_lines s c (left_after answers (class_of s c (get_or xs i d))) (drop (i + 1) xs)
   stream_more answers xs i d less = at_drop_more (bound_lines s c answers) xs i d less ∙ one_line answers (get_or xs i d) (drop (i + 1) xs)
 
   pub stream_end : (answers : List ClassAnswer) (xs : List Stream) (i : ℕ) → length xs ≤ i → bound_lines s c answers (drop i xs) ≡ []
@@ -65,7 +92,7 @@ module _ (s : BoundsSettings) (c : Change) where
 
   -- in the words of the code
   pub told_more : (answers left : List ClassAnswer) (xs : List Stream) (i : ℕ) (d : Stream) (class : Result ℕ Dropped) (need : ℕ) (delay : Delay) → i < length xs
-      → class ≡ class_of s.port c (get_or xs i d) → need ≡ occupancy_of s.port.rate (get_or xs i d).len → delay ≡ delay_of answers class → left ≡ left_after answers class
+      → class ≡ class_of s c (get_or xs i d) → need ≡ occupancy_of s.port.rate (get_or xs i d).len → delay ≡ delay_of answers class → left ≡ left_after answers class
       → bound_lines s c answers (drop i xs) ≡ bound_line need (get_or xs i d) delay ++ bound_lines s c left (drop (i + 1) xs)
   told_more answers left xs i d class need delay less class_is need_is delay_is left_is =
       let x : Stream = get_or xs i d in
@@ -79,25 +106,25 @@ module _ (s : BoundsSettings) (c : Change) where
   -- its finding
   pub finding_more : (answers : List ClassAnswer) (xs : List Stream) (i : ℕ) (d : Stream) (first all : Option Finding) → i < length xs
       → first_of first (finding_in s c answers (drop i xs)) ≡ all
-      → first_of (first_of first (deadline_finding (occupancy_of s.port.rate (get_or xs i d).len) (get_or xs i d) (delay_of answers (class_of s.port c (get_or xs i d))) (get_or xs i d).deadline))
-      (finding_in s c (left_after answers (class_of s.port c (get_or xs i d))) (drop (i + 1) xs)) ≡ all
+      → first_of (first_of first (stream_finding (occupancy_of s.port.rate (get_or xs i d).len) (get_or xs i d) (delay_of answers (class_of s c (get_or xs i d))) (get_or xs i d).deadline))
+      (finding_in s c (left_after answers (class_of s c (get_or xs i d))) (drop (i + 1) xs)) ≡ all
   finding_more answers xs i d first all less so_far =
       first_of_three first _ _
       ∙ (sym (ap (first_of first) (at_drop_more (finding_in s c answers) xs i d less ∙ one_finding answers (get_or xs i d) (drop (i + 1) xs))) ∙ so_far)
 
   pub found_more : (answers left : List ClassAnswer) (xs : List Stream) (i : ℕ) (d : Stream) (class : Result ℕ Dropped) (need : ℕ) (delay : Delay) (first found now all : Option Finding) → i < length xs
-      → class ≡ class_of s.port c (get_or xs i d) → need ≡ occupancy_of s.port.rate (get_or xs i d).len → delay ≡ delay_of answers class → left ≡ left_after answers class
-      → found ≡ deadline_finding need (get_or xs i d) delay (get_or xs i d).deadline → now ≡ first_of first found
+      → class ≡ class_of s c (get_or xs i d) → need ≡ occupancy_of s.port.rate (get_or xs i d).len → delay ≡ delay_of answers class → left ≡ left_after answers class
+      → found ≡ stream_finding need (get_or xs i d) delay (get_or xs i d).deadline → now ≡ first_of first found
       → first_of first (finding_in s c answers (drop i xs)) ≡ all → first_of now (finding_in s c left (drop (i + 1) xs)) ≡ all
   found_more answers left xs i d class need delay first found now all less class_is need_is delay_is left_is found_is now_is so_far =
       let x : Stream = get_or xs i d in
       let rest : List Stream = drop (i + 1) xs in
       ap (λ f. first_of f (finding_in s c left rest)) now_is
       ∙ (ap (λ f. first_of (first_of first f) (finding_in s c left rest)) found_is
-      ∙ (ap (λ l. first_of (first_of first (deadline_finding need x delay x.deadline)) (finding_in s c l rest)) left_is
-      ∙ (ap (λ e. first_of (first_of first (deadline_finding need x e x.deadline)) (finding_in s c (left_after answers class) rest)) delay_is
-      ∙ (ap (λ n. first_of (first_of first (deadline_finding n x (delay_of answers class) x.deadline)) (finding_in s c (left_after answers class) rest)) need_is
-      ∙ (ap (λ k. first_of (first_of first (deadline_finding (occupancy_of s.port.rate x.len) x (delay_of answers k) x.deadline)) (finding_in s c (left_after answers k) rest)) class_is
+      ∙ (ap (λ l. first_of (first_of first (stream_finding need x delay x.deadline)) (finding_in s c l rest)) left_is
+      ∙ (ap (λ e. first_of (first_of first (stream_finding need x e x.deadline)) (finding_in s c (left_after answers class) rest)) delay_is
+      ∙ (ap (λ n. first_of (first_of first (stream_finding n x (delay_of answers class) x.deadline)) (finding_in s c (left_after answers class) rest)) need_is
+      ∙ (ap (λ k. first_of (first_of first (stream_finding (occupancy_of s.port.rate x.len) x (delay_of answers k) x.deadline)) (finding_in s c (left_after answers k) rest)) class_is
       ∙ finding_more answers xs i d first all less so_far)))))
 
   pub finding_end : (answers : List ClassAnswer) (xs : List Stream) (i : ℕ) (first all : Option Finding) → length xs ≤ i

@@ -1,19 +1,19 @@
 -- The lines of a schedule's bounds. Times are in picoseconds.
-use Rattle.std.specs.Prelude.{ℕ, ◌+◌, zero, suc, List, [], ◌∷◌, ◌++◌, Option, Some, None, Result, Ok, Err, decimal, codes}
+use Rattle.std.specs.Prelude.{ℕ, ◌+◌, zero, suc, ◌||◌, true, false, List, [], ◌∷◌, ◌++◌, Option, Some, None, Result, Ok, Err, decimal, codes}
 use Rattle.std.specs.List.{concat}
 use Rattle.answer_text.specs.Names.{dropped_name}
-use Rattle.gate_list.specs.declared.PlanFault.{PlanFault}
-use Rattle.gate_list.specs.Gate.{plan_fault}
 use Rattle.wire_time.specs.Wire.{occupancy_of}
 use Rattle.abstract_port.specs.AbstractPort.{plan_asked}
 use Rattle.abstract_port.specs.declared.Change.{Change}
 use Rattle.abstract_port.specs.declared.Command.{Command}
 use Rattle.abstract_port.specs.declared.Command.TheVariants.{Replace, Delete}
-use Rattle.abstract_port.specs.declared.Refused.TheVariants.{Schedule}
+use Rattle.abstract_port.specs.declared.Refused.{Refused}
 use Rattle.answer_text.specs.Lines.{refused_line, tc_fault_line}
 use Rattle.schedule_check.specs.Apart.{apart_line, class_count, classes_apart}
-use Rattle.stream_bounds.specs.Classes.{class_of}
+use Rattle.schedule_check.specs.Refusals.{map_after}
+use Rattle.stream_bounds.specs.Classes.{class_of, refusal_of}
 use Rattle.stream_bounds.specs.Verdicts.{ClassAnswer, answer_at, class_answers, delay_of, left_after, met_by, plus}
+use Rattle.stream_bounds.specs.declared.faults.Answered.{Answered}
 use Rattle.stream_bounds.specs.declared.faults.Finding.{Finding}
 use Rattle.stream_bounds.specs.declared.faults.Finding.TheVariants as Findings
 use Rattle.stream_bounds.specs.declared.settings.BoundsSettings.{BoundsSettings}
@@ -29,14 +29,31 @@ use Rattle.traffic.specs.declared.table.Stream.{Stream}
 
 -- 1. Classes
 
--- the line of a class whose queue is full, or stuck
-abbrev pub place_line : ℕ → List ℕ → Place → List ℕ
-place_line class word f = concat (
-    codes "class " ∷ decimal class ∷ word
+-- the beginning of a class's line
+abbrev pub class_head : ℕ → List ℕ
+class_head class = concat (codes "class " ∷ decimal class ∷ [])
+
+-- a frame, behind the word that says what it is the first of
+abbrev pub place_text : List ℕ → Place → List ℕ
+place_text word f = concat (
+    word
     ∷ codes " at " ∷ decimal f.moment
     ∷ codes " stream " ∷ decimal f.id
     ∷ codes " frame " ∷ decimal f.number
-    ∷ codes "\n" ∷ [])
+    ∷ [])
+
+-- the end of a class's line: the first frame that finds no room, if there is one
+abbrev pub full_end : Option Place → List ℕ
+full_end None = codes "\n"
+full_end (Some f) = place_text (codes " full") f ++ codes "\n"
+
+-- the line of a class whose queue is full at last
+abbrev pub full_line : ℕ → Place → List ℕ
+full_line class first = class_head class ++ full_end (Some first)
+
+-- the line of a class that is stuck: the frame that never starts, and the first that then finds no room, if there is one
+abbrev pub stuck_line : ℕ → Place → Option Place → List ℕ
+stuck_line class never full = class_head class ++ (place_text (codes " stuck") never ++ full_end full)
 
 -- the line of a class about which one word is said
 abbrev pub word_line : ℕ → List ℕ → List ℕ
@@ -57,9 +74,9 @@ abbrev pub class_line : ℕ → ℕ → Verdict → List ℕ
 class_line class room Verdicts.Idle = []
 class_line class room Verdicts.Shared = word_line class (codes " shared")
 class_line class room (Verdicts.Bounded most frames every) = bounded_line class room most frames every
-class_line class room (Verdicts.Full f) = place_line class (codes " full") f
-class_line class room (Verdicts.Stuck f) = place_line class (codes " stuck") f
-class_line class room Verdicts.Overloaded = word_line class (codes " overloaded")
+class_line class room (Verdicts.Full f alone) = full_line class f
+class_line class room (Verdicts.Stuck never full) = stuck_line class never full
+class_line class room (Verdicts.Overloaded alone) = word_line class (codes " overloaded")
 class_line class room Verdicts.Long = word_line class (codes " long")
 class_line class room Verdicts.Late = word_line class (codes " late")
 
@@ -89,6 +106,7 @@ delay_text need (Delays.Within class b) = concat (
     ∷ codes " end " ∷ decimal (plus b.least need) ∷ codes " to " ∷ decimal (plus b.greatest need)
     ∷ [])
 delay_text need (Delays.Unbounded class) = concat (codes " class " ∷ decimal class ∷ codes " none" ∷ [])
+delay_text need (Delays.Unsettled class) = concat (codes " class " ∷ decimal class ∷ codes " none" ∷ [])
 delay_text need (Delays.Unknown class) = concat (codes " class " ∷ decimal class ∷ codes " unknown" ∷ [])
 delay_text need (Delays.Lost why) = concat (codes " dropped " ∷ dropped_name why ∷ [])
 
@@ -104,16 +122,17 @@ bound_line need x delay = bound_head x.first_id ++ (delay_text need delay ++ dea
 unfoldable pub bound_lines : BoundsSettings → Change → List ClassAnswer → List Stream → List ℕ
 bound_lines s c answers [] = []
 bound_lines s c answers (x ∷ xs) =
-    bound_line (occupancy_of s.port.rate x.len) x (delay_of answers (class_of s.port c x))
-    ++ bound_lines s c (left_after answers (class_of s.port c x)) xs
+    bound_line (occupancy_of s.port.rate x.len) x (delay_of answers (class_of s c x))
+    ++ bound_lines s c (left_after answers (class_of s c x)) xs
 
 -- 3. Commands
 
--- the lines of a change: the refusal of its schedule; or the classes that it keeps apart, the verdict about each class, and the delay of each stream
-abbrev pub change_lines : Option PlanFault → BoundsSettings → Change → List Stream → List ℕ
-change_lines (Some fault) s c streams = refused_line (Schedule fault)
+-- The lines of a change: why the port refuses it; or the classes that its schedule keeps apart, of those of the map that the port then has, the verdict about
+-- each class, and the delay of each stream.
+abbrev pub change_lines : Option Refused → BoundsSettings → Change → List Stream → List ℕ
+change_lines (Some why) s c streams = refused_line why
 change_lines None s c streams =
-    apart_line (classes_apart (class_count c.map) 0 (plan_asked c).entries)
+    apart_line (classes_apart (class_count (map_after s.map c.map)) 0 (plan_asked c).entries)
     ++ (class_lines s.port.room (class_answers s c streams) 8 0
     ++ bound_lines s c (class_answers s c streams) streams)
 
@@ -121,7 +140,7 @@ change_lines None s c streams =
 abbrev pub command_lines : BoundsSettings → List Stream → Result Command TcFault → List ℕ
 command_lines s streams (Err fault) = tc_fault_line fault
 command_lines s streams (Ok Delete) = apart_line []
-command_lines s streams (Ok (Replace c)) = change_lines (plan_fault s.port.rate (plan_asked c)) s c streams
+command_lines s streams (Ok (Replace c)) = change_lines (refusal_of s c) s c streams
 
 -- 4. What a strict run stops a build for
 
@@ -136,23 +155,56 @@ unmet id Mets.Met = None
 unmet id Mets.Missed = Some (Findings.Missed id)
 unmet id Mets.Unknown = Some (Findings.Unknown id)
 
-abbrev pub deadline_finding : ℕ → Stream → Delay → Option ℕ → Option Finding
-deadline_finding need x delay None = None
-deadline_finding need x delay (Some deadline) = unmet x.first_id (met_by need delay deadline)
+-- a stream without a deadline whose frames are all dropped
+abbrev pub lost : ℕ → Delay → Option Finding
+lost id (Delays.Lost why) = Some (Findings.Dropped id)
+lost id delay = None
+
+-- the finding about a stream: its deadline is not known to be met, or it has none and is dropped
+abbrev pub stream_finding : ℕ → Stream → Delay → Option ℕ → Option Finding
+stream_finding need x delay None = lost x.first_id delay
+stream_finding need x delay (Some deadline) = unmet x.first_id (met_by need delay deadline)
 
 -- the first finding among streams
 unfoldable pub finding_in : BoundsSettings → Change → List ClassAnswer → List Stream → Option Finding
 finding_in s c answers [] = None
 finding_in s c answers (x ∷ xs) =
-    first_of (deadline_finding (occupancy_of s.port.rate x.len) x (delay_of answers (class_of s.port c x)) x.deadline)
-    (finding_in s c (left_after answers (class_of s.port c x)) xs)
+    first_of (stream_finding (occupancy_of s.port.rate x.len) x (delay_of answers (class_of s c x)) x.deadline)
+    (finding_in s c (left_after answers (class_of s c x)) xs)
 
-abbrev pub change_finding : ℕ → Option PlanFault → BoundsSettings → Change → List Stream → Option Finding
-change_finding line (Some fault) s c streams = Some (Findings.Refused line)
-change_finding line None s c streams = finding_in s c (class_answers s c streams) streams
+-- a class that loses frames, or never sends some
+abbrev pub class_finding : ℕ → Verdict → Option Finding
+class_finding class (Verdicts.Full f alone) = Some (Findings.Full class)
+class_finding class (Verdicts.Stuck never full) = Some (Findings.Stuck class)
+class_finding class (Verdicts.Overloaded alone) = Some (Findings.Overloaded class)
+class_finding class _ = None
 
--- the first finding of the line of this number
-abbrev pub command_finding : ℕ → BoundsSettings → List Stream → Result Command TcFault → Option Finding
-command_finding line s streams (Err fault) = Some (Findings.TcFault line)
-command_finding line s streams (Ok Delete) = None
-command_finding line s streams (Ok (Replace c)) = change_finding line (plan_fault s.port.rate (plan_asked c)) s c streams
+-- the first finding among so many classes from one on
+unfoldable pub class_finding_in : List ClassAnswer → ℕ → ℕ → Option Finding
+class_finding_in answers zero class = None
+class_finding_in answers (suc n) class = first_of (class_finding class (answer_at answers class).verdict) (class_finding_in answers n (class + 1))
+
+-- the first finding about a change that is accepted: among its streams, and else among the classes
+abbrev pub accepted_finding : BoundsSettings → Change → List Stream → Option Finding
+accepted_finding s c streams = first_of (finding_in s c (class_answers s c streams) streams) (class_finding_in (class_answers s c streams) 8 0)
+
+-- 5. What was answered
+
+-- nothing yet
+abbrev pub nothing_answered : Answered
+nothing_answered = record { finding = None; judged = false }
+
+-- both, one after the other
+abbrev pub joined : Answered → Answered → Answered
+joined a b = record { finding = first_of a.finding b.finding; judged = a.judged || b.judged }
+
+-- what was answered about a change: its refusal, or its schedule
+abbrev pub change_answered : ℕ → Option Refused → BoundsSettings → Change → List Stream → Answered
+change_answered line (Some why) s c streams = record { finding = Some (Findings.Refused line); judged = false }
+change_answered line None s c streams = record { finding = accepted_finding s c streams; judged = true }
+
+-- what was answered about the line of this number
+abbrev pub command_answered : ℕ → BoundsSettings → List Stream → Result Command TcFault → Answered
+command_answered line s streams (Err fault) = record { finding = Some (Findings.TcFault line); judged = false }
+command_answered line s streams (Ok Delete) = nothing_answered
+command_answered line s streams (Ok (Replace c)) = change_answered line (refusal_of s c) s c streams

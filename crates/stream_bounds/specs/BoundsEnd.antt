@@ -1,14 +1,17 @@
 -- What a run of the program on a table and schedules leaves: its exit status, what the writer got, and the text of a fault.
 use Rattle.std.specs.Prelude.{ℕ, nat_le, Bool, List, Option, Some, None, Result, Ok, Err, IfSome, unwrap_or, codes, if◌then◌else◌}
 use Rattle.abstract_port.specs.declared.Command.{Command}
+use Rattle.class_map.specs.declared.ClassMap.{ClassMap}
 use Rattle.job.specs.RunEnd.{IsLetOut, IsRunEnding, IsUnanswered}
 use Rattle.job.specs.Outcome.{RunsOut}
 use Rattle.job.specs.declared.report.Ended.{Ended}
+use Rattle.schedule_check.specs.Refusals.{map_in, where_given}
 use Rattle.script.specs.ScriptEnd.{settings_given}
 use Rattle.script.specs.Given.{GivenWords}
 use Rattle.script.specs.Setup.{Setup}
 use Rattle.script.specs.Texts.{value_text}
 use Rattle.script.specs.declared.settings.BadValue.{BadValue}
+use Rattle.script.specs.declared.settings.BadValue.TheVariants as BadValues
 use Rattle.stream_bounds.specs.Faults.{bounds_telling}
 use Rattle.stream_bounds.specs.Outcome.{outcome_of}
 use Rattle.stream_bounds.specs.declared.settings.BoundsSettings.{BoundsSettings}
@@ -25,29 +28,36 @@ abbrev pub frames_where : Option ℕ → Option ℕ
 frames_where None = None
 frames_where (Some n) = if nat_le 1 n then Some n else None
 
--- the settings of a port, a number of frames, and whether the run is strict
-abbrev pub with_frames : Setup → Option ℕ → Bool → Result BoundsSettings BoundsValue
-with_frames port (Some frames) strict = Ok (record { port = port; frames = frames; strict = strict })
-with_frames port None strict = Err Values.Frames
+-- the settings of a port, the map that it has already, a number of frames, and whether the run is strict
+abbrev pub with_frames : Setup → Option ClassMap → Option ℕ → Bool → Result BoundsSettings BoundsValue
+with_frames port map (Some frames) strict = Ok (record { port = port; map = map; frames = frames; strict = strict })
+with_frames port map None strict = Err Values.Frames
 
-abbrev pub with_port : Result Setup BadValue → Option ℕ → Bool → Result BoundsSettings BoundsValue
-with_port (Ok port) frames strict = with_frames port frames strict
-with_port (Err value) frames strict = Err (Values.Port value)
+abbrev pub with_map : Setup → Option (Option ClassMap) → Option ℕ → Bool → Result BoundsSettings BoundsValue
+with_map port (Some map) frames strict = with_frames port map frames strict
+with_map port None frames strict = Err (Values.Port BadValues.Map)
 
--- the settings of the values that are given: those of a port, and a million frames where no number is given
-abbrev pub bounds_given : GivenWords → Option (List ℕ) → Bool → Result BoundsSettings BoundsValue
-bounds_given words frames strict =
-    with_port (settings_given greatest_moment words) (frames_where (number_in 10 MAX_FRAMES (unwrap_or frames (codes "1000000")))) strict
+abbrev pub with_port : Result Setup BadValue → Option (Option ClassMap) → Option ℕ → Bool → Result BoundsSettings BoundsValue
+with_port (Ok port) map frames strict = with_map port map frames strict
+with_port (Err value) map frames strict = Err (Values.Port value)
+
+-- the settings of the values that are given: those of a port, no map, and a million frames where no number is given
+abbrev pub bounds_given : GivenWords → (map frames : Option (List ℕ)) → Bool → Result BoundsSettings BoundsValue
+bounds_given words map frames strict =
+    with_port (settings_given greatest_moment words) (where_given map_in map) (frames_where (number_in 10 MAX_FRAMES (unwrap_or frames (codes "1000000")))) strict
 
 -- the text of a bad value
 abbrev pub bounds_value_text : BoundsValue → List ℕ
 bounds_value_text (Values.Port value) = value_text value
 bounds_value_text Values.Frames = codes "taprio_port: bad value of --frames\n"
 
+-- the end of a run whose value is bad: nothing is answered, and the text says which one
+abbrev pub IsBoundsRefusal : BoundsValue → Ended → (old got errors_old errors_new : Option (List ℕ)) → Type 0
+IsBoundsRefusal value ended old got errors_old errors_new = IsUnanswered 2 (bounds_value_text value) ended old got errors_old errors_new
+
 -- The end of a run: what the writer got, with what no write let out, is what is to be written for the octets of the table and of the schedules, or
 -- after a fault of a call's a prefix of it.
-abbrev pub IsBoundsEnding : Result BoundsSettings BoundsValue → (table schedules : Option (List ℕ)) → Ended → (old got errors_old errors_new : Option (List ℕ)) → Type 0
-IsBoundsEnding (Ok s) table schedules ended old got errors_old errors_new =
+abbrev pub IsBoundsEnding : BoundsSettings → (table schedules : Option (List ℕ)) → Ended → (old got errors_old errors_new : Option (List ℕ)) → Type 0
+IsBoundsEnding s table schedules ended old got errors_old errors_new =
     IsRunEnding bounds_telling (λ run. IsLetOut run got (λ out. (read : List (List ℕ) → Result Command TcFault) → IsReader read
     → IfSome table (λ streams. IfSome schedules (λ lines. RunsOut run old out (outcome_of read s streams lines))))) ended errors_old errors_new
-IsBoundsEnding (Err value) table schedules ended old got errors_old errors_new = IsUnanswered 2 (bounds_value_text value) ended old got errors_old errors_new

@@ -1,5 +1,5 @@
 -- Faults of a run on a table of streams and schedules, and what is reported of them.
-use Rattle.std.specs.Prelude.{List, ℕ, [], ◌∷◌, codes, decimal}
+use Rattle.std.specs.Prelude.{List, ℕ, [], ◌∷◌, ◌++◌, Option, Some, None, codes, decimal}
 use Rattle.std.specs.List.{concat}
 use Rattle.line_reader.specs.declared.lines.Limit.{Limit}
 use Rattle.line_reader.specs.declared.lines.LineFault.{LineFault}
@@ -8,6 +8,7 @@ use Rattle.job.specs.Report.{Telling}
 use Rattle.job.specs.declared.fault.Fault.{Fault}
 use Rattle.script.specs.Outcome.{limit_fault}
 use Rattle.script.specs.Texts.{line_text}
+use Rattle.script.specs.declared.faults.ScriptFault.{ScriptFault}
 use Rattle.stream_bounds.specs.declared.faults.BoundsInput.{BoundsInput}
 use Rattle.stream_bounds.specs.declared.faults.BoundsInput.TheVariants as Inputs
 use Rattle.stream_bounds.specs.declared.faults.Finding.{Finding}
@@ -17,9 +18,17 @@ use Rattle.stream_bounds.specs.declared.faults.Finding.TheVariants as Findings
 abbrev pub table_limited : ℕ → Limit → BoundsInput
 table_limited line limit = Inputs.Table line (limit_fault limit)
 
--- the line of the schedules of this number passes a limit
+-- the line of the schedules of this number passes a limit, where a strict run has found something before
+abbrev pub limited_behind : Option Finding → ℕ → Limit → BoundsInput
+limited_behind found line limit = Inputs.Schedules found line (limit_fault limit)
+
+-- the same where nothing was found
 abbrev pub schedules_limited : ℕ → Limit → BoundsInput
-schedules_limited line limit = Inputs.Schedules line (limit_fault limit)
+schedules_limited line limit = limited_behind None line limit
+
+-- the fault of schedules whose line can not be read
+abbrev pub schedules_fault : Option Finding → LineFault → Fault BoundsInput
+schedules_fault found fault = fault_of_line (limited_behind found) fault
 
 -- the fault of a table whose line can not be read
 abbrev pub table_fault : LineFault → Fault BoundsInput
@@ -35,17 +44,32 @@ found_text (Findings.TcFault line) = finding_text (codes "line ") line (codes ":
 found_text (Findings.Refused line) = finding_text (codes "line ") line (codes ": refused\n")
 found_text (Findings.Missed id) = finding_text (codes "stream ") id (codes ": deadline missed\n")
 found_text (Findings.Unknown id) = finding_text (codes "stream ") id (codes ": deadline unknown\n")
+found_text (Findings.Dropped id) = finding_text (codes "stream ") id (codes ": dropped\n")
+found_text (Findings.Full class) = finding_text (codes "class ") class (codes ": full\n")
+found_text (Findings.Stuck class) = finding_text (codes "class ") class (codes ": stuck\n")
+found_text (Findings.Overloaded class) = finding_text (codes "class ") class (codes ": overloaded\n")
+found_text Findings.NoSchedule = codes "taprio_port: bounds: no schedule was judged\n"
+found_text Findings.NoStream = codes "taprio_port: bounds: no stream is in the table\n"
+
+-- the text of what was found before, if anything was
+abbrev pub first_text : Option Finding → List ℕ
+first_text None = []
+first_text (Some finding) = found_text finding
+
+-- the text of the fault of a line of the schedules, behind that of what was found before
+abbrev pub schedules_text : Option Finding → ℕ → ScriptFault → List ℕ
+schedules_text found line fault = first_text found ++ line_text (codes "taprio_port: script line ") line fault
 
 -- the text of a fault
 abbrev pub bounds_text : BoundsInput → List ℕ
 bounds_text (Inputs.Table line fault) = line_text (codes "taprio_port: table line ") line fault
-bounds_text (Inputs.Schedules line fault) = line_text (codes "taprio_port: script line ") line fault
+bounds_text (Inputs.Schedules found line fault) = schedules_text found line fault
 bounds_text (Inputs.Found finding) = found_text finding
 
 -- the exit status of a fault: 3 where an input is refused, 1 where a strict run has found something
 abbrev pub bounds_status : BoundsInput → ℕ
 bounds_status (Inputs.Table line fault) = 3
-bounds_status (Inputs.Schedules line fault) = 3
+bounds_status (Inputs.Schedules found line fault) = 3
 bounds_status (Inputs.Found finding) = 1
 
 -- what is reported of a fault

@@ -2,7 +2,7 @@
 use Rattle.std.specs.Prelude.{◌≡◌, ◌⊎◌, ⊤, ℕ, List, ◌++◌, Option, Some, None, Result, Ok, Err}
 use Rattle.std.specs.Io.KnownBytes.{Appends}
 use Rattle.octet_writer.specs.Writes.{AppendsFront, FallsShort}
-use Rattle.stream_bounds.specs.declared.faults.Finding.{Finding}
+use Rattle.stream_bounds.specs.declared.faults.Answered.{Answered}
 use Rattle.delay_bounds.specs.Bounded.{Answer}
 use Rattle.delay_bounds.specs.declared.Bounded.{Bounded}
 use Rattle.delay_bounds.specs.declared.Unbound.{Unbound}
@@ -18,19 +18,19 @@ use Rattle.traffic.specs.declared.table.Stream.{Stream}
 abbrev pub ReadsTable : {T : Type 0} → Result T (Fault BoundsInput) → Table → List Stream → List Stream → Type 0
 ReadsTable (Ok x) table old new = (table.fault ≡ None) × (new ≡ old ++ table.streams)
 ReadsTable (Err (Faults.Input (Inputs.Table number fault))) table old new = table.fault ≡ Some (number, fault)
-ReadsTable (Err (Faults.Input (Inputs.Schedules number fault))) table old new = ⊥
+ReadsTable (Err (Faults.Input (Inputs.Schedules found number fault))) table old new = ⊥
 ReadsTable (Err (Faults.Input (Inputs.Found finding))) table old new = ⊥
 ReadsTable (Err Faults.Read) table old new = ⊤
 ReadsTable (Err Faults.Write) table old new = ⊥
 ReadsTable (Err Faults.Memory) table old new = ⊤
 
--- At Ok the whole text is written, and the finding is that one; after a failed write, or out of memory, a prefix of the text is.
-abbrev pub Tells : Result (Option Finding) (Fault BoundsInput) → Option (List ℕ) → Option (List ℕ) → List ℕ → Option Finding → Type 0
-Tells (Ok found) old new text finding = Appends old new text × (found ≡ finding)
-Tells (Err (Faults.Input fault)) old new text finding = ⊥
-Tells (Err Faults.Read) old new text finding = ⊥
-Tells (Err Faults.Write) old new text finding = FallsShort old new text
-Tells (Err Faults.Memory) old new text finding = AppendsFront old new text
+-- At Ok the whole text is written, and this was answered; after a failed write, or out of memory, a prefix of the text is.
+abbrev pub Tells : Result Answered (Fault BoundsInput) → Option (List ℕ) → Option (List ℕ) → List ℕ → Answered → Type 0
+Tells (Ok told) old new text answered = Appends old new text × (told ≡ answered)
+Tells (Err (Faults.Input fault)) old new text answered = ⊥
+Tells (Err Faults.Read) old new text answered = ⊥
+Tells (Err Faults.Write) old new text answered = FallsShort old new text
+Tells (Err Faults.Memory) old new text answered = AppendsFront old new text
 
 -- what `bound_flows` answers is this, unless it runs out of memory
 abbrev pub IsAnswered : {A : Type 0} → Result (Bounded A) Unbound → Result Answer Unbound → Type 0

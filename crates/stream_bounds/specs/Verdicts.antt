@@ -4,7 +4,7 @@
 -- worth in every run of a port is delay_bounds/specs/Claim.antt, the law `delay_bounds::laws::answers`: bounds hold for ever, and each is reached;
 -- of a class that is full that very frame is the first to be dropped, and of one that is stuck it is too, behind a frame that never starts; and a class
 -- that is overloaded loses a frame at any room.
-use Rattle.std.specs.Prelude.{ℕ, ◌+◌, ◌-◌, ◌^◌, min, nat_le, Bool, true, false, List, [], ◌∷◌, drop, slice_get, slice_set, slice_index_or, Option, Some, None, unwrap_or, Result, Ok, Err, if◌then◌else◌}
+use Rattle.std.specs.Prelude.{ℕ, ◌+◌, ◌-◌, ◌^◌, ◌==◌, length, min, nat_le, Bool, true, false, List, [], ◌∷◌, drop, slice_get, slice_set, slice_index_or, Option, Some, None, unwrap_or, Result, Ok, Err, if◌then◌else◌}
 use Rattle.gate_list.specs.Gate.{keeps_apart}
 use Rattle.abstract_port.specs.AbstractPort.{plan_asked}
 use Rattle.abstract_port.specs.declared.Change.{Change}
@@ -33,21 +33,25 @@ use Rattle.traffic.specs.declared.table.Stream.{Stream}
 abbrev pub plus : ℕ → ℕ → ℕ
 plus a b = min (a + b) (2 ^ 128 - 1)
 
--- a frame of the stream at a place of its class, behind so many of the stream, which finds no room at a moment
+-- a frame of the stream at a place of its class, behind so many of the stream, which comes at a moment
 abbrev pub place_of : List ℕ → ℕ → ℕ → ℕ → Place
 place_of ids place before moment = record { moment = moment; id = slice_index_or ids place 0; number = plus before 1 }
 
--- where no frame starts any more, the first that finds no room; if it comes after the greatest moment, the class is late
-abbrev pub stuck_at : List ℕ → Option Refused → Verdict
-stuck_at ids (Some f) = Verdicts.Stuck (place_of ids f.place f.before f.moment)
-stuck_at ids None = Verdicts.Late
+-- where no frame starts any more, the first that finds no room, if it comes by the greatest moment
+abbrev pub full_behind : List ℕ → Option Refused → Option Place
+full_behind ids (Some f) = Some (place_of ids f.place f.before f.moment)
+full_behind ids None = None
+
+-- whether a class with these streams has one only
+abbrev pub is_alone : List ℕ → Bool
+is_alone ids = length ids == 1
 
 -- the verdict about a class that is kept apart
 abbrev pub verdict_of : List ℕ → Result Answer Unbound → Verdict
 verdict_of ids (Ok a) = Verdicts.Bounded a.most a.frames a.every
-verdict_of ids (Err (Unbounds.Full f)) = Verdicts.Full (place_of ids f.place f.before f.moment)
-verdict_of ids (Err (Unbounds.Never f refused)) = stuck_at ids refused
-verdict_of ids (Err Unbounds.Overloaded) = Verdicts.Overloaded
+verdict_of ids (Err (Unbounds.Full f)) = Verdicts.Full (place_of ids f.place f.before f.moment) (is_alone ids)
+verdict_of ids (Err (Unbounds.Never f refused)) = Verdicts.Stuck (place_of ids f.place f.before f.moment) (full_behind ids refused)
+verdict_of ids (Err Unbounds.Overloaded) = Verdicts.Overloaded (is_alone ids)
 verdict_of ids (Err Unbounds.Long) = Verdicts.Long
 verdict_of ids (Err Unbounds.Late) = Verdicts.Late
 verdict_of ids (Err Unbounds.Memory) = Verdicts.Late
@@ -75,8 +79,8 @@ class_answer_by true (f ∷ rest) ids answer = record { verdict = verdict_of ids
 -- the answer about a class
 abbrev pub class_answer : BoundsSettings → Change → List Stream → ℕ → ClassAnswer
 class_answer s c streams class =
-    class_answer_by (keeps_apart (plan_asked c).entries class) (flows_of s.port c class streams) (ids_of s.port c class streams)
-    (answer_of (plan_asked c) class s.port.room (flows_of s.port c class streams) s.frames)
+    class_answer_by (keeps_apart (plan_asked c).entries class) (flows_of s c class streams) (ids_of s c class streams)
+    (answer_of (plan_asked c) class s.port.room (flows_of s c class streams) s.frames)
 
 -- the answers about all classes, from 0 up
 abbrev pub class_answers : BoundsSettings → Change → List Stream → List ClassAnswer
@@ -94,12 +98,16 @@ one_told answers class = slice_set answers class (record { verdict = (answer_at 
 
 -- 2. A stream
 
+-- the delay of a stream of a class that loses frames: it loses some where the class has no other
+abbrev pub losing : ℕ → Bool → Delay
+losing class alone = if alone then Delays.Unbounded class else Delays.Unsettled class
+
 -- the delay of the next stream of a class
 abbrev pub delay_by : ℕ → Verdict → Bound → Delay
 delay_by class (Verdicts.Bounded most frames every) b = Delays.Within class b
-delay_by class (Verdicts.Full f) b = Delays.Unbounded class
-delay_by class (Verdicts.Stuck f) b = Delays.Unbounded class
-delay_by class Verdicts.Overloaded b = Delays.Unbounded class
+delay_by class (Verdicts.Full f alone) b = losing class alone
+delay_by class (Verdicts.Stuck never full) b = Delays.Unbounded class
+delay_by class (Verdicts.Overloaded alone) b = losing class alone
 delay_by class _ b = Delays.Unknown class
 
 abbrev pub delay_in : List ClassAnswer → ℕ → Delay
@@ -119,5 +127,6 @@ left_after answers (Err why) = answers
 abbrev pub met_by : ℕ → Delay → ℕ → Met
 met_by need (Delays.Within class b) deadline = if nat_le (plus b.greatest need) deadline then Mets.Met else Mets.Missed
 met_by need (Delays.Unbounded class) deadline = Mets.Missed
+met_by need (Delays.Unsettled class) deadline = Mets.Unknown
 met_by need (Delays.Unknown class) deadline = Mets.Unknown
 met_by need (Delays.Lost why) deadline = Mets.Missed

@@ -78,7 +78,7 @@ fn apart_answer(
     class: u8,
     answer: Result<Bounded<Global>, Unbound>,
 ) -> Result<ClassAnswer, BoundsFault>
-    ensures answer { (told : Result Answer Unbound) → IsAnswered answer told → IfOk result (λ a. a ≡ record { verdict = verdict_of (ids_of settings.now.port change.now class streams.now) told; left = bounds_of told }) }
+    ensures answer { (told : Result Answer Unbound) → IsAnswered answer told → IfOk result (λ a. a ≡ record { verdict = verdict_of (ids_of settings.now change.now class streams.now) told; left = bounds_of told }) }
     ensures memory { IfErr result (λ fault. fault ≡ Faults.Memory) }
 {
     match answer {
@@ -92,7 +92,7 @@ fn apart_answer(
         }
         Err(Unbound::Memory) => Err(BoundsFault::Memory),
         Err(why) => {
-            let ids = ids_of(alloc, &settings.port, change, streams, class)?;
+            let ids = ids_of(alloc, settings, change, streams, class)?;
             let verdict = verdict_of(ids.as_slice(), why);
             Ok(ClassAnswer::new(verdict, Vec::new(alloc)))
         }
@@ -114,7 +114,7 @@ fn class_answer(
     ensures answer { IfOk result (λ a. a ≡ class_answer settings.now change.now streams.now class) }
     ensures memory { IfErr result (λ fault. fault ≡ Faults.Memory) }
 {
-    let flows = flows_of(alloc, &settings.port, change, streams, class)?;
+    let flows = flows_of(alloc, settings, change, streams, class)?;
     if flows.len() == 0 {
         return Ok(ClassAnswer::new(Verdict::Idle, Vec::new(alloc)));
     }

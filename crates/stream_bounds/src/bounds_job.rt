@@ -1,9 +1,9 @@
 //! The program's job: the delays of streams, for ever.
 
-ghost use Rattle.std.specs.Prelude.{◌≡◌, IfErr, None, Some};
+ghost use Rattle.std.specs.Prelude.{◌≡◌, None, Some};
 ghost use Rattle.octet_writer.specs.Buffered.{writer_contents};
 ghost use Rattle.script.specs.Given.{octets_of, words_of_values};
-ghost use Rattle.stream_bounds.specs.BoundsEnd.{IsBoundsEnding, bounds_given, frames_where};
+ghost use Rattle.stream_bounds.specs.BoundsEnd.{IsBoundsEnding, IsBoundsRefusal, bounds_given, frames_where};
 ghost use Rattle.stream_bounds.specs.declared.settings.TheConstants.{MAX_FRAMES};
 ghost use Rattle.words.specs.Numbers.{number_in};
 
@@ -11,7 +11,8 @@ use crate::settings::{BoundsSettings, BoundsValue, MAX_FRAMES, say_bounds_value}
 use crate::table_bounds::bounds;
 use job::{Ended, end_run, end_told};
 use octet_writer::BufWriter;
-use script::{Values, Watch, settings_given};
+use schedule_check::given_map;
+use script::{BadValue, Values, Watch, settings_given};
 use std::alloc::{Allocator, Global};
 use std::io::{Read, Write};
 use wire_time::MAX_MOMENT;
@@ -25,6 +26,8 @@ const FRAMES: &str = "1000000";
 pub struct BoundsWords<'a> {
     /// Those of the port.
     pub port: Values<'a>,
+    /// The map that the port has already.
+    pub map: Option<&'a str>,
     /// How many frames of a class are looked at, at most.
     pub frames: Option<&'a str>,
     /// Whether the run is strict.
@@ -45,15 +48,19 @@ fn read_frames(frames: &str) -> Option<u64>
 
 /// The settings of the values that are given, and of those that stand for the others. The first bad value is the fault.
 pub fn bounds_given(words: BoundsWords<'_>) -> Result<BoundsSettings, BoundsValue>
-    ensures { result ≡ bounds_given (words_of_values words.entry.port) (octets_of words.entry.frames) words.entry.strict }
+    ensures { result ≡ bounds_given (words_of_values words.entry.port) (octets_of words.entry.map) (octets_of words.entry.frames) words.entry.strict }
 {
     let port = match settings_given(words.port, MAX_MOMENT) {
         Ok(port) => port,
         Err(value) => return Err(BoundsValue::Port(value)),
     };
+    let Some(map) = given_map(words.map) else {
+        return Err(BoundsValue::Port(BadValue::Map));
+    };
     match read_frames(words.frames.unwrap_or(FRAMES)) {
         Some(frames) => Ok(BoundsSettings {
             port,
+            map,
             frames,
             strict: words.strict,
         }),
@@ -61,31 +68,32 @@ pub fn bounds_given(words: BoundsWords<'_>) -> Result<BoundsSettings, BoundsValu
     }
 }
 
-/// Answers about the schedules that `reader` gives and the streams of `table`, by these values, through `answers`, with
-/// the text of a fault or of a strict run's finding on `errors`; and gives the writer of the answers back. What was
-/// answered is let out before a fault is reported; after a failed write no other is tried. Where a value is bad nothing
-/// is read. Who watches is called as by `bounds`.
+/// Reports a bad value on `errors`, and gives the writer of the answers back. Nothing is answered.
+pub fn end_with_bounds_value<B: Allocator, W: Write + Drop, E: Write>(
+    value: BoundsValue,
+    answers: BufWriter<W, B>,
+    errors: &mut E,
+) -> (Ended, W)
+    ensures { IsBoundsRefusal value result.0 (writer_contents W.contents answers) (W.contents result.1) (E.contents errors.old) (E.contents errors.new) }
+{
+    end_told(say_bounds_value(&value, errors), answers)
+}
+
+/// Answers about the schedules that `reader` gives and the streams of `table`, with these settings, through `answers`,
+/// with the text of a fault or of a strict run's finding on `errors`; and gives the writer of the answers back. What was
+/// answered is let out before a fault is reported; after a failed write no other is tried. Who watches is called as by
+/// `bounds`.
 pub fn answer_bounds<B: Allocator, R: Read, S: Read + Drop, W: Write + Drop, E: Write, H: Watch>(
     alloc: Global,
-    words: BoundsWords<'_>,
+    settings: BoundsSettings,
     table: S,
     reader: &mut R,
     mut answers: BufWriter<W, B>,
     errors: &mut E,
     watch: &mut H,
 ) -> (Ended, W)
-    ensures ending { IsBoundsEnding (bounds_given (words_of_values words.entry.port) (octets_of words.entry.frames) words.entry.strict) (S.remaining table)
-        (R.remaining reader.old) result.0 (writer_contents W.contents answers) (W.contents result.1) (E.contents errors.old) (E.contents errors.new) }
-    ensures unread { IfErr (bounds_given (words_of_values words.entry.port) (octets_of words.entry.frames) words.entry.strict) (λ _. reader.new ≡ reader.old) }
+    ensures { IsBoundsEnding settings (S.remaining table) (R.remaining reader.old) result.0 (writer_contents W.contents answers) (W.contents result.1) (E.contents errors.old) (E.contents errors.new) }
 {
-    match bounds_given(words) {
-        Ok(settings) => {
-            let run = bounds(alloc, table, reader, &mut answers, settings, watch);
-            end_run(run, answers, errors)
-        }
-        Err(value) => {
-            let ended = say_bounds_value(&value, errors);
-            end_told(ended, answers)
-        }
-    }
+    let run = bounds(alloc, table, reader, &mut answers, settings, watch);
+    end_run(run, answers, errors)
 }

@@ -1,28 +1,30 @@
 //! What is answered about a schedule command.
 
-ghost use Rattle.std.specs.Prelude.{◌≡◌, All, IfOk, List, None, Option, Result, ℕ};
+ghost use Rattle.std.specs.Prelude.{◌≡◌, All, IfOk, List, None, Option, Result, Some, true, false, ℕ};
 ghost use Rattle.octet_writer.specs.Writes.{Writes};
 ghost use Rattle.stream_bounds.specs.Verdicts.{class_answers};
-ghost use Rattle.stream_bounds.specs.declared.faults.Finding.{Finding};
+ghost use Rattle.stream_bounds.specs.declared.faults.Answered.{Answered};
+ghost use Rattle.stream_bounds.specs.declared.faults.Finding.TheVariants as Findings;
+ghost use Rattle.answer_text.specs.Lines.{refused_line};
+ghost use Rattle.schedule_check.specs.Refusals.{early_refusal};
 ghost use Rattle.abstract_port.specs.AbstractPort.{plan_asked};
 ghost use Rattle.abstract_port.specs.declared.Command.{Command};
-ghost use Rattle.gate_list.specs.Gate.{plan_fault};
-ghost use Rattle.stream_bounds.specs.BoundLines.{change_finding, change_lines, command_finding, command_lines, finding_in};
-ghost use Rattle.stream_bounds.specs.Classes.{IsPeriodic};
+ghost use Rattle.stream_bounds.specs.BoundLines.{accepted_finding, change_answered, change_lines, command_answered, command_lines};
+ghost use Rattle.stream_bounds.specs.Classes.{IsPeriodic, port_before, refusal_of};
 ghost use Rattle.stream_bounds.specs.TableRead.{Tells};
 ghost use Rattle.tc_reader.specs.Reader.{IsReader};
 ghost use Rattle.tc_reader.specs.declared.fault.TcFault.{TcFault};
 ghost use Rattle.words.specs.Words.{words_of};
 
 use crate::answers::Answers;
-use crate::class_lines::put_classes;
-use crate::faults::{BoundsFault, Finding};
+use crate::class_lines::{find_class, put_classes};
+use crate::faults::{Answered, BoundsFault, Finding};
 use crate::settings::BoundsSettings;
-use crate::stream_lines::put_streams;
+use crate::stream_lines::{first_of, put_streams};
 use abstract_port::{Change, Command, Refused};
 use answer_text::{WriteFault, put_refused, put_tc_fault};
 use gate_list::Schedule;
-use schedule_check::{class_count, classes_apart, put_apart};
+use schedule_check::{class_count, classes_apart, early_refusal, map_after, put_apart};
 use script::read_tc;
 use std::alloc::Global;
 use std::io::Write;
@@ -30,11 +32,11 @@ use tc_reader::TcFault;
 use traffic::Stream;
 
 /// What a call that writes answers, as what a call answers that may fail otherwise too.
-fn told(written: Result<Option<Finding>, WriteFault>) -> Result<Option<Finding>, BoundsFault>
-    ensures { (old new : Option (List ℕ)) (text : List ℕ) (finding : Option Finding) → Writes written old new text → IfOk written (λ found. found ≡ finding) → Tells result old new text finding }
+fn told(written: Result<Answered, WriteFault>) -> Result<Answered, BoundsFault>
+    ensures { (old new : Option (List ℕ)) (text : List ℕ) (answered : Answered) → Writes written old new text → IfOk written (λ told. told ≡ answered) → Tells result old new text answered }
 {
     match written {
-        Ok(found) => Ok(found),
+        Ok(answered) => Ok(answered),
         Err(_) => Err(BoundsFault::Write),
     }
 }
@@ -48,15 +50,21 @@ fn put_answers<W: Write>(
     change: &Change,
     schedule: &Schedule,
     answers: &mut Answers,
-) -> Result<Option<Finding>, WriteFault>
+) -> Result<Answered, WriteFault>
     requires plan { schedule.now ≡ plan_asked change.now }
     requires answers { answers.old ≡ class_answers settings.now change.now streams.now }
     ensures lines { Writes result (W.contents writer.old) (W.contents writer.new) (change_lines None settings.now change.now streams.now) }
-    ensures finding { IfOk result (λ found. found ≡ finding_in settings.now change.now (class_answers settings.now change.now streams.now) streams.now) }
+    ensures answered { IfOk result (λ told. told ≡ record { finding = accepted_finding settings.now change.now streams.now; judged = true }) }
 {
-    put_apart(writer, &classes_apart(schedule, class_count(change.map)))?;
+    let count = class_count(map_after(settings.map, change.map));
+    put_apart(writer, &classes_apart(schedule, count))?;
     put_classes(writer, settings.port.room(), answers)?;
-    put_streams(writer, settings, change, answers, streams)
+    let of_classes = find_class(answers);
+    let of_streams = put_streams(writer, settings, change, answers, streams)?;
+    Ok(Answered {
+        finding: first_of(of_streams, of_classes),
+        judged: true,
+    })
 }
 
 /// Answers about an accepted schedule.
@@ -67,10 +75,10 @@ fn put_schedule<W: Write>(
     streams: &[Stream],
     change: &Change,
     schedule: &Schedule,
-) -> Result<Option<Finding>, BoundsFault>
+) -> Result<Answered, BoundsFault>
     requires plan { schedule.now ≡ plan_asked change.now }
     requires periodic { All IsPeriodic streams.now }
-    ensures { (line : ℕ) → Tells result (W.contents writer.old) (W.contents writer.new) (change_lines None settings.now change.now streams.now) (change_finding line None settings.now change.now streams.now) }
+    ensures { (line : ℕ) → Tells result (W.contents writer.old) (W.contents writer.new) (change_lines None settings.now change.now streams.now) (change_answered line None settings.now change.now streams.now) }
 {
     match Answers::new(alloc, settings, change, schedule, streams) {
         Ok(mut answers) => told(put_answers(
@@ -85,17 +93,31 @@ fn put_schedule<W: Write>(
     }
 }
 
-/// Answers about a change: the refusal of its schedule, or what holds of it.
-fn put_change<W: Write>(
+/// Why a line changes nothing, in the words of an answer.
+fn put_refusal<W: Write>(writer: &mut W, line: u32, why: Refused) -> Result<Answered, BoundsFault>
+    ensures { Tells result (W.contents writer.old) (W.contents writer.new) (refused_line why) (record { finding = Some (Findings.Refused line); judged = false }) }
+{
+    match put_refused(writer, why) {
+        Ok(()) => Ok(Answered {
+            finding: Some(Finding::Refused(line)),
+            judged: false,
+        }),
+        Err(_) => Err(BoundsFault::Write),
+    }
+}
+
+/// Answers about a change that the port doesn't refuse for its map or its limits.
+fn put_fitting<W: Write>(
     alloc: Global,
     writer: &mut W,
     settings: &BoundsSettings,
     streams: &[Stream],
     line: u32,
     change: &Change,
-) -> Result<Option<Finding>, BoundsFault>
-    requires { All IsPeriodic streams.now }
-    ensures { Tells result (W.contents writer.old) (W.contents writer.new) (change_lines (plan_fault settings.now.port.rate (plan_asked change.now)) settings.now change.now streams.now) (change_finding line (plan_fault settings.now.port.rate (plan_asked change.now)) settings.now change.now streams.now) }
+) -> Result<Answered, BoundsFault>
+    requires periodic { All IsPeriodic streams.now }
+    requires fitting { early_refusal (port_before settings.now) change.now ≡ None }
+    ensures { Tells result (W.contents writer.old) (W.contents writer.new) (change_lines (refusal_of settings.now change.now) settings.now change.now streams.now) (change_answered line (refusal_of settings.now change.now) settings.now change.now streams.now) }
 {
     let schedule = Schedule::new(
         &change.list,
@@ -106,12 +128,25 @@ fn put_change<W: Write>(
     );
     match schedule {
         Ok(schedule) => put_schedule(alloc, writer, settings, streams, change, &schedule),
-        Err(fault) => {
-            match put_refused(writer, Refused::Schedule(fault)) {
-                Ok(()) => Ok(Some(Finding::Refused(line))),
-                Err(_) => Err(BoundsFault::Write),
-            }
-        }
+        Err(fault) => put_refusal(writer, line, Refused::Schedule(fault)),
+    }
+}
+
+/// Answers about a change: why the port refuses it, or what holds of its schedule.
+fn put_change<W: Write>(
+    alloc: Global,
+    writer: &mut W,
+    settings: &BoundsSettings,
+    streams: &[Stream],
+    line: u32,
+    change: &Change,
+) -> Result<Answered, BoundsFault>
+    requires { All IsPeriodic streams.now }
+    ensures { Tells result (W.contents writer.old) (W.contents writer.new) (change_lines (refusal_of settings.now change.now) settings.now change.now streams.now) (change_answered line (refusal_of settings.now change.now) settings.now change.now streams.now) }
+{
+    match early_refusal(settings.port.mtu(), settings.map, change) {
+        Some(why) => put_refusal(writer, line, why),
+        None => put_fitting(alloc, writer, settings, streams, line, change),
     }
 }
 
@@ -123,27 +158,33 @@ fn put_command<W: Write>(
     streams: &[Stream],
     line: u32,
     read: Result<Command, TcFault>,
-) -> Result<Option<Finding>, BoundsFault>
+) -> Result<Answered, BoundsFault>
     requires { All IsPeriodic streams.now }
-    ensures { Tells result (W.contents writer.old) (W.contents writer.new) (command_lines settings.now streams.now read) (command_finding line settings.now streams.now read) }
+    ensures { Tells result (W.contents writer.old) (W.contents writer.new) (command_lines settings.now streams.now read) (command_answered line settings.now streams.now read) }
 {
     match read {
         Ok(Command::Replace(change)) => {
             put_change(alloc, writer, settings, streams, line, &change)
         }
         Ok(Command::Delete) => match put_apart(writer, &[]) {
-            Ok(()) => Ok(None),
+            Ok(()) => Ok(Answered {
+                finding: None,
+                judged: false,
+            }),
             Err(_) => Err(BoundsFault::Write),
         },
         Err(fault) => match put_tc_fault(writer, fault) {
-            Ok(()) => Ok(Some(Finding::TcFault(line))),
+            Ok(()) => Ok(Answered {
+                finding: Some(Finding::TcFault(line)),
+                judged: false,
+            }),
             Err(_) => Err(BoundsFault::Write),
         },
     }
 }
 
-/// Writes what is answered about a line that begins with `tc`, and which has this number; and answers the first finding
-/// about it.
+/// Writes what is answered about a line that begins with `tc`, and which has this number; and answers what was
+/// found, and whether a schedule was judged.
 pub fn put_line<W: Write>(
     alloc: Global,
     writer: &mut W,
@@ -151,10 +192,10 @@ pub fn put_line<W: Write>(
     streams: &[Stream],
     number: u32,
     line: &[u8],
-) -> Result<Option<Finding>, BoundsFault>
+) -> Result<Answered, BoundsFault>
     requires { All IsPeriodic streams.now }
     ensures { (read : List (List ℕ) → Result Command TcFault) → IsReader read →
-        Tells result (W.contents writer.old) (W.contents writer.new) (command_lines settings.now streams.now (read (words_of line.now))) (command_finding number settings.now streams.now (read (words_of line.now))) }
+        Tells result (W.contents writer.old) (W.contents writer.new) (command_lines settings.now streams.now (read (words_of line.now))) (command_answered number settings.now streams.now (read (words_of line.now))) }
 {
     put_command(alloc, writer, settings, streams, number, read_tc(line))
 }

@@ -1,14 +1,27 @@
 //! The lines of classes.
 
+ghost use Rattle.std.specs.Prelude.{◌≡◌, Some};
 ghost use Rattle.octet_writer.specs.Writes.{Writes};
-ghost use Rattle.stream_bounds.specs.BoundLines.{bounded_line, class_line, class_lines, place_line, word_line};
+ghost use Rattle.stream_bounds.specs.BoundLines.{bounded_line, class_finding, class_finding_in, class_head, class_line, class_lines, full_end, full_line, place_text, stuck_line, word_line};
 ghost use Rattle.wire_time.specs.declared.TheConstants.{CLASSES};
 
 use crate::answers::Answers;
+use crate::faults::Finding;
+use crate::stream_lines::first_of;
 use crate::verdicts::{Place, Verdict};
-use answer_text::{Part, WriteFault, put_parts};
+use answer_text::{Part, WriteFault, put, put_parts};
 use std::io::Write;
 use wire_time::CLASSES;
+
+/// Writes the beginning of a class's line.
+fn put_head<W: Write>(writer: &mut W, class: u8) -> Result<(), WriteFault>
+    ensures { Writes result (W.contents writer.old) (W.contents writer.new) (class_head class) }
+{
+    put_parts(
+        writer,
+        &[Part::Text(b"class "), Part::Number(u128::from(class))],
+    )
+}
 
 /// Writes the line of a class about which one word is said.
 fn put_word<W: Write>(writer: &mut W, class: u8, word: &[u8]) -> Result<(), WriteFault>
@@ -25,20 +38,13 @@ fn put_word<W: Write>(writer: &mut W, class: u8, word: &[u8]) -> Result<(), Writ
     )
 }
 
-/// Writes the line of a class whose queue is full, or stuck.
-fn put_place<W: Write>(
-    writer: &mut W,
-    class: u8,
-    word: &[u8],
-    place: Place,
-) -> Result<(), WriteFault>
-    ensures { Writes result (W.contents writer.old) (W.contents writer.new) (place_line class word.now place) }
+/// Writes a frame, behind the word that says what it is the first of.
+fn put_place<W: Write>(writer: &mut W, word: &[u8], place: Place) -> Result<(), WriteFault>
+    ensures { Writes result (W.contents writer.old) (W.contents writer.new) (place_text word.now place) }
 {
     put_parts(
         writer,
         &[
-            Part::Text(b"class "),
-            Part::Number(u128::from(class)),
             Part::Text(word),
             Part::Text(b" at "),
             Part::Number(place.moment),
@@ -46,9 +52,48 @@ fn put_place<W: Write>(
             Part::Number(u128::from(place.id)),
             Part::Text(b" frame "),
             Part::Number(place.number),
-            Part::Text(b"\n"),
         ],
     )
+}
+
+/// Writes the first frame that finds no room, to the end of the line.
+fn put_first_full<W: Write>(writer: &mut W, place: Place) -> Result<(), WriteFault>
+    ensures { Writes result (W.contents writer.old) (W.contents writer.new) (full_end (Some place)) }
+{
+    put_place(writer, b" full", place)?;
+    put(writer, b"\n")
+}
+
+/// Writes the end of a class's line: the first frame that finds no room, if there is one.
+fn put_full<W: Write>(writer: &mut W, full: Option<Place>) -> Result<(), WriteFault>
+    ensures { Writes result (W.contents writer.old) (W.contents writer.new) (full_end full) }
+{
+    match full {
+        None => put(writer, b"\n"),
+        Some(place) => put_first_full(writer, place),
+    }
+}
+
+/// Writes the line of a class whose queue is full at last.
+fn put_full_class<W: Write>(writer: &mut W, class: u8, first: Place) -> Result<(), WriteFault>
+    ensures { Writes result (W.contents writer.old) (W.contents writer.new) (full_line class first) }
+{
+    put_head(writer, class)?;
+    put_first_full(writer, first)
+}
+
+/// Writes the line of a class that is stuck.
+fn put_stuck<W: Write>(
+    writer: &mut W,
+    class: u8,
+    never: Place,
+    full: Option<Place>,
+) -> Result<(), WriteFault>
+    ensures { Writes result (W.contents writer.old) (W.contents writer.new) (stuck_line class never full) }
+{
+    put_head(writer, class)?;
+    put_place(writer, b" stuck", never)?;
+    put_full(writer, full)
 }
 
 /// Writes the line of a class with bounds.
@@ -97,9 +142,9 @@ fn put_class<W: Write>(
             frames,
             every,
         } => put_bounded(writer, class, room, most, frames, every),
-        Verdict::Full(place) => put_place(writer, class, b" full", place),
-        Verdict::Stuck(place) => put_place(writer, class, b" stuck", place),
-        Verdict::Overloaded => put_word(writer, class, b" overloaded"),
+        Verdict::Full { first, .. } => put_full_class(writer, class, first),
+        Verdict::Stuck { never, full } => put_stuck(writer, class, never, full),
+        Verdict::Overloaded { .. } => put_word(writer, class, b" overloaded"),
         Verdict::Long => put_word(writer, class, b" long"),
         Verdict::Late => put_word(writer, class, b" late"),
     }
@@ -113,4 +158,28 @@ pub fn put_classes<W: Write>(writer: &mut W, room: u32, answers: &Answers) -> Re
         put_class(writer, class, room, answers.verdict(class))?;
     }
     Ok(())
+}
+
+/// The finding about a class: it loses frames, or never sends some.
+fn class_finding(class: u8, verdict: Verdict) -> Option<Finding>
+    ensures { result ≡ class_finding class verdict }
+{
+    match verdict {
+        Verdict::Full { .. } => Some(Finding::Full(class)),
+        Verdict::Stuck { .. } => Some(Finding::Stuck(class)),
+        Verdict::Overloaded { .. } => Some(Finding::Overloaded(class)),
+        Verdict::Idle | Verdict::Shared | Verdict::Bounded { .. } | Verdict::Long | Verdict::Late =>
+            None,
+    }
+}
+
+/// The first finding among all classes.
+pub fn find_class(answers: &Answers) -> Option<Finding>
+    ensures { result ≡ class_finding_in answers.now CLASSES 0 }
+{
+    let mut first = None;
+    for class in 0..CLASSES as u8 {
+        first = first_of(first, class_finding(class, answers.verdict(class)));
+    }
+    first
 }

@@ -8,13 +8,14 @@ ghost use Rattle.job.specs.declared.fault.Fault.TheVariants as Faults;
 ghost use Rattle.stream_bounds.specs.Classes.{class_of, flow_of, flows_of, frame_of, ids_of, is_class, port_of, IsPeriodic};
 
 use crate::faults::BoundsFault;
+use crate::settings::BoundsSettings;
 use abstract_port::{Change, Dropped};
-use class_map::ClassMap;
 use delay_bounds::Flow;
-use script::Settings;
+use port::default_class;
+use schedule_check::map_after;
 use std::alloc::Allocator;
 use traffic::Stream;
-use wire_time::{CLASSES, Frame, PRIORITIES, Rate, occupancy, sdu};
+use wire_time::{CLASSES, Frame, Rate, occupancy, sdu};
 
 /// The first frame of a stream.
 fn frame_of(stream: &Stream) -> Frame
@@ -28,27 +29,20 @@ fn frame_of(stream: &Stream) -> Frame
     }
 }
 
-/// The class of a priority by a change, or where it gives no map the class of that number, and class 0 for 8 to 15.
-fn class_for(settings: &Settings, change: &Change, priority: u8) -> Option<u8>
+/// The class of a priority by the map that the port has once it has accepted a change; by no map the class of that
+/// number, and class 0 for 8 to 15.
+fn class_for(settings: &BoundsSettings, change: &Change, priority: u8) -> Option<u8>
     ensures class { result ≡ class_for (port_of settings.now change.now) priority }
     ensures within { IfSome result (λ class. class < CLASSES) }
 {
-    match change.map {
+    match map_after(settings.map, change.map) {
         Some(map) => map.class_of(priority),
-        None => {
-            if priority < CLASSES as u8 {
-                Some(priority)
-            } else if priority < PRIORITIES as u8 {
-                Some(0)
-            } else {
-                None
-            }
-        }
+        None => default_class(priority),
     }
 }
 
 /// The longest service data unit of a class by a change, in octets; 0 for none.
-fn limit_of(settings: &Settings, change: &Change, class: u8) -> u32
+fn limit_of(settings: &BoundsSettings, change: &Change, class: u8) -> u32
     requires { class < CLASSES }
     ensures { result ≡ limit_of (port_of settings.now change.now) class }
 {
@@ -59,7 +53,7 @@ fn limit_of(settings: &Settings, change: &Change, class: u8) -> u32
 }
 
 /// The class whose queue takes the frames of a stream, where there is room, or why each of them is dropped.
-pub fn class_of(settings: &Settings, change: &Change, stream: &Stream) -> Result<u8, Dropped>
+pub fn class_of(settings: &BoundsSettings, change: &Change, stream: &Stream) -> Result<u8, Dropped>
     ensures class { result ≡ class_of settings.now change.now stream.now }
     ensures within { IfOk result (λ class. class < CLASSES) }
 {
@@ -69,14 +63,14 @@ pub fn class_of(settings: &Settings, change: &Change, stream: &Stream) -> Result
     let Some(octets) = sdu(&frame_of(stream)) else {
         return Err(Dropped::Runt);
     };
-    if settings.mtu() < octets {
+    if settings.port.mtu() < octets {
         return Err(Dropped::TooLong);
     }
     let limit = limit_of(settings, change, class);
     if limit != 0 && limit < octets {
         return Err(Dropped::OverSdu);
     }
-    if settings.room() == 0 {
+    if settings.port.room() == 0 {
         return Err(Dropped::Full);
     }
     Ok(class)
@@ -108,7 +102,7 @@ fn flow_of(rate: Rate, stream: &Stream) -> Flow
 /// The flows of a class.
 pub fn flows_of<A: Allocator>(
     alloc: A,
-    settings: &Settings,
+    settings: &BoundsSettings,
     change: &Change,
     streams: &[Stream],
     class: u8,
@@ -121,7 +115,7 @@ pub fn flows_of<A: Allocator>(
     let mut flows = Vec::new(alloc);
     for stream in streams {
         if is_class(class, class_of(settings, change, stream)) {
-            match flows.push(flow_of(settings.rate(), stream)) {
+            match flows.push(flow_of(settings.port.rate(), stream)) {
                 Ok(()) => {}
                 Err(_) => return Err(BoundsFault::Memory),
             }
@@ -133,7 +127,7 @@ pub fn flows_of<A: Allocator>(
 /// The first ids of the streams of a class.
 pub fn ids_of<A: Allocator>(
     alloc: A,
-    settings: &Settings,
+    settings: &BoundsSettings,
     change: &Change,
     streams: &[Stream],
     class: u8,

@@ -2,9 +2,9 @@
 
 ghost use Rattle.std.specs.Prelude.{◌≡◌};
 ghost use Rattle.octet_writer.specs.Writes.{Writes};
-ghost use Rattle.stream_bounds.specs.Faults.{bounds_telling, finding_text, found_text, schedules_limited, table_fault};
+ghost use Rattle.stream_bounds.specs.Faults.{bounds_telling, finding_text, first_text, found_text, schedules_fault, schedules_limited, schedules_text, table_fault};
 
-use answer_text::{Part, WriteFault, put_parts};
+use answer_text::{Part, WriteFault, put, put_parts};
 use job::{Fault, InputFault, LineInput};
 use line_reader::{Limit, LineFault};
 use script::{ScriptFault, limit_fault, put_line_fault};
@@ -22,6 +22,27 @@ pub enum Finding {
     Missed(u64),
     /// Whether the deadline of the stream with this first id is met is not known.
     Unknown(u64),
+    /// Each frame of the stream with this first id, which has no deadline, is dropped when it comes.
+    Dropped(u64),
+    /// A frame of this class, none of whose streams is found before, finds its queue full.
+    Full(u8),
+    /// A frame of this class, none of whose streams is found before, never starts.
+    Stuck(u8),
+    /// The backlog of this class, none of whose streams is found before, grows for ever.
+    Overloaded(u8),
+    /// No schedule was judged: no command was accepted.
+    NoSchedule,
+    /// The table has no stream.
+    NoStream,
+}
+
+/// What was answered about commands: the first finding, and whether a schedule was judged.
+#[derive(Clone, Copy, Debug, PartialEq, Eq)]
+pub struct Answered {
+    /// What was found first.
+    pub finding: Option<Finding>,
+    /// Whether a schedule was accepted, and answered about.
+    pub judged: bool,
 }
 
 /// What is wrong with a table of streams and schedules.
@@ -31,9 +52,9 @@ pub enum BoundsInput {
     #[error("line {0} of the table: {1:?}")]
     Table(u32, ScriptFault),
     /// The line of the schedules of this number, counted in physical lines from 1, has this fault. What comes before it
-    /// is written.
-    #[error("line {0} of the schedules: {1:?}")]
-    Schedules(u32, ScriptFault),
+    /// is written. A strict run has found this before it.
+    #[error("line {1} of the schedules: {2:?}")]
+    Schedules(Option<Finding>, u32, ScriptFault),
     /// A strict run has found this first. All is written.
     #[error("{0:?}")]
     Found(Finding),
@@ -54,7 +75,19 @@ pub fn table_fault(fault: LineFault) -> BoundsFault
     }
 }
 
-/// Writes what is found about a line or a stream.
+/// The fault of schedules whose line can't be read, where a strict run has found this before it.
+pub fn schedules_fault(found: Option<Finding>, fault: LineFault) -> BoundsFault
+    ensures { result ≡ schedules_fault found fault }
+{
+    match fault {
+        LineFault::Limit(line, limit) => {
+            Fault::Input(BoundsInput::Schedules(found, line, limit_fault(limit)))
+        }
+        LineFault::Read => Fault::Read,
+    }
+}
+
+/// Writes what is found about a line, a stream or a class.
 fn put_found<'a, W: Write>(
     writer: &mut W,
     what: &'a [u8],
@@ -83,7 +116,38 @@ fn put_finding<W: Write>(writer: &mut W, finding: Finding) -> Result<(), WriteFa
         Finding::Refused(line) => put_found(writer, b"line ", u64::from(line), b": refused\n"),
         Finding::Missed(id) => put_found(writer, b"stream ", id, b": deadline missed\n"),
         Finding::Unknown(id) => put_found(writer, b"stream ", id, b": deadline unknown\n"),
+        Finding::Dropped(id) => put_found(writer, b"stream ", id, b": dropped\n"),
+        Finding::Full(class) => put_found(writer, b"class ", u64::from(class), b": full\n"),
+        Finding::Stuck(class) => put_found(writer, b"class ", u64::from(class), b": stuck\n"),
+        Finding::Overloaded(class) => {
+            put_found(writer, b"class ", u64::from(class), b": overloaded\n")
+        }
+        Finding::NoSchedule => put(writer, b"taprio_port: bounds: no schedule was judged\n"),
+        Finding::NoStream => put(writer, b"taprio_port: bounds: no stream is in the table\n"),
     }
+}
+
+/// Writes the text of what was found before, if anything was.
+fn put_first<W: Write>(writer: &mut W, found: Option<Finding>) -> Result<(), WriteFault>
+    ensures { Writes result (W.contents writer.old) (W.contents writer.new) (first_text found) }
+{
+    match found {
+        None => put(writer, b""),
+        Some(finding) => put_finding(writer, finding),
+    }
+}
+
+/// Writes the text of the fault of a line of the schedules, behind that of what was found before.
+fn put_schedules<W: Write>(
+    writer: &mut W,
+    found: Option<Finding>,
+    line: u32,
+    fault: ScriptFault,
+) -> Result<(), WriteFault>
+    ensures { Writes result (W.contents writer.old) (W.contents writer.new) (schedules_text found line fault) }
+{
+    put_first(writer, found)?;
+    put_line_fault(writer, b"taprio_port: script line ", line, fault)
 }
 
 impl InputFault for BoundsInput {
@@ -101,8 +165,8 @@ impl InputFault for BoundsInput {
             BoundsInput::Table(line, fault) => {
                 put_line_fault(writer, b"taprio_port: table line ", line, fault)
             }
-            BoundsInput::Schedules(line, fault) => {
-                put_line_fault(writer, b"taprio_port: script line ", line, fault)
+            BoundsInput::Schedules(found, line, fault) => {
+                put_schedules(writer, found, line, fault)
             }
             BoundsInput::Found(finding) => put_finding(writer, finding),
         }
@@ -113,6 +177,6 @@ impl LineInput for BoundsInput {
     ghost limited = { schedules_limited };
 
     fn of_limit(line: u32, limit: Limit) -> BoundsInput {
-        BoundsInput::Schedules(line, limit_fault(limit))
+        BoundsInput::Schedules(None, line, limit_fault(limit))
     }
 }

@@ -17,7 +17,7 @@ mod table;
 mod table_bounds;
 mod verdicts;
 
-pub use bounds_job::{BoundsWords, answer_bounds, bounds_given};
-pub use faults::{BoundsFault, BoundsInput, Finding};
+pub use bounds_job::{BoundsWords, answer_bounds, bounds_given, end_with_bounds_value};
+pub use faults::{Answered, BoundsFault, BoundsInput, Finding};
 pub use settings::{BoundsSettings, BoundsValue, MAX_FRAMES};
 pub use table_bounds::bounds;

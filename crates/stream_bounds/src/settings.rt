@@ -4,6 +4,7 @@ ghost use Rattle.std.specs.Prelude.{◌≡◌};
 ghost use Rattle.job.specs.Texts.{IsTold};
 ghost use Rattle.stream_bounds.specs.BoundsEnd.{bounds_value_text};
 
+use class_map::ClassMap;
 use job::Ended;
 use octet_writer::put;
 use script::{BadValue, Settings, put_value};
@@ -17,6 +18,8 @@ pub const MAX_FRAMES: u64 = 1_000_000_000;
 pub struct BoundsSettings {
     /// The line rate, the mtu and the room of the port.
     pub port: Settings,
+    /// The map that the port has already, if it has one.
+    pub map: Option<ClassMap>,
     /// How many frames of a class are looked at, at most.
     pub frames: u64,
     /// Whether the run fails where a deadline is not known to be met, or a command is none or is refused.

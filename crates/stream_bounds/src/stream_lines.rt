@@ -3,7 +3,7 @@
 ghost use Rattle.std.specs.Prelude.{◌≡◌, IfOk};
 ghost use Rattle.answer_text.specs.Names.{dropped_name};
 ghost use Rattle.octet_writer.specs.Writes.{Writes};
-ghost use Rattle.stream_bounds.specs.BoundLines.{bound_head, bound_line, bound_lines, deadline_end, deadline_finding, delay_text, finding_in, first_of, met_word, unmet};
+ghost use Rattle.stream_bounds.specs.BoundLines.{bound_head, bound_line, bound_lines, deadline_end, delay_text, finding_in, first_of, lost, met_word, stream_finding, unmet};
 
 use crate::answers::Answers;
 use crate::classes::class_of;
@@ -49,7 +49,7 @@ fn put_delay<W: Write>(writer: &mut W, need: u128, delay: Delay) -> Result<(), W
                 Part::Number(plus(bound.greatest, need)),
             ],
         ),
-        Delay::Unbounded(class) => put_parts(
+        Delay::Unbounded(class) | Delay::Unsettled(class) => put_parts(
             writer,
             &[
                 Part::Text(b" class "),
@@ -140,12 +140,22 @@ fn unmet(id: u64, met: Met) -> Option<Finding>
     }
 }
 
-/// The finding about a stream, where it has a deadline that is not known to be met.
-fn deadline_finding(need: u128, stream: &Stream, delay: Delay) -> Option<Finding>
-    ensures { result ≡ deadline_finding need stream.now delay stream.now.deadline }
+/// The finding about a stream without a deadline: its frames are all dropped.
+fn lost(id: u64, delay: Delay) -> Option<Finding>
+    ensures { result ≡ lost id delay }
+{
+    match delay {
+        Delay::Lost(_) => Some(Finding::Dropped(id)),
+        _ => None,
+    }
+}
+
+/// The finding about a stream: its deadline is not known to be met, or it has none and is dropped.
+fn stream_finding(need: u128, stream: &Stream, delay: Delay) -> Option<Finding>
+    ensures { result ≡ stream_finding need stream.now delay stream.now.deadline }
 {
     match stream.deadline {
-        None => None,
+        None => lost(stream.first_id, delay),
         Some(deadline) => unmet(stream.first_id, met_by(need, delay, deadline)),
     }
 }
@@ -174,9 +184,9 @@ pub fn put_streams<W: Write>(
     let mut first = None;
     for stream in streams {
         let need = occupancy(settings.port.rate(), stream.len);
-        let delay = answers.next_delay(class_of(&settings.port, change, stream));
+        let delay = answers.next_delay(class_of(settings, change, stream));
         put_stream(writer, need, stream, delay)?;
-        first = first_of(first, deadline_finding(need, stream, delay));
+        first = first_of(first, stream_finding(need, stream, delay));
     }
     Ok(first)
 }

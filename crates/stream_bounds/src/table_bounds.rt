@@ -1,12 +1,13 @@
 //! A table of streams, and the lines of schedule commands one after another.
 
-ghost use Rattle.std.specs.Prelude.{◌≡◌, All, IfSome, List, None, Result, ℕ};
+ghost use Rattle.std.specs.Prelude.{◌≡◌, All, IfSome, List, Result, ℕ};
 ghost use Rattle.abstract_port.specs.declared.Command.{Command};
 ghost use Rattle.job.specs.Outcome.{Runs};
 ghost use Rattle.job.specs.declared.fault.Fault.TheVariants as Faults;
 ghost use Rattle.line_reader.specs.LineReader.{current_number, script_left};
+ghost use Rattle.stream_bounds.specs.BoundLines.{joined};
 ghost use Rattle.stream_bounds.specs.Classes.{IsPeriodic};
-ghost use Rattle.stream_bounds.specs.Outcome.{bounds_in, end_fault, outcome_in, outcome_of, periodic};
+ghost use Rattle.stream_bounds.specs.Outcome.{begun_with, bounds_in, end_fault, found_in_all, outcome_in, outcome_of, periodic, told_if};
 ghost use Rattle.stream_bounds.specs.TableRead.{IsEnd};
 ghost use Rattle.stream_bounds.specs.declared.faults.BoundsInput.TheVariants as Inputs;
 ghost use Rattle.tc_reader.specs.Reader.{IsReader};
@@ -14,7 +15,7 @@ ghost use Rattle.tc_reader.specs.declared.fault.TcFault.{TcFault};
 ghost use Rattle.traffic.specs.Table.{table_by};
 
 use crate::bounds_report::put_line;
-use crate::faults::{BoundsFault, BoundsInput, Finding};
+use crate::faults::{Answered, BoundsFault, BoundsInput, Finding, schedules_fault};
 use crate::settings::BoundsSettings;
 use crate::stream_lines::first_of;
 use crate::table::read_streams;
@@ -25,23 +26,68 @@ use std::alloc::{Allocator, Global};
 use std::io::{Read, Write};
 use traffic::Stream;
 
-/// A fault of the line that was read last.
+/// A fault of the line that was read last, where this was found before.
 fn fault_here<A: Allocator, R: Read + Drop>(
     lines: &LineReader<R, A>,
+    found: Option<Finding>,
     fault: ScriptFault,
 ) -> BoundsFault
-    ensures { result ≡ Faults.Input (Inputs.Schedules (current_number lines.now) fault) }
+    ensures { result ≡ Faults.Input (Inputs.Schedules found (current_number lines.now) fault) }
 {
-    BoundsFault::Input(BoundsInput::Schedules(lines.line_number(), fault))
+    BoundsFault::Input(BoundsInput::Schedules(found, lines.line_number(), fault))
 }
 
-/// How a run ends: where it is strict, with the first finding.
-fn end(strict: bool, first: Option<Finding>) -> Result<(), BoundsFault>
-    ensures { IsEnd result (end_fault strict first) }
+/// Before any schedule: a table without a stream is found.
+fn begun_with(streams: &[Stream]) -> Answered
+    ensures { result ≡ begun_with streams.now }
 {
-    match first {
-        Some(finding) if strict => Err(BoundsFault::Input(BoundsInput::Found(finding))),
-        _ => Ok(()),
+    match streams {
+        [] => Answered {
+            finding: Some(Finding::NoStream),
+            judged: false,
+        },
+        [_, ..] => Answered {
+            finding: None,
+            judged: false,
+        },
+    }
+}
+
+/// What was answered before, and then this.
+fn joined(before: Answered, then: Answered) -> Answered
+    ensures { result ≡ joined before then }
+{
+    Answered {
+        finding: first_of(before.finding, then.finding),
+        judged: before.judged || then.judged,
+    }
+}
+
+/// What is told of a finding, where it is asked for.
+fn told_if(strict: bool, first: Option<Finding>) -> Option<Finding>
+    ensures { result ≡ told_if strict first }
+{
+    if strict { first } else { None }
+}
+
+/// What is found first, at the end of the schedules: that none was judged comes last.
+fn found_in_all(so_far: Answered) -> Option<Finding>
+    ensures { result ≡ found_in_all so_far }
+{
+    if so_far.judged {
+        first_of(so_far.finding, None)
+    } else {
+        first_of(so_far.finding, Some(Finding::NoSchedule))
+    }
+}
+
+/// How a run ends, by what is told.
+fn end(told: Option<Finding>) -> Result<(), BoundsFault>
+    ensures { IsEnd result (end_fault told) }
+{
+    match told {
+        Some(finding) => Err(BoundsFault::Input(BoundsInput::Found(finding))),
+        None => Ok(()),
     }
 }
 
@@ -57,25 +103,33 @@ fn bound_lines<A: Allocator, R: Read + Drop, W: Write, H: Watch>(
     requires { All IsPeriodic streams.now }
     ensures { (read : List (List ℕ) → Result Command TcFault) → IsReader read
         → IfSome (script_left R.remaining lines.old) (λ script.
-        Runs result (W.contents writer.old) (W.contents writer.new) (bounds_in read settings.now streams.now None script)) }
+        Runs result (W.contents writer.old) (W.contents writer.new) (bounds_in read settings.now streams.now (begun_with streams.now) script)) }
 {
-    let mut first = None;
-    'lines: while lines.advance()? {
+    let mut so_far = begun_with(streams);
+    'lines: loop {
+        let found = told_if(settings.strict, so_far.finding);
+        let more = match lines.advance() {
+            Ok(more) => more,
+            Err(fault) => return Err(schedules_fault(found, fault)),
+        };
+        if !more {
+            break;
+        }
         let number = lines.line_number();
         let line = lines.line();
         match is_command(line, false) {
             Ok(false) => watch.line_passed(number, line),
             Ok(true) => match put_line(alloc, writer, settings, streams, number, line) {
-                Ok(found) => first = first_of(first, found),
+                Ok(answered) => so_far = joined(so_far, answered),
                 Err(fault) => return Err(fault),
             },
             Err(fault) => {
                 watch.line_failed(line);
-                return Err(fault_here(lines, fault));
+                return Err(fault_here(lines, found, fault));
             }
         }
     }
-    end(settings.strict, first)
+    end(told_if(settings.strict, found_in_all(so_far)))
 }
 
 /// Reads the lines of a table that are to come, and answers about the schedules.
@@ -106,14 +160,15 @@ fn bound_table<A: Allocator, R: Read + Drop, S: Read + Drop, W: Write, H: Watch>
 }
 
 /// Reads a table of streams and then schedule commands, and answers about each, judged by itself: its fault where it is
-/// no command; the refusal of its schedule; or `apart` with the classes that the schedule keeps apart, then the verdict
+/// no command; why a new port refuses it; or `apart` with the classes that the schedule keeps apart, then the verdict
 /// about each class that has streams, and then the delay of each stream, for ever, with whether its deadline is met.
 /// How many frames of a stream the table says is no matter: each goes on for ever, and its offset counts from the
 /// change moment of the schedule.
 ///
 /// A malformed line of the table is the fault, and nothing is written. Lines of the schedules without words and
 /// comments are skipped; any other that isn't a command is an `UnknownLine`, which ends the call after what is answered
-/// about the lines before it. A strict run answers the same; the first finding is its fault. What is kept is the table,
+/// about the lines before it. A strict run answers the same; its fault is the first finding, behind which a line's
+/// fault stands, and one is that no schedule was judged, or no stream is in the table. What is kept is the table,
 /// and for each class the bounds of its streams and as many moments as there is room for. A read or a write that fails,
 /// or takes nothing, isn't tried again. Who watches is called for a line of either input that ends the run.
 pub fn bounds<R: Read + Drop, S: Read + Drop, W: Write, H: Watch>(

@@ -1,12 +1,12 @@
 //! The verdict about a class, and the delay of a stream.
 
 ghost use Rattle.std.specs.Prelude.{◌≡◌, Err};
-ghost use Rattle.stream_bounds.specs.Verdicts.{delay_by, met_by, place_of, plus, stuck_at, verdict_of};
+ghost use Rattle.stream_bounds.specs.Verdicts.{delay_by, full_behind, is_alone, losing, met_by, place_of, plus, verdict_of};
 
 use abstract_port::Dropped;
 use delay_bounds::{Bound, Refused, Unbound};
 
-/// A frame that finds no room.
+/// A frame that finds no room, or never starts.
 #[derive(Clone, Copy, Debug, PartialEq, Eq)]
 pub struct Place {
     /// When it comes, in picoseconds since the change moment of the schedule.
@@ -31,12 +31,21 @@ pub enum Verdict {
         frames: u64,
         every: u128,
     },
-    /// The first frame that finds no room.
-    Full(Place),
-    /// A frame never starts, nor does any behind it; and this is the first that then finds no room.
-    Stuck(Place),
-    /// So many frames as may be were looked at, and the backlog grows for ever.
-    Overloaded,
+    /// The first frame that finds no room, and whether the class has no other stream than its.
+    Full {
+        first: Place,
+        alone: bool,
+    },
+    /// A frame never starts, nor does any behind it; and the first that then finds no room, if it comes by the greatest
+    /// moment.
+    Stuck {
+        never: Place,
+        full: Option<Place>,
+    },
+    /// So many frames as may be were looked at, and the backlog grows for ever; and whether the class has one stream.
+    Overloaded {
+        alone: bool,
+    },
     /// So many frames as may be were looked at.
     Long,
     /// A moment is after the greatest.
@@ -48,8 +57,10 @@ pub enum Verdict {
 pub enum Delay {
     /// Its frames are of this class, and wait for so long.
     Within(u8, Bound),
-    /// They are of this class, which loses frames.
+    /// They are of this class, and some are lost, or never start.
     Unbounded(u8),
+    /// They are of this class, some of whose streams lose frames. Which ones do is not known.
+    Unsettled(u8),
     /// They are of this class, about which nothing is known.
     Unknown(u8),
     /// Each frame is dropped when it comes.
@@ -74,7 +85,7 @@ pub fn plus(a: u128, b: u128) -> u128
     a.saturating_add(b)
 }
 
-/// A frame of the stream at a place of its class, which finds no room.
+/// A frame of the stream at a place of its class.
 pub fn place_of(ids: &[u64], place: usize, before: u128, moment: u128) -> Place
     ensures { result ≡ place_of ids.now place before moment }
 {
@@ -85,14 +96,21 @@ pub fn place_of(ids: &[u64], place: usize, before: u128, moment: u128) -> Place
     }
 }
 
-/// The verdict where no frame starts any more.
-fn stuck_at(ids: &[u64], refused: Option<Refused>) -> Verdict
-    ensures { result ≡ stuck_at ids.now refused }
+/// Where no frame starts any more, the first that finds no room, if there is one.
+fn full_behind(ids: &[u64], refused: Option<Refused>) -> Option<Place>
+    ensures { result ≡ full_behind ids.now refused }
 {
     match refused {
-        Some(frame) => Verdict::Stuck(place_of(ids, frame.place, frame.before, frame.moment)),
-        None => Verdict::Late,
+        Some(frame) => Some(place_of(ids, frame.place, frame.before, frame.moment)),
+        None => None,
     }
+}
+
+/// Whether a class with these streams has one only.
+fn is_alone(ids: &[u64]) -> bool
+    ensures { result ≡ is_alone ids.now }
+{
+    ids.len() == 1
 }
 
 /// The verdict about a class whose flows have no bounds.
@@ -100,13 +118,30 @@ pub fn verdict_of(ids: &[u64], why: Unbound) -> Verdict
     ensures { result ≡ verdict_of ids.now (Err why) }
 {
     match why {
-        Unbound::Full(frame) => {
-            Verdict::Full(place_of(ids, frame.place, frame.before, frame.moment))
-        }
-        Unbound::Never(_, refused) => stuck_at(ids, refused),
-        Unbound::Overloaded => Verdict::Overloaded,
+        Unbound::Full(frame) => Verdict::Full {
+            first: place_of(ids, frame.place, frame.before, frame.moment),
+            alone: is_alone(ids),
+        },
+        Unbound::Never(frame, refused) => Verdict::Stuck {
+            never: place_of(ids, frame.place, frame.before, frame.moment),
+            full: full_behind(ids, refused),
+        },
+        Unbound::Overloaded => Verdict::Overloaded {
+            alone: is_alone(ids),
+        },
         Unbound::Long => Verdict::Long,
         Unbound::Late | Unbound::Memory => Verdict::Late,
+    }
+}
+
+/// The delay of a stream of a class that loses frames: it loses some where the class has no other.
+fn losing(class: u8, alone: bool) -> Delay
+    ensures { result ≡ losing class alone }
+{
+    if alone {
+        Delay::Unbounded(class)
+    } else {
+        Delay::Unsettled(class)
     }
 }
 
@@ -116,7 +151,8 @@ pub fn delay_by(class: u8, verdict: Verdict, bound: Bound) -> Delay
 {
     match verdict {
         Verdict::Bounded { .. } => Delay::Within(class, bound),
-        Verdict::Full(_) | Verdict::Stuck(_) | Verdict::Overloaded => Delay::Unbounded(class),
+        Verdict::Stuck { .. } => Delay::Unbounded(class),
+        Verdict::Full { alone, .. } | Verdict::Overloaded { alone } => losing(class, alone),
         Verdict::Idle | Verdict::Shared | Verdict::Long | Verdict::Late => Delay::Unknown(class),
     }
 }
@@ -135,6 +171,6 @@ pub fn met_by(need: u128, delay: Delay, deadline: u128) -> Met
             }
         }
         Delay::Unbounded(_) | Delay::Lost(_) => Met::Missed,
-        Delay::Unknown(_) => Met::Unknown,
+        Delay::Unsettled(_) | Delay::Unknown(_) => Met::Unknown,
     }
 }

@@ -7,7 +7,7 @@
 
 mod values;
 
-ghost use Rattle.std.specs.Prelude.{◌≡◌, List, ℕ, Result, false};
+ghost use Rattle.std.specs.Prelude.{◌≡◌, List, ℕ, Result};
 ghost use Rattle.abstract_port.specs.declared.Command.{Command};
 ghost use Rattle.capture.specs.Records.{Entry};
 ghost use Rattle.capture.specs.declared.fault.CapFault.{CapFault};
@@ -23,6 +23,7 @@ ghost use Rattle.in_memory.specs.Values.{from_at, rate_at, settings_at};
 ghost use Rattle.replay.specs.Outcome.{ReadsAs, outcome_of as replay_outcome_of};
 ghost use Rattle.replay.specs.Texts.{replay_telling};
 ghost use Rattle.replay.specs.declared.stamps.Stamp.TheVariants as Stamps;
+ghost use Rattle.schedule_check.specs.CheckEnd.{usual};
 ghost use Rattle.schedule_check.specs.Checked.{whole_check};
 ghost use Rattle.schedule_check.specs.Windows.{IsTeller, Teller};
 ghost use Rattle.script.specs.Outcome.{outcome_of};
@@ -130,7 +131,7 @@ pub extern "C" fn taprio_check(
     ran: &mut Ran,
 )
     ensures { (tell : Teller) → IsTeller tell → (read : List (List ℕ) → Result Command TcFault) → IsReader read →
-        Answers (told_by script_telling (λ ps. whole_check tell (is_wanted windows) false ps read schedules.now) (rate_at rate)) ran.new (slices output.old fault.old) (slices output.new fault.new) }
+        Answers (told_by script_telling (λ ps. whole_check tell (usual (is_wanted windows) ps) read schedules.now) (rate_at rate)) ran.new (slices output.old fault.old) (slices output.new fault.new) }
 {
     let windows = is_wanted(windows);
     *ran = check_octets(&alloc, rate, windows, schedules, output, fault);

@@ -13,8 +13,8 @@ use std::io::{Read, Write};
 use times::moment;
 use wire_time::MAX_MOMENT;
 
-/// The moment that is given, in picoseconds, 0 where none is.
-fn from_given(from: Option<&str>) -> Result<u128, BadValue>
+/// The moment that is given, in picoseconds, 0 where none is; or that it is bad: no moment, or after the greatest one.
+pub fn from_given(from: Option<&str>) -> Result<u128, BadValue>
     ensures given { result ≡ from_given (octets_of from.entry) }
     ensures within { IfOk result (λ moment. moment ≤ greatest_moment) }
 {

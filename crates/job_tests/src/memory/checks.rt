@@ -10,9 +10,10 @@ sched-entry S 08 100000 sched-entry S 00 12000 sched-entry S 03 388000\n";
 
 /// What is reported of it, with windows.
 const TOLD: &[u8] = b"apart 2 3\n\
-window class 0 open 388000000 closed 112000000 share 388000000 of 500000000 frame 48476\n\
-window class 1 open 388000000 closed 112000000 share 388000000 of 500000000 frame 48476\n\
-window class 3 open 100000000 closed 400000000 share 100000000 of 500000000 frame 12476\n";
+window class 0 open 388000000 closed 112000000 share 388000000 of 500000000 frame 48476 wait 499999999\n\
+window class 1 open 388000000 closed 112000000 share 388000000 of 500000000 frame 48476 wait 499999999\n\
+never 2\n\
+window class 3 open 100000000 closed 400000000 share 100000000 of 500000000 frame 12476 wait 499999999\n";
 
 /// Whether that is reported.
 fn is_told(alloc: Global) -> bool {

@@ -1,26 +1,48 @@
-use Rattle.std.proofs.Common.{Bool, List, ℕ, Option, Result, Some, codes, inl, inr, ap, ◌∙◌, subst}
+use Rattle.std.proofs.Common.{◌≡◌, Bool, List, ℕ, Option, Some, Result, Ok, Err, codes, inl, inr, refl, ap, ap₂, sym, ◌∙◌, subst}
+use Rattle.std.specs.Prelude.{IfErr}
 use Rattle.octet_writer.specs.Buffered.{writer_contents}
 use Rattle.clap.specs.Matches.{first_value, found_of}
-use Rattle.program.specs.Given.{IsGivenBounds, bounds_in, words_in}
-use Rattle.script.specs.Given.{GivenWords, octets_of}
-use Rattle.stream_bounds.specs.BoundsEnd.{IsBoundsEnding, bounds_given}
+use Rattle.program.specs.Given.{IsGivenBounds, bounds_in}
+use Rattle.script.specs.Given.{GivenWords}
+use Rattle.stream_bounds.specs.BoundsEnd.{bounds_given}
 use Rattle.stream_bounds.specs.declared.settings.BoundsSettings.{BoundsSettings}
 use Rattle.stream_bounds.specs.declared.settings.BoundsValue.{BoundsValue}
 use Rattle.program.proofs.bounds_call.bounds_given.Goals as goal
 
-pub returns-in-Ok : goal.returns-in-Ok
-returns-in-Ok g c =
-    let ends : Result BoundsSettings BoundsValue → Type 0 = λ r. IsBoundsEnding r (g.F.File.Read.remaining c.in-Ok.table) (g.R.Read.remaining c.args.reader.now) c.answer_bounds.result.0 (writer_contents g.W.Write.contents c.args.answers) (g.W.Write.contents c.answer_bounds.result.1) (g.E.Write.contents c.args.errors.now) (g.E.Write.contents c.answer_bounds.new.errors) in
-    subst (λ (path : Option (List ℕ)). IsGivenBounds (bounds_in (found_of c.args.matches.now)) path (g.R.Read.remaining c.args.reader.now) c.answer_bounds.result.0 (writer_contents g.W.Write.contents c.args.answers) (g.W.Write.contents c.answer_bounds.result.1) (g.E.Write.contents c.args.errors.now) (g.E.Write.contents c.answer_bounds.new.errors)) c.in-Some.ensures
-    (inl (
-      g.F.File.Read.remaining c.in-Ok.table,
-      subst (λ (b : Bool). ends (bounds_given (words_in (found_of c.args.matches.now)) (first_value (found_of c.args.matches.now) (codes "frames")) b)) c.bounds_of-words.ensures.strict
-          (subst (λ (f : Option (List ℕ)). ends (bounds_given (words_in (found_of c.args.matches.now)) f c.bounds_of-words.result.strict)) c.bounds_of-words.ensures.frames
-          (subst (λ (w : GivenWords). ends (bounds_given w (octets_of c.bounds_of-words.result.frames) c.bounds_of-words.result.strict)) c.bounds_of-words.ensures.port c.answer_bounds.ensures.ending)),
-    ))
+-- nothing is read
+unread : {T E X : Type 0} (r : Result T E) (x : X) → IfErr r (λ _. x ≡ x)
+unread (Ok y) x = tt
+unread (Err e) x = refl
 
-pub returns-in-Err : goal.returns-in-Err
-returns-in-Err g c =
-    let given = ap Some c.in-Err.ensures ∙ c.in-Some.ensures in
-    subst (λ (path : Option (List ℕ)). IsGivenBounds (bounds_in (found_of c.args.matches.now)) path (g.R.Read.remaining c.args.reader.now) c.end_unopened.result.0 (writer_contents g.W.Write.contents c.args.answers) (g.W.Write.contents c.end_unopened.result.1) (g.E.Write.contents c.args.errors.now) (g.E.Write.contents c.end_unopened.new.errors)) given
-    (inr c.end_unopened.ensures)
+-- the settings of the same values are the same
+same : (w v : GivenWords) (m n f h : Option (List ℕ)) (s t : Bool) → w ≡ v → m ≡ n → f ≡ h → s ≡ t → bounds_given w m f s ≡ bounds_given v n h t
+same w v m n f h s t words maps frames stricts =
+    ap₂ (λ (words : GivenWords) (map : Option (List ℕ)). bounds_given words map f s) words maps
+    ∙ ap₂ (λ (frames : Option (List ℕ)) (strict : Bool). bounds_given v n frames strict) frames stricts
+
+pub returns-in_default-clause-unread : goal.returns-in_default-clause-unread
+returns-in_default-clause-unread g c = unread (bounds_in (found_of c.args.matches.now)) c.args.reader.now
+
+pub returns-in-Err-clause-ending : goal.returns-in-Err-clause-ending
+returns-in-Err-clause-ending g c =
+    let out = c.end_with_bounds_value in
+    let ends : Result BoundsSettings BoundsValue → Option (List ℕ) → Type 0 = λ settings path. IsGivenBounds settings path (g.R.Read.remaining c.args.reader.now) out.result.0 (writer_contents g.W.Write.contents c.args.answers) (g.W.Write.contents out.result.1) (g.E.Write.contents c.args.errors.now) (g.E.Write.contents out.new.errors) in
+    let said : c.bounds_given.result ≡ bounds_in (found_of c.args.matches.now) = c.bounds_given.ensures ∙ same _ _ _ _ _ _ _ _ c.bounds_of-words.ensures.port c.bounds_of-words.ensures.map c.bounds_of-words.ensures.frames c.bounds_of-words.ensures.strict in
+    subst (λ (settings : Result BoundsSettings BoundsValue). ends settings (first_value (found_of c.args.matches.now) (codes "table"))) (sym c.in-Err.is ∙ said)
+    (subst (ends (Err c.in-Err.value)) c.in-Some.ensures out.ensures)
+
+pub returns-in-Ok-open-clause-ending : goal.returns-in-Ok-open-clause-ending
+returns-in-Ok-open-clause-ending g c =
+    let out = c.answer_bounds in
+    let ends : Result BoundsSettings BoundsValue → Option (List ℕ) → Type 0 = λ settings path. IsGivenBounds settings path (g.R.Read.remaining c.args.reader.now) out.result.0 (writer_contents g.W.Write.contents c.args.answers) (g.W.Write.contents out.result.1) (g.E.Write.contents c.args.errors.now) (g.E.Write.contents out.new.errors) in
+    let said : c.bounds_given.result ≡ bounds_in (found_of c.args.matches.now) = c.bounds_given.ensures ∙ same _ _ _ _ _ _ _ _ c.bounds_of-words.ensures.port c.bounds_of-words.ensures.map c.bounds_of-words.ensures.frames c.bounds_of-words.ensures.strict in
+    subst (λ (settings : Result BoundsSettings BoundsValue). ends settings (first_value (found_of c.args.matches.now) (codes "table"))) (sym c.in-Ok.is ∙ said)
+    (subst (ends (Ok c.in-Ok.settings)) c.in-Some.ensures (inl (g.F.File.Read.remaining c.in-Ok-open.table, out.ensures)))
+
+pub returns-in-Err-open-clause-ending : goal.returns-in-Err-open-clause-ending
+returns-in-Err-open-clause-ending g c =
+    let out = c.end_unopened in
+    let ends : Result BoundsSettings BoundsValue → Option (List ℕ) → Type 0 = λ settings path. IsGivenBounds settings path (g.R.Read.remaining c.args.reader.now) out.result.0 (writer_contents g.W.Write.contents c.args.answers) (g.W.Write.contents out.result.1) (g.E.Write.contents c.args.errors.now) (g.E.Write.contents out.new.errors) in
+    let said : c.bounds_given.result ≡ bounds_in (found_of c.args.matches.now) = c.bounds_given.ensures ∙ same _ _ _ _ _ _ _ _ c.bounds_of-words.ensures.port c.bounds_of-words.ensures.map c.bounds_of-words.ensures.frames c.bounds_of-words.ensures.strict in
+    subst (λ (settings : Result BoundsSettings BoundsValue). ends settings (first_value (found_of c.args.matches.now) (codes "table"))) (sym c.in-Ok.is ∙ said)
+    (subst (ends (Ok c.in-Ok.settings)) (ap Some c.in-Err-open.ensures ∙ c.in-Some.ensures) (inr out.ensures))

@@ -1,19 +1,15 @@
-use Rattle.std.proofs.Common.{◌≡◌, List, ℕ, Option, Some, Result, Ok, Err, inl, inr, refl, ap, ◌∙◌, subst}
+use Rattle.std.proofs.Common.{◌≡◌, List, ℕ, Option, Some, Result, Ok, Err, codes, inl, inr, ap, sym, ◌∙◌, subst}
 use Rattle.octet_writer.specs.Buffered.{writer_contents}
 use Rattle.std.specs.Prelude.{IfErr}
-use Rattle.clap.specs.Matches.{found_of}
-use Rattle.frame_table.specs.ByStream.{IsByStreamEnding}
+use Rattle.clap.specs.Matches.{first_value, found_of}
 use Rattle.frame_table.specs.Outcome.{whole_frames}
 use Rattle.program.specs.Given.{IsGivenTable, settings_in}
 use Rattle.wire_time.specs.Moment.{greatest_moment}
 use Rattle.script.specs.ScriptEnd.{IsEnding, settings_given}
 use Rattle.script.specs.Given.{GivenWords}
+use Rattle.script.specs.Setup.{Setup}
+use Rattle.script.specs.declared.settings.BadValue.{BadValue}
 use Rattle.program.proofs.frames_call.frames_of_script.Goals as goal
-
--- nothing is read
-unread : {T E X : Type 0} (r : Result T E) (x : X) → IfErr r (λ _. x ≡ x)
-unread (Ok y) x = tt
-unread (Err e) x = refl
 
 pub returns-in_default-clause-ending : goal.returns-in_default-clause-ending
 returns-in_default-clause-ending g c =
@@ -26,22 +22,26 @@ pub returns-in_default-clause-unread : goal.returns-in_default-clause-unread
 returns-in_default-clause-unread g c =
     subst (λ (words : GivenWords). IfErr (settings_given greatest_moment words) (λ _. c.answer_frames.new.reader ≡ c.args.reader.now)) c.values_of-values.ensures c.answer_frames.ensures.unread
 
-pub returns-in-Err-clause-unread : goal.returns-in-Err-clause-unread
-returns-in-Err-clause-unread g c = unread (settings_in greatest_moment (found_of c.args.matches.now)) c.args.reader.now
-
-pub returns-in-Ok-clause-ending : goal.returns-in-Ok-clause-ending
-returns-in-Ok-clause-ending g c =
-    let out = c.answer_frames_by_stream in
-    let ends : GivenWords → Type 0 = λ words. IsByStreamEnding (settings_given greatest_moment words) (g.F.File.Read.remaining c.in-Ok.table) (g.R.Read.remaining c.args.reader.now) out.result.0 (writer_contents g.W.Write.contents c.args.answers) (g.W.Write.contents out.result.1) (g.E.Write.contents c.args.errors.now) (g.E.Write.contents out.new.errors) in
-    subst (λ (path : Option (List ℕ)). IsGivenTable (settings_in greatest_moment (found_of c.args.matches.now)) path (g.R.Read.remaining c.args.reader.now) out.result.0 (writer_contents g.W.Write.contents c.args.answers) (g.W.Write.contents out.result.1) (g.E.Write.contents c.args.errors.now) (g.E.Write.contents out.new.errors)) c.in-Some.ensures
-    (inl (g.F.File.Read.remaining c.in-Ok.table, subst ends c.values_of-values.ensures out.ensures.ending))
-
-pub returns-in-Ok-clause-unread : goal.returns-in-Ok-clause-unread
-returns-in-Ok-clause-unread g c =
-    subst (λ (words : GivenWords). IfErr (settings_given greatest_moment words) (λ _. c.answer_frames_by_stream.new.reader ≡ c.args.reader.now)) c.values_of-values.ensures c.answer_frames_by_stream.ensures.unread
-
 pub returns-in-Err-clause-ending : goal.returns-in-Err-clause-ending
 returns-in-Err-clause-ending g c =
-    let given = ap Some c.in-Err.ensures ∙ c.in-Some.ensures in
-    subst (λ (path : Option (List ℕ)). IsGivenTable (settings_in greatest_moment (found_of c.args.matches.now)) path (g.R.Read.remaining c.args.reader.now) c.end_unopened.result.0 (writer_contents g.W.Write.contents c.args.answers) (g.W.Write.contents c.end_unopened.result.1) (g.E.Write.contents c.args.errors.now) (g.E.Write.contents c.end_unopened.new.errors)) given
-    (inr c.end_unopened.ensures)
+    let out = c.end_with_value in
+    let ends : Result Setup BadValue → Option (List ℕ) → Type 0 = λ settings path. IsGivenTable settings path (g.R.Read.remaining c.args.reader.now) out.result.0 (writer_contents g.W.Write.contents c.args.answers) (g.W.Write.contents out.result.1) (g.E.Write.contents c.args.errors.now) (g.E.Write.contents out.new.errors) in
+    let said : c.settings_given.result ≡ settings_in greatest_moment (found_of c.args.matches.now) = c.settings_given.ensures ∙ ap (settings_given greatest_moment) c.values_of-values.ensures in
+    subst (λ (settings : Result Setup BadValue). ends settings (first_value (found_of c.args.matches.now) (codes "by-stream"))) (sym c.in-Err.is ∙ said)
+    (subst (ends (Err c.in-Err.value)) c.in-Some.ensures out.ensures)
+
+pub returns-in-Ok-open-clause-ending : goal.returns-in-Ok-open-clause-ending
+returns-in-Ok-open-clause-ending g c =
+    let out = c.answer_frames_by_stream in
+    let ends : Result Setup BadValue → Option (List ℕ) → Type 0 = λ settings path. IsGivenTable settings path (g.R.Read.remaining c.args.reader.now) out.result.0 (writer_contents g.W.Write.contents c.args.answers) (g.W.Write.contents out.result.1) (g.E.Write.contents c.args.errors.now) (g.E.Write.contents out.new.errors) in
+    let said : c.settings_given.result ≡ settings_in greatest_moment (found_of c.args.matches.now) = c.settings_given.ensures ∙ ap (settings_given greatest_moment) c.values_of-values.ensures in
+    subst (λ (settings : Result Setup BadValue). ends settings (first_value (found_of c.args.matches.now) (codes "by-stream"))) (sym c.in-Ok.is ∙ said)
+    (subst (ends (Ok c.in-Ok.settings)) c.in-Some.ensures (inl (g.F.File.Read.remaining c.in-Ok-open.table, out.ensures)))
+
+pub returns-in-Err-open-clause-ending : goal.returns-in-Err-open-clause-ending
+returns-in-Err-open-clause-ending g c =
+    let out = c.end_unopened in
+    let ends : Result Setup BadValue → Option (List ℕ) → Type 0 = λ settings path. IsGivenTable settings path (g.R.Read.remaining c.args.reader.now) out.result.0 (writer_contents g.W.Write.contents c.args.answers) (g.W.Write.contents out.result.1) (g.E.Write.contents c.args.errors.now) (g.E.Write.contents out.new.errors) in
+    let said : c.settings_given.result ≡ settings_in greatest_moment (found_of c.args.matches.now) = c.settings_given.ensures ∙ ap (settings_given greatest_moment) c.values_of-values.ensures in
+    subst (λ (settings : Result Setup BadValue). ends settings (first_value (found_of c.args.matches.now) (codes "by-stream"))) (sym c.in-Ok.is ∙ said)
+    (subst (ends (Ok c.in-Ok.settings)) (ap Some c.in-Err-open.ensures ∙ c.in-Some.ensures) (inr out.ensures))

@@ -3,9 +3,9 @@ use Rattle.stream_bounds.specs.Faults.{bounds_telling}
 use Rattle.stream_bounds.specs.Outcome.{outcome_of}
 use Rattle.stream_bounds.proofs.bounds_job.answer_bounds.Goals as goal
 
-pub returns-in-Ok-clause-ending : goal.returns-in-Ok-clause-ending
-returns-in-Ok-clause-ending g c =
+pub returns : goal.returns
+returns g c =
     let schedules = g.R.Read.remaining c.args.reader.now in
     let table = g.S.Read.remaining c.args.table in
-    rw (← c.in-Ok.ensures) (ended bounds_telling _ _ _ _ _ _ _ c.end_run.ensures
-    (λ run out same keeps read is. out_of_inputs table schedules (outcome_of read c.in-Ok.settings) _ _ out _ run keeps same (c.bounds-run.ensures read is)))
+    ended bounds_telling _ _ _ _ _ _ _ c.end_run.ensures
+    (λ run out same keeps read is. out_of_inputs table schedules (outcome_of read c.args.settings) _ _ out _ run keeps same (c.bounds-run.ensures read is))

@@ -6,4 +6,4 @@ use Rattle.traffic.specs.declared.table.Stream.{Stream}
 use Rattle.stream_bounds.proofs.classes.flows_of.Given as goal
 
 abbrev pub invariant-loop-stream : goal.invariant-loop-stream
-invariant-loop-stream g l = record { found : l.flows.items ++ picked (flow_of (l.settings).rate) (λ (x : Stream). is_class l.class (class_of l.settings l.change x)) (drop l.stream-index l.streams) ≡ flows_of l.settings l.change l.class l.streams; fit : All IsFlow l.flows.items }
+invariant-loop-stream g l = record { found : l.flows.items ++ picked (flow_of l.settings.port.rate) (λ (x : Stream). is_class l.class (class_of l.settings l.change x)) (drop l.stream-index l.streams) ≡ flows_of l.settings l.change l.class l.streams; fit : All IsFlow l.flows.items }

@@ -14,7 +14,7 @@ loop-stream-preserved g c =
     let more = told_more c.args.settings.now c.args.change.now c.loop-stream.answers c.next_delay-delay.new.self c.args.streams.now c.loop-stream.stream-index _ c.class_of.result c.occupancy-need.result c.next_delay-delay.result c.loop-stream-test.true c.class_of.ensures.class (rw c.rate.ensures at c.occupancy-need.ensures.value) c.next_delay-delay.ensures.delay c.next_delay-delay.ensures.left in
     record {
       lines = sent_more _ _ _ c.loop-stream.invariant.lines more c.in_ok-put_stream.ensures;
-      finding = found_more c.args.settings.now c.args.change.now c.loop-stream.answers c.next_delay-delay.new.self c.args.streams.now c.loop-stream.stream-index _ c.class_of.result c.occupancy-need.result c.next_delay-delay.result c.loop-stream.first c.deadline_finding.result c.first_of-first.result _ c.loop-stream-test.true c.class_of.ensures.class (rw c.rate.ensures at c.occupancy-need.ensures.value) c.next_delay-delay.ensures.delay c.next_delay-delay.ensures.left c.deadline_finding.ensures c.first_of-first.ensures c.loop-stream.invariant.finding;
+      finding = found_more c.args.settings.now c.args.change.now c.loop-stream.answers c.next_delay-delay.new.self c.args.streams.now c.loop-stream.stream-index _ c.class_of.result c.occupancy-need.result c.next_delay-delay.result c.loop-stream.first c.stream_finding.result c.first_of-first.result _ c.loop-stream-test.true c.class_of.ensures.class (rw c.rate.ensures at c.occupancy-need.ensures.value) c.next_delay-delay.ensures.delay c.next_delay-delay.ensures.left c.stream_finding.ensures c.first_of-first.ensures c.loop-stream.invariant.finding;
     }
 
 pub returns-clause-lines : goal.returns-clause-lines
