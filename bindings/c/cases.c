@@ -427,7 +427,7 @@ static const char machine_bounds[] =
     "apart 5 6 7\n"
     "class 0 shared\n"
     "class 5 most 3 of 128 frames 5 every 500000000\n"
-    "class 6 stuck at 128000000000 stream 500 frame 129\n"
+    "class 6 stuck at 0 stream 500 frame 1 full at 128000000000 stream 500 frame 129\n"
     "class 7 most 2 of 128 frames 5 every 1000000000\n"
     "bound 1 class 7 wait 230000000 to 230000000 end 230672000 to 230672000 deadline 250000000 met\n"
     "bound 100 class 7 wait 230672000 to 230672000 end 232464000 to 232464000 deadline 250000000 met\n"

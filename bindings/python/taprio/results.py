@@ -270,15 +270,23 @@ class Window:
     """How long a cycle takes."""
     frame: int | None
     """The longest frame that can start, in octets; 0 where not even the shortest can, None where any can."""
+    wait: int | None = None
+    """The longest time from arrival to start of a frame of that length, if none is before it; None where it never starts."""
+    length: int | None = None
+    """The length of a frame that was asked for (`--frame`), in octets; None where none was."""
+    length_wait: int | None = None
+    """The longest time from arrival to start of a frame of that one; None where it never starts."""
 
 
 @dataclasses.dataclass(frozen=True)
 class Checked:
-    """What was told of one schedule: the classes that it keeps apart, and its windows; or why it is none."""
+    """What was told of one schedule: the classes that it keeps apart, its windows, and the classes that a priority leads to and that it never
+    opens; or why it is none."""
 
     apart: tuple[int, ...] | None
     windows: tuple[Window, ...] = ()
     fault: Refused | TcFault | None = None
+    never: tuple[int, ...] = ()
 
 
 @dataclasses.dataclass(frozen=True)
@@ -315,10 +323,17 @@ class ClassVerdict:
     every: int | None = None
     """which takes so long, in picoseconds."""
     at: int | None = None
-    """When the first frame comes that finds no room; for "full" and "stuck", as the following two."""
+    """When the first frame comes that finds no room; for "full" and "stuck", as the following two. None where that is after the greatest
+    moment."""
     stream: int | None = None
     """The first id of its stream."""
     frame: int | None = None
+    """Which frame of its stream it is, from 1."""
+    stuck_at: int | None = None
+    """When the first frame comes that never starts; for "stuck", as the following two."""
+    stuck_stream: int | None = None
+    """The first id of its stream."""
+    stuck_frame: int | None = None
     """Which frame of its stream it is, from 1."""
 
 
@@ -358,6 +373,21 @@ class Bounded:
     fault: Refused | TcFault | None = None
 
 
+def _stream_finding(stream: StreamBound) -> str | None:
+    """What is found of a stream: its deadline isn't known to be met, or it has none and each of its frames is dropped."""
+    if stream.deadline is None:
+        return None if stream.dropped is None else f"stream {stream.first_id}: dropped"
+    return None if stream.met else f"stream {stream.first_id}: deadline {'unknown' if stream.met is None else 'missed'}"
+
+
+def _schedule_finding(number: int, it: Bounded) -> str | None:
+    """What is found first of a schedule: it is none, or a stream, or a class that loses frames."""
+    if it.fault is not None:
+        return f"schedule {number}: {'refused' if isinstance(it.fault, Refused) else 'tc-fault'} {it.fault.name}"
+    of_classes = (f"class {one.traffic_class}: {one.verdict}" for one in it.classes if one.verdict in ("full", "stuck", "overloaded"))
+    return next(filter(None, (*map(_stream_finding, it.streams), *of_classes)), None)
+
+
 @dataclasses.dataclass(frozen=True)
 class Bounds:
     """What was told of each schedule, in their order."""
@@ -365,9 +395,19 @@ class Bounds:
     schedules: tuple[Bounded, ...]
 
     @property
+    def finding(self) -> str | None:
+        """What is found first, None where nothing is: "schedule 0: refused MapMissing" (from 0), "stream 7: deadline missed", "deadline unknown"
+        or "dropped", "class 5: full", "stuck" or "overloaded", and "no stream is in the table" or "no schedule was judged" where no bound of any
+        stream is told."""
+        found = next(filter(None, (_schedule_finding(number, it) for number, it in enumerate(self.schedules))), None)
+        if found or any(it.streams for it in self.schedules):
+            return found
+        return "no stream is in the table" if any(it.apart for it in self.schedules) else "no schedule was judged"
+
+    @property
     def met(self) -> bool:
-        """Whether each deadline is known to be met, and no schedule is refused: where the program ends with status 0 under `--strict`."""
-        return all(it.fault is None and all(one.deadline is None or one.met for one in it.streams) for it in self.schedules)
+        """Whether there is no finding: where the program ends with status 0 under `--strict`. False where nothing was judged."""
+        return self.finding is None
 
     def rows(self) -> list[dict[str, Any]]:
         """A dict of each stream, with the number of its schedule, from 0: `pandas.DataFrame(bounds.rows())`."""
@@ -553,28 +593,46 @@ def read_frames(table: Octets) -> tuple[Frame, ...]:
     return tuple(found)
 
 
-_WINDOW = re.compile(r"window class (\d+) open (\d+|always) closed (\d+) share (\d+) of (\d+) frame (\d+|none|any)")
+_WINDOW = re.compile(
+    r"window class (\d+) open (\d+|always) closed (\d+) share (\d+) of (\d+) frame (\d+|none|any)"
+    r"(?: wait (\d+|none)(?: length (\d+) wait (\d+|none))?)?"
+)
+_NEVER = re.compile(r"never (\d+)")
 _APART = re.compile(r"apart ((?:\d )*\d|none)")
+
+
+def _wait_of(text: str | None) -> int | None:
+    return None if text in (None, "none") else int(text)
+
+
+def _window(found: re.Match[str]) -> Window:
+    """The window of a line about a class."""
+    class_, open_, closed, share, cycle, frame, wait, length, length_wait = found.groups()
+    return Window(
+        int(class_),
+        None if open_ == "always" else int(open_),
+        int(closed),
+        int(share),
+        int(cycle),
+        None if frame == "any" else 0 if frame == "none" else int(frame),
+        _wait_of(wait),
+        _number(length),
+        _wait_of(length_wait),
+    )
 
 
 def read_check(answers: Octets) -> Check:
     """What a check tells of each schedule, with and without windows. A text that no check writes raises `BadAnswer`."""
     found: list[Checked] = []
     for number, line in enumerate(octets(answers).decode("utf-8", "replace").splitlines(), 1):
-        apart, window = _APART.fullmatch(line), _WINDOW.fullmatch(line)
+        apart, window, never = _APART.fullmatch(line), _WINDOW.fullmatch(line), _NEVER.fullmatch(line)
+        last = found[-1] if found and found[-1].apart is not None else None
         if apart:
             found.append(Checked(() if apart[1] == "none" else tuple(map(int, apart[1].split()))))
-        elif window and found and found[-1].apart is not None:
-            open_, frame = window[2], window[6]
-            made = Window(
-                int(window[1]),
-                None if open_ == "always" else int(open_),
-                int(window[3]),
-                int(window[4]),
-                int(window[5]),
-                None if frame == "any" else 0 if frame == "none" else int(frame),
-            )
-            found[-1] = dataclasses.replace(found[-1], windows=(*found[-1].windows, made))
+        elif window and last:
+            found[-1] = dataclasses.replace(last, windows=(*last.windows, _window(window)))
+        elif never and last:
+            found[-1] = dataclasses.replace(last, never=(*last.never, int(never[1])))
         else:
             answer = _answer(line, number)
             if not isinstance(answer, (Refused, TcFault)):
@@ -584,7 +642,8 @@ def read_check(answers: Octets) -> Check:
 
 
 _CLASS = re.compile(
-    r"class (\d+) (?:(shared|overloaded|long|late)|most (\d+) of (\d+) frames (\d+) every (\d+)|(full|stuck) at (\d+) stream (\d+) frame (\d+))"
+    r"class (\d+) (?:(shared|overloaded|long|late)|most (\d+) of (\d+) frames (\d+) every (\d+)"
+    r"|(?=full|stuck)(?:(stuck) at (\d+) stream (\d+) frame (\d+))? ?(?:(full) at (\d+) stream (\d+) frame (\d+))?)"
 )
 _BOUND = re.compile(
     r"bound (\d+) (?:class (\d+) (?:(none|unknown)|wait (\d+) to (\d+) end (\d+) to (\d+))|dropped (\w+))"
@@ -598,9 +657,9 @@ def _number(text: str | None) -> int | None:
 
 def _verdict(found: re.Match[str]) -> ClassVerdict:
     """The verdict of a line about a class."""
-    class_, word, most, room, frames, every, place, at, stream, frame = found.groups()
-    numbers = (most, room, frames, every, at, stream, frame)
-    return ClassVerdict(int(class_), word or place or "bounded", *map(_number, numbers))
+    class_, word, most, room, frames, every, stuck, stuck_at, stuck_stream, stuck_frame, full, at, stream, frame = found.groups()
+    numbers = (most, room, frames, every, at, stream, frame, stuck_at, stuck_stream, stuck_frame)
+    return ClassVerdict(int(class_), word or stuck or full or "bounded", *map(_number, numbers))
 
 
 def _bound(found: re.Match[str]) -> StreamBound:

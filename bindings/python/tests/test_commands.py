@@ -212,8 +212,8 @@ class FromASwitch(unittest.TestCase):
             lines[:4],
             [
                 "apart 0 1",
-                "window class 0 open 200000000 closed 50000000 share 200000000 of 250000000 frame 24976",
-                "window class 1 open 50000000 closed 200000000 share 50000000 of 250000000 frame 6226",
+                "window class 0 open 200000000 closed 50000000 share 200000000 of 250000000 frame 24976 wait 249999999",
+                "window class 1 open 50000000 closed 200000000 share 50000000 of 250000000 frame 6226 wait 249999999",
                 "tc qdisc replace dev sw0p1 root taprio num_tc 2 map 0 0 0 0 0 0 1 0 base-time 0 cycle-time 250000 sched-entry S 02 50000 sched-entry S 01 200000 max-sdu 0 128",
             ],
         )
@@ -248,7 +248,7 @@ class FromASwitch(unittest.TestCase):
         self.assertEqual(
             first,
             [
-                f"window class {number} open 15625000 closed 109375000 share 125000000 of 1000000000 frame 1929"
+                f"window class {number} open 15625000 closed 109375000 share 125000000 of 1000000000 frame 1929 wait 124998999"
                 for number in range(8)
             ],
         )

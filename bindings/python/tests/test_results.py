@@ -192,10 +192,14 @@ class Checks(unittest.TestCase):
             [results.Refused("IntervalTooShort", 0), None, results.TcFault("MissingWord", "map")],
         )
         found = taprio.read_check(octets("windows.answers"))
-        self.assertEqual(found.schedules[0].windows[0], results.Window(0, 300000000, 600000000, 300000000, 900000000, 37476))
+        self.assertEqual(found.schedules[0].windows[0], results.Window(0, 300000000, 600000000, 300000000, 900000000, 37476, 899999999))
         self.assertEqual(found.schedules[2].windows[1].frame, 0)
+        self.assertEqual(found.schedules[2].windows[1].wait, None)
+        self.assertEqual([it.never for it in found.schedules[:2]], [(), (2,)])
         always = found.schedules[3].windows[0]
-        self.assertEqual((always.open, always.closed, always.frame), (None, 0, None))
+        self.assertEqual((always.open, always.closed, always.frame, always.wait), (None, 0, None, 0))
+        given = taprio.read_check(b"apart 0\nwindow class 0 open 1 closed 1 share 1 of 2 frame 3 wait 4 length 5 wait none\n")
+        self.assertEqual(given.schedules[0].windows[0], results.Window(0, 1, 1, 1, 2, 3, 4, 5, None))
         self.assertEqual(
             found.rows()[0],
             {
@@ -207,6 +211,9 @@ class Checks(unittest.TestCase):
                 "share": 300000000,
                 "cycle": 900000000,
                 "frame": 37476,
+                "wait": 899999999,
+                "length": None,
+                "length_wait": None,
             },
         )
         self.assertEqual(len(found.rows()), octets("windows.answers").count(b"window"))
@@ -216,7 +223,9 @@ class Checks(unittest.TestCase):
             b"window class 0 open 1 closed 1 share 1 of 2 frame 3\n",
             b"apart\n",
             b"apart 0\nqueued 1 class 0\n",
-            b"refused X 0\nwindow class 0 open 1 closed 1 share 1 of 2 frame 3\n",
+            b"refused X 0\nwindow class 0 open 1 closed 1 share 1 of 2 frame 3 wait 4\n",
+            b"refused X 0\nnever 1\n",
+            b"never 1\n",
         ):
             with self.subTest(text), self.assertRaises(taprio.BadAnswer):
                 taprio.read_check(text)
@@ -294,7 +303,7 @@ apart 1 2 3
 class 0 shared
 class 1 most 3 of 128 frames 5 every 500000000
 class 2 full at 63510000000 stream 300 frame 509
-class 3 stuck at 128000000000 stream 500 frame 129
+class 3 stuck at 10 stream 501 frame 1 full at 128000000000 stream 500 frame 129
 bound 100 class 0 unknown deadline 5 unknown
 bound 200 class 1 wait 13 to 25 end 26 to 38 deadline 1000 met
 bound 201 class 1 wait 13 to 25 end 26 to 38
@@ -319,7 +328,7 @@ class 6 overloaded
                     results.ClassVerdict(0, "shared"),
                     results.ClassVerdict(1, "bounded", 3, 128, 5, 500000000),
                     results.ClassVerdict(2, "full", at=63510000000, stream=300, frame=509),
-                    results.ClassVerdict(3, "stuck", at=128000000000, stream=500, frame=129),
+                    results.ClassVerdict(3, "stuck", at=128000000000, stream=500, frame=129, stuck_at=10, stuck_stream=501, stuck_frame=1),
                 ),
                 (
                     results.StreamBound(100, 0, "unknown", deadline=5),
@@ -360,7 +369,7 @@ class 6 overloaded
     def test_met(self):
         """One deadline that is missed or unknown, or one schedule that is refused, and not all is met."""
         for text, met in (
-            ("", True),
+            ("", False),
             ("apart 1\nbound 1 class 1 none\n", True),
             ("apart 1\nbound 1 class 1 wait 0 to 0 end 5 to 5 deadline 5 met\n", True),
             ("apart 1\nbound 1 class 1 none deadline 5 missed\n", False),
@@ -446,9 +455,12 @@ class 6 overloaded
         for table, schedules, status in (
             (MET, LOOP.tc(), 0),
             (MET.replace("deadline 250us", "deadline 1us"), LOOP.tc(), 1),
-            (MET, "tc qdisc del dev eth0 root", 0),
+            (MET, "tc qdisc del dev eth0 root", 1),
             (MET, f"{LOOP.tc()}\ntc qdisc replace", 1),
-            ("", "", 0),
+            (MET, "# nothing", 1),
+            (MET.partition(" deadline")[0].replace("stream 1 6 ", "stream 1 16 "), LOOP.tc(), 1),
+            ("", LOOP.tc(), 1),
+            ("", "", 1),
         ):
             with self.subTest(table=table, schedules=schedules), tempfile.TemporaryDirectory(prefix="taprio-strict-") as folder:
                 path = pathlib.Path(folder, "table")
@@ -457,6 +469,26 @@ class 6 overloaded
                 ran = subprocess.run(words, input=schedules.encode(), capture_output=True, check=False)
                 self.assertEqual(ran.returncode, status)
                 self.assertIs(taprio.read_bounds(ran.stdout).met, status == 0)
+
+    def test_finding(self):
+        """What is found first is said, with the number of its schedule where it is none."""
+        class_2, class_4 = b"apart 2\nclass 2 full at 1 stream 3 frame 4\n", b"apart 4\nclass 4 overloaded\n"
+        for answers, finding in (
+            (b"", "no schedule was judged"),
+            (b"apart none\n", "no schedule was judged"),
+            (b"apart 0 1\n", "no stream is in the table"),
+            (b"apart 1\nbound 1 class 0 unknown\n", None),
+            (b"apart 1\nbound 1 class 0 unknown\nrefused MapMissing\n", "schedule 1: refused MapMissing"),
+            (b"tc-fault MissingWord map\n", "schedule 0: tc-fault MissingWord"),
+            (class_2 + b"bound 3 class 2 none\nbound 9 class 2 none\n", "class 2: full"),
+            (class_2 + b"bound 3 class 2 none\nbound 9 class 2 none deadline 5 unknown\n", "stream 9: deadline unknown"),
+            (class_4 + b"bound 3 class 4 none deadline 5 missed\n", "stream 3: deadline missed"),
+            (class_4 + b"bound 3 dropped Runt\n", "stream 3: dropped"),
+            (b"apart 4\nclass 4 stuck at 1 stream 3 frame 4\nbound 3 class 4 none\n", "class 4: stuck"),
+        ):
+            with self.subTest(answers):
+                found = taprio.read_bounds(answers)
+                self.assertEqual((found.finding, found.met), (finding, finding is None))
 
 
 class Streams(unittest.TestCase):
