@@ -33,8 +33,11 @@ export function boundsIn(answers) {
 function classWords(line, write) {
   const full = /^class (\d) full at (\d+) stream (\d+) frame (\d+)$/.exec(line);
   if (full) return `Class ${full[1]}: frame ${full[4]} of stream ${full[3]} is the first that finds the queue full, ${write(BigInt(full[2]))} after the schedule comes into force.`;
-  const stuck = /^class (\d) stuck at (\d+) stream (\d+) frame (\d+)$/.exec(line);
-  if (stuck) return `Class ${stuck[1]}: the queue is full at ${write(BigInt(stuck[2]))} (stream ${stuck[3]}, frame ${stuck[4]}), since a frame fits into no window.`;
+  const stuck = /^class (\d) stuck at (\d+) stream (\d+) frame (\d+)(?: full at (\d+) stream (\d+) frame (\d+))?$/.exec(line);
+  if (stuck) {
+    const full = stuck[5] ? ` The queue is full ${write(BigInt(stuck[5]))} after the schedule comes into force (stream ${stuck[6]}, frame ${stuck[7]}).` : "";
+    return `Class ${stuck[1]}: frame ${stuck[4]} of stream ${stuck[3]} fits into no window, and nothing behind it starts any more.${full}`;
+  }
   const overloaded = /^class (\d) overloaded$/.exec(line);
   if (overloaded) return `Class ${overloaded[1]} is overloaded: more frames come than leave, and no queue has room for them in the end.`;
   const shared = /^class (\d) shared$/.exec(line);
@@ -42,15 +45,18 @@ function classWords(line, write) {
   return null;
 }
 
+// The streams of these ids, behind a word; nothing where there are none.
+const listed = (word, ids) => (ids.length ? `; ${word}: stream${ids.length === 1 ? "" : "s"} ${ids.join(", ")}` : "");
+
 /** What bounds say in a sentence or a few. */
 export function boundsVerdict({ classes, streams }, write) {
   const due = streams.filter((it) => it.deadline !== null);
   const met = due.filter((it) => it.verdict === "met");
-  const missed = due.filter((it) => it.verdict === "missed").map((it) => it.id);
+  const those = (verdict) => due.filter((it) => it.verdict === verdict).map((it) => it.id);
   const head = !streams.length ? ""
     : !due.length ? `${count(streams.length, "stream")}, no deadlines.`
     : met.length === due.length ? `Every deadline is met, for ever.`
-    : `${met.length} of ${due.length} deadlines are met for ever${missed.length ? `; missed: stream${missed.length === 1 ? "" : "s"} ${missed.join(", ")}` : ""}.`;
+    : `${met.length} of ${due.length} deadlines are met for ever${listed("missed", those("missed"))}${listed("not known", those("unknown"))}.`;
   return [head, ...classes.map((it) => classWords(it, write)).filter(Boolean)].join(" ");
 }
 

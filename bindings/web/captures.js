@@ -13,7 +13,7 @@ const hex = (octets) => [...octets.subarray(0, 4)].map((it) => it.toString(16).p
 export function kindOf(octets) {
   const magic = hex(octets);
   if (MAGICS[magic]) return { kind: "capture" };
-  if (magic === "0a0d0d0a") return { kind: "other", why: "this is a pcapng file. Make a classic one of it: editcap -F pcap IN OUT" };
+  if (magic === "0a0d0d0a") return { kind: "other", why: "this is a pcapng file. Make a classic one of it: editcap -F nsecpcap IN OUT" };
   if (magic.startsWith("1f8b")) return { kind: "other", why: "this is a gzip file. Unpack it first: gunzip FILE" };
   if (octets.subarray(0, 4096).includes(0)) return { kind: "other", why: "this is neither text nor a classic pcap file." };
   return { kind: "text" };

@@ -17,7 +17,7 @@ const WANTED = {
   room: "a whole number from 1 to 4096",
   frames: "a whole number from 1 to 1000000000",
   until: `${MOMENT}; a replay needs one`,
-  from: MOMENT,
+  from: `${MOMENT}; of a picture 9223372036854774807000 ps`,
   to: `${MOMENT}, after From`,
 };
 

@@ -79,7 +79,7 @@ const CLASS_COLUMNS = [
 ];
 const WINDOW_COLUMNS = [
   ["schedule", "Schedule", "number"], ["class", "Class", "number"], ["open", "Longest open", "time"], ["closed", "Longest closed", "time"],
-  ["share", "Share", "text"], ["frame", "Longest frame", "number"],
+  ["share", "Share", "text"], ["frame", "Longest frame", "number"], ["wait", "Its longest wait", "time"],
 ];
 const BOUND_COLUMNS = [
   ["id", "Stream", "number"], ["class", "Class", "number"], ["least", "Least wait", "time"], ["greatest", "Greatest wait", "time"],
@@ -328,7 +328,7 @@ function showRefused(name, text, answers) {
   at("refused").hidden = items.length === 0;
 }
 
-const WINDOW = /^window class (\d) open (\w+) closed (\d+) share (\d+) of (\d+) frame (\w+)$/;
+const WINDOW = /^window class (\d) open (\w+) closed (\d+) share (\d+) of (\d+) frame (\w+) wait (\w+)$/;
 
 // The windows that a check tells of, each with the number of its schedule.
 function windowsIn(answers) {
@@ -338,9 +338,9 @@ function windowsIn(answers) {
     if (/^(?:apart|refused|tc-fault)\b/.test(text)) schedule += 1;
     const it = WINDOW.exec(text);
     if (!it) continue;
-    const [, kind, open, closed, part, whole, frame] = it;
+    const [, kind, open, closed, part, whole, frame, wait] = it;
     const percent = `${(Number((BigInt(part) * 100000n) / BigInt(whole)) / 1000).toFixed(2)} %`;
-    found.push({ schedule, class: Number(kind), open: open === "always" ? open : BigInt(open), closed: BigInt(closed), share: percent, frame });
+    found.push({ schedule, class: Number(kind), open: open === "always" ? open : BigInt(open), closed: BigInt(closed), share: percent, frame, wait: wait === "none" ? wait : BigInt(wait) });
   }
   return found;
 }

@@ -474,7 +474,7 @@ def try_pictures(page):
 
 def try_bounds(page):
     """The two examples of bounds against the program, their table and their bars."""
-    for name, verdict, missed in (("drive.bounds", "Every deadline is met, for ever.", 0), ("drive_short.bounds", "2 of 4 deadlines are met for ever; missed: streams 200, 300.", 2)):
+    for name, verdict, unknown in (("drive.bounds", "Every deadline is met, for ever.", 0), ("drive_short.bounds", "2 of 4 deadlines are met for ever; not known: streams 200, 300.", 2)):
         page.choose(name)
         with tempfile.NamedTemporaryFile() as table:
             table.write(page.do("return at('beside').value").encode())
@@ -483,11 +483,11 @@ def try_bounds(page):
         page.answers(name, wanted)
         page.same(f"verdict of {name}", page.text("verdict")[: len(verdict)], verdict)
         page.same(f"rows of {name}", page.do("return document.querySelectorAll('#classes tbody tr').length"), 4)
-        page.same(f"bars of {name}", page.do("return document.querySelectorAll('#canvas rect.f').length"), 4 - missed)
-        page.same(f"missed in {name}", page.do("return document.querySelectorAll('#canvas .missed').length"), missed)
+        page.same(f"bars of {name}", page.do("return document.querySelectorAll('#canvas rect.f').length"), 4 - unknown)
+        page.same(f"not known in {name}", page.do("return document.querySelectorAll('#canvas .unknown').length"), unknown)
         page.same(f"labels of {name} that cover a deadline", page.do(COVERED), [])
         drawn = page.saved("save-picture")
-        page.same(f"saved picture of {name}", [drawn[:4], drawn.count(b'class="f"'), b"var(" in drawn], [b"<svg", 4 - missed, False])
+        page.same(f"saved picture of {name}", [drawn[:4], drawn.count(b'class="f"'), b"var(" in drawn], [b"<svg", 4 - unknown, False])
         page.browser.shoot(SHOTS / f"{page.browser.name}-{name}.png")
     page.set("beside", "stream 1 7 60 250us 20us\n")
     page.run()
@@ -535,7 +535,7 @@ def try_files(page):
     give(page, "my.script", text)
     page.answers("a file", program("script", text=text)[1])
     give(page, "my.pcapng", bytes.fromhex("0a0d0d0a1c000000"))
-    page.same("pcapng", page.text("status"), "my.pcapng: this is a pcapng file. Make a classic one of it: editcap -F pcap IN OUT")
+    page.same("pcapng", page.text("status"), "my.pcapng: this is a pcapng file. Make a classic one of it: editcap -F nsecpcap IN OUT")
     page.same("and the text stays", page.do("return at('text').value"), text.decode())
     for name, octets, why in (("a.gz", b"\x1f\x8b\x08\0", "this is a gzip file. Unpack it first: gunzip FILE"), ("a.png", b"\x89PNG\r\n\x1a\n\0", "this is neither text nor a classic pcap file.")):
         give(page, name, octets)
