@@ -10,6 +10,7 @@ ghost use Rattle.class_queue.specs.declared.TheConstants.{MAX_ROOM};
 ghost use Rattle.line_reader.specs.declared.lines.TheConstants.{MAX_LINES, MAX_LINE_OCTETS};
 ghost use Rattle.capture.specs.declared.format.TheConstants.{MAX_RECORDS, MAX_RECORD_OCTETS};
 ghost use Rattle.capture.specs.declared.writer.TheConstants.{CAPTURE_END};
+ghost use Rattle.picture.specs.declared.TheConstants.{MAX_WIDTH, MOST_BOUNDARIES, MOST_SHAPES};
 ghost use Rattle.stream_bounds.specs.declared.settings.TheConstants.{MAX_FRAMES};
 
 /// Time: a moment is at most 2^63 - 1 nanoseconds, in picoseconds: the greatest `ktime_t` of Linux, in which
@@ -50,6 +51,14 @@ pub fn capture_limits()
     ensures records { MAX_RECORDS ≡ 4000000 }
     ensures octets { MAX_RECORD_OCTETS ≡ 262144 }
     ensures end { CAPTURE_END ≡ 2 ^ 32 * 10 ^ 12 }
+{}
+
+/// Pictures: 2400 pixels wide; 5,000 bands or shapes that lie in a lane one by one; and 100,000 boundaries that are
+/// looked at.
+pub fn picture_limits()
+    ensures wide { MAX_WIDTH ≡ 2400 }
+    ensures lane { MOST_SHAPES ≡ 5000 }
+    ensures boundaries { MOST_BOUNDARIES ≡ 100000 }
 {}
 
 /// Bounds: 1,000,000,000 frames of a class.
