@@ -241,7 +241,7 @@ function showBounds() {
   at("zoom").hidden = false;
   showControls(false, ran.bounds.length > 1, false);
   at("frame").setAttribute("aria-label", "Each stream from its earliest to its latest end, against its deadline. The table says the same.");
-  at("picture-status").textContent = "Bars: from the earliest to the latest end of a stream's frames, counted from their arrival. Line: the deadline, red where it is missed.";
+  at("picture-status").textContent = "Bars: from the earliest to the latest end of a stream's frames, counted from their arrival. Line: the deadline, red where it is missed, and broken where that isn't known.";
   at("picture-status").classList.add("legend");
   return undefined;
 }
