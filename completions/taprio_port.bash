@@ -7,8 +7,8 @@ _taprio_port() {
         return
     fi
     case ${COMP_WORDS[1]} in
-        script) words='--rate --mtu --room --until --summary --strict --explain --help' values='--rate --mtu --room --until' ;;
-        replay) words='--rate --mtu --room --until --stamp --summary --progress --strict --explain --help' values='--rate --mtu --room --until --stamp' ;;
+        script) words='--rate --mtu --room --until --summary --strict --strict-frames --explain --help' values='--rate --mtu --room --until' ;;
+        replay) words='--rate --mtu --room --until --stamp --summary --progress --strict --strict-frames --explain --help' values='--rate --mtu --room --until --stamp' ;;
         check) words='--rate --mtu --map --windows --frame --script --strict --explain --help' values='--rate --mtu --map --frame' ;;
         streams) words='--with --from --strict --explain --help' values='--with --from' ;;
         bounds) words='--rate --mtu --room --map --frames --strict --explain --help' values='--rate --mtu --room --map --frames' ;;

@@ -17,6 +17,7 @@ pub use lines::{
     put_answer, put_arrival, put_counters, put_installation, put_left, put_refused, put_start,
     put_tc_fault,
 };
+pub use names::dropped_name;
 pub use octet_writer::{WriteFault, put};
 pub use reports::put_report;
 pub use text_writer::{Part, put_parts};

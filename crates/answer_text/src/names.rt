@@ -1,12 +1,25 @@
 //! The names in answer lines.
 
 ghost use Rattle.std.specs.Prelude.{◌≡◌, option_map};
-ghost use Rattle.answer_text.specs.Names.{plan_fault_name, plan_fault_number, refused_name, refused_number, map_fault_name, queue_fault_name, gate_fault_name, tc_fault_name, tc_fault_word, tc_fault_place};
+ghost use Rattle.answer_text.specs.Names.{dropped_name, plan_fault_name, plan_fault_number, refused_name, refused_number, map_fault_name, queue_fault_name, gate_fault_name, tc_fault_name, tc_fault_word, tc_fault_place};
 
-use abstract_port::Refused;
+use abstract_port::{Dropped, Refused};
 use class_map::{MapFault, QueueFault};
 use gate_list::{GateFault, PlanFault};
 use tc_reader::TcFault;
+
+/// The name of the reason why a frame is dropped.
+pub fn dropped_name(why: Dropped) -> &'static [u8]
+    ensures { result.now ≡ dropped_name why }
+{
+    match why {
+        Dropped::NoClass => b"NoClass",
+        Dropped::Runt => b"Runt",
+        Dropped::TooLong => b"TooLong",
+        Dropped::OverSdu => b"OverSdu",
+        Dropped::Full => b"Full",
+    }
+}
 
 fn plan_fault_name(fault: PlanFault) -> &'static [u8]
     ensures { result.now ≡ plan_fault_name fault }

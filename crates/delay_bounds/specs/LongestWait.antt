@@ -1,4 +1,5 @@
--- The longest wait of a frame that comes to an idle class, moment by moment of a cycle.
+-- The longest wait of a frame that comes to an idle class, moment by moment of a cycle: it starts at the first moment from which its gate
+-- stays open for as long as it takes (IEEE Std 802.1Q-2018, 8.6.8.4), by the list that repeats (8.6.9).
 use Rattle.std.specs.Prelude.{◌≡◌, ◌<◌, ℕ, zero, suc, ◌-◌, max, Bool, false, Option, Some, None, option_map}
 use Rattle.std.specs.Option.{option_map_or}
 use Rattle.gate_list.specs.Gate.{IsSchedule, Plan, in_ps}

@@ -2,13 +2,12 @@
 
 ghost use Rattle.std.specs.Prelude.{◌≡◌};
 ghost use Rattle.octet_writer.specs.Writes.{Writes};
-ghost use Rattle.answer_text.specs.Names.{dropped_name};
 ghost use Rattle.answer_text.specs.Part.{text_of};
 ghost use Rattle.frame_table.specs.RowText.{end_text, fate_text, head_line, number_text, row_line, start_text, stream_comma, stream_text, wait_text};
 
 use crate::streams::Streams;
 use abstract_port::{Dropped, Start};
-use answer_text::{Part, WriteFault, put, put_parts};
+use answer_text::{Part, WriteFault, dropped_name, put, put_parts};
 use std::alloc::Allocator;
 use std::io::Write;
 
@@ -81,19 +80,6 @@ fn wait_part<'a>(came: u128, fate: &Fate) -> Part<'a>
     match fate {
         Fate::Sent(start) => Part::Number(start.at.saturating_sub(came)),
         Fate::Left | Fate::Lost(_) => Part::Text(b""),
-    }
-}
-
-/// Why a frame was dropped.
-fn dropped_name(why: Dropped) -> &'static [u8]
-    ensures { result.now ≡ dropped_name why }
-{
-    match why {
-        Dropped::NoClass => b"NoClass",
-        Dropped::Runt => b"Runt",
-        Dropped::TooLong => b"TooLong",
-        Dropped::OverSdu => b"OverSdu",
-        Dropped::Full => b"Full",
     }
 }
 

@@ -1,7 +1,8 @@
 //! What is no fault, and is perhaps not meant.
 
 use crate::marks::{Hint, put_hint, span_at};
-use answer_text::{Part, WriteFault, put_parts};
+use abstract_port::Dropped;
+use answer_text::{Part, WriteFault, dropped_name, put_parts};
 use octet_writer::put;
 use std::io::Write;
 
@@ -80,4 +81,68 @@ pub fn put_comment<W: Write>(writer: &mut W, number: u32, line: &[u8]) -> Result
         b"if a prompt was pasted, leave it out: a line that begins with # is skipped",
     );
     put_hint(writer, line, hint)
+}
+
+/// Writes that the frame of this ID, which came at this moment, in picoseconds, was dropped, and why.
+pub fn put_frame_dropped<W: Write>(
+    writer: &mut W,
+    moment: u128,
+    id: u64,
+    why: Dropped,
+) -> Result<(), WriteFault> {
+    put_parts(
+        writer,
+        &[
+            Part::Text(b"taprio_port: frame "),
+            Part::Number(u128::from(id)),
+            Part::Text(b" at "),
+            Part::Number(moment),
+            Part::Text(b" is dropped: "),
+            Part::Text(dropped_name(why)),
+            Part::Text(b"\n"),
+        ],
+    )
+}
+
+/// Writes that a class still has so many frames at the end of a run.
+pub fn put_frames_left<W: Write>(writer: &mut W, class: u8, count: u64) -> Result<(), WriteFault> {
+    let noun: &[u8] = if count == 1 {
+        b" frame left\n"
+    } else {
+        b" frames left\n"
+    };
+    put_parts(
+        writer,
+        &[
+            Part::Text(b"taprio_port: class "),
+            Part::Number(u128::from(class)),
+            Part::Text(b" has "),
+            Part::Number(u128::from(count)),
+            Part::Text(noun),
+        ],
+    )
+}
+
+/// Writes that by the schedule of the line of this number a class has no time for one frame more in each `every`
+/// picoseconds.
+pub fn put_busy_class<W: Write>(
+    writer: &mut W,
+    number: u32,
+    class: u8,
+    every: u128,
+) -> Result<(), WriteFault> {
+    put_parts(
+        writer,
+        &[
+            Part::Text(b"taprio_port: warning: script line "),
+            Part::Number(u128::from(number)),
+            Part::Text(b": class "),
+            Part::Number(u128::from(class)),
+            Part::Text(b" has no time for one frame more in each "),
+            Part::Number(every),
+            Part::Text(
+                b"\n    after a frame that is added once, those behind it can be late for ever\n",
+            ),
+        ],
+    )
 }

@@ -1,5 +1,5 @@
 -- What the words of the program say of its settings.
-use Rattle.std.specs.Prelude.{◌⊎◌, List, ℕ, [], ◌∷◌, Bool, false, Option, Some, None, Result, Ok, Err, codes}
+use Rattle.std.specs.Prelude.{◌⊎◌, List, ℕ, [], ◌∷◌, Bool, true, false, if◌then◌else◌, Option, Some, None, Result, Ok, Err, codes}
 use Rattle.std.specs.List.{concat}
 use Rattle.std.specs.Option.{option_map_or}
 use Rattle.std.specs.Str.{bytes_eq}
@@ -32,6 +32,10 @@ use Rattle.stream_bounds.specs.declared.settings.BoundsValue.{BoundsValue}
 -- whether a flag is given: it is then true
 abbrev pub flag_in : List ℕ → Found → Bool
 flag_in name found = option_map_or (λ text. bytes_eq text (codes "true")) (first_value found name) false
+
+-- whether the run is strict: `--strict-frames` asks for all that `--strict` asks for
+abbrev pub is_strict : Found → Bool
+is_strict found = if flag_in (codes "strict-frames") found then true else flag_in (codes "strict") found
 
 -- the text of an output that is one of the inputs
 abbrev pub over_input_text : List ℕ → List ℕ

@@ -24,7 +24,7 @@ use Rattle.replay.specs.Stamps.{stamp_text}
 use Rattle.replay.specs.Texts.{open_text}
 use Rattle.replay.specs.Words.{IsReplayEnding, got}
 use Rattle.replay.specs.declared.stamps.Stamp.{Stamp}
-use Rattle.program.specs.Given.{IsGivenBounds, IsGivenFrames, IsGivenStreams, bounds_in, draws_in, checks_in, flag_in, from_in, over_input_text, settings_in, stamp_in}
+use Rattle.program.specs.Given.{IsGivenBounds, IsGivenFrames, IsGivenStreams, bounds_in, draws_in, checks_in, from_in, is_strict, over_input_text, settings_in, stamp_in}
 use Rattle.program.specs.Table.{name_of, program_app}
 use Rattle.program.specs.declared.job_name.JobName.{JobName}
 use Rattle.program.specs.declared.job_name.JobName.TheVariants as Names
@@ -93,7 +93,7 @@ pub record IsWatchedEnding (job : JobName) (found : Found) (input : Option (List
   pub run : Ended
   pub text : List ℕ
   pub ending : IsJobEnding job found input run old new (Some []) (Some text)
-  pub judged : IsJudged (flag_in (codes "strict") found) run ended
+  pub judged : IsJudged (is_strict found) run ended
 
 -- a text that is written and let out, or else a prefix of it is written
 abbrev pub Tells : Bool → Option (List ℕ) → Option (List ℕ) → List ℕ → Type 0

@@ -41,10 +41,10 @@ excluding rule = record rule { is_free = false }
 abbrev pub rules_of : JobName → List Rule
 rules_of Names.Script =
     option (codes "rate") ∷ option (codes "mtu") ∷ option (codes "room") ∷ option (codes "until") ∷ flag (codes "summary")
-    ∷ flag (codes "strict") ∷ flag (codes "explain") ∷ []
+    ∷ flag (codes "strict") ∷ flag (codes "strict-frames") ∷ flag (codes "explain") ∷ []
 rules_of Names.Replay =
     option (codes "rate") ∷ option (codes "mtu") ∷ option (codes "room") ∷ option (codes "until") ∷ option (codes "stamp")
-    ∷ flag (codes "summary") ∷ flag (codes "progress") ∷ flag (codes "strict") ∷ flag (codes "explain")
+    ∷ flag (codes "summary") ∷ flag (codes "progress") ∷ flag (codes "strict") ∷ flag (codes "strict-frames") ∷ flag (codes "explain")
     ∷ file (codes "script") ∷ file (codes "capture") ∷ file (codes "out") ∷ []
 rules_of Names.Check =
     option (codes "rate") ∷ option (codes "mtu") ∷ option (codes "map") ∷ flag (codes "windows") ∷ option (codes "frame")

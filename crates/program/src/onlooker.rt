@@ -3,14 +3,19 @@
 
 use crate::progress::Progress;
 use crate::stream_ids::{StreamIds, ids_of};
+use abstract_port::Dropped;
 use arrayvec::ArrayVec;
-use hints::{put_comment, put_failure, put_fault_hint, put_no_command, put_shared_ids};
+use hints::{
+    put_busy_class, put_comment, put_failure, put_fault_hint, put_frame_dropped, put_frames_left,
+    put_no_command, put_shared_ids,
+};
 use job::Ended;
 use octet_writer::put;
 use script::{Failure, Watch, read_tc};
 use std::alloc::Global;
 use std::io::{self, Write};
 use std::time::Clock;
+use wire_time::Frame;
 use words::Words;
 
 /// How many octets of a line are kept, to be shown.
@@ -70,6 +75,8 @@ pub(crate) struct Looks {
     pub explain: bool,
     /// Whether what is found makes the status 1.
     pub strict: bool,
+    /// Whether a frame that is dropped or left is something that is found.
+    pub frames: bool,
 }
 
 impl Looks {
@@ -100,6 +107,7 @@ pub(crate) struct Onlooker<'a, 'b, C: Clock, P: Write + Drop, E: Write> {
     looks: Looks,
     failures: u32,
     comments: u32,
+    frames: u32,
     warned: bool,
     ids: StreamIds,
     line: ArrayVec<u8, LINE>,
@@ -119,16 +127,26 @@ impl<'a, 'b, C: Clock, P: Write + Drop, E: Write> Onlooker<'a, 'b, C, P, E> {
             looks,
             failures: 0,
             comments: 0,
+            frames: 0,
             warned: false,
             ids: StreamIds::new(alloc),
             line: ArrayVec::new(),
         }
     }
 
-    /// Whether something was found for which a strict run ends with status 1: a command changed nothing, or a warning
-    /// was given.
+    /// Whether something was found for which a strict run ends with status 1: a command changed nothing, a warning was
+    /// given, or a frame was dropped or left where that is looked for.
     pub fn has_found(&self) -> bool {
-        self.failures > 0 || self.warned
+        self.failures > 0 || self.warned || self.frames > 0
+    }
+
+    /// Counts a finding about frames, where they are looked at, and answers whether it is the first.
+    fn is_first_of_frames(&mut self) -> bool {
+        if !self.looks.frames {
+            return false;
+        }
+        self.frames = self.frames.saturating_add(1);
+        self.frames == 1
     }
 
     /// Warns of an input without a schedule command, where that is wanted.
@@ -191,6 +209,32 @@ impl<C: Clock, P: Write + Drop, E: Write> Watch for Onlooker<'_, '_, C, P, E> {
         self.failures = self.failures.saturating_add(1);
         if told {
             let _ = put_failure(self.errors, number, line, why, explain);
+            let _ = self.errors.flush();
+        }
+    }
+
+    fn frame_dropped(&mut self, moment: u128, frame: &Frame, why: Dropped) {
+        if self.is_first_of_frames() {
+            let _ = put_frame_dropped(self.errors, moment, frame.id, why);
+            let _ = self.errors.flush();
+        }
+    }
+
+    fn frames_left(&mut self, class: u8, count: u64) {
+        if self.is_first_of_frames() {
+            let _ = put_frames_left(self.errors, class, count);
+            let _ = self.errors.flush();
+        }
+    }
+
+    fn wants_hints(&self) -> bool {
+        self.looks.explain
+    }
+
+    fn class_is_busy(&mut self, number: u32, class: u8, every: u128) {
+        if self.comments < EXPLAINED {
+            self.comments += 1;
+            let _ = put_busy_class(self.errors, number, class, every);
             let _ = self.errors.flush();
         }
     }

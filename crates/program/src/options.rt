@@ -5,7 +5,7 @@ ghost use Rattle.clap.specs.Words.{IsPlainArg, app_of, first_value, found_of, ru
 ghost use Rattle.clap.specs.declared.builder.command.Command.TheViews.{out-Command as fields_of};
 ghost use Rattle.drawing.specs.Given.{words_of_draws};
 ghost use Rattle.script.specs.Given.{octets_of, words_of_values};
-ghost use Rattle.program.specs.Given.{draw_words_in, flag_in, words_in};
+ghost use Rattle.program.specs.Given.{draw_words_in, flag_in, is_strict, words_in};
 ghost use Rattle.program.specs.Table.{free_rule, program_app, rule_of_word, shape_of_job};
 
 use crate::job_name::JobName;
@@ -80,11 +80,13 @@ pub(crate) fn bounds_of<'a>(matches: &ArgMatches<'a>) -> BoundsWords<'a>
 
 /// What a subcommand is asked to look at, where the standard error is a terminal or isn't.
 pub(crate) fn looks_of(matches: &ArgMatches<'_>, terminal: bool) -> Looks
-    ensures { result.strict ≡ flag_in (codes "strict") (found_of matches.now) }
+    ensures { result.strict ≡ is_strict (found_of matches.now) }
 {
+    let frames = is_given(matches, "strict-frames");
     Looks {
         explain: terminal || is_given(matches, "explain"),
-        strict: is_given(matches, "strict"),
+        strict: frames || is_given(matches, "strict"),
+        frames,
     }
 }
 
@@ -302,6 +304,14 @@ const STRICT_COMMANDS: Word = Word {
     without: None,
 };
 
+const STRICT_FRAMES: Word = Word {
+    given: Given::Flag,
+    name: "strict-frames",
+    value: "",
+    help: "As --strict, and end with status 1 also where a frame is dropped, or left at the end",
+    without: None,
+};
+
 const STRICT_CHECK: Word = Word {
     help: "End with status 1 where a tc line is no command, a new port refuses it, it never opens a class that is used, or there is no command",
     ..STRICT_COMMANDS
@@ -364,7 +374,16 @@ pub(crate) const JOBS: [Job; 7] = [
     Job {
         name: JobName::Script,
         about: "Answers the lines of a script on standard input",
-        words: &[RATE, MTU, ROOM, UNTIL, SUMMARY, STRICT_COMMANDS, EXPLAIN],
+        words: &[
+            RATE,
+            MTU,
+            ROOM,
+            UNTIL,
+            SUMMARY,
+            STRICT_COMMANDS,
+            STRICT_FRAMES,
+            EXPLAIN,
+        ],
     },
     Job {
         name: JobName::Replay,
@@ -378,6 +397,7 @@ pub(crate) const JOBS: [Job; 7] = [
             SUMMARY,
             PROGRESS,
             STRICT_COMMANDS,
+            STRICT_FRAMES,
             EXPLAIN,
             SCRIPT,
             CAPTURE,

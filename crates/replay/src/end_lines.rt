@@ -11,7 +11,7 @@ ghost use Rattle.replay.specs.Words.{Writes, counted_to};
 use crate::sender::Sending;
 use answer_text::WriteFault;
 use capture::CAPTURE_END;
-use script::{RunningPort, put_all_left};
+use script::{RunningPort, Watch, put_all_left};
 use std::alloc::Allocator;
 use std::io::Write;
 use summary::Summary;
@@ -61,11 +61,13 @@ fn put_summary<A: Allocator, V: Write>(
 }
 
 /// Writes how many frames each class still has, where it has some, and then the summary, where one is wanted, up to
-/// the moment of the port where a moment to run to is given, and else to the end of the last frame.
-pub(crate) fn put_end<A: Allocator, V: Write>(
+/// the moment of the port where a moment to run to is given, and else to the end of the last frame. Who watches is
+/// called for each class that still has frames.
+pub(crate) fn put_end<A: Allocator, V: Write, P: Watch>(
     sending: &Sending<A>,
     until: Option<u128>,
     report: &mut V,
+    watch: &mut P,
 ) -> Result<(), WriteFault>
     ensures { Writes result (V.contents report.old) (V.contents report.new)
         (end_lines (record sending.now.port.port { now = counted_to until sending.now.leaving.last sending.now.port.port.now }) sending.now.summary) }
@@ -73,9 +75,9 @@ pub(crate) fn put_end<A: Allocator, V: Write>(
     let now = sending.port.now();
     let moment = counted_to(until, sending.leaving.last, now);
     match &sending.summary {
-        None => put_all_left(&sending.port, report),
+        None => put_all_left(&sending.port, report, watch),
         Some(summary) => {
-            put_all_left(&sending.port, report)?;
+            put_all_left(&sending.port, report, watch)?;
             put_summary(&sending.port, summary, moment, report)
         }
     }

@@ -40,6 +40,7 @@ fn put_line<A: Allocator, B: Allocator, W: PutLine, V: PutLine, P: Watch>(
             &mut sending.summary,
             &Event::Query,
             report,
+            watch,
         )?,
         KeptLine::Count(class) => put_answers(
             &mut sending.leaving.moments,
@@ -47,6 +48,7 @@ fn put_line<A: Allocator, B: Allocator, W: PutLine, V: PutLine, P: Watch>(
             &mut sending.summary,
             &Event::Count(class),
             report,
+            watch,
         )?,
         KeptLine::Tc { start, end, number } => {
             put_tc(

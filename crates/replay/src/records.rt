@@ -21,13 +21,14 @@ use std::io::{Read, Write};
 
 /// Takes a record: a clock event at this moment, and the arrival of its frame.
 #[inline(always)]
-fn take_record<A: Allocator + Clone, W: PutLine, V: PutLine>(
+fn take_record<A: Allocator + Clone, W: PutLine, V: PutLine, P: Watch>(
     sending: &mut Sending<A>,
     moment: u128,
     number: u32,
     record: &Record<'_>,
     departures: &mut W,
     report: &mut V,
+    watch: &mut P,
 ) -> Result<(), Stop>
     requires moment { moment ≤ CAPTURE_END }
     requires size { length record.now.octets.now ≤ MAX_RECORD_OCTETS }
@@ -39,7 +40,14 @@ fn take_record<A: Allocator + Clone, W: PutLine, V: PutLine>(
 {
     put_clock(sending, moment, departures, report)?;
     let frame = frame_of(record, u64::from(number));
-    put_arrival(sending, frame, record.original, record.octets, report)
+    put_arrival(
+        sending,
+        frame,
+        record.original,
+        record.octets,
+        report,
+        watch,
+    )
 }
 
 /// A fault with which the records of a capture end, or that a read failed.
@@ -136,7 +144,7 @@ pub(crate) fn run_records<
         let record = records.lend(header);
         latest = latest.max(record.moment);
         run_lines(sending, script, cursor, latest, departures, report, watch)?;
-        take_record(sending, latest, number, &record, departures, report)?;
+        take_record(sending, latest, number, &record, departures, report, watch)?;
         number += 1;
         watch.records_taken(number, latest);
     }

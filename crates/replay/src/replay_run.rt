@@ -48,11 +48,12 @@ pub fn run_end(until: Option<u128>) -> u128
 }
 
 /// Runs on from where both inputs have ended, and writes how many frames are left, and the summary where one is wanted.
-fn run_on<A: Allocator, W: PutLine, V: PutLine>(
+fn run_on<A: Allocator, W: PutLine, V: PutLine, P: Watch>(
     sending: &mut Sending<A>,
     until: Option<u128>,
     departures: &mut W,
     report: &mut V,
+    watch: &mut P,
 ) -> Result<(), Stop>
     requires until { is_too_late until ≡ false }
     requires together { IsTogether (state sending.old (V.contents report.old) (W.contents departures.old)) }
@@ -64,7 +65,7 @@ fn run_on<A: Allocator, W: PutLine, V: PutLine>(
     sending.leaving.last = from;
     let upto = run_end(until);
     put_clock(sending, upto, departures, report)?;
-    put_end(sending, until, report)?;
+    put_end(sending, until, report, watch)?;
     Ok(())
 }
 
@@ -95,7 +96,7 @@ fn finish<A: Allocator, B: Allocator, W: PutLine, V: PutLine, P: Watch>(
         report,
         watch,
     )?;
-    run_on(sending, until, departures, report)
+    run_on(sending, until, departures, report, watch)
 }
 
 /// How a run ends whose capture ends with this fault after so many records, if it has one.

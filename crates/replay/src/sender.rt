@@ -15,7 +15,7 @@ use answer_text::{NearNumbers, WriteFault, put_answer};
 use capture::CaptureWriter;
 use octet_store::OctetStore;
 use octet_writer::PutLine;
-use script::RunningPort;
+use script::{RunningPort, Watch};
 use std::alloc::{Allocator, Global};
 use summary::{Summary, note, note_start, note_verdict};
 use wire_time::{CLASSES, Frame};
@@ -230,14 +230,15 @@ pub(crate) fn put_clock<A: Allocator, W: PutLine, V: PutLine>(
     put_each_start(sending, moment, departures, report)
 }
 
-/// A frame arrives, and where it is queued its octets are kept.
+/// A frame arrives, and where it is queued its octets are kept. Who watches is called where it is dropped.
 #[inline(always)]
-pub(crate) fn put_arrival<A: Allocator + Clone, V: PutLine>(
+pub(crate) fn put_arrival<A: Allocator + Clone, V: PutLine, P: Watch>(
     sending: &mut Sending<A>,
     frame: Frame,
     original: u32,
     octets: &[u8],
     report: &mut V,
+    watch: &mut P,
 ) -> Result<(), Stop>
     requires together { IsTogether (state sending.old (V.contents report.old) None) }
     requires size { length octets.now ≤ MAX_RECORD_OCTETS }
@@ -261,6 +262,7 @@ pub(crate) fn put_arrival<A: Allocator + Clone, V: PutLine>(
             )?;
         }
         Err(why) => {
+            watch.frame_dropped(came, &frame, why);
             put_noted_arrival(&mut sending.summary, came, &frame, Err(why), report)?;
         }
     }

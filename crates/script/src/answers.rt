@@ -5,8 +5,8 @@ ghost use Rattle.script.specs.Words.{queue_of, IsSoundPort, Command, Writes, Has
 ghost use Rattle.abstract_port.specs.declared.Event.TheVariants as Events;
 
 use crate::script_line::read_tc_into;
-use crate::watch::{Failure, Unwatched, Watch};
-use abstract_port::{Command, Event, Refused};
+use crate::watch::{Failure, Watch};
+use abstract_port::{Command, Dropped, Event, Refused};
 use answer_text::{
     NearNumbers, WriteFault, put, put_arrival, put_counters, put_installation, put_left,
     put_report, put_start, put_tc_fault,
@@ -23,18 +23,28 @@ use wire_time::{CLASSES, Frame, MAX_MOMENT};
 /// The port that runs. Another implementation of the gates takes the place of this one here.
 pub type RunningPort<A> = Port<Jumping, A>;
 
-/// Takes a frame that arrives, and writes the answer.
+/// Calls who watches where a frame that comes at this moment, in picoseconds, is dropped.
 #[inline(always)]
-fn put_frame<A: Allocator, W: PutLine>(
+fn tell_drop<H: Watch>(watch: &mut H, moment: u128, frame: &Frame, verdict: Result<u8, Dropped>) {
+    if let Err(why) = verdict {
+        watch.frame_dropped(moment, frame, why);
+    }
+}
+
+/// Takes a frame that arrives, and writes the answer. Who watches is called where it is dropped.
+#[inline(always)]
+fn put_frame<A: Allocator, W: PutLine, H: Watch>(
     port: &mut RunningPort<A>,
     summary: &mut Option<Summary<A>>,
     frame: &Frame,
     writer: &mut W,
+    watch: &mut H,
 ) -> Result<(), WriteFault>
     ensures { IsAnswered (Asks (Events.Arrive frame.now)) result (W.contents writer.old) (W.contents writer.new) port.old port.new summary.old summary.new }
 {
     let now = port.now();
     let verdict = port.arrive(*frame);
+    tell_drop(watch, now, frame, verdict);
     note_verdict(summary, now, frame, verdict);
     put_arrival(writer, frame, verdict)
 }
@@ -152,31 +162,25 @@ fn put_count<A: Allocator, W: PutLine>(
 }
 
 /// Takes an event, and writes the answers to it as they come, each noted where a summary is wanted. At a fault a prefix
-/// of them is written. The digits of the moments of the last start are kept from event to event.
+/// of them is written. The digits of the moments of the last start are kept from event to event. Who watches is called
+/// where a frame is dropped, or a command refused.
 #[inline(always)]
-pub fn put_answers<A: Allocator, W: PutLine>(
+pub fn put_answers<A: Allocator, W: PutLine, H: Watch>(
     moments: &mut NearNumbers,
     port: &mut RunningPort<A>,
     summary: &mut Option<Summary<A>>,
     event: &Event<'_>,
     writer: &mut W,
+    watch: &mut H,
 ) -> Result<(), WriteFault>
     ensures { IsAnswered (Asks event.now) result (W.contents writer.old) (W.contents writer.new) port.old port.new summary.old summary.new }
 {
     match event {
-        Event::Arrive(frame) => put_frame(port, summary, frame, writer),
+        Event::Arrive(frame) => put_frame(port, summary, frame, writer, watch),
         Event::Clock(until) => put_clock(port, summary, *until, moments, writer),
         Event::Query => put_query(port, writer),
         Event::Count(class) => put_count(port, *class, writer),
-        Event::Install(command) => put_install(
-            port,
-            summary,
-            0,
-            b"",
-            command,
-            writer,
-            &mut Unwatched,
-        ),
+        Event::Install(command) => put_install(port, summary, 0, b"", command, writer, watch),
     }
 }
 
@@ -225,11 +229,12 @@ pub fn put_tc<A: Allocator, W: PutLine, H: Watch>(
     put_command(port, summary, number, line, &place.answer, writer, watch)
 }
 
-/// Writes how many frames a class still has, where it has some.
-fn put_left_in<A: Allocator, W: Write>(
+/// Writes how many frames a class still has, where it has some, and calls who watches there.
+fn put_left_in<A: Allocator, W: Write, H: Watch>(
     port: &RunningPort<A>,
     class: u8,
     writer: &mut W,
+    watch: &mut H,
 ) -> Result<(), WriteFault>
     requires { class < CLASSES }
     ensures { Writes result (W.contents writer.old) (W.contents writer.new) (left_text class (length (queue_of port.now.port class))) }
@@ -238,19 +243,21 @@ fn put_left_in<A: Allocator, W: Write>(
     if waiting == 0 {
         Ok(())
     } else {
+        watch.frames_left(class, waiting);
         put_left(writer, class, waiting)
     }
 }
 
-/// Writes how many frames each class still has, where it has some.
-pub fn put_all_left<A: Allocator, W: Write>(
+/// Writes how many frames each class still has, where it has some, and calls who watches there.
+pub fn put_all_left<A: Allocator, W: Write, H: Watch>(
     port: &RunningPort<A>,
     writer: &mut W,
+    watch: &mut H,
 ) -> Result<(), WriteFault>
     ensures { Writes result (W.contents writer.old) (W.contents writer.new) (left_lines port.now.port) }
 {
     for class in 0..CLASSES as u8 {
-        put_left_in(port, class, writer)?;
+        put_left_in(port, class, writer, watch)?;
     }
     Ok(())
 }

@@ -25,21 +25,22 @@ use tc_reader::CommandPlace;
 
 /// Runs to the moment after the input, if there is one, and writes the answers, then how many frames are left, and the
 /// summary where one is wanted.
-fn end<A: Allocator, W: PutLine>(
+fn end<A: Allocator, W: PutLine, H: Watch>(
     port: &mut RunningPort<A>,
     summary: &mut Option<Summary<A>>,
     until: Option<u128>,
     moments: &mut NearNumbers,
     writer: &mut W,
+    watch: &mut H,
 ) -> Result<(), WriteFault>
     ensures text { Writes result (W.contents writer.old) (W.contents writer.new) (ending_text until port.old.port summary.old) }
     ensures few { HasFewVisits port.old.port port.old port.new }
 {
     match until {
-        None => put_end(port, summary, writer),
+        None => put_end(port, summary, writer, watch),
         Some(moment) => {
-            put_answers(moments, port, summary, &Event::Clock(moment), writer)?;
-            put_end(port, summary, writer)
+            put_answers(moments, port, summary, &Event::Clock(moment), writer, watch)?;
+            put_end(port, summary, writer, watch)
         }
     }
 }
@@ -72,7 +73,7 @@ fn run_lines<A: Allocator, B: Allocator, R: Read + Drop, W: PutLine, H: Watch>(
         let mut left = most;
         'plain: while let Some((event, length)) = front_line(rest, left, &mut expected) {
             if !rests(port, &event) {
-                put_answers(&mut moments, port, summary, &event, writer)?;
+                put_answers(&mut moments, port, summary, &event, writer, watch)?;
             }
             let (_, behind) = rest.split_at(length + 1);
             rest = behind;
@@ -107,6 +108,7 @@ fn run_lines<A: Allocator, B: Allocator, R: Read + Drop, W: PutLine, H: Watch>(
                 summary,
                 &event,
                 writer,
+                watch,
             )?,
             Ok(Some(Said::Tc)) => {
                 put_tc(
@@ -125,7 +127,7 @@ fn run_lines<A: Allocator, B: Allocator, R: Read + Drop, W: PutLine, H: Watch>(
             }
         }
     }
-    end(port, summary, until, &mut moments, writer)?;
+    end(port, summary, until, &mut moments, writer, watch)?;
     Ok(())
 }
 
@@ -134,8 +136,9 @@ fn run_lines<A: Allocator, B: Allocator, R: Read + Drop, W: PutLine, H: Watch>(
 /// one.
 ///
 /// What was answered is let out before more input is waited for. A malformed line ends the run after the answers of the
-/// lines before it. Who watches is called for it, and for each line that begins with `tc` and changes nothing. A read
-/// or a write that fails, or takes nothing, isn't tried again.
+/// lines before it. Who watches is called for it, for each line that begins with `tc` and changes nothing, for each
+/// frame that is dropped, and at the end for each class that still has frames. A read or a write that fails, or takes
+/// nothing, isn't tried again.
 ///
 /// What is written are the lines of the abstract port's answers to the events of the script, with the faults of `tc`
 /// lines at their places; so what holds of those answers holds of the output (`faithful`).

@@ -4,6 +4,7 @@ ghost use Rattle.std.specs.Prelude.{◌<◌};
 ghost use Rattle.script.specs.Words.{counters_of, Writes, end_lines, class_text, summary_lines, class_at};
 
 use crate::answers::{RunningPort, put_all_left};
+use crate::watch::Watch;
 use answer_text::WriteFault;
 use std::alloc::Allocator;
 use std::io::Write;
@@ -39,18 +40,20 @@ fn put_summary<A: Allocator, W: Write>(
     summary.put_wire(now, writer)
 }
 
-/// Writes how many frames each class still has, where it has some, and then the summary, where one is wanted.
-pub fn put_end<A: Allocator, W: Write>(
+/// Writes how many frames each class still has, where it has some, and then the summary, where one is wanted. Who
+/// watches is called for each class that still has frames.
+pub fn put_end<A: Allocator, W: Write, H: Watch>(
     port: &RunningPort<A>,
     summary: &Option<Summary<A>>,
     writer: &mut W,
+    watch: &mut H,
 ) -> Result<(), WriteFault>
     ensures { Writes result (W.contents writer.old) (W.contents writer.new) (end_lines port.now.port summary.now) }
 {
     match summary {
-        None => put_all_left(port, writer),
+        None => put_all_left(port, writer, watch),
         Some(summary) => {
-            put_all_left(port, writer)?;
+            put_all_left(port, writer, watch)?;
             put_summary(port, summary, writer)
         }
     }

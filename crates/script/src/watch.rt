@@ -1,7 +1,8 @@
 //! Who watches a run.
 
-use abstract_port::Refused;
+use abstract_port::{Dropped, Refused};
 use tc_reader::TcFault;
+use wire_time::Frame;
 
 /// What is wrong with a line that begins with `tc`: why it changes nothing, or what of its schedule can not be meant.
 #[derive(Clone, Copy, Debug, PartialEq, Eq)]
@@ -22,11 +23,26 @@ pub trait Watch {
     /// The line of this number, whose text this is, begins with `tc`, and this is wrong with it. The run goes on.
     fn command_failed(&mut self, _number: u32, _line: &[u8], _why: Failure) {}
 
+    /// This frame, which comes at this moment, in picoseconds, is dropped for this reason.
+    fn frame_dropped(&mut self, _moment: u128, _frame: &Frame, _why: Dropped) {}
+
+    /// The run has ended, and the class still has so many frames, one at least.
+    fn frames_left(&mut self, _class: u8, _count: u64) {}
+
     /// The line whose text this is has a fault that ends the run.
     fn line_failed(&mut self, _line: &[u8]) {}
 
     /// The line of this number, whose text this is, is skipped, or passed on as it is.
     fn line_passed(&mut self, _number: u32, _line: &[u8]) {}
+
+    /// Whether hints are wanted for which more has to be worked out than is answered.
+    fn wants_hints(&self) -> bool {
+        false
+    }
+
+    /// By the schedule of the line of this number the class has bounds, and one frame more in each `every` picoseconds,
+    /// as short as its shortest one, would be too many.
+    fn class_is_busy(&mut self, _number: u32, _class: u8, _every: u128) {}
 
     /// The line of this number of a table is a stream of so many frames, whose ids count from this one.
     fn stream_read(&mut self, _number: u32, _first_id: u64, _count: u32) {}

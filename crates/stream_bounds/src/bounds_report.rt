@@ -17,6 +17,7 @@ ghost use Rattle.tc_reader.specs.declared.fault.TcFault.{TcFault};
 ghost use Rattle.words.specs.Words.{words_of};
 
 use crate::answers::Answers;
+use crate::busy::tell_busy;
 use crate::class_lines::{find_class, put_classes};
 use crate::faults::{Answered, BoundsFault, Finding};
 use crate::settings::BoundsSettings;
@@ -25,7 +26,7 @@ use abstract_port::{Change, Command, Refused};
 use answer_text::{WriteFault, put_refused, put_tc_fault};
 use gate_list::Schedule;
 use schedule_check::{class_count, classes_apart, early_refusal, map_after, put_apart};
-use script::read_tc;
+use script::{Watch, read_tc};
 use std::alloc::Global;
 use std::io::Write;
 use tc_reader::TcFault;
@@ -67,28 +68,31 @@ fn put_answers<W: Write>(
     })
 }
 
-/// Answers about an accepted schedule.
-fn put_schedule<W: Write>(
+/// Answers about an accepted schedule, that of the line of this number. Who watches is told of classes that have no time
+/// for one frame more, where it wants hints.
+fn put_schedule<W: Write, H: Watch>(
     alloc: Global,
     writer: &mut W,
     settings: &BoundsSettings,
     streams: &[Stream],
     change: &Change,
     schedule: &Schedule,
+    number: u32,
+    watch: &mut H,
 ) -> Result<Answered, BoundsFault>
     requires plan { schedule.now ≡ plan_asked change.now }
     requires periodic { All IsPeriodic streams.now }
     ensures { (line : ℕ) → Tells result (W.contents writer.old) (W.contents writer.new) (change_lines None settings.now change.now streams.now) (change_answered line None settings.now change.now streams.now) }
 {
     match Answers::new(alloc, settings, change, schedule, streams) {
-        Ok(mut answers) => told(put_answers(
-            writer,
-            settings,
-            streams,
-            change,
-            schedule,
-            &mut answers,
-        )),
+        Ok(mut answers) => {
+            if watch.wants_hints() {
+                tell_busy(
+                    alloc, settings, change, schedule, streams, &answers, number, watch,
+                );
+            }
+            told(put_answers(writer, settings, streams, change, schedule, &mut answers))
+        }
         Err(_) => Err(BoundsFault::Memory),
     }
 }
@@ -107,13 +111,14 @@ fn put_refusal<W: Write>(writer: &mut W, line: u32, why: Refused) -> Result<Answ
 }
 
 /// Answers about a change that the port doesn't refuse for its map or its limits.
-fn put_fitting<W: Write>(
+fn put_fitting<W: Write, H: Watch>(
     alloc: Global,
     writer: &mut W,
     settings: &BoundsSettings,
     streams: &[Stream],
     line: u32,
     change: &Change,
+    watch: &mut H,
 ) -> Result<Answered, BoundsFault>
     requires periodic { All IsPeriodic streams.now }
     requires fitting { early_refusal (port_before settings.now) change.now ≡ None }
@@ -127,44 +132,48 @@ fn put_fitting<W: Write>(
         settings.port.rate(),
     );
     match schedule {
-        Ok(schedule) => put_schedule(alloc, writer, settings, streams, change, &schedule),
+        Ok(schedule) => put_schedule(
+            alloc, writer, settings, streams, change, &schedule, line, watch,
+        ),
         Err(fault) => put_refusal(writer, line, Refused::Schedule(fault)),
     }
 }
 
 /// Answers about a change: why the port refuses it, or what holds of its schedule.
-fn put_change<W: Write>(
+fn put_change<W: Write, H: Watch>(
     alloc: Global,
     writer: &mut W,
     settings: &BoundsSettings,
     streams: &[Stream],
     line: u32,
     change: &Change,
+    watch: &mut H,
 ) -> Result<Answered, BoundsFault>
     requires { All IsPeriodic streams.now }
     ensures { Tells result (W.contents writer.old) (W.contents writer.new) (change_lines (refusal_of settings.now change.now) settings.now change.now streams.now) (change_answered line (refusal_of settings.now change.now) settings.now change.now streams.now) }
 {
     match early_refusal(settings.port.mtu(), settings.map, change) {
         Some(why) => put_refusal(writer, line, why),
-        None => put_fitting(alloc, writer, settings, streams, line, change),
+        None => put_fitting(alloc, writer, settings, streams, line, change, watch),
     }
 }
 
 /// Answers about a command, or a line that is none.
-fn put_command<W: Write>(
+fn put_command<W: Write, H: Watch>(
     alloc: Global,
     writer: &mut W,
     settings: &BoundsSettings,
     streams: &[Stream],
     line: u32,
     read: Result<Command, TcFault>,
+    watch: &mut H,
 ) -> Result<Answered, BoundsFault>
     requires { All IsPeriodic streams.now }
     ensures { Tells result (W.contents writer.old) (W.contents writer.new) (command_lines settings.now streams.now read) (command_answered line settings.now streams.now read) }
 {
     match read {
         Ok(Command::Replace(change)) => {
-            put_change(alloc, writer, settings, streams, line, &change)
+            put_change(alloc, writer, settings, streams, line, &change, watch)
         }
         Ok(Command::Delete) => match put_apart(writer, &[]) {
             Ok(()) => Ok(Answered {
@@ -184,18 +193,28 @@ fn put_command<W: Write>(
 }
 
 /// Writes what is answered about a line that begins with `tc`, and which has this number; and answers what was
-/// found, and whether a schedule was judged.
-pub fn put_line<W: Write>(
+/// found, and whether a schedule was judged. Who watches is told of classes that have no time for one frame more, where
+/// it wants hints.
+pub fn put_line<W: Write, H: Watch>(
     alloc: Global,
     writer: &mut W,
     settings: &BoundsSettings,
     streams: &[Stream],
     number: u32,
     line: &[u8],
+    watch: &mut H,
 ) -> Result<Answered, BoundsFault>
     requires { All IsPeriodic streams.now }
     ensures { (read : List (List ℕ) → Result Command TcFault) → IsReader read →
         Tells result (W.contents writer.old) (W.contents writer.new) (command_lines settings.now streams.now (read (words_of line.now))) (command_answered number settings.now streams.now (read (words_of line.now))) }
 {
-    put_command(alloc, writer, settings, streams, number, read_tc(line))
+    put_command(
+        alloc,
+        writer,
+        settings,
+        streams,
+        number,
+        read_tc(line),
+        watch,
+    )
 }

@@ -8,6 +8,7 @@
 mod answers;
 mod bounds_job;
 mod bounds_report;
+mod busy;
 mod class_lines;
 mod classes;
 mod faults;

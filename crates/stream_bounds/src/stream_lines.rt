@@ -1,7 +1,6 @@
 //! The lines of streams.
 
 ghost use Rattle.std.specs.Prelude.{◌≡◌, IfOk};
-ghost use Rattle.answer_text.specs.Names.{dropped_name};
 ghost use Rattle.octet_writer.specs.Writes.{Writes};
 ghost use Rattle.stream_bounds.specs.BoundLines.{bound_head, bound_line, bound_lines, deadline_end, delay_text, finding_in, first_of, lost, met_word, stream_finding, unmet};
 
@@ -10,24 +9,11 @@ use crate::classes::class_of;
 use crate::faults::Finding;
 use crate::settings::BoundsSettings;
 use crate::verdicts::{Delay, Met, met_by, plus};
-use abstract_port::{Change, Dropped};
-use answer_text::{Part, WriteFault, put_parts};
+use abstract_port::Change;
+use answer_text::{Part, WriteFault, dropped_name, put_parts};
 use std::io::Write;
 use traffic::Stream;
 use wire_time::occupancy;
-
-/// The name of the reason why frames are dropped.
-fn dropped_name(why: Dropped) -> &'static [u8]
-    ensures { result.now ≡ dropped_name why }
-{
-    match why {
-        Dropped::NoClass => b"NoClass",
-        Dropped::Runt => b"Runt",
-        Dropped::TooLong => b"TooLong",
-        Dropped::OverSdu => b"OverSdu",
-        Dropped::Full => b"Full",
-    }
-}
 
 /// Writes what is told of a stream whose frames occupy the wire for so long, before its deadline.
 fn put_delay<W: Write>(writer: &mut W, need: u128, delay: Delay) -> Result<(), WriteFault>

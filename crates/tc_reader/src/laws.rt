@@ -2,7 +2,7 @@
 //! each is its law.
 
 ghost use Rattle.std.specs.Prelude.{◌≡◌, ◌⊎◌, List, Result};
-ghost use Rattle.tc_reader.specs.Words.{Command, Word, TcFault, IsCommand, HasFault, IsReader};
+ghost use Rattle.tc_reader.specs.Words.{Command, MAX_SDU_VALUES, Word, TcFault, IsCommand, HasFault, IsReader};
 
 /// Every list of words says a command or has a first fault, never both, and never two of either.
 pub fn one_reading()
@@ -16,4 +16,9 @@ pub fn one_reading()
 pub fn one_reader()
     ensures some { (read : List Word → Result Command TcFault) × IsReader read }
     ensures one { (read other : List Word → Result Command TcFault) → IsReader read → IsReader other → (line : List Word) → read line ≡ other line }
+{}
+
+/// `max-sdu` has 16 values at most, as tc-taprio(8) of Linux has them for 16 classes.
+pub fn most_values()
+    ensures { MAX_SDU_VALUES ≡ 16 }
 {}
