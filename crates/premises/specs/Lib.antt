@@ -1,1 +1,2 @@
 pub mod FlowArrivals
+pub mod Runs

@@ -33,6 +33,7 @@ use wire_time::{CLASSES, Rate, lead_law};
 
 pub mod apart;
 pub mod bounds;
+pub mod laws;
 pub mod scripts;
 
 /// The masks of a schedule have eight bits.
