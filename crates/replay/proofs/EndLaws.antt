@@ -9,7 +9,7 @@ use Rattle.abstract_port.proofs.StartsLaws.{settled-starts}
 use Rattle.capture.specs.FileHeader.{IsHeaderFault}
 use Rattle.capture.specs.declared.fault.CapFault.TheVariants as CapFaults
 use Rattle.octet_writer.proofs.Fronts.{Appends-append, Appends-nil, sent_all}
-use Rattle.script.proofs.LeftLaws.{left-settled}
+use Rattle.script.proofs.LeftLaws.{left-now, left-settled}
 use Rattle.script.specs.Responses.{end_lines, left_from, left_lines}
 use Rattle.summary.specs.Lines.{class_text, classes_from, summary_lines, wire_text}
 use Rattle.summary.specs.Observed.{class_at}
@@ -26,11 +26,6 @@ joined-assoc : (x y z : Output) → joined (joined x y) z ≡ joined x (joined y
 joined-assoc x y z =
     ap (λ (t : List ℕ). record { report = t; departures = (x.departures ++ y.departures) ++ z.departures }) (append_assoc x.report y.report z.report)
     ∙ ap (λ (t : List ℕ). record { report = x.report ++ (y.report ++ z.report); departures = t }) (append_assoc x.departures y.departures z.departures)
-
--- what waits is the same at another moment
-pub left-now : (m : ℕ) (p : AbstractPort) → left_lines (record p { now = m }) ≡ left_lines p
-unfolding left_from
-left-now m p = refl
 
 -- the lines of the end are the same in a settled port
 classes-still : (n class m : ℕ) (p : AbstractPort) (o : Observed) → classes_from n class (record (settled p) { now = m }) o ≡ classes_from n class (record p { now = m }) o

@@ -6,7 +6,7 @@ ghost use Rattle.job.specs.declared.fault.Fault.TheVariants as Faults;
 ghost use Rattle.replay.specs.declared.faults.ReplayInput.TheVariants as Inputs;
 
 use crate::cursor::Cursor;
-use crate::end_lines::put_end;
+use crate::end_lines::put_end_of;
 use crate::faults::{ReplayFault, ReplayInput, Stop};
 use crate::kept_script::KeptScript;
 use crate::lines::run_lines;
@@ -65,7 +65,7 @@ fn run_on<A: Allocator, W: PutLine, V: PutLine, P: Watch>(
     sending.leaving.last = from;
     let upto = run_end(until);
     put_clock(sending, upto, departures, report)?;
-    put_end(sending, until, report, watch)?;
+    put_end_of(sending, until, report, watch)?;
     Ok(())
 }
 

@@ -21,6 +21,11 @@ pub left-settled : (p : AbstractPort) → left_lines (settled p) ≡ left_lines 
 unfolding left_from
 left-settled p = refl
 
+-- and at another moment
+pub left-now : (m : ℕ) (p : AbstractPort) → left_lines (record p { now = m }) ≡ left_lines p
+unfolding left_from
+left-now m p = refl
+
 pub none_left : (class n m : ℕ) → n ≡ m → n ≡ 0 → [] ≡ left_text class m
 none_left class n m e none = sym (ap (left_text class) (sym e ∙ none))
 

@@ -249,7 +249,7 @@ fn put_left_in<A: Allocator, W: Write, H: Watch>(
 }
 
 /// Writes how many frames each class still has, where it has some, and calls who watches there.
-pub fn put_all_left<A: Allocator, W: Write, H: Watch>(
+pub(crate) fn put_all_left<A: Allocator, W: Write, H: Watch>(
     port: &RunningPort<A>,
     writer: &mut W,
     watch: &mut H,

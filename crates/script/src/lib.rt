@@ -16,7 +16,7 @@ mod settings;
 mod summary_lines;
 mod watch;
 
-pub use answers::{RunningPort, put_all_left, put_answers, put_tc};
+pub use answers::{RunningPort, put_answers, put_tc};
 pub use faults::{
     BadLine, RunFault, ScriptFault, limit_fault, put_line_fault, put_value, say_value,
 };

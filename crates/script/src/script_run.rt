@@ -1,7 +1,7 @@
 //! Runs a script.
 
 ghost use Rattle.std.specs.Prelude.{ℕ, List, Result, IfSome};
-ghost use Rattle.script.specs.Words.{Command, Writes, script_left, TcFault, RunsOut, HasFewVisits, IsFaithfulTo, events_of, reading_of, ending_text, outcome_from, outcome_of, IsReader};
+ghost use Rattle.script.specs.Words.{Command, Writes, script_left, TcFault, RunsOut, HasFewVisits, IsFaithfulTo, end_lines, events_of, reading_of, ending_text, outcome_from, outcome_of, IsReader};
 ghost use Rattle.abstract_port.specs.Answers.{port_after};
 
 use crate::answers::{RunningPort, put_answers, put_tc, rests};
@@ -23,6 +23,19 @@ use std::io::Read;
 use summary::{Summary, summary_wanted};
 use tc_reader::CommandPlace;
 
+/// Writes how many frames each class still has, and the summary where one is wanted, up to now.
+fn put_end_now<A: Allocator, W: PutLine, H: Watch>(
+    port: &RunningPort<A>,
+    summary: &Option<Summary<A>>,
+    writer: &mut W,
+    watch: &mut H,
+) -> Result<(), WriteFault>
+    ensures { Writes result (W.contents writer.old) (W.contents writer.new) (end_lines port.now.port summary.now) }
+{
+    let now = port.now();
+    put_end(port, summary, now, writer, watch)
+}
+
 /// Runs to the moment after the input, if there is one, and writes the answers, then how many frames are left, and the
 /// summary where one is wanted.
 fn end<A: Allocator, W: PutLine, H: Watch>(
@@ -37,10 +50,10 @@ fn end<A: Allocator, W: PutLine, H: Watch>(
     ensures few { HasFewVisits port.old.port port.old port.new }
 {
     match until {
-        None => put_end(port, summary, writer, watch),
+        None => put_end_now(port, summary, writer, watch),
         Some(moment) => {
             put_answers(moments, port, summary, &Event::Clock(moment), writer, watch)?;
-            put_end(port, summary, writer, watch)
+            put_end_now(port, summary, writer, watch)
         }
     }
 }

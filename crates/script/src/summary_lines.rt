@@ -1,7 +1,7 @@
 //! What is written at the end of a run.
 
-ghost use Rattle.std.specs.Prelude.{◌<◌};
-ghost use Rattle.script.specs.Words.{counters_of, Writes, end_lines, class_text, summary_lines, class_at};
+ghost use Rattle.std.specs.Prelude.{◌<◌, ◌≤◌};
+ghost use Rattle.script.specs.Words.{counters_of, greatest_moment, Writes, end_lines, class_text, summary_lines, class_at};
 
 use crate::answers::{RunningPort, put_all_left};
 use crate::watch::Watch;
@@ -25,36 +25,39 @@ fn put_class<A: Allocator, W: Write>(
     summary.put_class(class, &counters, writer)
 }
 
-/// Writes the lines of the classes that had frames, and that of the wire.
+/// Writes the lines of the classes that had frames, and that of the wire up to a moment, in picoseconds.
 fn put_summary<A: Allocator, W: Write>(
     port: &RunningPort<A>,
     summary: &Summary<A>,
+    moment: u128,
     writer: &mut W,
 ) -> Result<(), WriteFault>
-    ensures { Writes result (W.contents writer.old) (W.contents writer.new) (summary_lines port.now.port summary.now) }
+    requires { moment ≤ greatest_moment }
+    ensures { Writes result (W.contents writer.old) (W.contents writer.new) (summary_lines (record port.now.port { now = moment }) summary.now) }
 {
-    let now = port.now();
     for class in 0..CLASSES as u8 {
         put_class(port, summary, class, writer)?;
     }
-    summary.put_wire(now, writer)
+    summary.put_wire(moment, writer)
 }
 
-/// Writes how many frames each class still has, where it has some, and then the summary, where one is wanted. Who
-/// watches is called for each class that still has frames.
+/// Writes how many frames each class still has, where it has some, and then the summary, where one is wanted, up to a
+/// moment, in picoseconds. Who watches is called for each class that still has frames.
 pub fn put_end<A: Allocator, W: Write, H: Watch>(
     port: &RunningPort<A>,
     summary: &Option<Summary<A>>,
+    moment: u128,
     writer: &mut W,
     watch: &mut H,
 ) -> Result<(), WriteFault>
-    ensures { Writes result (W.contents writer.old) (W.contents writer.new) (end_lines port.now.port summary.now) }
+    requires { moment ≤ greatest_moment }
+    ensures { Writes result (W.contents writer.old) (W.contents writer.new) (end_lines (record port.now.port { now = moment }) summary.now) }
 {
     match summary {
         None => put_all_left(port, writer, watch),
         Some(summary) => {
             put_all_left(port, writer, watch)?;
-            put_summary(port, summary, writer)
+            put_summary(port, summary, moment, writer)
         }
     }
 }

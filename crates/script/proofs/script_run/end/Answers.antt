@@ -28,4 +28,4 @@ returns-in_ok-put_answers-in-Some-clause-text g c =
     let same : end_lines answers.1 seen ≡ end_lines c.put_answers.new.port.port c.put_answers.new.summary =
     sym (end-settled answers.1 seen) ∙ ap (λ p. end_lines p seen) (sym done.port) ∙ ap (λ o. end_lines c.put_answers.new.port.port o) (sym done.seen) in
     let all = ending _ _ _ _ c.in-Some.is ∙ ap (λ text. lines_of (map Gave answers.0) ++ text) same in
-    sent_last _ _ (sent_more _ _ _ (sent_none _ _) all done.text) c.put_end-in-Some.ensures
+    sent_last _ _ (sent_more _ _ _ (sent_none _ _) all done.text) c.put_end_now-in-Some.ensures
