@@ -13,4 +13,4 @@ mod warnings;
 
 pub use commands::put_failure;
 pub use fault_hints::put_fault_hint;
-pub use warnings::{Ids, put_comment, put_no_command, put_shared_ids};
+pub use warnings::{Ids, put_comment, put_missed, put_no_command, put_shared_ids};

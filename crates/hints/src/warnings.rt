@@ -1,8 +1,10 @@
 //! What is no fault, and is perhaps not meant.
 
 use crate::marks::{Hint, put_hint, span_at};
+use abstract_port::Dropped;
 use answer_text::{Part, WriteFault, put_parts};
 use octet_writer::put;
+use script::Missed;
 use std::io::Write;
 
 /// The ids of the frames of a stream, and the number of its line in a table.
@@ -80,4 +82,52 @@ pub fn put_comment<W: Write>(writer: &mut W, number: u32, line: &[u8]) -> Result
         b"if a prompt was pasted, leave it out: a line that begins with # is skipped",
     );
     put_hint(writer, line, hint)
+}
+
+/// Why a frame was dropped.
+fn dropped_name(why: Dropped) -> &'static [u8] {
+    match why {
+        Dropped::NoClass => b"NoClass",
+        Dropped::Runt => b"Runt",
+        Dropped::TooLong => b"TooLong",
+        Dropped::OverSdu => b"OverSdu",
+        Dropped::Full => b"Full",
+    }
+}
+
+/// Why a frame isn't in time.
+fn put_why<W: Write>(writer: &mut W, why: Missed) -> Result<(), WriteFault> {
+    match why {
+        Missed::Late => put(writer, b"deadline missed\n"),
+        Missed::Left => put(writer, b"left\n"),
+        Missed::Dropped(why) => put_parts(
+            writer,
+            &[
+                Part::Text(b"dropped "),
+                Part::Text(dropped_name(why)),
+                Part::Text(b"\n"),
+            ],
+        ),
+    }
+}
+
+/// Writes that the frame of this id, which is of the stream with this first id, isn't in time for the deadline that
+/// the stream has.
+pub fn put_missed<W: Write>(
+    writer: &mut W,
+    id: u64,
+    stream: u64,
+    why: Missed,
+) -> Result<(), WriteFault> {
+    put_parts(
+        writer,
+        &[
+            Part::Text(b"taprio_port: frame "),
+            Part::Number(u128::from(id)),
+            Part::Text(b" of stream "),
+            Part::Number(u128::from(stream)),
+            Part::Text(b": "),
+        ],
+    )?;
+    put_why(writer, why)
 }

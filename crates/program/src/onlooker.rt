@@ -4,10 +4,10 @@
 use crate::progress::Progress;
 use crate::stream_ids::{StreamIds, ids_of};
 use arrayvec::ArrayVec;
-use hints::{put_comment, put_failure, put_fault_hint, put_no_command, put_shared_ids};
+use hints::{put_comment, put_failure, put_fault_hint, put_missed, put_no_command, put_shared_ids};
 use job::Ended;
 use octet_writer::put;
-use script::{Failure, Watch, read_tc};
+use script::{Failure, Missed, Watch, read_tc};
 use std::alloc::Global;
 use std::io::{self, Write};
 use std::time::Clock;
@@ -101,6 +101,7 @@ pub(crate) struct Onlooker<'a, 'b, C: Clock, P: Write + Drop, E: Write> {
     failures: u32,
     comments: u32,
     warned: bool,
+    missed: bool,
     ids: StreamIds,
     line: ArrayVec<u8, LINE>,
 }
@@ -120,15 +121,16 @@ impl<'a, 'b, C: Clock, P: Write + Drop, E: Write> Onlooker<'a, 'b, C, P, E> {
             failures: 0,
             comments: 0,
             warned: false,
+            missed: false,
             ids: StreamIds::new(alloc),
             line: ArrayVec::new(),
         }
     }
 
-    /// Whether something was found for which a strict run ends with status 1: a command changed nothing, or a warning
-    /// was given.
+    /// Whether something was found for which a strict run ends with status 1: a command changed nothing, a warning was
+    /// given, or a frame that has a deadline wasn't in time.
     pub fn has_found(&self) -> bool {
-        self.failures > 0 || self.warned
+        self.failures > 0 || self.warned || self.missed
     }
 
     /// Warns of an input without a schedule command, where that is wanted.
@@ -216,6 +218,15 @@ impl<C: Clock, P: Write + Drop, E: Write> Watch for Onlooker<'_, '_, C, P, E> {
         if let Some(earlier) = self.ids.take(later) {
             self.warned = true;
             let _ = put_shared_ids(self.errors, &earlier, &later, self.looks.explain);
+            let _ = self.errors.flush();
+        }
+    }
+
+    fn deadline_failed(&mut self, id: u64, stream: u64, why: Missed) {
+        let told = self.looks.strict && !self.missed;
+        self.missed = true;
+        if told {
+            let _ = put_missed(self.errors, id, stream, why);
             let _ = self.errors.flush();
         }
     }

@@ -1,6 +1,6 @@
 //! Who watches a run.
 
-use abstract_port::Refused;
+use abstract_port::{Dropped, Refused};
 use tc_reader::TcFault;
 
 /// What is wrong with a line that begins with `tc`: why it changes nothing, or what of its schedule can not be meant.
@@ -12,6 +12,17 @@ pub enum Failure {
     Refused(Refused),
     /// A priority leads to this class, and no entry of its schedule opens it: no frame of it ever leaves.
     NeverOpens(u8),
+}
+
+/// Why a frame that has a deadline isn't in time.
+#[derive(Clone, Copy, Debug, PartialEq, Eq)]
+pub enum Missed {
+    /// It left, and its end came after its deadline.
+    Late,
+    /// It was dropped when it came.
+    Dropped(Dropped),
+    /// It still waits at the end of the run.
+    Left,
 }
 
 /// Who watches a run. Nothing that it does changes what is written.
@@ -30,6 +41,9 @@ pub trait Watch {
 
     /// The line of this number of a table is a stream of so many frames, whose ids count from this one.
     fn stream_read(&mut self, _number: u32, _first_id: u64, _count: u32) {}
+
+    /// The frame of this id is of the stream with this first id, which has a deadline, and isn't in time.
+    fn deadline_failed(&mut self, _id: u64, _stream: u64, _why: Missed) {}
 }
 
 /// Nobody watches.
