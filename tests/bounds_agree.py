@@ -3,7 +3,8 @@ some hyperperiods of the same table.
 
 Of a class with bounds each stream's least and greatest wait, and the most frames at once, are those of the run; of a full class the first frame that
 the run drops is the one that is told; and of a stuck class no frame starts any more. And what is said with the greatest room for frames: a class that
-is overloaded then is full with less, and one that has bounds with less has the same."""
+is overloaded then is full with less, and one that has bounds with less has the same. And deadlines: the greatest end that is told is met by each frame
+of the run, as `frames --by-stream` judges them, and a picosecond less is not."""
 import collections
 import math
 import os
@@ -97,7 +98,7 @@ def table(world, until=0):
     ).encode()
 
 
-Run = collections.namedtuple("Run", "arrivals dropped starts summary left")
+Run = collections.namedtuple("Run", "table script values arrivals dropped starts summary left")
 
 
 def simulated(program, world, until, folder):
@@ -111,10 +112,9 @@ def simulated(program, world, until, folder):
             now = int(line[6:])
         elif line.startswith(b"frame "):
             arrivals[int(line.split(b" ", 2)[1])] = now
-    end = world.change + until + 40 * world.cycle
-    words = ["script", "--rate", str(world.rate), "--room", str(world.room), "--summary", "--until", str(end)]
-    run = Run(arrivals, [], [], {}, {})
-    answers = lines_of(program, words, script, folder).split(b"\n")
+    values = ["--rate", str(world.rate), "--room", str(world.room), "--until", str(world.change + until + 40 * world.cycle)]
+    run = Run(table(world, until), script, values, arrivals, [], [], {}, {})
+    answers = lines_of(program, ["script", "--summary", *values], script, folder).split(b"\n")
     assert answers[0] == b"installed change %d" % world.change, answers[0]
     for line in answers:
         said = line.split()
@@ -197,6 +197,34 @@ def agrees_large(program, world, classes, bounds, folder):
     return [f"{said[0]} with room" for said in large.values()]
 
 
+def judged(program, run, ends, less, folder):
+    """What is said of the deadlines of streams: their greatest ends, and less. The words by the first id of the stream, and the status of a strict run."""
+    deadlines = [f" deadline {end - less}ps" if end is not None else "" for end in ends]
+    with open(os.path.join(folder, "timed"), "wb") as file:
+        file.write(b"".join(line + said.encode() + b"\n" for line, said in zip(run.table.splitlines(), deadlines)))
+    words = [program, "frames", "--strict", "--by-stream", "timed", *run.values]
+    ran = subprocess.run(words, input=run.script, capture_output=True, timeout=60, cwd=folder)
+    found = collections.defaultdict(set)
+    for row in ran.stdout.decode().splitlines()[1:]:
+        *_, stream, word = row.split(",")
+        found[int(stream)].add(word)
+    return found, ran.returncode
+
+
+def agrees_deadlines(program, world, run, bounds, folder):
+    """Each frame of a stream with bounds has left by the greatest end, and not each a picosecond before; a stream without a deadline has no word."""
+    ends = [int(said[-1]) if "end" in said else None for said in bounds]
+    if not any(ends):
+        return []
+    for less, wanted in ((0, {"met"}), (1, {"met", "missed"})):
+        found, status = judged(program, run, ends, less, folder)
+        assert status == less, (less, status)
+        for stream, end in zip(world.streams, ends):
+            words = found[stream.first_id]
+            assert words <= wanted and ("missed" in words) == bool(less) if end is not None else words == {""}, (stream, less, words)
+    return ["deadlines"]
+
+
 def agrees(program, seed, folder):
     """A case; and what is told of its classes."""
     it = world(seed)
@@ -211,7 +239,8 @@ def agrees(program, seed, folder):
             first_drop(it, run, number, said[-7:])
             if said[0] == "stuck":
                 agrees_stuck(it, run, number, said)
-    return [*(said[0] for said in classes.values()), *agrees_large(program, it, classes, bounds, folder)]
+    timed = agrees_deadlines(program, it, run, bounds, folder) if seed % 5 == 0 else []
+    return [*(said[0] for said in classes.values()), *agrees_large(program, it, classes, bounds, folder), *timed]
 
 
 def agree(program, part):
@@ -224,7 +253,7 @@ def agree(program, part):
             except Exception as fault:
                 raise AssertionError(f"seed {seed}: {world(seed).schedule}{table(world(seed)).decode()}{fault!r}") from fault
     assert kinds["most"] > 100 and kinds["full"] > 40 and kinds["stuck"] > 40 and kinds["shared"] > 20 and kinds["long"] < 10, kinds
-    assert kinds["overloaded with room"] > 20 and kinds["long with room"] < 10, kinds
+    assert kinds["overloaded with room"] > 20 and kinds["long with room"] < 10 and kinds["deadlines"] > 10, kinds
 
 
 def case_bounds_are_those_of_runs_first_quarter(program):

@@ -336,12 +336,16 @@ static void frames_by_stream(void) {
           STREAM_HEAD "3,,60,0,,,,NoClass,2\n1,0,60,0,,,,left,1\n10,0,60,0,,,,left,\n", "");
     small("frames of streams, a line that is none", c, "frame 2 0 13\nclok", TAPRIO_BAD_INPUT, STREAM_HEAD "2,0,13,0,,,,Runt,2\n",
           "taprio_port: script line 2: UnknownLine\n");
-    struct octets good = c.second;
+    struct octets good = c.second, timed = text("stream 2 0 60 1us 0us 2 deadline 1us\n");
+    c.second = timed;
+    small("frames of streams with a deadline", c, "frame 1 0 60\nframe 3 16 60\n", TAPRIO_DONE,
+          "id,class,len,arrival_ps,start_ps,end_ps,wait_ps,fate,stream,deadline\n3,,60,0,,,,NoClass,2,missed\n1,0,60,0,,,,left,,\n", "");
     c.second = text("\nstream 1 0 60 1us 0us\n");
     small("frames of a bad table", c, "frame 1 0 13\n", TAPRIO_BAD_INPUT, "", "taprio_port: table line 2: WordCount\n");
     c.values.rate = 7;
     small("frames of streams at a bad rate", c, "", TAPRIO_BAD_VALUE, "", "taprio_port: bad value of --rate\n");
     free(c.second.at);
+    free(timed.at);
     free(good.at);
 }
 

@@ -112,8 +112,9 @@ void taprio_run(const struct taprio_port_values *values, const uint8_t *script, 
 void taprio_frames(const struct taprio_port_values *values, const uint8_t *script, size_t script_length, uint8_t *output,
                    size_t output_length, uint8_t *fault, size_t fault_length, struct taprio_ran *ran);
 
-/* The same with a last column, as `--by-stream` writes it: the stream of a table of streams that each frame is of. At TAPRIO_BAD_INPUT
- * there is no output where that table has the fault. */
+/* The same with a column more, as `--by-stream` writes it: the stream of a table of streams that each frame is of; and, where a stream of
+ * the table has a deadline, with a last one: whether the frame is in time. At TAPRIO_BAD_INPUT there is no output where that table has the
+ * fault. */
 void taprio_frames_by_stream(const struct taprio_port_values *values, const uint8_t *table, size_t table_length,
                              const uint8_t *script, size_t script_length, uint8_t *output, size_t output_length, uint8_t *fault,
                              size_t fault_length, struct taprio_ran *ran);

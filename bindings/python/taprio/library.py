@@ -260,7 +260,8 @@ def frames(
 ) -> bytes:
     """Runs a script, and gives a table of its frames: comma-separated values with a head, a row a frame.
 
-    The values are those of `run`. With `streams`, a table of streams, a last column has the stream of each frame, by its first id. With
+    The values are those of `run`. With `streams`, a table of streams, a column more has the stream of each frame, by its first id; and
+    another one, where a stream of the table has a deadline, whether the frame is in time. With
     `capture` (classic pcap) the frames are its records, run with the lines of the script as `replay` runs them, and `until` is as there;
     both do not go together. `taprio.read_frames` reads the table, and `taprio.frames` does both.
     """

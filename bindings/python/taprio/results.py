@@ -208,6 +208,9 @@ class Frame:
     length: int | None = None
     stream: int | None = None
     """The stream that it is of, by its first id: in a table of frames with streams, where it is of one."""
+    met: bool | None = None
+    """Whether it has left by the deadline of its stream, in a table of frames with streams that have deadlines; a dropped one has not. None
+    where its stream has none, and where it is left."""
 
 
 def rows(items: Iterable[Any]) -> list[dict[str, Any]]:
@@ -560,21 +563,22 @@ def _frames(answers: list[Answer], arrivals: list[tuple[int, int, int, int]] | N
 
 
 _HEAD = "id,class,len,arrival_ps,start_ps,end_ps,wait_ps,fate"
-_ROW = re.compile(r"(\d+),(\d?),(\d+),(\d+),(?:(\d+),(\d+),(\d+),sent|,,,(left|[A-Z]\w*))(?:,(\d*))?")
+_HEADS = (_HEAD, f"{_HEAD},stream", f"{_HEAD},stream,deadline")
+_ROW = re.compile(r"(\d+),(\d?),(\d+),(\d+),(?:(\d+),(\d+),(\d+),sent|,,,(left|[A-Z]\w*))(?:,(\d*)(?:,(|met|missed))?)?")
 
 
 def read_frames(table: Octets) -> tuple[Frame, ...]:
     """The frames of a table that `frames` writes, in its order: a dropped frame stands where it came, one that was sent where it started, and
     those that are left at the end. A text that is no such table raises `BadAnswer`."""
     lines = octets(table).decode("utf-8", "replace").splitlines()
-    if not lines or lines[0] not in (_HEAD, f"{_HEAD},stream"):
+    if not lines or lines[0] not in _HEADS:
         raise BadAnswer(f"line 1: expected the head of a table of frames, found {(lines or [''])[0][:60]!r}", 1)
     found: list[Frame] = []
     for number, line in enumerate(lines[1:], 2):
         row = _ROW.fullmatch(line)
-        if not row or (row[9] is None) != (lines[0] == _HEAD):
+        if not row or _HEADS.index(lines[0]) != sum(it is not None for it in (row[9], row[10])):
             raise BadAnswer(f"line {number}: expected a row of a table of frames, found {line[:60]!r}", number)
-        id, class_, length, arrived, start, end, wait, fate, stream = row.groups()
+        id, class_, length, arrived, start, end, wait, fate, stream, deadline = row.groups()
         dropped = None if fate == "left" else fate
         found.append(
             Frame(
@@ -588,6 +592,7 @@ def read_frames(table: Octets) -> tuple[Frame, ...]:
                 None,
                 int(length),
                 _number(stream or None),
+                deadline == "met" if deadline else None,
             )
         )
     return tuple(found)

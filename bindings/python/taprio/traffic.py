@@ -130,7 +130,7 @@ def frames(
 
     They stand in the order of their fate: a dropped frame where it came, one that was sent where it started, and those that are left at the
     end. The values are those of `run`, and moments are picoseconds. With `streams`, which may also be a table, each frame has the first id of
-    the stream that it is of.
+    the stream that it is of, and whether it has left by the deadline of that stream, where it has one.
 
     With `capture`, a classic pcap, the frames are its records, run with the lines of the script as `replay` runs them, and `until` is as
     there: the id of a frame is the number of its record, from 0. `streams` does not go with it. What runs the script is `port`, as

@@ -60,6 +60,11 @@ class FramesByStream:
         self.assertEqual(told, self.STREAM_HEAD + b"3,,60,0,,,,NoClass,2\n1,0,60,0,,,,left,1\n10,0,60,0,,,,left,\n")
         self.assertEqual(self.port.frames("", 100, 1000, 1, 5, b""), self.STREAM_HEAD)
 
+    def test_frames_by_stream_with_a_deadline(self):
+        told = self.port.frames("frame 1 0 60\nframe 3 16 60\nframe 10 0 60\n", until=1344000, streams=f"{self.STREAMS}stream 10 0 60 1us 0us 1 deadline 1us\n")
+        rows = b"3,,60,0,,,,NoClass,2,\n1,0,60,0,0,672000,0,sent,1,\n10,0,60,0,672000,1344000,672000,sent,10,missed\n"
+        self.assertEqual(told, self.STREAM_HEAD[:-1] + b",deadline\n" + rows)
+
     def test_faults_of_frames_by_stream(self):
         with self.assertRaises(taprio.BadInput) as caught:
             self.port.frames("frame 2 0 13\nclok\n", streams=self.STREAMS)

@@ -69,6 +69,7 @@ class Runs(unittest.TestCase):
                 "priority": 0 + 5,
                 "length": 1514,
                 "stream": None,
+                "met": None,
             },
         )
         self.assertEqual([row["traffic_class"] for row in found.summary_rows()], [0, 5])
@@ -285,7 +286,11 @@ class Frames(unittest.TestCase):
         self.assertEqual(taprio.read_frames(head), ())
         by_stream = f"{head[:-1]},stream\n"
         self.assertEqual([it.stream for it in taprio.read_frames(f"{by_stream}1,0,60,0,,,,left,\n2,0,60,0,,,,left,2\n")], [None, 2])
-        others = [(f"{by_stream}1,0,60,0,,,,left\n", 2), (f"{head}1,0,60,0,,,,left,2\n", 2)]
+        by_deadline = f"{by_stream[:-1]},deadline\n"
+        table = f"{by_deadline}1,0,13,0,,,,Runt,1,missed\n2,0,60,0,0,1,0,sent,1,met\n3,0,60,0,,,,left,1,\n4,0,60,0,,,,left,,\n"
+        self.assertEqual([(it.stream, it.met) for it in taprio.read_frames(table)], [(1, False), (1, True), (1, None), (None, None)])
+        others = [(f"{by_stream}1,0,60,0,,,,left\n", 2), (f"{head}1,0,60,0,,,,left,2\n", 2), (f"{by_stream}1,0,60,0,,,,left,2,met\n", 2)]
+        others += [(f"{by_deadline}1,0,60,0,,,,left,2\n", 2), (f"{by_deadline}1,0,60,0,,,,left,2,late\n", 2)]
         for text, line in (("", 1), ("id,class\n", 1), (f"{head}1,0,60,0,,,,\n", 2), (f"{head}1,0,60,0,,,,left\n1,0,60\n", 3), *others):
             with self.subTest(text), self.assertRaisesRegex(taprio.BadAnswer, f"^line {line}: "):
                 taprio.read_frames(text)

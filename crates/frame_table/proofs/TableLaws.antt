@@ -1,6 +1,6 @@
 -- Reading a table of streams: the ends; and what comes of it.
 use Rattle.std.proofs.Common.{◌≡◌, ◌<◌, ◌≤◌, ◌+◌, ℕ, Bool, cond, List, [], ◌∷◌, ◌++◌, length, drop, get_or, Option, Some, None, Result, Ok, Err, true, false, refl, sym, ap, ◌∙◌, subst}
-use Rattle.std.specs.Prelude.{IfSome, option_map}
+use Rattle.std.specs.Prelude.{IfSome, ◌||◌, is_some, option_map}
 use Rattle.std.specs.List.{flat_map}
 use Rattle.words.specs.Words.{words_of}
 use Rattle.line_reader.specs.Script.{Script, script_of}
@@ -13,7 +13,7 @@ use Rattle.script.specs.declared.faults.ScriptFault.{ScriptFault}
 use Rattle.octet_writer.proofs.Fronts.{Appends-nil, sent_none}
 use Rattle.script.specs.Setup.{Setup}
 use Rattle.job.proofs.LineLaws.{memory_exit}
-use Rattle.frame_table.specs.Words.{BadLine, Command, Outcome, ReadsTable, RunsOut, StreamsInput, Table, TcFault, frames_by, frames_by_stream, frames_in, frames_unless, has_frame, ids_table, of_script, script_inputs, script_run, stream_in, table_fault, with_ids}
+use Rattle.frame_table.specs.Words.{BadLine, Command, Outcome, ReadsTable, RunsOut, StreamsInput, Table, TcFault, frames_by, frames_by_stream, frames_in, frames_unless, has_deadlines, has_frame, ids_table, of_script, script_inputs, script_run, stream_in, table_fault, with_ids}
 use Rattle.std.proofs.lemmas.List.{at_drop_all, at_drop_more}
 use Rattle.traffic.specs.declared.faults.StreamsInput.TheVariants as Inputs
 use Rattle.traffic.proofs.TableLaws.{Goes, ended, stopped, wrong_at}
@@ -126,9 +126,24 @@ of_scripts run after old new whole (Some octets) is w = subst (λ r. RunsOut r o
 
 -- one stream more
 pub one_more : (id : ℕ) (xs : List Stream) (i : ℕ) (d : Stream) (b : Bool) → i < length xs → has_frame id (get_or xs i d) ≡ b
-    → stream_in id (drop i xs) ≡ cond b (Some (get_or xs i d).first_id) (stream_in id (drop (i + 1) xs))
-one_more id xs i d b less is = at_drop_more (stream_in id) xs i d less ∙ ap (λ x. cond x (Some (get_or xs i d).first_id) (stream_in id (drop (i + 1) xs))) is
+    → stream_in id (drop i xs) ≡ cond b (Some (get_or xs i d)) (stream_in id (drop (i + 1) xs))
+one_more id xs i d b less is = at_drop_more (stream_in id) xs i d less ∙ ap (λ x. cond x (Some (get_or xs i d)) (stream_in id (drop (i + 1) xs))) is
 
 -- there are no more
 pub no_more : (id : ℕ) (xs : List Stream) (i : ℕ) → length xs ≤ i → stream_in id (drop i xs) ≡ None
 no_more id xs i past = at_drop_all (stream_in id) xs i past
+
+-- ---- whether there is a deadline
+
+or_false : (b : Bool) → (b || false) ≡ b
+or_false true = refl
+or_false false = refl
+
+or_assoc : (a b c : Bool) → (a || (b || c)) ≡ ((a || b) || c)
+or_assoc true b c = refl
+or_assoc false b c = refl
+
+-- one stream more is kept
+pub deadline_kept : (xs : List Stream) (x : Stream) → has_deadlines (xs ++ x ∷ []) ≡ (has_deadlines xs || is_some x.deadline)
+deadline_kept [] x = or_false (is_some x.deadline)
+deadline_kept (y ∷ xs) x = ap (λ b. is_some y.deadline || b) (deadline_kept xs x) ∙ or_assoc (is_some y.deadline) (has_deadlines xs) (is_some x.deadline)

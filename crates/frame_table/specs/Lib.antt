@@ -1,5 +1,6 @@
 pub mod Waits
 pub mod StreamOf
+pub mod Deadline
 pub mod RowText
 pub mod Rows
 pub mod Outcome

@@ -19,6 +19,11 @@ abbrev pub has_frame : ℕ → Stream → Bool
 has_frame id s = nat_le s.first_id id && nat_lt id (s.first_id + s.count)
 
 -- the stream that a frame of this ID is of: the first that has it
-abbrev pub stream_in : ℕ → List Stream → Option ℕ
+abbrev pub stream_in : ℕ → List Stream → Option Stream
 stream_in id [] = None
-stream_in id (s ∷ rest) = if has_frame id s then Some s.first_id else stream_in id rest
+stream_in id (s ∷ rest) = if has_frame id s then Some s else stream_in id rest
+
+-- where there is a table of streams
+abbrev pub stream_by : Option (List Stream) → ℕ → Option Stream
+stream_by None id = None
+stream_by (Some streams) id = stream_in id streams

@@ -41,6 +41,7 @@ pub use Rattle.frame_table.specs.OfCapture.{IsCaptureEnding, RunsBoth, frames_of
 pub use Rattle.frame_table.specs.Walk.{Carries, GoesOn, Place, Stands, TakesRecords, place, table_at}
 pub use Rattle.frame_table.specs.Outcome.{IsAfter, ending_text, frames_by, frames_of, rows_told, table_after, table_by, table_from, table_unless, whole_frames, with_head}
 pub use Rattle.frame_table.specs.RowText.{head_line, row_line, rows_text}
+pub use Rattle.frame_table.specs.Deadline.{has_deadlines}
 pub use Rattle.frame_table.specs.StreamOf.{has_frame, ids_table, stream_in, with_ids}
 pub use Rattle.frame_table.specs.Rows.{arrival_at, arrives, departs, left_row, left_rows, rows_at, rows_of, sent_row, table_of}
 unfoldable pub use Rattle.frame_table.specs.Rows.{left_from}

@@ -73,8 +73,13 @@ fn put_by_stream<A: Allocator, B: Allocator, R: Read + Drop, S: Read + Drop, W: 
 /// frames, from its first one on; where more than one has an ID, the first of the table has it. Where none has it, the
 /// field is empty.
 ///
+/// Where a stream of the table has a deadline, one column more says whether the frame is in time for that of its
+/// stream: `met` where it was sent, and its end came at most so long after its arrival; `missed` where it came later, or
+/// the frame was dropped. Of a frame that is left the field is empty, and so it is where its stream has no deadline.
+///
 /// A malformed line of the table of streams is the fault, and nothing is written. What is kept is that table, and the
-/// frames that wait. Else it is as with `run_frames`.
+/// frames that wait. Who watches is called for each stream, and for each frame that is late, dropped or left, and whose
+/// stream has a deadline. Else it is as with `run_frames`.
 pub fn run_frames_by_stream<A: Allocator, R: Read + Drop, S: Read + Drop, W: Write, H: Watch>(
     alloc: A,
     table: S,

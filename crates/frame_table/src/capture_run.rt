@@ -47,7 +47,7 @@ fn finish<A: Allocator + Clone, B: Allocator, C: Allocator, W: Write, H: Watch>(
         writer,
         watch,
     )?;
-    put_end(port, arrivals, Some(run_end(until)), streams, writer)?;
+    put_end(port, arrivals, Some(run_end(until)), streams, writer, watch)?;
     Ok(())
 }
 

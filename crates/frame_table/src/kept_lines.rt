@@ -31,10 +31,24 @@ fn take_line<A: Allocator + Clone, B: Allocator, C: Allocator, W: Write, H: Watc
     let _now = port.now();
     match line {
         KeptLine::Clock(moment) => {
-            take_event(port, arrivals, &Event::Clock(moment), streams, writer)
+            take_event(
+                port,
+                arrivals,
+                &Event::Clock(moment),
+                streams,
+                writer,
+                watch,
+            )
         }
-        KeptLine::Query => take_event(port, arrivals, &Event::Query, streams, writer),
-        KeptLine::Count(class) => take_event(port, arrivals, &Event::Count(class), streams, writer),
+        KeptLine::Query => take_event(port, arrivals, &Event::Query, streams, writer, watch),
+        KeptLine::Count(class) => take_event(
+            port,
+            arrivals,
+            &Event::Count(class),
+            streams,
+            writer,
+            watch,
+        ),
         KeptLine::Tc { start, end, number } => {
             take_tc(port, number, &script.octets[start..end], watch);
             Ok(())

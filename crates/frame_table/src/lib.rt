@@ -3,13 +3,15 @@
 //!
 //! The definition is specs/Rows.antt, with its text in specs/RowText.antt; the contracts of `run_frames` and
 //! `answer_frames` cite it by specs/Outcome.antt, and those of `run_frames_by_stream` and `answer_frames_by_stream`,
-//! which also say of which stream of a table a frame is (specs/StreamOf.antt), by specs/ByStream.antt. Those of
-//! `run_frames_of_capture` and `answer_frames_of_capture`, for the frames of a replay, cite it by specs/OfCapture.antt.
+//! which also say of which stream of a table a frame is (specs/StreamOf.antt) and whether it is in time for that
+//! stream's deadline (specs/Deadline.antt), by specs/ByStream.antt. Those of `run_frames_of_capture` and
+//! `answer_frames_of_capture`, for the frames of a replay, cite it by specs/OfCapture.antt.
 #![tactic(auto)]
 
 mod arrivals;
 mod by_stream;
 mod capture_run;
+mod deadline;
 mod frames_job;
 mod kept_lines;
 pub mod laws;

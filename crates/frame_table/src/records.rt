@@ -18,7 +18,7 @@ use std::io::{Read, Write};
 
 /// Takes the record of a number: a clock event at this moment, and the arrival of its frame; and writes the rows of the
 /// frames whose fate they decide.
-fn take_record<A: Allocator + Clone, B: Allocator, W: Write>(
+fn take_record<A: Allocator + Clone, B: Allocator, W: Write, H: Watch>(
     port: &mut RunningPort<A>,
     arrivals: &mut Arrivals<A>,
     moment: u128,
@@ -26,14 +26,29 @@ fn take_record<A: Allocator + Clone, B: Allocator, W: Write>(
     record: &Record<'_>,
     streams: &Option<Streams<B>>,
     writer: &mut W,
+    watch: &mut H,
 ) -> Result<(), RunFault>
     ensures { Carries streams.now result (Asks (Clock moment) ∷ Asks (Arrive (frame_of (entry record.now) number)) ∷ []) (place port.old.port arrivals.old (W.contents writer.old)) (place port.new.port arrivals.new (W.contents writer.new)) }
 {
     // For the prover: a call on a port says what holds of every port.
     let _now = port.now();
-    take_event(port, arrivals, &Event::Clock(moment), streams, writer)?;
+    take_event(
+        port,
+        arrivals,
+        &Event::Clock(moment),
+        streams,
+        writer,
+        watch,
+    )?;
     let frame = frame_of(record, u64::from(number));
-    take_event(port, arrivals, &Event::Arrive(frame), streams, writer)
+    take_event(
+        port,
+        arrivals,
+        &Event::Arrive(frame),
+        streams,
+        writer,
+        watch,
+    )
 }
 
 /// A fault with which the records of a capture end, or that a read failed.
@@ -103,7 +118,9 @@ pub(crate) fn take_records<
         take_lines(
             port, arrivals, script, cursor, latest, streams, writer, watch,
         )?;
-        take_record(port, arrivals, latest, number, &record, streams, writer)?;
+        take_record(
+            port, arrivals, latest, number, &record, streams, writer, watch,
+        )?;
         number += 1;
         watch.records_taken(number, latest);
     }

@@ -3,13 +3,16 @@
 ghost use Rattle.std.specs.Prelude.{◌≡◌};
 ghost use Rattle.octet_writer.specs.Writes.{Writes};
 ghost use Rattle.answer_text.specs.Part.{text_of};
-ghost use Rattle.frame_table.specs.RowText.{end_text, fate_text, head_line, number_text, row_line, start_text, stream_comma, stream_text, wait_text};
+ghost use Rattle.frame_table.specs.RowText.{end_text, fate_text, has_column, head_line, number_text, row_line, start_text, stream_comma, stream_text, wait_text};
 
-use crate::streams::Streams;
+use crate::deadline::{deadline_text, tell_missed};
+use crate::streams::{Streams, stream_by};
 use abstract_port::{Dropped, Start};
 use answer_text::{Part, WriteFault, dropped_name, put, put_parts};
+use script::Watch;
 use std::alloc::Allocator;
 use std::io::Write;
+use traffic::Stream;
 
 /// A frame that came.
 #[derive(Clone, Copy, Debug, PartialEq, Eq)]
@@ -103,16 +106,36 @@ fn stream_comma<'a, A: Allocator>(streams: &Option<Streams<A>>) -> Part<'a>
     }
 }
 
-/// The stream of a frame, where there is a column of streams.
-fn stream_part<'a, A: Allocator>(streams: &Option<Streams<A>>, id: u64) -> Part<'a>
-    ensures { text_of result ≡ stream_text streams.now id }
+/// The stream of a frame, if it is of one.
+fn stream_part<'a>(stream: &Option<Stream>) -> Part<'a>
+    ensures { text_of result ≡ stream_text stream.now }
+{
+    match stream {
+        None => Part::Text(b""),
+        Some(stream) => Part::Number(u128::from(stream.first_id)),
+    }
+}
+
+/// Whether there is a column of deadlines.
+fn has_column<A: Allocator>(streams: &Option<Streams<A>>) -> bool
+    ensures { result ≡ has_column streams.now }
 {
     match streams {
-        None => Part::Text(b""),
-        Some(streams) => match streams.stream_of(id) {
-            None => Part::Text(b""),
-            Some(stream) => Part::Number(u128::from(stream)),
-        },
+        None => false,
+        Some(streams) => streams.has_deadlines(),
+    }
+}
+
+/// The names of the columns.
+fn head_text<A: Allocator>(streams: &Option<Streams<A>>) -> &'static [u8]
+    ensures { result.now ≡ head_line streams.now }
+{
+    if has_column(streams) {
+        return b"id,class,len,arrival_ps,start_ps,end_ps,wait_ps,fate,stream,deadline\n";
+    }
+    match streams {
+        None => b"id,class,len,arrival_ps,start_ps,end_ps,wait_ps,fate\n",
+        Some(_) => b"id,class,len,arrival_ps,start_ps,end_ps,wait_ps,fate,stream\n",
     }
 }
 
@@ -123,27 +146,21 @@ pub(crate) fn put_head<A: Allocator, W: Write>(
 ) -> Result<(), WriteFault>
     ensures { Writes result (W.contents writer.old) (W.contents writer.new) (head_line streams.now) }
 {
-    match streams {
-        None => put(
-            writer,
-            b"id,class,len,arrival_ps,start_ps,end_ps,wait_ps,fate\n",
-        ),
-        Some(_) => put(
-            writer,
-            b"id,class,len,arrival_ps,start_ps,end_ps,wait_ps,fate,stream\n",
-        ),
-    }
+    put(writer, head_text(streams))
 }
 
-/// Writes a row. At a fault a prefix of it is written.
-pub(crate) fn put_row<A: Allocator, W: Write>(
+/// Writes a row, and calls who watches where its frame has a deadline and isn't in time. At a fault a prefix of it is
+/// written.
+pub(crate) fn put_row<A: Allocator, W: Write, H: Watch>(
     streams: &Option<Streams<A>>,
     writer: &mut W,
     row: &FrameRow,
+    watch: &mut H,
 ) -> Result<(), WriteFault>
     ensures { Writes result (W.contents writer.old) (W.contents writer.new) (row_line streams.now row.now) }
 {
-    put_parts(
+    let stream = stream_by(streams, row.arrival.id);
+    let written = put_parts(
         writer,
         &[
             Part::Number(u128::from(row.arrival.id)),
@@ -162,8 +179,13 @@ pub(crate) fn put_row<A: Allocator, W: Write>(
             Part::Text(b","),
             Part::Text(fate_name(&row.fate)),
             stream_comma(streams),
-            stream_part(streams, row.arrival.id),
+            stream_part(&stream),
+            Part::Text(deadline_text(has_column(streams), &stream, row.arrival.at, &row.fate)),
             Part::Text(b"\n"),
         ],
-    )
+    );
+    if written.is_ok() {
+        tell_missed(&stream, row, watch);
+    }
+    written
 }

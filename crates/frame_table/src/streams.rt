@@ -7,7 +7,8 @@ ghost use Rattle.words.specs.Words.{words_of};
 ghost use Rattle.traffic.specs.Faults.{table_fault};
 ghost use Rattle.traffic.specs.Table.{line_judged};
 ghost use Rattle.frame_table.specs.ByStream.{ReadsTable};
-ghost use Rattle.frame_table.specs.StreamOf.{has_frame, ids_table, stream_in, with_ids};
+ghost use Rattle.frame_table.specs.Deadline.{has_deadlines};
+ghost use Rattle.frame_table.specs.StreamOf.{has_frame, ids_table, stream_by, stream_in, with_ids};
 
 use line_reader::{LineFault, LineReader};
 use script::{ScriptFault, Watch, limit_fault};
@@ -20,6 +21,8 @@ use traffic::{Stream, StreamsFault, StreamsInput, read_stream_line};
 #[derive(Drop)]
 pub struct Streams<A: Allocator> {
     list: Vec<Stream, A>,
+    /// Whether one of them has a deadline.
+    timed: bool,
 }
 
 /// A contract sees a list.
@@ -30,6 +33,11 @@ impl<A: Allocator> Model for Streams<A> {
     ghost Value = { List Stream };
 
     ghost view = { λ s. s.list.items };
+
+    ghost use Rattle.std.specs.Prelude.{◌≡◌};
+    ghost use Rattle.frame_table.specs.Deadline.{has_deadlines};
+
+    ghost invariant = { λ s. s.timed ≡ has_deadlines s.list.items };
 }
 
 /// Whether a stream has a frame of this ID.
@@ -39,13 +47,13 @@ fn has_frame(id: u64, stream: &Stream) -> bool
     stream.first_id <= id && id - stream.first_id < u64::from(stream.count)
 }
 
-/// The first of streams that has a frame of this ID, by its own first ID.
-fn stream_in(id: u64, streams: &[Stream]) -> Option<u64>
+/// The first of streams that has a frame of this ID.
+fn stream_in(id: u64, streams: &[Stream]) -> Option<Stream>
     ensures { result ≡ stream_in id streams.now }
 {
     for stream in streams {
         if has_frame(id, stream) {
-            return Some(stream.first_id);
+            return Some(*stream);
         }
     }
     None
@@ -58,6 +66,7 @@ impl<A: Allocator> Streams<A> {
     {
         Streams {
             list: Vec::new(alloc),
+            timed: false,
         }
     }
 
@@ -67,16 +76,36 @@ impl<A: Allocator> Streams<A> {
         ensures memory { IfErr result (λ fault. fault ≡ Faults.Memory) }
     {
         match self.list.push(stream) {
-            Ok(()) => Ok(()),
+            Ok(()) => {
+                self.timed |= stream.deadline.is_some();
+                Ok(())
+            }
             Err(_) => Err(StreamsFault::Memory),
         }
     }
 
-    /// The stream that a frame of this ID is of, by its first ID.
-    pub fn stream_of(&self, id: u64) -> Option<u64>
+    /// The stream that a frame of this ID is of.
+    pub fn stream_of(&self, id: u64) -> Option<Stream>
         ensures { result ≡ stream_in id self.now }
     {
         stream_in(id, self.list.as_slice())
+    }
+
+    /// Whether one of them has a deadline.
+    pub fn has_deadlines(&self) -> bool
+        ensures { result ≡ has_deadlines self.now }
+    {
+        self.timed
+    }
+}
+
+/// The stream that a frame of this ID is of, where there is a table of streams.
+pub(crate) fn stream_by<A: Allocator>(streams: &Option<Streams<A>>, id: u64) -> Option<Stream>
+    ensures { result ≡ stream_by streams.now id }
+{
+    match streams {
+        None => None,
+        Some(streams) => streams.stream_of(id),
     }
 }
 
@@ -117,7 +146,7 @@ fn table_fault(fault: LineFault) -> StreamsFault
     }
 }
 
-/// Reads the lines of a table that are to come, after the streams that are read.
+/// Reads the lines of a table that are to come, after the streams that are read. Who watches is called for each stream.
 pub(crate) fn read_streams<A: Allocator, B: Allocator, R: Read + Drop, H: Watch>(
     lines: &mut LineReader<R, A>,
     streams: &mut Streams<B>,
@@ -135,7 +164,10 @@ pub(crate) fn read_streams<A: Allocator, B: Allocator, R: Read + Drop, H: Watch>
         }
         match read_with_ids(lines.line()) {
             Ok(None) => {}
-            Ok(Some(stream)) => streams.keep(stream)?,
+            Ok(Some(stream)) => {
+                watch.stream_read(lines.line_number(), stream.first_id, stream.count);
+                streams.keep(stream)?;
+            }
             Err(fault) => {
                 watch.line_failed(lines.line());
                 return Err(StreamsFault::Input(StreamsInput::Table(lines.line_number(), fault)));

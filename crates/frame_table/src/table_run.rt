@@ -17,12 +17,13 @@ use std::io::{Read, Write};
 use wire_time::{CLASSES, Frame, MAX_MOMENT};
 
 /// Takes a frame that comes: it waits from now on, or it is dropped, and its row is written.
-fn take_frame<A: Allocator + Clone, B: Allocator, W: Write>(
+fn take_frame<A: Allocator + Clone, B: Allocator, W: Write, H: Watch>(
     port: &mut RunningPort<A>,
     arrivals: &mut Arrivals<A>,
     frame: &Frame,
     streams: &Option<Streams<B>>,
     writer: &mut W,
+    watch: &mut H,
 ) -> Result<(), RunFault>
     ensures text { Runs result (W.contents writer.old) (W.contents writer.new) (rows_told streams.now (Arrive frame.now) port.old.port arrivals.old) }
     ensures after { IsAfter (Arrive frame.now) result port.old.port arrivals.old port.new.port arrivals.new }
@@ -50,6 +51,7 @@ fn take_frame<A: Allocator + Clone, B: Allocator, W: Write>(
                     class,
                     fate,
                 },
+                watch,
             )?;
             Ok(())
         }
@@ -57,11 +59,12 @@ fn take_frame<A: Allocator + Clone, B: Allocator, W: Write>(
 }
 
 /// Writes the row of a frame that starts: the first of its class that waits.
-fn put_sent<A: Allocator, B: Allocator, W: Write>(
+fn put_sent<A: Allocator, B: Allocator, W: Write, H: Watch>(
     arrivals: &mut Arrivals<A>,
     start: &Start,
     streams: &Option<Streams<B>>,
     writer: &mut W,
+    watch: &mut H,
 ) -> Result<(), WriteFault>
     ensures text { Writes result (W.contents writer.old) (W.contents writer.new) (rows_text streams.now (sent_row start.now (first_came start.now.class arrivals.old))) }
     ensures waiting { arrivals.new ≡ goes start.now.class arrivals.old }
@@ -76,18 +79,20 @@ fn put_sent<A: Allocator, B: Allocator, W: Write>(
                 class: Some(start.class),
                 fate: Fate::Sent(*start),
             },
+            watch,
         ),
     }
 }
 
 /// Runs to a moment that is not refused, in picoseconds, and writes the rows of the starts before it as the port finds
 /// them.
-fn take_starts<A: Allocator, B: Allocator, W: Write>(
+fn take_starts<A: Allocator, B: Allocator, W: Write, H: Watch>(
     port: &mut RunningPort<A>,
     arrivals: &mut Arrivals<A>,
     until: u128,
     streams: &Option<Streams<B>>,
     writer: &mut W,
+    watch: &mut H,
 ) -> Result<(), WriteFault>
     requires later { port.old.port.now ≤ until }
     requires within { until ≤ greatest_moment }
@@ -97,36 +102,38 @@ fn take_starts<A: Allocator, B: Allocator, W: Write>(
     // For the prover: a call on a port says what holds of every port.
     let _now = port.now();
     while let Some(start) = port.step(until) {
-        put_sent(arrivals, &start, streams, writer)?;
+        put_sent(arrivals, &start, streams, writer, watch)?;
     }
     Ok(())
 }
 
 /// Takes a clock event, with its moment in picoseconds. Where the clock would go back, nothing happens.
-fn take_clock<A: Allocator, B: Allocator, W: Write>(
+fn take_clock<A: Allocator, B: Allocator, W: Write, H: Watch>(
     port: &mut RunningPort<A>,
     arrivals: &mut Arrivals<A>,
     until: u128,
     streams: &Option<Streams<B>>,
     writer: &mut W,
+    watch: &mut H,
 ) -> Result<(), WriteFault>
     ensures text { Writes result (W.contents writer.old) (W.contents writer.new) (rows_text streams.now (rows_at (Clock until) port.old.port arrivals.old).0) }
     ensures after { IsAfter (Clock until) result port.old.port arrivals.old port.new.port arrivals.new }
 {
     if port.now() <= until && until <= MAX_MOMENT {
-        take_starts(port, arrivals, until, streams, writer)
+        take_starts(port, arrivals, until, streams, writer, watch)
     } else {
         Ok(())
     }
 }
 
 /// Takes an event, and writes the rows of the frames whose fate it decides. At a fault a prefix of them is written.
-pub(crate) fn take_event<A: Allocator + Clone, B: Allocator, W: Write>(
+pub(crate) fn take_event<A: Allocator + Clone, B: Allocator, W: Write, H: Watch>(
     port: &mut RunningPort<A>,
     arrivals: &mut Arrivals<A>,
     event: &Event<'_>,
     streams: &Option<Streams<B>>,
     writer: &mut W,
+    watch: &mut H,
 ) -> Result<(), RunFault>
     ensures text { Runs result (W.contents writer.old) (W.contents writer.new) (rows_told streams.now event.now port.old.port arrivals.old) }
     ensures after { IsAfter event.now result port.old.port arrivals.old port.new.port arrivals.new }
@@ -134,9 +141,9 @@ pub(crate) fn take_event<A: Allocator + Clone, B: Allocator, W: Write>(
     // For the prover: a call on a port says what holds of every port.
     let _now = port.now();
     match event {
-        Event::Arrive(frame) => take_frame(port, arrivals, frame, streams, writer),
+        Event::Arrive(frame) => take_frame(port, arrivals, frame, streams, writer, watch),
         Event::Clock(until) => {
-            take_clock(port, arrivals, *until, streams, writer)?;
+            take_clock(port, arrivals, *until, streams, writer, watch)?;
             Ok(())
         }
         Event::Install(command) => {
@@ -178,11 +185,12 @@ pub(crate) fn take_tc<A: Allocator, H: Watch>(
 }
 
 /// Writes the rows of the frames of a class that still wait.
-fn put_left_in<A: Allocator, B: Allocator, W: Write>(
+fn put_left_in<A: Allocator, B: Allocator, W: Write, H: Watch>(
     arrivals: &Arrivals<A>,
     class: u8,
     streams: &Option<Streams<B>>,
     writer: &mut W,
+    watch: &mut H,
 ) -> Result<(), WriteFault>
     requires { class < CLASSES }
     ensures { Writes result (W.contents writer.old) (W.contents writer.new) (rows_text streams.now (map (left_row class) (waiting_in arrivals.now class))) }
@@ -197,40 +205,43 @@ fn put_left_in<A: Allocator, B: Allocator, W: Write>(
                 class: Some(class),
                 fate: Fate::Left,
             },
+            watch,
         )?;
     }
     Ok(())
 }
 
 /// Writes the rows of the frames that still wait, class by class.
-fn put_all_left<A: Allocator, B: Allocator, W: Write>(
+fn put_all_left<A: Allocator, B: Allocator, W: Write, H: Watch>(
     arrivals: &Arrivals<A>,
     streams: &Option<Streams<B>>,
     writer: &mut W,
+    watch: &mut H,
 ) -> Result<(), WriteFault>
     ensures { Writes result (W.contents writer.old) (W.contents writer.new) (rows_text streams.now (left_rows arrivals.now)) }
 {
     for class in 0..CLASSES as u8 {
-        put_left_in(arrivals, class, streams, writer)?;
+        put_left_in(arrivals, class, streams, writer, watch)?;
     }
     Ok(())
 }
 
 /// Runs to the moment after the input, if there is one, and writes the rows that end the table.
-pub(crate) fn put_end<A: Allocator, B: Allocator, W: Write>(
+pub(crate) fn put_end<A: Allocator, B: Allocator, W: Write, H: Watch>(
     port: &mut RunningPort<A>,
     arrivals: &mut Arrivals<A>,
     until: Option<u128>,
     streams: &Option<Streams<B>>,
     writer: &mut W,
+    watch: &mut H,
 ) -> Result<(), WriteFault>
     ensures { Writes result (W.contents writer.old) (W.contents writer.new) (ending_text streams.now until port.old.port arrivals.old) }
 {
     match until {
-        None => put_all_left(arrivals, streams, writer),
+        None => put_all_left(arrivals, streams, writer, watch),
         Some(moment) => {
-            take_clock(port, arrivals, moment, streams, writer)?;
-            put_all_left(arrivals, streams, writer)
+            take_clock(port, arrivals, moment, streams, writer, watch)?;
+            put_all_left(arrivals, streams, writer, watch)
         }
     }
 }
@@ -255,7 +266,9 @@ fn run_lines<A: Allocator + Clone, B: Allocator, C: Allocator, R: Read + Drop, W
         let line = lines.line();
         match read_line(line) {
             Ok(None) => watch.line_passed(lines.line_number(), line),
-            Ok(Some(Said::Asked(event))) => take_event(port, arrivals, &event, streams, writer)?,
+            Ok(Some(Said::Asked(event))) => take_event(
+                port, arrivals, &event, streams, writer, watch,
+            )?,
             Ok(Some(Said::Tc)) => take_tc(port, lines.line_number(), line, watch),
             Err(fault) => {
                 watch.line_failed(line);
@@ -263,7 +276,7 @@ fn run_lines<A: Allocator + Clone, B: Allocator, C: Allocator, R: Read + Drop, W
             }
         }
     }
-    put_end(port, arrivals, until, streams, writer)?;
+    put_end(port, arrivals, until, streams, writer, watch)?;
     Ok(())
 }
 

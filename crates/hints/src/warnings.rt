@@ -4,6 +4,7 @@ use crate::marks::{Hint, put_hint, span_at};
 use abstract_port::Dropped;
 use answer_text::{Part, WriteFault, dropped_name, put_parts};
 use octet_writer::put;
+use script::Missed;
 use std::io::Write;
 
 /// The ids of the frames of a stream, and the number of its line in a table.
@@ -83,7 +84,7 @@ pub fn put_comment<W: Write>(writer: &mut W, number: u32, line: &[u8]) -> Result
     put_hint(writer, line, hint)
 }
 
-/// Writes that the frame of this ID, which came at this moment, in picoseconds, was dropped, and why.
+/// Writes that the frame of this id, which came at this moment, in picoseconds, was dropped, and why.
 pub fn put_frame_dropped<W: Write>(
     writer: &mut W,
     moment: u128,
@@ -97,7 +98,7 @@ pub fn put_frame_dropped<W: Write>(
             Part::Number(u128::from(id)),
             Part::Text(b" at "),
             Part::Number(moment),
-            Part::Text(b" is dropped: "),
+            Part::Text(b": dropped "),
             Part::Text(dropped_name(why)),
             Part::Text(b"\n"),
         ],
@@ -116,7 +117,7 @@ pub fn put_frames_left<W: Write>(writer: &mut W, class: u8, count: u64) -> Resul
         &[
             Part::Text(b"taprio_port: class "),
             Part::Number(u128::from(class)),
-            Part::Text(b" has "),
+            Part::Text(b": "),
             Part::Number(u128::from(count)),
             Part::Text(noun),
         ],
@@ -145,4 +146,41 @@ pub fn put_busy_class<W: Write>(
             ),
         ],
     )
+}
+
+/// Why a frame isn't in time.
+fn put_why<W: Write>(writer: &mut W, why: Missed) -> Result<(), WriteFault> {
+    match why {
+        Missed::Late => put(writer, b"deadline missed\n"),
+        Missed::Left => put(writer, b"left\n"),
+        Missed::Dropped(why) => put_parts(
+            writer,
+            &[
+                Part::Text(b"dropped "),
+                Part::Text(dropped_name(why)),
+                Part::Text(b"\n"),
+            ],
+        ),
+    }
+}
+
+/// Writes that the frame of this id, which is of the stream with this first id, isn't in time for the deadline that
+/// the stream has.
+pub fn put_missed<W: Write>(
+    writer: &mut W,
+    id: u64,
+    stream: u64,
+    why: Missed,
+) -> Result<(), WriteFault> {
+    put_parts(
+        writer,
+        &[
+            Part::Text(b"taprio_port: frame "),
+            Part::Number(u128::from(id)),
+            Part::Text(b" of stream "),
+            Part::Number(u128::from(stream)),
+            Part::Text(b": "),
+        ],
+    )?;
+    put_why(writer, why)
 }

@@ -7,11 +7,11 @@ use abstract_port::Dropped;
 use arrayvec::ArrayVec;
 use hints::{
     put_busy_class, put_comment, put_failure, put_fault_hint, put_frame_dropped, put_frames_left,
-    put_no_command, put_shared_ids,
+    put_missed, put_no_command, put_shared_ids,
 };
 use job::Ended;
 use octet_writer::put;
-use script::{Failure, Watch, read_tc};
+use script::{Failure, Missed, Watch, read_tc};
 use std::alloc::Global;
 use std::io::{self, Write};
 use std::time::Clock;
@@ -109,6 +109,7 @@ pub(crate) struct Onlooker<'a, 'b, C: Clock, P: Write + Drop, E: Write> {
     comments: u32,
     frames: u32,
     warned: bool,
+    missed: bool,
     ids: StreamIds,
     line: ArrayVec<u8, LINE>,
 }
@@ -129,15 +130,16 @@ impl<'a, 'b, C: Clock, P: Write + Drop, E: Write> Onlooker<'a, 'b, C, P, E> {
             comments: 0,
             frames: 0,
             warned: false,
+            missed: false,
             ids: StreamIds::new(alloc),
             line: ArrayVec::new(),
         }
     }
 
     /// Whether something was found for which a strict run ends with status 1: a command changed nothing, a warning was
-    /// given, or a frame was dropped or left where that is looked for.
+    /// given, a frame that has a deadline wasn't in time, or one was dropped or left where that is looked for.
     pub fn has_found(&self) -> bool {
-        self.failures > 0 || self.warned || self.frames > 0
+        self.failures > 0 || self.warned || self.missed || self.frames > 0
     }
 
     /// Counts a finding about frames, where they are looked at, and answers whether it is the first.
@@ -260,6 +262,15 @@ impl<C: Clock, P: Write + Drop, E: Write> Watch for Onlooker<'_, '_, C, P, E> {
         if let Some(earlier) = self.ids.take(later) {
             self.warned = true;
             let _ = put_shared_ids(self.errors, &earlier, &later, self.looks.explain);
+            let _ = self.errors.flush();
+        }
+    }
+
+    fn deadline_failed(&mut self, id: u64, stream: u64, why: Missed) {
+        let told = self.looks.strict && !self.missed;
+        self.missed = true;
+        if told {
+            let _ = put_missed(self.errors, id, stream, why);
             let _ = self.errors.flush();
         }
     }

@@ -25,4 +25,4 @@ pub use script_line::{Said, read_line, read_tc};
 pub use script_run::run_script;
 pub use settings::{BadValue, Settings};
 pub use summary_lines::put_end;
-pub use watch::{Failure, Unwatched, Watch};
+pub use watch::{Failure, Missed, Unwatched, Watch};

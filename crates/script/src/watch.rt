@@ -15,6 +15,17 @@ pub enum Failure {
     NeverOpens(u8),
 }
 
+/// Why a frame that has a deadline isn't in time.
+#[derive(Clone, Copy, Debug, PartialEq, Eq)]
+pub enum Missed {
+    /// It left, and its end came after its deadline.
+    Late,
+    /// It was dropped when it came.
+    Dropped(Dropped),
+    /// It still waits at the end of the run.
+    Left,
+}
+
 /// Who watches a run. Nothing that it does changes what is written.
 pub trait Watch {
     /// So many records of a capture are taken, the last at this moment, in picoseconds.
@@ -46,6 +57,9 @@ pub trait Watch {
 
     /// The line of this number of a table is a stream of so many frames, whose ids count from this one.
     fn stream_read(&mut self, _number: u32, _first_id: u64, _count: u32) {}
+
+    /// The frame of this id is of the stream with this first id, which has a deadline, and isn't in time.
+    fn deadline_failed(&mut self, _id: u64, _stream: u64, _why: Missed) {}
 }
 
 /// Nobody watches.

@@ -30,7 +30,7 @@ pub returns-in-Err-read_with_ids : goal.returns-in-Err-read_with_ids
 returns-in-Err-read_with_ids g c =
     let a = rw c.if-not-more.false at c.in-Ok.ensures.line in
     let e : line_judged with_ids (words_of c.advance.new.self.line.items) ≡ Err c.in-Err-read_with_ids.fault = cc in
-    goes_wrong _ _ {T = Unit {0}} _ _ _ _ _ c.in-Err-read_with_ids.fault c.args.streams.now c.lines.streams c.lines.invariant a e (ap (λ n. Err (Faults.Input (Inputs.Table n c.in-Err-read_with_ids.fault))) c.line_number.ensures)
+    goes_wrong _ _ {T = Unit {0}} _ _ _ _ _ c.in-Err-read_with_ids.fault c.args.streams.now c.lines.streams c.lines.invariant a e (ap (λ n. Err (Faults.Input (Inputs.Table n c.in-Err-read_with_ids.fault))) c.line_number-in-Err-read_with_ids.ensures)
 
 pub returns : goal.returns
 returns g c =
