@@ -9,3 +9,6 @@ pub mod LeftLaws
 pub mod OnceLaws
 pub mod ToldLaws
 pub mod TableLaws
+pub mod JoinLaws
+pub mod MappedLaws
+pub mod MappedText

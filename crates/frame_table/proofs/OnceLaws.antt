@@ -324,7 +324,7 @@ run-eight : (events : List Event) (p : AbstractPort) (w : List (List Arrival)) �
 run-eight [] p w eight = eight
 run-eight (event ∷ rest) p w eight = run-eight rest (answers_to event p).1 (rows_at event p w).1 (event-eight event p w ∙ eight)
 
-once-count : (events : List Event) (p : AbstractPort) → AllJoin (comings events p) → length (table_of events p none_wait) ≡ length (comings events p)
+pub once-count : (events : List Event) (p : AbstractPort) → AllJoin (comings events p) → length (table_of events p none_wait) ≡ length (comings events p)
 once-count events p all =
     let rows = rows_of events p none_wait in
     let both = length-append rows.0 (left_rows rows.1) in

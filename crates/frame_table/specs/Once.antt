@@ -1,11 +1,20 @@
 -- Each frame that comes in a run is in its table once.
-use Rattle.std.specs.Prelude.{◌≡◌, ◌<◌, ◌==◌, ℕ, List, [], ◌∷◌, ◌++◌, length, Option, Some, None, Result, Ok, Err, if◌then◌else◌}
+use Rattle.std.specs.Prelude.{◌≡◌, ◌<◌, ◌==◌, ℕ, All, IfSome, List, [], ◌∷◌, ◌++◌, length, Option, Some, None, Result, Ok, Err, if◌then◌else◌}
 use Rattle.std.specs.List.{flat_map}
-use Rattle.abstract_port.specs.AbstractPort.{AbstractPort, verdict}
+use Rattle.wire_time.specs.declared.TheConstants.{CLASSES}
+use Rattle.abstract_port.specs.AbstractPort.{AbstractPort, new_port, verdict}
 use Rattle.abstract_port.specs.Answers.{answers_to}
+use Rattle.abstract_port.specs.declared.Command.{Command}
+use Rattle.abstract_port.specs.declared.Command.TheVariants.{Replace, Delete}
 use Rattle.abstract_port.specs.declared.Dropped.{Dropped}
 use Rattle.abstract_port.specs.declared.Event.{Event}
 use Rattle.abstract_port.specs.declared.Event.TheVariants.{Arrive, Install, Clock, Query, Count}
+use Rattle.line_reader.specs.Script.{script_of}
+use Rattle.tc_reader.specs.Reader.{IsReader}
+use Rattle.tc_reader.specs.declared.fault.TcFault.{TcFault}
+use Rattle.script.specs.Outcome.{asked_in, reading_of}
+use Rattle.script.specs.Responses.{events_of}
+use Rattle.script.specs.Setup.{Setup}
 use Rattle.frame_table.specs.Rows.{arrival_at, table_of}
 use Rattle.frame_table.specs.Waits.{none_wait}
 use Rattle.frame_table.specs.declared.rows.Arrival.{Arrival}
@@ -102,3 +111,34 @@ pub record IsOnce (events : List Event) (p : AbstractPort) : Type 0 where
 -- so it is of every run
 abbrev pub OnceLaw : Type 0
 OnceLaw = (events : List Event) (p : AbstractPort) → IsOnce events p
+
+-- 5. One row a frame: each frame that joins a class joins one of the eight, where each map leads to these
+
+-- the map of a command, where it gives one, leads to the eight classes, as each `ClassMap` does
+abbrev pub IsMapped : Command → Type 0
+IsMapped Delete = Unit {0}
+IsMapped (Replace c) = IfSome c.map (λ map. All (λ class. class < CLASSES) map.classes)
+
+-- so does that of the command of an event
+abbrev pub IsMappedIn : Event → Type 0
+IsMappedIn (Install c) = IsMapped c.now
+IsMappedIn _ = Unit {0}
+
+-- so do those of all events
+abbrev pub AreMapped : List Event → Type 0
+AreMapped [] = Unit {0}
+AreMapped (event ∷ rest) = IsMappedIn event × AreMapped rest
+
+-- the table of a run of a new port has one row a frame
+abbrev pub HasEach : List Event → (ps mtu room : ℕ) → Type 0
+HasEach events ps mtu room = length (table_of events (new_port ps mtu room) none_wait) ≡ length (comings events (new_port ps mtu room))
+
+-- so it is of every run with such commands
+abbrev pub CountLaw : Type 0
+CountLaw = (events : List Event) (ps mtu room : ℕ) → AreMapped events → HasEach events ps mtu room
+
+-- So it is of all that a script asks, whatever its octets are.
+abbrev pub ScriptLaw : Type 0
+ScriptLaw =
+    (read : List (List ℕ) → Result Command TcFault) (s : Setup) (input : List ℕ) → IsReader read
+    → HasEach (events_of (asked_in s.until (reading_of read (script_of input)))) s.rate s.mtu s.room
