@@ -151,12 +151,12 @@ pub fn put_busy_class<W: Write>(
 /// Why a frame isn't in time.
 fn put_why<W: Write>(writer: &mut W, why: Missed) -> Result<(), WriteFault> {
     match why {
-        Missed::Late => put(writer, b"deadline missed\n"),
-        Missed::Left => put(writer, b"left\n"),
+        Missed::Late => put(writer, b" missed its deadline\n"),
+        Missed::Left => put(writer, b" is left\n"),
         Missed::Dropped(why) => put_parts(
             writer,
             &[
-                Part::Text(b"dropped "),
+                Part::Text(b" is dropped: "),
                 Part::Text(dropped_name(why)),
                 Part::Text(b"\n"),
             ],
@@ -179,7 +179,6 @@ pub fn put_missed<W: Write>(
             Part::Number(u128::from(id)),
             Part::Text(b" of stream "),
             Part::Number(u128::from(stream)),
-            Part::Text(b": "),
         ],
     )?;
     put_why(writer, why)
