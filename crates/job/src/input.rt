@@ -5,6 +5,7 @@ ghost use Rattle.line_reader.specs.declared.lines.Limit.{Limit};
 ghost use Rattle.octet_writer.specs.Writes.{Writes};
 ghost use Rattle.job.specs.Report.{Telling};
 
+use crate::kind::FaultKind;
 use line_reader::Limit;
 use octet_writer::WriteFault;
 use std::io::Write;
@@ -17,6 +18,9 @@ pub trait InputFault: Copy {
     /// The exit status that goes with it.
     fn status(&self) -> u8
         ensures { result ≡ telling.status self.now };
+
+    /// What it is.
+    fn kind(&self) -> FaultKind;
 
     /// Writes its text.
     fn put<W: Write>(&self, writer: &mut W) -> Result<(), WriteFault>

@@ -6,6 +6,7 @@ ghost use Rattle.job.specs.Texts.{IsTold, fault_status, fault_text, run_status, 
 
 use crate::fault::Fault;
 use crate::input::InputFault;
+use crate::kind::{Errors, FaultKind};
 use octet_writer::{WriteFault, put};
 use std::io::Write;
 
@@ -26,6 +27,16 @@ fn status_of<I: InputFault>(fault: &Fault<I>) -> u8
     match fault {
         Fault::Input(fault) => fault.status(),
         Fault::Read | Fault::Write | Fault::Memory => 4,
+    }
+}
+
+/// What a fault is.
+fn kind_of<I: InputFault>(fault: &Fault<I>) -> FaultKind {
+    match fault {
+        Fault::Input(fault) => fault.kind(),
+        Fault::Read => FaultKind::ReadFailed,
+        Fault::Write => FaultKind::WriteFailed,
+        Fault::Memory => FaultKind::OutOfMemory,
     }
 }
 
@@ -51,8 +62,8 @@ pub fn say_fault<I: InputFault, W: Write>(fault: &Fault<I>, writer: &mut W) -> E
     }
 }
 
-/// Reports how a run ended: a fault's text, where there is one, and the status.
-pub fn say_run<I: InputFault, E: Write>(run: Result<(), Fault<I>>, errors: &mut E) -> Ended
+/// Reports how a run ended: a fault's text and what it was, where there is one, and the status.
+pub fn say_run<I: InputFault, E: Errors>(run: Result<(), Fault<I>>, errors: &mut E) -> Ended
     ensures status { result.status ≡ run_status I.telling run }
     ensures told { IsTold result.told (E.contents errors.old) (E.contents errors.new) (run_text I.telling run) }
 {
@@ -61,6 +72,10 @@ pub fn say_run<I: InputFault, E: Write>(run: Result<(), Fault<I>>, errors: &mut 
             status: 0,
             told: true,
         },
-        Err(fault) => say_fault(&fault, errors),
+        Err(fault) => {
+            let ended = say_fault(&fault, errors);
+            errors.found(kind_of(&fault));
+            ended
+        }
     }
 }

@@ -6,7 +6,7 @@ ghost use Rattle.replay.specs.Words.{Writes, IsTold, capture_fault_name, capture
 use crate::faults::ReplayInput;
 use answer_text::{Part, WriteFault, put, put_parts};
 use capture::CapFault;
-use job::{Ended, InputFault};
+use job::{CaptureKind, Ended, FaultKind, InputFault, ValueKind};
 use script::{BadValue, put_value};
 use std::io::Write;
 
@@ -93,6 +93,22 @@ fn capture_status(fault: CapFault) -> u8
     }
 }
 
+fn capture_kind(fault: CapFault) -> FaultKind {
+    match fault {
+        CapFault::ShortHeader => FaultKind::Capture(CaptureKind::ShortHeader),
+        CapFault::BadMagic => FaultKind::Capture(CaptureKind::BadMagic),
+        CapFault::BadVersion => FaultKind::Capture(CaptureKind::BadVersion),
+        CapFault::BadLink => FaultKind::Capture(CaptureKind::BadLink),
+        CapFault::ShortRecord => FaultKind::Capture(CaptureKind::ShortRecord),
+        CapFault::LongRecord => FaultKind::Capture(CaptureKind::LongRecord),
+        CapFault::BadFraction => FaultKind::Capture(CaptureKind::BadFraction),
+        CapFault::TooManyRecords => FaultKind::Capture(CaptureKind::TooManyRecords),
+        CapFault::Read => FaultKind::ReadFailed,
+        CapFault::Write => FaultKind::WriteFailed,
+        CapFault::Memory => FaultKind::OutOfMemory,
+    }
+}
+
 impl InputFault for ReplayInput {
     ghost telling = { replay_telling };
 
@@ -101,6 +117,14 @@ impl InputFault for ReplayInput {
             ReplayInput::Until => 2,
             ReplayInput::Script(_) => 3,
             ReplayInput::Capture(_, fault) => capture_status(fault),
+        }
+    }
+
+    fn kind(&self) -> FaultKind {
+        match *self {
+            ReplayInput::Until => FaultKind::Value(ValueKind::Until),
+            ReplayInput::Script(bad) => bad.kind(),
+            ReplayInput::Capture(_, fault) => capture_kind(fault),
         }
     }
 

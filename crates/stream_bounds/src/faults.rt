@@ -5,7 +5,7 @@ ghost use Rattle.octet_writer.specs.Writes.{Writes};
 ghost use Rattle.stream_bounds.specs.Faults.{bounds_telling, finding_text, first_text, found_text, schedules_fault, schedules_limited, schedules_text, table_fault};
 
 use answer_text::{Part, WriteFault, put, put_parts};
-use job::{Fault, InputFault, LineInput};
+use job::{Fault, FaultKind, InputFault, LineInput};
 use line_reader::{Limit, LineFault};
 use script::{ScriptFault, limit_fault, put_line_fault};
 use std::io::Write;
@@ -62,6 +62,19 @@ pub enum BoundsInput {
 
 /// Why a run on a table of streams and schedules ended early.
 pub type BoundsFault = Fault<BoundsInput>;
+
+impl Finding {
+    /// What it is.
+    fn kind(self) -> FaultKind {
+        match self {
+            Finding::TcFault(_) | Finding::Refused(_) => FaultKind::Found,
+            Finding::Missed(_) | Finding::Unknown(_) | Finding::Dropped(_) => FaultKind::Found,
+            Finding::Full(_) | Finding::Stuck(_) | Finding::Overloaded(_) => FaultKind::Found,
+            Finding::NoSchedule => FaultKind::NoSchedule,
+            Finding::NoStream => FaultKind::NoStream,
+        }
+    }
+}
 
 /// The fault of a table whose line can't be read.
 pub fn table_fault(fault: LineFault) -> BoundsFault
@@ -157,6 +170,14 @@ impl InputFault for BoundsInput {
         match self {
             BoundsInput::Table(..) | BoundsInput::Schedules(..) => 3,
             BoundsInput::Found(_) => 1,
+        }
+    }
+
+    fn kind(&self) -> FaultKind {
+        match *self {
+            BoundsInput::Table(_, fault) => FaultKind::Line(fault.kind_in_table()),
+            BoundsInput::Schedules(_, _, fault) => FaultKind::Line(fault.kind()),
+            BoundsInput::Found(finding) => finding.kind(),
         }
     }
 

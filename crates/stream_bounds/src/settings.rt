@@ -5,7 +5,7 @@ ghost use Rattle.job.specs.Texts.{IsTold};
 ghost use Rattle.stream_bounds.specs.BoundsEnd.{bounds_value_text};
 
 use class_map::ClassMap;
-use job::Ended;
+use job::{Ended, ValueKind};
 use octet_writer::put;
 use script::{BadValue, Settings, put_value};
 use std::io::Write;
@@ -33,6 +33,16 @@ pub enum BoundsValue {
     Port(BadValue),
     /// The number of frames is not 1 to `MAX_FRAMES`.
     Frames,
+}
+
+impl BoundsValue {
+    /// Whose value it is.
+    pub fn kind(self) -> ValueKind {
+        match self {
+            BoundsValue::Port(value) => value.kind(),
+            BoundsValue::Frames => ValueKind::Frames,
+        }
+    }
 }
 
 /// Writes the text of a bad value. The exit status that goes with it is 2, also where that write fails.

@@ -4,7 +4,7 @@ ghost use Rattle.std.specs.Prelude.{◌≡◌};
 ghost use Rattle.traffic.specs.Words.{script_fault, streams_telling, table_fault};
 
 use answer_text::WriteFault;
-use job::{Fault, InputFault};
+use job::{Fault, FaultKind, InputFault};
 use line_reader::LineFault;
 use script::{ScriptFault, limit_fault, put_line_fault};
 use std::io::Write;
@@ -56,6 +56,13 @@ impl InputFault for StreamsInput {
 
     fn status(&self) -> u8 {
         3
+    }
+
+    fn kind(&self) -> FaultKind {
+        match *self {
+            StreamsInput::Table(_, fault) => FaultKind::Line(fault.kind_in_table()),
+            StreamsInput::Script(_, fault) => FaultKind::Line(fault.kind()),
+        }
     }
 
     fn put<W: Write>(&self, writer: &mut W) -> Result<(), WriteFault> {
