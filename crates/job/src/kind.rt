@@ -106,10 +106,17 @@ pub enum ValueKind {
 
 /// Where the end of a run is reported: its text, and what it was.
 pub trait Errors: Write {
+    ghost use Rattle.job.specs.declared.kind.FaultKind.{FaultKind};
+
+    /// What was told last, where that is kept.
+    ghost knows: { Self → FaultKind → Type 0 } = { λ _ _. Unit {0} };
+
     /// This ended the run whose text is written here. Nothing is written.
-    fn found(&mut self, _kind: FaultKind)
-        ensures kept { Self.contents self.new ≡ Self.contents self.old }
-    {}
+    fn found(&mut self, kind: FaultKind)
+        ensures known { knows self.new kind }
+        ensures kept { Self.contents self.new ≡ Self.contents self.old };
 }
 
-impl<A: Allocator> Errors for Vec<u8, A> {}
+impl<A: Allocator> Errors for Vec<u8, A> {
+    fn found(&mut self, _kind: FaultKind) {}
+}

@@ -1,7 +1,8 @@
 //! What is reported of a run.
 
-ghost use Rattle.std.specs.Prelude.{◌≡◌};
+ghost use Rattle.std.specs.Prelude.{◌≡◌, IfErr};
 ghost use Rattle.octet_writer.specs.Writes.{Writes};
+ghost use Rattle.job.specs.Kinds.{fault_kind};
 ghost use Rattle.job.specs.Texts.{IsTold, fault_status, fault_text, run_status, run_text};
 
 use crate::fault::Fault;
@@ -31,7 +32,9 @@ fn status_of<I: InputFault>(fault: &Fault<I>) -> u8
 }
 
 /// What a fault is.
-fn kind_of<I: InputFault>(fault: &Fault<I>) -> FaultKind {
+fn kind_of<I: InputFault>(fault: &Fault<I>) -> FaultKind
+    ensures { result ≡ fault_kind I.kind_of fault.now }
+{
     match fault {
         Fault::Input(fault) => fault.kind(),
         Fault::Read => FaultKind::ReadFailed,
@@ -66,6 +69,7 @@ pub fn say_fault<I: InputFault, W: Write>(fault: &Fault<I>, writer: &mut W) -> E
 pub fn say_run<I: InputFault, E: Errors>(run: Result<(), Fault<I>>, errors: &mut E) -> Ended
     ensures status { result.status ≡ run_status I.telling run }
     ensures told { IsTold result.told (E.contents errors.old) (E.contents errors.new) (run_text I.telling run) }
+    ensures known { IfErr run (λ fault. E.knows errors.new (fault_kind I.kind_of fault)) }
 {
     match run {
         Ok(()) => Ended {

@@ -5,7 +5,7 @@ use crate::progress::Progress;
 use crate::stream_ids::{StreamIds, ids_of};
 use arrayvec::ArrayVec;
 use hints::{put_comment, put_failure, put_fault_hint, put_no_command, put_shared_ids};
-use job::{Ended, Errors, FaultKind};
+use job::{CaptureKind, Ended, Errors, FaultKind};
 use octet_writer::put;
 use script::{Failure, Watch, read_tc};
 use std::alloc::Global;
@@ -42,13 +42,20 @@ impl FaultText {
         }
     }
 
-    /// Whether it is the fault of a capture.
+    /// Whether the first octets of a capture say more of it.
     pub fn is_of_capture(&self) -> bool {
-        matches!(self.kind, Some(FaultKind::Capture(_)))
+        matches!(
+            self.kind,
+            Some(FaultKind::Capture(CaptureKind::BadMagic | CaptureKind::BadLink))
+        )
     }
 }
 
 impl Errors for FaultText {
+    ghost use Rattle.std.specs.Prelude.{◌≡◌, Some};
+
+    ghost knows = { λ t kind. t.kind ≡ Some kind };
+
     fn found(&mut self, kind: FaultKind) {
         self.kind = Some(kind);
     }

@@ -52,9 +52,9 @@ pub(crate) fn open<'a, F: Files>(files: &F, path: &'a str) -> Result<F::File, &'
 /// How many octets of a capture are looked at.
 const FRONT: usize = 24;
 
-/// The first octets of a capture in a file, to say what the file is: none where a run ended for another reason than its
-/// capture, and where the words name no such file or it can't be read. What is no regular file is left alone: a pipe
-/// that was read to its end may be waited for without an end.
+/// The first octets of a capture in a file, to say what the file is: none where they say no more of the fault, and where
+/// the words name no such file or it can't be read. What is no regular file is left alone: a pipe that was read to its
+/// end may be waited for without an end.
 pub(crate) fn first_octets<F: Files>(
     files: &F,
     matches: &ArgMatches<'_>,

@@ -1,6 +1,7 @@
 //! The texts of faults.
 
 ghost use Rattle.std.specs.Prelude.{◌≡◌};
+ghost use Rattle.replay.specs.Kinds.{capture_kind, replay_kind};
 ghost use Rattle.replay.specs.Words.{Writes, IsTold, capture_fault_name, capture_status, capture_text, header_text, record_text, open_text, replay_telling};
 
 use crate::faults::ReplayInput;
@@ -93,7 +94,9 @@ fn capture_status(fault: CapFault) -> u8
     }
 }
 
-fn capture_kind(fault: CapFault) -> FaultKind {
+fn capture_kind(fault: CapFault) -> FaultKind
+    ensures { result ≡ capture_kind fault }
+{
     match fault {
         CapFault::ShortHeader => FaultKind::Capture(CaptureKind::ShortHeader),
         CapFault::BadMagic => FaultKind::Capture(CaptureKind::BadMagic),
@@ -111,6 +114,8 @@ fn capture_kind(fault: CapFault) -> FaultKind {
 
 impl InputFault for ReplayInput {
     ghost telling = { replay_telling };
+
+    ghost kind_of = { replay_kind };
 
     fn status(&self) -> u8 {
         match *self {

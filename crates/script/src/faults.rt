@@ -1,7 +1,7 @@
 //! Why a run ends early, and the texts that say so.
 
 ghost use Rattle.std.specs.Prelude.{◌≡◌};
-ghost use Rattle.script.specs.Words.{IsTold, Writes, line_text, option_name, script_fault_name, script_telling, value_text, bad_line, limit_fault, long_line};
+ghost use Rattle.script.specs.Words.{IsTold, Writes, line_kind, line_text, option_name, script_fault_name, script_kind, script_telling, table_kind, value_text, bad_line, limit_fault, long_line};
 
 use crate::settings::BadValue;
 use answer_text::{Part, WriteFault, put_parts};
@@ -63,7 +63,9 @@ pub fn limit_fault(limit: Limit) -> ScriptFault
 
 impl ScriptFault {
     /// What it is where the line is one of a script or of schedules.
-    pub fn kind(self) -> LineKind {
+    pub fn kind(self) -> LineKind
+        ensures { result ≡ line_kind self }
+    {
         match self {
             ScriptFault::LongLine => LineKind::LongLine,
             ScriptFault::TooManyLines => LineKind::TooManyLines,
@@ -76,7 +78,9 @@ impl ScriptFault {
     }
 
     /// What it is where the line is one of a table of streams.
-    pub fn kind_in_table(self) -> LineKind {
+    pub fn kind_in_table(self) -> LineKind
+        ensures { result ≡ table_kind self }
+    {
         match self {
             ScriptFault::UnknownLine => LineKind::UnknownTableLine,
             ScriptFault::ClockTooLate => LineKind::StreamTooLate,
@@ -122,6 +126,8 @@ pub fn put_line_fault<W: Write>(
 
 impl InputFault for BadLine {
     ghost telling = { script_telling };
+
+    ghost kind_of = { script_kind };
 
     fn status(&self) -> u8 {
         3

@@ -2,7 +2,7 @@
 
 ghost use Rattle.std.specs.Prelude.{◌≡◌, ◌≤◌};
 ghost use Rattle.std.specs.Option.{ForSome};
-ghost use Rattle.script.specs.Words.{IsMtu, IsRoom, octets_of, is_until, mtu_in, rate_in, room_in, settings_of, settings_with, with_summary};
+ghost use Rattle.script.specs.Words.{IsMtu, IsRoom, octets_of, is_until, mtu_in, rate_in, room_in, settings_of, settings_with, value_kind, with_summary};
 
 use job::ValueKind;
 use port::{is_mtu, is_room};
@@ -61,7 +61,9 @@ pub enum BadValue {
 
 impl BadValue {
     /// Whose value it is.
-    pub fn kind(self) -> ValueKind {
+    pub fn kind(self) -> ValueKind
+        ensures { result ≡ value_kind self }
+    {
         match self {
             BadValue::Rate => ValueKind::Rate,
             BadValue::Mtu => ValueKind::Mtu,

@@ -2,7 +2,7 @@
 
 ghost use Rattle.std.specs.Prelude.{◌≡◌};
 ghost use Rattle.octet_writer.specs.Writes.{Writes};
-ghost use Rattle.stream_bounds.specs.Faults.{bounds_telling, finding_text, first_text, found_text, schedules_fault, schedules_limited, schedules_text, table_fault};
+ghost use Rattle.stream_bounds.specs.Faults.{bounds_kind, bounds_telling, finding_kind, finding_text, first_text, found_text, schedules_fault, schedules_limited, schedules_text, table_fault};
 
 use answer_text::{Part, WriteFault, put, put_parts};
 use job::{Fault, FaultKind, InputFault, LineInput};
@@ -65,7 +65,9 @@ pub type BoundsFault = Fault<BoundsInput>;
 
 impl Finding {
     /// What it is.
-    fn kind(self) -> FaultKind {
+    fn kind(self) -> FaultKind
+        ensures { result ≡ finding_kind self }
+    {
         match self {
             Finding::TcFault(_) | Finding::Refused(_) => FaultKind::Found,
             Finding::Missed(_) | Finding::Unknown(_) | Finding::Dropped(_) => FaultKind::Found,
@@ -165,6 +167,8 @@ fn put_schedules<W: Write>(
 
 impl InputFault for BoundsInput {
     ghost telling = { bounds_telling };
+
+    ghost kind_of = { bounds_kind };
 
     fn status(&self) -> u8 {
         match self {

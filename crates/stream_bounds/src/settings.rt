@@ -2,7 +2,7 @@
 
 ghost use Rattle.std.specs.Prelude.{◌≡◌};
 ghost use Rattle.job.specs.Texts.{IsTold};
-ghost use Rattle.stream_bounds.specs.BoundsEnd.{bounds_value_text};
+ghost use Rattle.stream_bounds.specs.BoundsEnd.{bounds_value_kind, bounds_value_text};
 
 use class_map::ClassMap;
 use job::{Ended, ValueKind};
@@ -37,7 +37,9 @@ pub enum BoundsValue {
 
 impl BoundsValue {
     /// Whose value it is.
-    pub fn kind(self) -> ValueKind {
+    pub fn kind(self) -> ValueKind
+        ensures { result ≡ bounds_value_kind self }
+    {
         match self {
             BoundsValue::Port(value) => value.kind(),
             BoundsValue::Frames => ValueKind::Frames,

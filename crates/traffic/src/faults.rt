@@ -1,6 +1,7 @@
 //! What is wrong with a table of streams or a script, and the texts that say so.
 
 ghost use Rattle.std.specs.Prelude.{◌≡◌};
+ghost use Rattle.traffic.specs.Faults.{streams_kind};
 ghost use Rattle.traffic.specs.Words.{script_fault, streams_telling, table_fault};
 
 use answer_text::WriteFault;
@@ -53,6 +54,8 @@ pub(crate) fn script_fault(fault: LineFault) -> StreamsFault
 
 impl InputFault for StreamsInput {
     ghost telling = { streams_telling };
+
+    ghost kind_of = { streams_kind };
 
     fn status(&self) -> u8 {
         3
