@@ -8,6 +8,14 @@ const MEANINGS = {
   WordCount: "the line has too few or too many words.",
   BadNumber: "a word is no number, or is out of its range.",
   ClockTooLate: "the moment is after the greatest, 9223372036854775807000 ps.",
+  ShortHeader: "it ends within its first 24 octets.",
+  BadMagic: "it is no classic pcap file.",
+  BadVersion: "its version is not 2.4.",
+  BadLink: "its link type is not Ethernet (1).",
+  ShortRecord: "the capture ends within this record.",
+  LongRecord: "the record has more than 262,144 octets.",
+  BadFraction: "the fraction of its time stamp is a second or more.",
+  TooManyRecords: "there are more than 4,000,000 records.",
 };
 
 const MOMENT = "a moment such as 20000000 (ps) or 20 us, at most 9223372036854775807000 ps";
@@ -31,6 +39,8 @@ export function explain(text) {
   const said = text.trim().replace(/^taprio_port: /, "");
   const [, option] = /^bad value of --(\w+)$/.exec(said) ?? [];
   if (WANTED[option]) return { text: `${said}: wanted is ${WANTED[option]}.`, line: null, source: null };
+  const [, ofCapture] = /^capture (?:header|record \d+): (\w+)$/.exec(said) ?? [];
+  if (MEANINGS[ofCapture]) return { text: `${said}, ${MEANINGS[ofCapture]}`, line: null, source: null };
   const found = /^(script|table) line (\d+): (\w+)/.exec(said);
   if (!found) return { text: said, line: null, source: null };
   const [, source, line, name] = found;

@@ -6,7 +6,7 @@ ghost use Rattle.drawing.specs.Words.{settings_given, words_of_values, greatest_
 
 use crate::draw_run::draw;
 use crate::options::{DrawValues, options_given};
-use job::{Ended, end_run};
+use job::{Ended, Errors, end_run};
 use octet_writer::BufWriter;
 use script::{Values, Watch, end_with_value, settings_given};
 use std::alloc::{Allocator, Global};
@@ -15,7 +15,7 @@ use wire_time::MAX_MOMENT;
 
 /// Draws the run of the script that `reader` gives, by these values, through `answers`, with the text of a fault on
 /// `errors`; and gives the writer of the answers back. At a fault of the script nothing is drawn.
-pub fn answer_draw<B: Allocator, R: Read, W: Write + Drop, E: Write, H: Watch>(
+pub fn answer_draw<B: Allocator, R: Read, W: Write + Drop, E: Errors, H: Watch>(
     alloc: Global,
     values: Values<'_>,
     draws: DrawValues<'_>,

@@ -7,7 +7,7 @@ ghost use Rattle.frame_table.specs.Words.{IsByStreamEnding, IsCaptureEnding, IsE
 use crate::by_stream::run_frames_by_stream;
 use crate::capture_run::run_frames_of_capture;
 use crate::table_run::run_frames;
-use job::{Ended, end_run};
+use job::{Ended, Errors, end_run};
 use octet_writer::BufWriter;
 use script::{Settings, Values, Watch, end_with_value, settings_given};
 use std::alloc::Allocator;
@@ -17,7 +17,7 @@ use wire_time::MAX_MOMENT;
 /// Writes the table of the frames of the script that `reader` gives, by these values, through `answers`, with the text
 /// of a fault on `errors`; and gives the writer of the answers back. What was written is let out before a fault is
 /// reported; after a failed write no other is tried. Where a value is bad nothing is read.
-pub fn answer_frames<A: Allocator, B: Allocator, R: Read, W: Write + Drop, E: Write, H: Watch>(
+pub fn answer_frames<A: Allocator, B: Allocator, R: Read, W: Write + Drop, E: Errors, H: Watch>(
     alloc: A,
     values: Values<'_>,
     reader: &mut R,
@@ -48,7 +48,7 @@ pub fn answer_frames_of_capture<
     R: Read,
     S: Read + Drop,
     W: Write + Drop,
-    E: Write,
+    E: Errors,
     H: Watch,
 >(
     alloc: A,
@@ -73,7 +73,7 @@ pub fn answer_frames_by_stream<
     R: Read,
     S: Read + Drop,
     W: Write + Drop,
-    E: Write,
+    E: Errors,
     H: Watch,
 >(
     alloc: A,

@@ -1,5 +1,6 @@
 pub mod Report
 pub mod Texts
+pub mod Kinds
 pub mod Lines
 pub mod Outcome
 pub mod RunEnd

@@ -4,7 +4,9 @@ ghost use Rattle.std.specs.Prelude.{◌≡◌, ℕ};
 ghost use Rattle.line_reader.specs.declared.lines.Limit.{Limit};
 ghost use Rattle.octet_writer.specs.Writes.{Writes};
 ghost use Rattle.job.specs.Report.{Telling};
+ghost use Rattle.job.specs.declared.kind.FaultKind.{FaultKind};
 
+use crate::kind::FaultKind;
 use line_reader::Limit;
 use octet_writer::WriteFault;
 use std::io::Write;
@@ -14,9 +16,16 @@ pub trait InputFault: Copy {
     /// Its text, and the exit status that goes with it.
     ghost telling: { Telling Self };
 
+    /// What it is.
+    ghost kind_of: { Self → FaultKind };
+
     /// The exit status that goes with it.
     fn status(&self) -> u8
         ensures { result ≡ telling.status self.now };
+
+    /// What it is.
+    fn kind(&self) -> FaultKind
+        ensures { result ≡ kind_of self.now };
 
     /// Writes its text.
     fn put<W: Write>(&self, writer: &mut W) -> Result<(), WriteFault>

@@ -7,12 +7,14 @@
 
 mod fault;
 mod input;
+mod kind;
 mod report;
 mod run_end;
 mod step;
 
 pub use fault::Fault;
 pub use input::{InputFault, LineInput};
+pub use kind::{CaptureKind, Errors, FaultKind, LineKind, ValueKind};
 pub use report::{Ended, say_fault, say_run};
 pub use run_end::{end_run, end_told};
 pub use step::next_line;

@@ -1,11 +1,13 @@
 //! What is reported of a run.
 
-ghost use Rattle.std.specs.Prelude.{◌≡◌};
+ghost use Rattle.std.specs.Prelude.{◌≡◌, IfErr};
 ghost use Rattle.octet_writer.specs.Writes.{Writes};
+ghost use Rattle.job.specs.Kinds.{fault_kind};
 ghost use Rattle.job.specs.Texts.{IsTold, fault_status, fault_text, run_status, run_text};
 
 use crate::fault::Fault;
 use crate::input::InputFault;
+use crate::kind::{Errors, FaultKind};
 use octet_writer::{WriteFault, put};
 use std::io::Write;
 
@@ -26,6 +28,18 @@ fn status_of<I: InputFault>(fault: &Fault<I>) -> u8
     match fault {
         Fault::Input(fault) => fault.status(),
         Fault::Read | Fault::Write | Fault::Memory => 4,
+    }
+}
+
+/// What a fault is.
+fn kind_of<I: InputFault>(fault: &Fault<I>) -> FaultKind
+    ensures { result ≡ fault_kind I.kind_of fault.now }
+{
+    match fault {
+        Fault::Input(fault) => fault.kind(),
+        Fault::Read => FaultKind::ReadFailed,
+        Fault::Write => FaultKind::WriteFailed,
+        Fault::Memory => FaultKind::OutOfMemory,
     }
 }
 
@@ -51,16 +65,21 @@ pub fn say_fault<I: InputFault, W: Write>(fault: &Fault<I>, writer: &mut W) -> E
     }
 }
 
-/// Reports how a run ended: a fault's text, where there is one, and the status.
-pub fn say_run<I: InputFault, E: Write>(run: Result<(), Fault<I>>, errors: &mut E) -> Ended
+/// Reports how a run ended: a fault's text and what it was, where there is one, and the status.
+pub fn say_run<I: InputFault, E: Errors>(run: Result<(), Fault<I>>, errors: &mut E) -> Ended
     ensures status { result.status ≡ run_status I.telling run }
     ensures told { IsTold result.told (E.contents errors.old) (E.contents errors.new) (run_text I.telling run) }
+    ensures known { IfErr run (λ fault. E.knows errors.new (fault_kind I.kind_of fault)) }
 {
     match run {
         Ok(()) => Ended {
             status: 0,
             told: true,
         },
-        Err(fault) => say_fault(&fault, errors),
+        Err(fault) => {
+            let ended = say_fault(&fault, errors);
+            errors.found(kind_of(&fault));
+            ended
+        }
     }
 }

@@ -8,6 +8,7 @@ ghost use Rattle.job.specs.declared.fault.Fault.TheVariants as Faults;
 
 use crate::fault::Fault;
 use crate::input::InputFault;
+use crate::kind::Errors;
 use crate::report::{Ended, say_run};
 use octet_writer::BufWriter;
 use std::alloc::Allocator;
@@ -35,7 +36,7 @@ fn let_out<I: Copy, W: Write + Drop, B: Allocator>(
 /// Ends a run whose output went through `answers`: lets out what was written, also before a fault, but after a failed
 /// write; then reports the fault on `errors`, where there is one; and gives the writer back. What the run has written
 /// is then what the writer has got, with what no write let out.
-pub fn end_run<I: InputFault, B: Allocator, W: Write + Drop, E: Write>(
+pub fn end_run<I: InputFault, B: Allocator, W: Write + Drop, E: Errors>(
     run: Result<(), Fault<I>>,
     mut answers: BufWriter<W, B>,
     errors: &mut E,

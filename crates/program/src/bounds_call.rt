@@ -8,7 +8,7 @@ ghost use Rattle.program.specs.Given.{IsGivenBounds, bounds_in};
 use crate::options::bounds_of;
 use crate::replay_call::{end_unopened, open};
 use clap::ArgMatches;
-use job::{Ended, end_told};
+use job::{Ended, Errors, end_told};
 use octet_writer::BufWriter;
 use script::Watch;
 use std::alloc::{Allocator, Global};
@@ -19,7 +19,7 @@ use stream_bounds::{answer_bounds, bounds_given as settings_given, end_with_boun
 /// Answers about the schedules that `reader` gives and the streams of the table whose file the words name, through
 /// `answers`, with the text of a fault on `errors`; and gives the writer of the answers back. The values are judged
 /// first; then the file is opened, before anything is read. Where it can't be, nothing is answered.
-pub fn bounds_given<F: Files, B: Allocator, R: Read, W: Write + Drop, E: Write, H: Watch>(
+pub fn bounds_given<F: Files, B: Allocator, R: Read, W: Write + Drop, E: Errors, H: Watch>(
     files: &F,
     alloc: Global,
     matches: &ArgMatches<'_>,

@@ -26,7 +26,7 @@ use crate::streams_call::streams_given;
 use clap::error::ErrorKind;
 use clap::{ArgMatches, Error};
 use drawing::answer_draw;
-use job::{Ended, end_told};
+use job::{Ended, Errors, end_told};
 use octet_writer::{BufWriter, put};
 use schedule_check::answer_check;
 use script::{Watch, answer_script};
@@ -37,7 +37,7 @@ use std::time::Clock;
 
 /// Answers the script that `reader` gives, by the values that the words give to the options, through `answers`, with
 /// the text of a fault on `errors`; and gives the writer of the answers back.
-pub fn answer_given<B: Allocator, R: Read, W: Write + Drop, E: Write, H: Watch>(
+pub fn answer_given<B: Allocator, R: Read, W: Write + Drop, E: Errors, H: Watch>(
     alloc: Global,
     matches: &ArgMatches<'_>,
     reader: &mut R,
@@ -54,7 +54,7 @@ pub fn answer_given<B: Allocator, R: Read, W: Write + Drop, E: Write, H: Watch>(
 
 /// Checks the schedules that `reader` gives, by the values that the words give to the options, through `answers`, with
 /// the text of a fault on `errors`; and gives the writer of the answers back.
-pub fn check_given<B: Allocator, R: Read, W: Write + Drop, E: Write, H: Watch>(
+pub fn check_given<B: Allocator, R: Read, W: Write + Drop, E: Errors, H: Watch>(
     alloc: Global,
     matches: &ArgMatches<'_>,
     reader: &mut R,
@@ -72,7 +72,7 @@ pub fn check_given<B: Allocator, R: Read, W: Write + Drop, E: Write, H: Watch>(
 /// Draws the run of the script that `reader` gives, by the values that the words give to the options, through
 /// `answers`, with the text of a fault on `errors`; and gives the writer of the answers back. At a fault of the script
 /// nothing is drawn.
-pub fn draw_given<B: Allocator, R: Read, W: Write + Drop, E: Write, H: Watch>(
+pub fn draw_given<B: Allocator, R: Read, W: Write + Drop, E: Errors, H: Watch>(
     alloc: Global,
     matches: &ArgMatches<'_>,
     reader: &mut R,
@@ -148,7 +148,7 @@ fn answer_refusal<B: Allocator, W: Write + Drop, E: Write>(
 }
 
 /// Answers a job with its options, as the words give them.
-fn answer_job<F: Files, B: Allocator, R: Read, W: Write + Drop, E: Write, H: Watch>(
+fn answer_job<F: Files, B: Allocator, R: Read, W: Write + Drop, E: Errors, H: Watch>(
     files: &F,
     alloc: Global,
     name: JobName,
@@ -213,7 +213,7 @@ fn answer_watched<
         onlooker.warn_of_no_command();
     }
     if ended.status != 4 || !writer.is_closed() {
-        let capture = first_octets(files, matches);
+        let capture = first_octets(files, matches, &text);
         onlooker.report(&text, capture.as_slice());
     }
     (looks.judged(ended, onlooker.has_found()), writer)

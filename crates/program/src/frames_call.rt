@@ -13,7 +13,7 @@ use crate::replay_call::{end_unopened, open};
 use capture::CAPTURE_END;
 use clap::ArgMatches;
 use frame_table::{answer_frames, answer_frames_by_stream, answer_frames_of_capture};
-use job::Ended;
+use job::{Ended, Errors};
 use octet_writer::BufWriter;
 use script::{Watch, end_with_value, settings_given};
 use std::alloc::{Allocator, Global};
@@ -24,7 +24,7 @@ use wire_time::MAX_MOMENT;
 /// Writes the table of the frames of a replay of the script that `reader` gives and of the capture in the file of this
 /// path, by the values that the words give to the options. The values are judged first, as those of a replay; then the
 /// file is opened.
-fn frames_of_capture<F: Files, B: Allocator, R: Read, W: Write + Drop, E: Write, H: Watch>(
+fn frames_of_capture<F: Files, B: Allocator, R: Read, W: Write + Drop, E: Errors, H: Watch>(
     files: &F,
     alloc: Global,
     matches: &ArgMatches<'_>,
@@ -53,7 +53,7 @@ fn frames_of_capture<F: Files, B: Allocator, R: Read, W: Write + Drop, E: Write,
 /// Writes the table of the frames of the script that `reader` gives, by the values that the words give to the options,
 /// and with the stream of each frame where the words name a file with a table of streams. The values are judged first;
 /// then the file is opened, before anything is read.
-fn frames_of_script<F: Files, B: Allocator, R: Read, W: Write + Drop, E: Write, H: Watch>(
+fn frames_of_script<F: Files, B: Allocator, R: Read, W: Write + Drop, E: Errors, H: Watch>(
     files: &F,
     alloc: Global,
     matches: &ArgMatches<'_>,
@@ -85,7 +85,7 @@ fn frames_of_script<F: Files, B: Allocator, R: Read, W: Write + Drop, E: Write, 
 /// Writes the table of the frames of the script that `reader` gives, or, where the words name a file with a capture, of
 /// a replay of both, by the values that the words give to the options, through `answers`, with the text of a fault on
 /// `errors`; and gives the writer of the answers back. Where the file can't be opened, nothing is answered.
-pub fn frames_given<F: Files, B: Allocator, R: Read, W: Write + Drop, E: Write, H: Watch>(
+pub fn frames_given<F: Files, B: Allocator, R: Read, W: Write + Drop, E: Errors, H: Watch>(
     files: &F,
     alloc: Global,
     matches: &ArgMatches<'_>,

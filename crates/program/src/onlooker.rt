@@ -9,7 +9,7 @@ use hints::{
     put_busy_class, put_comment, put_failure, put_fault_hint, put_frame_dropped, put_frames_left,
     put_missed, put_no_command, put_shared_ids,
 };
-use job::Ended;
+use job::{CaptureKind, Ended, Errors, FaultKind};
 use octet_writer::put;
 use script::{Failure, Missed, Watch, read_tc};
 use std::alloc::Global;
@@ -27,10 +27,11 @@ const TEXT: usize = 8192;
 /// How many commands that change nothing are explained, and how many comments.
 const EXPLAINED: u32 = 20;
 
-/// The text of a fault, before it is written.
+/// The text of a fault, before it is written, and what it was.
 #[derive(Drop)]
 pub(crate) struct FaultText {
     text: ArrayVec<u8, TEXT>,
+    kind: Option<FaultKind>,
 }
 
 impl FaultText {
@@ -42,12 +43,26 @@ impl FaultText {
     {
         FaultText {
             text: ArrayVec::new(),
+            kind: None,
         }
     }
 
-    /// The text.
-    pub fn octets(&self) -> &[u8] {
-        self.text.as_slice()
+    /// Whether the first octets of a capture say more of it.
+    pub fn is_of_capture(&self) -> bool {
+        matches!(
+            self.kind,
+            Some(FaultKind::Capture(CaptureKind::BadMagic | CaptureKind::BadLink))
+        )
+    }
+}
+
+impl Errors for FaultText {
+    ghost use Rattle.std.specs.Prelude.{◌≡◌, Some};
+
+    ghost knows = { λ t kind. t.kind ≡ Some kind };
+
+    fn found(&mut self, kind: FaultKind) {
+        self.kind = Some(kind);
     }
 }
 
@@ -187,13 +202,14 @@ impl<'a, 'b, C: Clock, P: Write + Drop, E: Write> Onlooker<'a, 'b, C, P, E> {
         }
     }
 
-    /// Reports the text of a fault, if there is one, and what helps with it, where that is wanted. A capture begins
-    /// with these octets, where they are known.
-    pub fn report(&mut self, text: &FaultText, capture: &[u8]) {
-        let text = text.octets();
-        let _ = put(self.errors, text);
-        if self.looks.explain && !text.is_empty() {
-            let _ = put_fault_hint(self.errors, text, self.line.as_slice(), capture);
+    /// Reports a fault, if there is one, and what helps with it, where that is wanted. A capture begins with these
+    /// octets, where they are known.
+    pub fn report(&mut self, fault: &FaultText, capture: &[u8]) {
+        let _ = put(self.errors, fault.text.as_slice());
+        if let Some(kind) = fault.kind {
+            if self.looks.explain {
+                let _ = put_fault_hint(self.errors, kind, self.line.as_slice(), capture);
+            }
         }
         let _ = self.errors.flush();
     }

@@ -12,6 +12,7 @@ ghost use Rattle.script.specs.ScriptEnd.{IsRefusal};
 ghost use Rattle.replay.specs.Stamps.{stamp_text};
 ghost use Rattle.replay.specs.Texts.{open_text};
 
+use crate::onlooker::FaultText;
 use crate::options::values_of;
 use crate::same_file::{is_regular, is_same_file};
 use crate::{BUFFER, end_forgotten};
@@ -19,7 +20,7 @@ use answer_text::{Part, put_parts};
 use arrayvec::ArrayVec;
 use capture::CAPTURE_END;
 use clap::ArgMatches;
-use job::{Ended, end_told};
+use job::{Ended, Errors, FaultKind, ValueKind, end_told};
 use octet_writer::BufWriter;
 use replay::{Inputs, Outputs, Stamp, answer_replay, say_stamp, say_unopened, stamp_given};
 use script::{Settings, Watch, end_with_value, settings_given};
@@ -51,12 +52,17 @@ pub(crate) fn open<'a, F: Files>(files: &F, path: &'a str) -> Result<F::File, &'
 /// How many octets of a capture are looked at.
 const FRONT: usize = 24;
 
-/// The first octets of a capture in a file, to say what the file is: none where the words name no such file or it can't
-/// be read. What is no regular file is left alone: a pipe that was read to its end may be waited for without an end.
-pub(crate) fn first_octets<F: Files>(files: &F, matches: &ArgMatches<'_>) -> ArrayVec<u8, FRONT> {
+/// The first octets of a capture in a file, to say what the file is: none where they say no more of the fault, and where
+/// the words name no such file or it can't be read. What is no regular file is left alone: a pipe that was read to its
+/// end may be waited for without an end.
+pub(crate) fn first_octets<F: Files>(
+    files: &F,
+    matches: &ArgMatches<'_>,
+    fault: &FaultText,
+) -> ArrayVec<u8, FRONT> {
     let mut front = ArrayVec::new();
     let path = path_of(matches, "capture");
-    if !is_regular(files, path) {
+    if !fault.is_of_capture() || !is_regular(files, path) {
         return front;
     }
     let Ok(mut file) = open(files, path) else {
@@ -143,14 +149,16 @@ fn open_all<'a, F: Files>(
 }
 
 /// Reports a path that can't be opened, and gives the writer of the answers back. Nothing is answered.
-pub(crate) fn end_unopened<B: Allocator, W: Write + Drop, E: Write>(
+pub(crate) fn end_unopened<B: Allocator, W: Write + Drop, E: Errors>(
     path: &str,
     answers: BufWriter<W, B>,
     errors: &mut E,
 ) -> (Ended, W)
     ensures { IsUnanswered 4 (open_text path.now) result.0 (writer_contents W.contents answers) (W.contents result.1) (E.contents errors.old) (E.contents errors.new) }
 {
-    end_told(say_unopened(path, errors), answers)
+    let ended = say_unopened(path, errors);
+    errors.found(FaultKind::CannotOpen);
+    end_told(ended, answers)
 }
 
 /// Writes the text of an output that is one of the inputs. The exit status that goes with it is 2, also where that
@@ -172,24 +180,28 @@ fn say_over_input<W: Write>(path: &str, writer: &mut W) -> Ended
 }
 
 /// Reports an output that is one of the inputs, and gives the writer of the answers back. Nothing is answered.
-fn end_over_input<B: Allocator, W: Write + Drop, E: Write>(
+fn end_over_input<B: Allocator, W: Write + Drop, E: Errors>(
     path: &str,
     answers: BufWriter<W, B>,
     errors: &mut E,
 ) -> (Ended, W)
     ensures { IsUnanswered 2 (over_input_text path.now) result.0 (writer_contents W.contents answers) (W.contents result.1) (E.contents errors.old) (E.contents errors.new) }
 {
-    end_told(say_over_input(path, errors), answers)
+    let ended = say_over_input(path, errors);
+    errors.found(FaultKind::OutIsInput);
+    end_told(ended, answers)
 }
 
 /// Reports that the word of a stamp is none, and gives the writer of the answers back. Nothing is answered.
-fn end_unstamped<B: Allocator, W: Write + Drop, E: Write>(
+fn end_unstamped<B: Allocator, W: Write + Drop, E: Errors>(
     answers: BufWriter<W, B>,
     errors: &mut E,
 ) -> (Ended, W)
     ensures { IsUnanswered 2 stamp_text result.0 (writer_contents W.contents answers) (W.contents result.1) (E.contents errors.old) (E.contents errors.new) }
 {
-    end_told(say_stamp(errors), answers)
+    let ended = say_stamp(errors);
+    errors.found(FaultKind::Value(ValueKind::Stamp));
+    end_told(ended, answers)
 }
 
 /// Replays these inputs, and gives the writer of the report back.
@@ -199,7 +211,7 @@ fn replay_files<
     B: Allocator,
     W: Write + Drop,
     V: Write + Drop,
-    E: Write,
+    E: Errors,
     P: Watch,
 >(
     alloc: Global,
@@ -227,7 +239,7 @@ fn replay_opened<
     B: Allocator,
     R: Read,
     W: Write + Drop,
-    E: Write,
+    E: Errors,
     P: Watch,
 >(
     alloc: Global,
@@ -248,6 +260,7 @@ fn replay_opened<
         out,
     } = opened;
     let Ok(departures) = BufWriter::with_capacity(alloc, BUFFER, out) else {
+        errors.found(FaultKind::OutOfMemory);
         return end_forgotten(answers, errors);
     };
     match capture {
@@ -273,7 +286,7 @@ fn replay_opened<
 /// report through `answers` and the text of a fault on `errors`; and gives the writer of the report back. The values
 /// are judged first; then the files are opened: the script, the capture, which is `reader` where its path is `-`, and
 /// the output, which is made or emptied, but not where it is one of the inputs.
-pub fn replay_given<F: Files, B: Allocator, R: Read, W: Write + Drop, E: Write, P: Watch>(
+pub fn replay_given<F: Files, B: Allocator, R: Read, W: Write + Drop, E: Errors, P: Watch>(
     files: &F,
     alloc: Global,
     matches: &ArgMatches<'_>,

@@ -7,7 +7,7 @@ ghost use Rattle.program.specs.Given.{IsGivenStreams, from_in};
 
 use crate::replay_call::{end_unopened, open};
 use clap::ArgMatches;
-use job::Ended;
+use job::{Ended, Errors};
 use octet_writer::BufWriter;
 use script::{Watch, end_with_value};
 use std::alloc::{Allocator, Global};
@@ -19,7 +19,7 @@ use traffic::{answer_streams, from_given};
 /// the frames whose file the words name, if they do, and from the moment that they give, with the text of a fault on
 /// `errors`; and gives the writer of the answers back. The moment is judged first; then the file is opened, before
 /// anything is read. Where it can't be, nothing is answered.
-pub fn streams_given<F: Files, B: Allocator, R: Read, W: Write + Drop, E: Write, H: Watch>(
+pub fn streams_given<F: Files, B: Allocator, R: Read, W: Write + Drop, E: Errors, H: Watch>(
     files: &F,
     alloc: Global,
     matches: &ArgMatches<'_>,

@@ -14,6 +14,7 @@ pub mod RecordsLeft
 pub mod RecordsRun
 pub mod Outcome
 pub mod Texts
+pub mod Kinds
 pub mod ReplayEnd
 pub mod Separated
 pub mod Words

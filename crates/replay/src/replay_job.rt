@@ -9,7 +9,7 @@ ghost use Rattle.replay.specs.Words.{IsReplayEnding, got};
 use crate::faults::ReplayFault;
 use crate::replay_run::replay;
 use crate::stamps::Stamp;
-use job::{Ended, say_run};
+use job::{Ended, Errors, say_run};
 use octet_writer::BufWriter;
 use script::{Settings, Watch};
 use std::alloc::Allocator;
@@ -69,7 +69,7 @@ pub fn answer_replay<
     S: Read + Drop,
     W: Write + Drop,
     V: Write + Drop,
-    E: Write,
+    E: Errors,
     P: Watch,
 >(
     alloc: A,

@@ -1,12 +1,13 @@
 //! The texts of faults.
 
 ghost use Rattle.std.specs.Prelude.{◌≡◌};
+ghost use Rattle.replay.specs.Kinds.{capture_kind, replay_kind};
 ghost use Rattle.replay.specs.Words.{Writes, IsTold, capture_fault_name, capture_status, capture_text, header_text, record_text, open_text, replay_telling};
 
 use crate::faults::ReplayInput;
 use answer_text::{Part, WriteFault, put, put_parts};
 use capture::CapFault;
-use job::{Ended, InputFault};
+use job::{CaptureKind, Ended, FaultKind, InputFault, ValueKind};
 use script::{BadValue, put_value};
 use std::io::Write;
 
@@ -93,14 +94,42 @@ fn capture_status(fault: CapFault) -> u8
     }
 }
 
+fn capture_kind(fault: CapFault) -> FaultKind
+    ensures { result ≡ capture_kind fault }
+{
+    match fault {
+        CapFault::ShortHeader => FaultKind::Capture(CaptureKind::ShortHeader),
+        CapFault::BadMagic => FaultKind::Capture(CaptureKind::BadMagic),
+        CapFault::BadVersion => FaultKind::Capture(CaptureKind::BadVersion),
+        CapFault::BadLink => FaultKind::Capture(CaptureKind::BadLink),
+        CapFault::ShortRecord => FaultKind::Capture(CaptureKind::ShortRecord),
+        CapFault::LongRecord => FaultKind::Capture(CaptureKind::LongRecord),
+        CapFault::BadFraction => FaultKind::Capture(CaptureKind::BadFraction),
+        CapFault::TooManyRecords => FaultKind::Capture(CaptureKind::TooManyRecords),
+        CapFault::Read => FaultKind::ReadFailed,
+        CapFault::Write => FaultKind::WriteFailed,
+        CapFault::Memory => FaultKind::OutOfMemory,
+    }
+}
+
 impl InputFault for ReplayInput {
     ghost telling = { replay_telling };
+
+    ghost kind_of = { replay_kind };
 
     fn status(&self) -> u8 {
         match *self {
             ReplayInput::Until => 2,
             ReplayInput::Script(_) => 3,
             ReplayInput::Capture(_, fault) => capture_status(fault),
+        }
+    }
+
+    fn kind(&self) -> FaultKind {
+        match *self {
+            ReplayInput::Until => FaultKind::Value(ValueKind::Until),
+            ReplayInput::Script(bad) => bad.kind(),
+            ReplayInput::Capture(_, fault) => capture_kind(fault),
         }
     }
 

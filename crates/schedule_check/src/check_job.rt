@@ -7,7 +7,7 @@ ghost use Rattle.schedule_check.specs.Words.{whole_check, IsTeller, Teller, IsEn
 
 use crate::schedules::check;
 use crate::settings::{CheckWords, checks_given};
-use job::{Ended, end_run};
+use job::{Ended, Errors, end_run};
 use octet_writer::BufWriter;
 use script::{Watch, end_with_value};
 use std::alloc::Allocator;
@@ -16,7 +16,7 @@ use std::io::{Read, Write};
 /// Checks the schedules that `reader` gives, as these words ask for it, through `answers`, with the text of a fault on
 /// `errors`; and gives the writer of the answers back. What was reported is let out before a fault is; after a failed
 /// write no other is tried. Where a value is bad nothing is read.
-pub fn answer_check<A: Allocator, B: Allocator, R: Read, W: Write + Drop, E: Write, H: Watch>(
+pub fn answer_check<A: Allocator, B: Allocator, R: Read, W: Write + Drop, E: Errors, H: Watch>(
     alloc: A,
     words: CheckWords<'_>,
     reader: &mut R,

@@ -7,6 +7,7 @@ pub mod Answered
 pub mod Outcome
 pub mod Separated
 pub mod Texts
+pub mod Kinds
 pub mod Given
 pub mod ScriptEnd
 pub mod Words

@@ -29,6 +29,7 @@ pub use Rattle.summary.specs.Wanted.{noted_after, noted_all, noted_at}
 pub use Rattle.script.specs.Answered.{HasFewVisits, IsAnswered, IsSilent}
 pub use Rattle.script.specs.ScriptEnd.{IsEnding, IsRefusal, settings_given, settings_or_usual, whole_script}
 pub use Rattle.script.specs.Given.{octets_of, words_of_values}
+pub use Rattle.script.specs.Kinds.{line_kind, script_kind, table_kind, value_kind}
 pub use Rattle.script.specs.Outcome.{IsFaithfulTo, asked_in, bad_line, ending_text, limit_fault, long_line, outcome_after, outcome_from, outcome_of, reading_of}
 pub use Rattle.script.specs.Plain.{BeginsWithEvent, BeginsWithLine, HasLine, IsCommandInHand, tag_text}
 pub use Rattle.script.specs.Requests.{Asks, NoCommand, Request, clock_event, count_event, frame_event, frame_with, query_event, request_of, said_in, tag_in, tc_request}

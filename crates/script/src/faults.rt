@@ -1,11 +1,11 @@
 //! Why a run ends early, and the texts that say so.
 
 ghost use Rattle.std.specs.Prelude.{◌≡◌};
-ghost use Rattle.script.specs.Words.{IsTold, Writes, line_text, option_name, script_fault_name, script_telling, value_text, bad_line, limit_fault, long_line};
+ghost use Rattle.script.specs.Words.{IsTold, Writes, line_kind, line_text, option_name, script_fault_name, script_kind, script_telling, table_kind, value_text, bad_line, limit_fault, long_line};
 
 use crate::settings::BadValue;
 use answer_text::{Part, WriteFault, put_parts};
-use job::{Ended, Fault, InputFault, LineInput};
+use job::{Ended, Fault, FaultKind, InputFault, LineInput, LineKind};
 use line_reader::Limit;
 use std::io::Write;
 use thiserror::Error;
@@ -61,6 +61,34 @@ pub fn limit_fault(limit: Limit) -> ScriptFault
     }
 }
 
+impl ScriptFault {
+    /// What it is where the line is one of a script or of schedules.
+    pub fn kind(self) -> LineKind
+        ensures { result ≡ line_kind self }
+    {
+        match self {
+            ScriptFault::LongLine => LineKind::LongLine,
+            ScriptFault::TooManyLines => LineKind::TooManyLines,
+            ScriptFault::UnknownLine => LineKind::UnknownLine,
+            ScriptFault::FrameInReplay => LineKind::FrameInReplay,
+            ScriptFault::WordCount => LineKind::WordCount,
+            ScriptFault::BadNumber => LineKind::BadNumber,
+            ScriptFault::ClockTooLate => LineKind::ClockTooLate,
+        }
+    }
+
+    /// What it is where the line is one of a table of streams.
+    pub fn kind_in_table(self) -> LineKind
+        ensures { result ≡ table_kind self }
+    {
+        match self {
+            ScriptFault::UnknownLine => LineKind::UnknownTableLine,
+            ScriptFault::ClockTooLate => LineKind::StreamTooLate,
+            fault => fault.kind(),
+        }
+    }
+}
+
 fn script_fault_name(fault: ScriptFault) -> &'static [u8]
     ensures { result.now ≡ script_fault_name fault }
 {
@@ -99,8 +127,14 @@ pub fn put_line_fault<W: Write>(
 impl InputFault for BadLine {
     ghost telling = { script_telling };
 
+    ghost kind_of = { script_kind };
+
     fn status(&self) -> u8 {
         3
+    }
+
+    fn kind(&self) -> FaultKind {
+        FaultKind::Line(self.fault.kind())
     }
 
     fn put<W: Write>(&self, writer: &mut W) -> Result<(), WriteFault> {

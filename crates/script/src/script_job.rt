@@ -8,7 +8,7 @@ use crate::faults::say_value;
 use crate::script_run::run_script;
 use crate::settings::{BadValue, Settings};
 use crate::watch::Watch;
-use job::{Ended, end_run, end_told};
+use job::{Ended, Errors, FaultKind, end_run, end_told};
 use octet_writer::BufWriter;
 use std::alloc::Allocator;
 use std::io::{Read, Write};
@@ -65,20 +65,22 @@ pub fn settings_given(values: Values<'_>, greatest: u128) -> Result<Settings, Ba
 }
 
 /// Reports a bad value on `errors`, and gives the writer of the answers back. Nothing is answered.
-pub fn end_with_value<B: Allocator, W: Write + Drop, E: Write>(
+pub fn end_with_value<B: Allocator, W: Write + Drop, E: Errors>(
     value: BadValue,
     answers: BufWriter<W, B>,
     errors: &mut E,
 ) -> (Ended, W)
     ensures { IsRefusal value result.0 (writer_contents W.contents answers) (W.contents result.1) (E.contents errors.old) (E.contents errors.new) }
 {
-    end_told(say_value(&value, errors), answers)
+    let ended = say_value(&value, errors);
+    errors.found(FaultKind::Value(value.kind()));
+    end_told(ended, answers)
 }
 
 /// Answers the script that `reader` gives, by these values, through `answers`, with the text of a fault on `errors`;
 /// and gives the writer of the answers back. What was answered is let out before a fault is reported; after a failed
 /// write no other is tried. Who watches is called as by `run_script`.
-pub fn answer_script<A: Allocator, B: Allocator, R: Read, W: Write + Drop, E: Write, H: Watch>(
+pub fn answer_script<A: Allocator, B: Allocator, R: Read, W: Write + Drop, E: Errors, H: Watch>(
     alloc: A,
     values: Values<'_>,
     reader: &mut R,

@@ -2,8 +2,9 @@
 
 ghost use Rattle.std.specs.Prelude.{◌≡◌, ◌≤◌};
 ghost use Rattle.std.specs.Option.{ForSome};
-ghost use Rattle.script.specs.Words.{IsMtu, IsRoom, octets_of, is_until, mtu_in, rate_in, room_in, settings_of, settings_with, with_summary};
+ghost use Rattle.script.specs.Words.{IsMtu, IsRoom, octets_of, is_until, mtu_in, rate_in, room_in, settings_of, settings_with, value_kind, with_summary};
 
+use job::ValueKind;
 use port::{is_mtu, is_room};
 use std::marker::Model;
 use times::moment;
@@ -56,6 +57,25 @@ pub enum BadValue {
     Map,
     /// The length of a frame is not 0 to 4294967295 octets.
     Frame,
+}
+
+impl BadValue {
+    /// Whose value it is.
+    pub fn kind(self) -> ValueKind
+        ensures { result ≡ value_kind self }
+    {
+        match self {
+            BadValue::Rate => ValueKind::Rate,
+            BadValue::Mtu => ValueKind::Mtu,
+            BadValue::Room => ValueKind::Room,
+            BadValue::Until => ValueKind::Until,
+            BadValue::From => ValueKind::From,
+            BadValue::To => ValueKind::To,
+            BadValue::Width => ValueKind::Width,
+            BadValue::Map => ValueKind::Map,
+            BadValue::Frame => ValueKind::Frame,
+        }
+    }
 }
 
 /// The rate of a decimal number of Mb/s, if there is one.

@@ -5,9 +5,12 @@ use Rattle.class_map.specs.declared.ClassMap.{ClassMap}
 use Rattle.job.specs.RunEnd.{IsLetOut, IsRunEnding, IsUnanswered}
 use Rattle.job.specs.Outcome.{RunsOut}
 use Rattle.job.specs.declared.report.Ended.{Ended}
+use Rattle.job.specs.declared.kind.ValueKind.{ValueKind}
+use Rattle.job.specs.declared.kind.ValueKind.TheVariants as Options
 use Rattle.schedule_check.specs.Refusals.{map_in, where_given}
 use Rattle.script.specs.ScriptEnd.{settings_given}
 use Rattle.script.specs.Given.{GivenWords}
+use Rattle.script.specs.Kinds.{value_kind}
 use Rattle.script.specs.Setup.{Setup}
 use Rattle.script.specs.Texts.{value_text}
 use Rattle.script.specs.declared.settings.BadValue.{BadValue}
@@ -50,6 +53,11 @@ bounds_given words map frames strict =
 abbrev pub bounds_value_text : BoundsValue → List ℕ
 bounds_value_text (Values.Port value) = value_text value
 bounds_value_text Values.Frames = codes "taprio_port: bad value of --frames\n"
+
+-- whose value is bad
+abbrev pub bounds_value_kind : BoundsValue → ValueKind
+bounds_value_kind (Values.Port value) = value_kind value
+bounds_value_kind Values.Frames = Options.Frames
 
 -- the end of a run whose value is bad: nothing is answered, and the text says which one
 abbrev pub IsBoundsRefusal : BoundsValue → Ended → (old got errors_old errors_new : Option (List ℕ)) → Type 0

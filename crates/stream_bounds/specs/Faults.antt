@@ -6,6 +6,9 @@ use Rattle.line_reader.specs.declared.lines.LineFault.{LineFault}
 use Rattle.job.specs.Lines.{fault_of_line}
 use Rattle.job.specs.Report.{Telling}
 use Rattle.job.specs.declared.fault.Fault.{Fault}
+use Rattle.job.specs.declared.kind.FaultKind.{FaultKind}
+use Rattle.job.specs.declared.kind.FaultKind.TheVariants as Kinds
+use Rattle.script.specs.Kinds.{line_kind, table_kind}
 use Rattle.script.specs.Outcome.{limit_fault}
 use Rattle.script.specs.Texts.{line_text}
 use Rattle.script.specs.declared.faults.ScriptFault.{ScriptFault}
@@ -65,6 +68,25 @@ abbrev pub bounds_text : BoundsInput → List ℕ
 bounds_text (Inputs.Table line fault) = line_text (codes "taprio_port: table line ") line fault
 bounds_text (Inputs.Schedules found line fault) = schedules_text found line fault
 bounds_text (Inputs.Found finding) = found_text finding
+
+-- what a finding is, where the faults of all jobs are told apart
+abbrev pub finding_kind : Finding → FaultKind
+finding_kind (Findings.TcFault line) = Kinds.Found
+finding_kind (Findings.Refused line) = Kinds.Found
+finding_kind (Findings.Missed id) = Kinds.Found
+finding_kind (Findings.Unknown id) = Kinds.Found
+finding_kind (Findings.Dropped id) = Kinds.Found
+finding_kind (Findings.Full class) = Kinds.Found
+finding_kind (Findings.Stuck class) = Kinds.Found
+finding_kind (Findings.Overloaded class) = Kinds.Found
+finding_kind Findings.NoSchedule = Kinds.NoSchedule
+finding_kind Findings.NoStream = Kinds.NoStream
+
+-- what a fault is
+abbrev pub bounds_kind : BoundsInput → FaultKind
+bounds_kind (Inputs.Table line fault) = Kinds.Line (table_kind fault)
+bounds_kind (Inputs.Schedules found line fault) = Kinds.Line (line_kind fault)
+bounds_kind (Inputs.Found finding) = finding_kind finding
 
 -- the exit status of a fault: 3 where an input is refused, 1 where a strict run has found something
 abbrev pub bounds_status : BoundsInput → ℕ

@@ -9,7 +9,7 @@ ghost use Rattle.words.specs.Numbers.{number_in};
 
 use crate::settings::{BoundsSettings, BoundsValue, MAX_FRAMES, say_bounds_value};
 use crate::table_bounds::bounds;
-use job::{Ended, end_run, end_told};
+use job::{Ended, Errors, FaultKind, end_run, end_told};
 use octet_writer::BufWriter;
 use schedule_check::given_map;
 use script::{BadValue, Values, Watch, settings_given};
@@ -69,21 +69,23 @@ pub fn bounds_given(words: BoundsWords<'_>) -> Result<BoundsSettings, BoundsValu
 }
 
 /// Reports a bad value on `errors`, and gives the writer of the answers back. Nothing is answered.
-pub fn end_with_bounds_value<B: Allocator, W: Write + Drop, E: Write>(
+pub fn end_with_bounds_value<B: Allocator, W: Write + Drop, E: Errors>(
     value: BoundsValue,
     answers: BufWriter<W, B>,
     errors: &mut E,
 ) -> (Ended, W)
     ensures { IsBoundsRefusal value result.0 (writer_contents W.contents answers) (W.contents result.1) (E.contents errors.old) (E.contents errors.new) }
 {
-    end_told(say_bounds_value(&value, errors), answers)
+    let ended = say_bounds_value(&value, errors);
+    errors.found(FaultKind::Value(value.kind()));
+    end_told(ended, answers)
 }
 
 /// Answers about the schedules that `reader` gives and the streams of `table`, with these settings, through `answers`,
 /// with the text of a fault or of a strict run's finding on `errors`; and gives the writer of the answers back. What was
 /// answered is let out before a fault is reported; after a failed write no other is tried. Who watches is called as by
 /// `bounds`.
-pub fn answer_bounds<B: Allocator, R: Read, S: Read + Drop, W: Write + Drop, E: Write, H: Watch>(
+pub fn answer_bounds<B: Allocator, R: Read, S: Read + Drop, W: Write + Drop, E: Errors, H: Watch>(
     alloc: Global,
     settings: BoundsSettings,
     table: S,

@@ -2,10 +2,10 @@
 
 ghost use Rattle.std.specs.Prelude.{◌≡◌};
 ghost use Rattle.octet_writer.specs.Writes.{Writes};
-ghost use Rattle.stream_bounds.specs.Faults.{bounds_telling, finding_text, first_text, found_text, schedules_fault, schedules_limited, schedules_text, table_fault};
+ghost use Rattle.stream_bounds.specs.Faults.{bounds_kind, bounds_telling, finding_kind, finding_text, first_text, found_text, schedules_fault, schedules_limited, schedules_text, table_fault};
 
 use answer_text::{Part, WriteFault, put, put_parts};
-use job::{Fault, InputFault, LineInput};
+use job::{Fault, FaultKind, InputFault, LineInput};
 use line_reader::{Limit, LineFault};
 use script::{ScriptFault, limit_fault, put_line_fault};
 use std::io::Write;
@@ -62,6 +62,21 @@ pub enum BoundsInput {
 
 /// Why a run on a table of streams and schedules ended early.
 pub type BoundsFault = Fault<BoundsInput>;
+
+impl Finding {
+    /// What it is.
+    fn kind(self) -> FaultKind
+        ensures { result ≡ finding_kind self }
+    {
+        match self {
+            Finding::TcFault(_) | Finding::Refused(_) => FaultKind::Found,
+            Finding::Missed(_) | Finding::Unknown(_) | Finding::Dropped(_) => FaultKind::Found,
+            Finding::Full(_) | Finding::Stuck(_) | Finding::Overloaded(_) => FaultKind::Found,
+            Finding::NoSchedule => FaultKind::NoSchedule,
+            Finding::NoStream => FaultKind::NoStream,
+        }
+    }
+}
 
 /// The fault of a table whose line can't be read.
 pub fn table_fault(fault: LineFault) -> BoundsFault
@@ -153,10 +168,20 @@ fn put_schedules<W: Write>(
 impl InputFault for BoundsInput {
     ghost telling = { bounds_telling };
 
+    ghost kind_of = { bounds_kind };
+
     fn status(&self) -> u8 {
         match self {
             BoundsInput::Table(..) | BoundsInput::Schedules(..) => 3,
             BoundsInput::Found(_) => 1,
+        }
+    }
+
+    fn kind(&self) -> FaultKind {
+        match *self {
+            BoundsInput::Table(_, fault) => FaultKind::Line(fault.kind_in_table()),
+            BoundsInput::Schedules(_, _, fault) => FaultKind::Line(fault.kind()),
+            BoundsInput::Found(finding) => finding.kind(),
         }
     }
 

@@ -2,10 +2,10 @@
 
 ghost use Rattle.std.specs.Prelude.{◌≡◌};
 ghost use Rattle.job.specs.Texts.{IsTold};
-ghost use Rattle.stream_bounds.specs.BoundsEnd.{bounds_value_text};
+ghost use Rattle.stream_bounds.specs.BoundsEnd.{bounds_value_kind, bounds_value_text};
 
 use class_map::ClassMap;
-use job::Ended;
+use job::{Ended, ValueKind};
 use octet_writer::put;
 use script::{BadValue, Settings, put_value};
 use std::io::Write;
@@ -33,6 +33,18 @@ pub enum BoundsValue {
     Port(BadValue),
     /// The number of frames is not 1 to `MAX_FRAMES`.
     Frames,
+}
+
+impl BoundsValue {
+    /// Whose value it is.
+    pub fn kind(self) -> ValueKind
+        ensures { result ≡ bounds_value_kind self }
+    {
+        match self {
+            BoundsValue::Port(value) => value.kind(),
+            BoundsValue::Frames => ValueKind::Frames,
+        }
+    }
 }
 
 /// Writes the text of a bad value. The exit status that goes with it is 2, also where that write fails.

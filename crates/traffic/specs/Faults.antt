@@ -4,6 +4,9 @@ use Rattle.line_reader.specs.declared.lines.LineFault.{LineFault}
 use Rattle.job.specs.Lines.{fault_of_line}
 use Rattle.job.specs.Report.{Telling}
 use Rattle.job.specs.declared.fault.Fault.{Fault}
+use Rattle.job.specs.declared.kind.FaultKind.{FaultKind}
+use Rattle.job.specs.declared.kind.FaultKind.TheVariants as Kinds
+use Rattle.script.specs.Kinds.{line_kind, table_kind}
 use Rattle.script.specs.Outcome.{limit_fault}
 use Rattle.script.specs.Texts.{line_text}
 use Rattle.traffic.specs.declared.faults.StreamsInput.{StreamsInput}
@@ -21,6 +24,11 @@ script_fault fault = fault_of_line (λ number limit. Inputs.Script number (limit
 abbrev pub streams_text : StreamsInput → List ℕ
 streams_text (Inputs.Table line fault) = line_text (codes "taprio_port: table line ") line fault
 streams_text (Inputs.Script line fault) = line_text (codes "taprio_port: script line ") line fault
+
+-- what a fault is, where the faults of all jobs are told apart
+abbrev pub streams_kind : StreamsInput → FaultKind
+streams_kind (Inputs.Table line fault) = Kinds.Line (table_kind fault)
+streams_kind (Inputs.Script line fault) = Kinds.Line (line_kind fault)
 
 -- what is reported of a fault; 3: an input is refused
 abbrev pub streams_telling : Telling StreamsInput

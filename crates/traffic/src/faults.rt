@@ -1,10 +1,11 @@
 //! What is wrong with a table of streams or a script, and the texts that say so.
 
 ghost use Rattle.std.specs.Prelude.{◌≡◌};
+ghost use Rattle.traffic.specs.Faults.{streams_kind};
 ghost use Rattle.traffic.specs.Words.{script_fault, streams_telling, table_fault};
 
 use answer_text::WriteFault;
-use job::{Fault, InputFault};
+use job::{Fault, FaultKind, InputFault};
 use line_reader::LineFault;
 use script::{ScriptFault, limit_fault, put_line_fault};
 use std::io::Write;
@@ -54,8 +55,17 @@ pub(crate) fn script_fault(fault: LineFault) -> StreamsFault
 impl InputFault for StreamsInput {
     ghost telling = { streams_telling };
 
+    ghost kind_of = { streams_kind };
+
     fn status(&self) -> u8 {
         3
+    }
+
+    fn kind(&self) -> FaultKind {
+        match *self {
+            StreamsInput::Table(_, fault) => FaultKind::Line(fault.kind_in_table()),
+            StreamsInput::Script(_, fault) => FaultKind::Line(fault.kind()),
+        }
     }
 
     fn put<W: Write>(&self, writer: &mut W) -> Result<(), WriteFault> {

@@ -5,7 +5,7 @@ ghost use Rattle.octet_writer.specs.Buffered.{writer_contents};
 ghost use Rattle.traffic.specs.Words.{octets_of, IsStreamsEnding, from_given, greatest_moment};
 
 use crate::streams::write_streams;
-use job::{Ended, end_run};
+use job::{Ended, Errors, end_run};
 use octet_writer::BufWriter;
 use script::{BadValue, Watch, end_with_value};
 use std::alloc::Allocator;
@@ -35,7 +35,7 @@ pub fn answer_streams<
     R: Read,
     S: Read + Drop,
     W: Write + Drop,
-    E: Write,
+    E: Errors,
     H: Watch,
 >(
     alloc: A,
