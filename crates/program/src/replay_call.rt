@@ -4,7 +4,7 @@ ghost use Rattle.std.specs.Prelude.{◌≡◌, IfErr, IfNone, IfOk, None, OnOk, 
 ghost use Rattle.octet_writer.specs.Buffered.{writer_contents};
 ghost use Rattle.clap.specs.Matches.{first_value, found_of};
 ghost use Rattle.program.specs.Given.{over_input_text, settings_in, stamp_in};
-ghost use Rattle.program.specs.Jobs.{IsGivenReplay, IsReplayed, IsReplayedOrForgotten};
+ghost use Rattle.program.specs.Jobs.{IsGivenReplay, IsReplayed, IsReplayedOrForgotten, memory_text};
 ghost use Rattle.capture.specs.declared.writer.TheConstants.{CAPTURE_END};
 ghost use Rattle.job.specs.RunEnd.{IsUnanswered};
 ghost use Rattle.job.specs.Texts.{IsTold};
@@ -15,7 +15,7 @@ ghost use Rattle.replay.specs.Texts.{open_text};
 use crate::onlooker::FaultText;
 use crate::options::values_of;
 use crate::same_file::{is_regular, is_same_file};
-use crate::{BUFFER, end_forgotten};
+use crate::{BUFFER, end_without_memory};
 use answer_text::{Part, put_parts};
 use arrayvec::ArrayVec;
 use capture::CAPTURE_END;
@@ -52,9 +52,9 @@ pub(crate) fn open<'a, F: Files>(files: &F, path: &'a str) -> Result<F::File, &'
 /// How many octets of a capture are looked at.
 const FRONT: usize = 24;
 
-/// The first octets of a capture in a file, to say what the file is: none where they say no more of the fault, and where
-/// the words name no such file or it can't be read. What is no regular file is left alone: a pipe that was read to its
-/// end may be waited for without an end.
+/// The first octets of a capture in a file, to say what the file is: none where they say no more of the fault, and
+/// where the words name no such file or it can't be read. What is no regular file is left alone: a pipe that was read
+/// to its end may be waited for without an end.
 pub(crate) fn first_octets<F: Files>(
     files: &F,
     matches: &ArgMatches<'_>,
@@ -204,6 +204,19 @@ fn end_unstamped<B: Allocator, W: Write + Drop, E: Errors>(
     end_told(ended, answers)
 }
 
+/// Reports that memory is out for the buffer of the output, and gives the writer of the answers back. Nothing is
+/// answered.
+fn end_unbuffered<B: Allocator, W: Write + Drop, E: Errors>(
+    answers: BufWriter<W, B>,
+    errors: &mut E,
+) -> (Ended, W)
+    ensures { IsUnanswered 4 memory_text result.0 (writer_contents W.contents answers) (W.contents result.1) (E.contents errors.old) (E.contents errors.new) }
+{
+    let ended = end_without_memory(errors);
+    errors.found(FaultKind::OutOfMemory);
+    end_told(ended, answers)
+}
+
 /// Replays these inputs, and gives the writer of the report back.
 fn replay_files<
     T: Read + Drop,
@@ -260,8 +273,7 @@ fn replay_opened<
         out,
     } = opened;
     let Ok(departures) = BufWriter::with_capacity(alloc, BUFFER, out) else {
-        errors.found(FaultKind::OutOfMemory);
-        return end_forgotten(answers, errors);
+        return end_unbuffered(answers, errors);
     };
     match capture {
         Some(capture) => {
