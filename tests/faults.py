@@ -16,6 +16,8 @@ PARTS = ["A line is malformed", "A strict run finds something", "A capture is ma
 # What the page never meets: it opens no files, has no strict runs, and lacks these options or gives them values of its own.
 UNMET = {"OUT is one of the inputs", "cannot open", "read failed", "write failed", "bounds", "bounds: no schedule was judged",
          "bounds: no stream is in the table"} | {f"bad value of --{name}" for name in ("map", "frame", "stamp", "width")}
+# What a strict run finds, and is no fault: it ends no run.
+FINDINGS = {"frame", "class"}
 # What needs no further words there.
 PLAIN = {"out of memory"}
 
@@ -39,8 +41,8 @@ def documented():
     for part in PARTS:
         body = re.search(rf"^## {part}\n(.*?)(?=^## |\Z)", text, re.MULTILINE | re.DOTALL)
         assert body, f"{PAGE}: it has no part {part}"
-        found |= set(re.findall(r"^### `([^`]+)`", body[1], re.MULTILINE))
-    return found
+        found |= {name for heading in re.findall(r"^### (.*)", body[1], re.MULTILINE) for name in re.findall(r"`([^`]+)`", heading)}
+    return found - FINDINGS
 
 
 def on_the_page():

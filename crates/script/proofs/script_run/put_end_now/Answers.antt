@@ -3,7 +3,7 @@ use Rattle.script.specs.Words.{AbstractPort, Writes, end_lines}
 use Rattle.script.proofs.script_run.put_end_now.Goals as goal
 
 pub put_end-requires : goal.put_end-requires
-put_end-requires g c = (search c.requires-raw, rw c.now-now.ensures.now c.now-now.ensures.sound.current.within)
+put_end-requires g c = (search c.requires-raw, (search c.requires-raw, rw c.now-now.ensures.now c.now-now.ensures.sound.current.within))
 
 pub returns : goal.returns
 returns g c =
