@@ -34,7 +34,7 @@ kept-append class (x ∷ xs) event p =
     )
 
 -- two tests, each true just where something holds
-both-hold : {P Q : Type 0} (a b : Bool) → IsTrue a ↔ P → IsTrue b ↔ Q → IsTrue (a && b) ↔ (P × Q)
+pub both-hold : {P Q : Type 0} (a b : Bool) → IsTrue a ↔ P → IsTrue b ↔ Q → IsTrue (a && b) ↔ (P × Q)
 both-hold true b p q = (λ t. (p.0 refl, q.0 t), λ both. q.1 both.1)
 both-hold false b p q = (λ t. absurd (false≢true t), λ both. p.1 both.0)
 

@@ -10,7 +10,7 @@ use Rattle.wire_time.specs.declared.Frame.{Frame}
 use Rattle.class_map.specs.declared.ClassMap.{ClassMap}
 use Rattle.class_map.specs.declared.Queues.{Queues}
 use Rattle.list_config.specs.History.{Accepted, in_force}
-use Rattle.abstract_port.specs.AbstractPort.{AbstractPort, after_arrival, class_for, drop_in, installs_by, limit_of, new_command, new_port, next_start, plan_asked, queue_of, verdict, verdict_in, waiting}
+use Rattle.abstract_port.specs.AbstractPort.{AbstractPort, after_arrival, class_for, drop_in, installs_by, limit_of, new_command, new_port, next_start, plan_asked, queue_of, refusal, verdict, verdict_in, waiting}
 use Rattle.abstract_port.specs.Answers.{answers_to}
 use Rattle.abstract_port.specs.declared.Change.{Change}
 use Rattle.abstract_port.specs.declared.Command.{Command}
@@ -22,7 +22,7 @@ use Rattle.abstract_port.specs.declared.Event.TheVariants.{Arrive, Clock, Instal
 use Rattle.abstract_port.proofs.ArrivalLaws.{verdict_with}
 use Rattle.abstract_port.proofs.RunLaws.{arrival-keeps, clock_on}
 use Rattle.abstract_port.proofs.StartsLaws.{IsUnmoved, next_start-unmoved, starts_from-unmoved}
-use Rattle.separation.specs.Separation.{IsKeptApart, is_class}
+use Rattle.separation.specs.Separation.{IsApart, IsKeptApart, is_class}
 use Rattle.separation.specs.Traffic.{Came, IsOnly, offered_as, offered_by, offered_in}
 use Rattle.separation.proofs.Lives.{starts_until_live}
 use Rattle.separation.proofs.Lockstep.{live, tick, with_moment}
@@ -31,7 +31,7 @@ use Rattle.delay_bounds.specs.declared.Flow.{Flow}
 use Rattle.delay_bounds.proofs.MomentLaws.{some_least}
 use Rattle.delay_bounds.proofs.StepLaws.{coming_at, first_of, next_behind, nexts_after, rises, rises_once}
 use Rattle.delay_bounds.proofs.Words.{coming_on}
-use Rattle.premises.specs.Runs.{CanCome, IsTaken, RunsExist, scheduled}
+use Rattle.premises.specs.Runs.{CanCome, IsTaken, NoneDeletes, RunsExist, scheduled}
 
 -- ---- what neither a frame nor a moment changes
 
@@ -211,3 +211,7 @@ runs ps mtu room class n change flows c =
 
 pub runs_exist : RunsExist
 runs_exist = runs
+
+-- a deletion keeps no class apart
+pub none_deleted : NoneDeletes
+none_deleted ps mtu room class plan n flows command events is run = subst (λ d. refusal (new_port ps mtu room) d ≡ None → IsApart class d) is run.apart.0 refl

@@ -1,14 +1,20 @@
--- When there are runs of which the claim about flows speaks (delay_bounds/specs/Claim.antt). A claim about runs that do not exist would hold of
--- any answer, so each premise here is one that the standard or a port's limits ask, and no other is.
-use Rattle.std.specs.Prelude.{◌≡◌, ◌<◌, ◌≤◌, ℕ, ◌+◌, ◌-◌, List, All, Some, None, slice_get}
+-- When there are runs of which the claim about flows speaks.
+--
+-- The claim (delay_bounds/specs/Claim.antt) is of every run of a kind, and would hold of any answer where there are none. So each premise here is one
+-- that the standard, a port's limits or the claim ask, and none is more.
+use Rattle.std.specs.Prelude.{◌≡◌, ◌<◌, ◌≤◌, ℕ, ◌+◌, ◌-◌, List, ◌∷◌, All, Some, None, slice_get}
+use denote.Bor.{Bor}
 use Rattle.wire_time.specs.Moment.{greatest_moment}
 use Rattle.wire_time.specs.Wire.{occupancy_of, sdu_of}
 use Rattle.wire_time.specs.declared.Frame.{Frame}
 use Rattle.wire_time.specs.declared.TheConstants.{MIN_PS_PER_OCTET, MIN_MTU}
+use Rattle.gate_list.specs.Gate.{Plan}
 use Rattle.abstract_port.specs.AbstractPort.{AbstractPort, after_command, class_for, limit_of, new_command, new_port, plan_asked, refusal}
 use Rattle.abstract_port.specs.declared.Change.{Change}
-use Rattle.abstract_port.specs.declared.Command.TheVariants.{Replace}
+use Rattle.abstract_port.specs.declared.Command.{Command}
+use Rattle.abstract_port.specs.declared.Command.TheVariants.{Replace, Delete}
 use Rattle.abstract_port.specs.declared.Event.{Event}
+use Rattle.abstract_port.specs.declared.Event.TheVariants.{Install}
 use Rattle.separation.specs.Separation.{IsApart}
 use Rattle.delay_bounds.specs.Claim.{IsRun, coming, offsets_of}
 use Rattle.delay_bounds.specs.declared.Flow.{Flow}
@@ -52,3 +58,9 @@ abbrev pub RunsExist : Type 0
 RunsExist =
     (ps mtu room class n : ℕ) (change : Change) (flows : List Flow) → CanCome ps mtu room class change flows n
     → (events : List Event) × IsRun ps mtu room class (plan_asked change) flows n events
+
+-- No run begins with a deletion: it has no plan, and keeps no class apart.
+abbrev pub NoneDeletes : Type 0
+NoneDeletes =
+    (ps mtu room class : ℕ) (plan : Plan) (n : ℕ) (flows : List Flow) (command : Bor Command) (events : List Event) → command.now ≡ Delete
+    → IsRun ps mtu room class plan flows n (Install command ∷ events) → ⊥

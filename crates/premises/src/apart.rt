@@ -58,7 +58,7 @@ fn is_arrival_apart<G: Gates, A: Allocator>(port: &mut Port<G, A>, class: u8, pr
 }
 
 /// Gives a command, and answers whether it is as the law of separation asks: it is refused, or keeps the class apart.
-fn install_apart<G: Gates, A: Allocator>(
+pub(crate) fn install_apart<G: Gates, A: Allocator>(
     port: &mut Port<G, A>,
     class: u8,
     command: &Command,

@@ -1,20 +1,17 @@
 //! Whether the claim about delay bounds speaks of a run, and what it says of an answer.
 
-ghost use Rattle.std.specs.Prelude.{[], ◌∷◌, ◌≡◌, ◌<◌, ◌+◌, ℕ, All, IfErr, IfOk, IfSome, IsTrue, MatchResult, None, Ok, Err, length, if◌then◌else◌};
-ghost use Rattle.abstract_port.specs.AbstractPort.{AbstractPort, class_for, new_command, plan_asked, settled};
+ghost use Rattle.std.specs.Prelude.{[], ◌∷◌, ◌≡◌, ◌<◌, ◌+◌, ◌↔◌, ℕ, All, IfErr, IfNone, IfOk, IfSome, IsTrue, MatchResult, None, Ok, Err, length, if◌then◌else◌};
+ghost use Rattle.abstract_port.specs.AbstractPort.{AbstractPort, class_for, new_port, refusal, settled};
 ghost use Rattle.abstract_port.specs.Answers.{answers_to};
 ghost use Rattle.abstract_port.specs.Sound.{IsSoundPort};
-ghost use Rattle.abstract_port.specs.declared.Change.{Change};
-ghost use Rattle.abstract_port.specs.declared.Command.TheVariants as Commands;
 ghost use Rattle.abstract_port.specs.declared.Event.TheVariants as Events;
-ghost use Rattle.delay_bounds.specs.Claim.{IsFlow, IsRun, IsWorth};
-ghost use Rattle.premises.specs.FlowArrivals.{AreNext, IsNextAt, IsNoCommand, came_now};
+ghost use Rattle.delay_bounds.specs.Claim.{IsFlow, IsWorth};
+ghost use Rattle.premises.specs.FlowArrivals.{AreNext, IsDue, IsFlowIn, IsNextAt, IsOtherAt, IsRefused, IsRunOf, came_now, capped};
 ghost use Rattle.separation.specs.Separation.{IsKeptApart, is_class};
 ghost use Rattle.separation.specs.Traffic.{offered_as, offered_by};
-ghost use Rattle.wire_time.specs.Wire.{occupancy_of};
 ghost use Rattle.wire_time.specs.declared.Frame.{Frame};
 
-use crate::apart::{is_apart, is_kept_apart, take};
+use crate::apart::{install_apart, is_kept_apart, take};
 use abstract_port::{Command, Dropped, Event};
 use delay_bounds::laws::answers;
 use delay_bounds::{Bounded, Flow, Unbound, bound_flows};
@@ -59,17 +56,31 @@ fn arrive_offered<G: Gates, A: Allocator>(port: &mut Port<G, A>, class: u8, fram
 /// When the frame behind one of a flow comes, where that one comes at this moment, has this length, and was to come at
 /// `next`.
 fn behind(rate: Rate, change: u128, flow: Flow, next: u128, now: u128, len: u32) -> Option<u128>
-    ensures { IfSome result (λ later. (now ≡ change + next) × (occupancy_of rate len ≡ flow.need) × (later ≡ next + flow.period)) }
+    ensures due { IfSome result (λ later. IsDue rate change flow next now len × (later ≡ capped (next + flow.period))) }
+    ensures other { IfNone result (¬ IsDue rate change flow next now len) }
 {
     if now >= change && now - change == next && occupancy(rate, len) == flow.need {
-        next.checked_add(flow.period)
+        // A frame that would come past the greatest u128 never does, nor does one at it: no port's clock comes so far.
+        Some(next.saturating_add(flow.period))
     } else {
         None
     }
 }
 
+/// Gives a command, and answers whether it is accepted.
+fn is_accepted<G: Gates, A: Allocator>(port: &mut Port<G, A>, command: &Command) -> bool
+    ensures accepted { IsTrue result ↔ (refusal port.old.port command.now ≡ None) }
+    ensures port { port.new.port ≡ settled (answers_to (Events.Install command.entry) port.old.port).1 }
+    ensures sound { IsSoundPort port.new.port }
+{
+    match port.install(command) {
+        Ok(_) => true,
+        Err(_) => false,
+    }
+}
+
 /// Takes an event. The flow's next frame was to come at `next`, in picoseconds since the change moment; when it comes
-/// now. None: the event is a command, or a frame of the class that is not the flow's.
+/// now. None: a command is accepted, or the queue of the class is offered another frame.
 fn take_next<G: Gates, A: Allocator>(
     port: &mut Port<G, A>,
     rate: Rate,
@@ -79,8 +90,9 @@ fn take_next<G: Gates, A: Allocator>(
     next: u128,
     event: &Event<'_>,
 ) -> Option<u128>
+    ensures refused { IfSome result (λ later. IsRefused event.now port.old.port) }
     ensures next { IfSome result (λ later. IsNextAt rate class change flow event.now port.old.port next later) }
-    ensures none { IfSome result (λ later. IsNoCommand event.now) }
+    ensures other { IfNone result (IsOtherAt rate class change flow event.now port.old.port next) }
     ensures port { port.new.port ≡ settled (answers_to event.now port.old.port).1 }
     ensures sound { IsSoundPort port.new.port }
 {
@@ -93,9 +105,12 @@ fn take_next<G: Gates, A: Allocator>(
                 Some(next)
             }
         }
-        Event::Install(_) => {
-            take(port, event);
-            None
+        Event::Install(command) => {
+            if is_accepted(port, command) {
+                None
+            } else {
+                Some(next)
+            }
         }
         Event::Clock(_) | Event::Query | Event::Count(_) => {
             take(port, event);
@@ -104,8 +119,8 @@ fn take_next<G: Gates, A: Allocator>(
     }
 }
 
-/// Takes events: whether none is a command, and the frames that the queue of the class is offered are the first of the
-/// flow.
+/// Takes events: whether none is a command that is accepted, and the frames that the queue of the class is offered are
+/// the first of the flow.
 fn are_next<G: Gates, A: Allocator>(
     port: &mut Port<G, A>,
     rate: Rate,
@@ -114,7 +129,7 @@ fn are_next<G: Gates, A: Allocator>(
     flow: Flow,
     events: &[Event<'_>],
 ) -> bool
-    ensures { IsTrue result → AreNext rate class change flow events.now port.old.port }
+    ensures { IsTrue result ↔ AreNext rate class change flow flow.offset events.now port.old.port }
 {
     // For the prover: a call on a port says what holds of every port.
     let _now = port.now();
@@ -138,7 +153,7 @@ fn is_flow_in<G: Gates, A: Allocator>(
     flow: Flow,
     events: &[Event<'_>],
 ) -> bool
-    ensures { IsTrue result → AreNext rate class (new_command port.old.port command.now).change flow events.now (answers_to (Events.Install command.entry) port.old.port).1 }
+    ensures { IsTrue result ↔ IsFlowIn rate class flow command.entry events.now port.old.port }
 {
     match port.install(command) {
         Ok(change) => are_next(port, rate, class, change, flow, events),
@@ -146,8 +161,7 @@ fn is_flow_in<G: Gates, A: Allocator>(
     }
 }
 
-/// Gives a command and takes events: whether it is accepted, and the law of separation speaks of the class and of all
-/// these.
+/// Gives a command and takes events: whether the law of separation speaks of the class and of all these.
 fn is_apart_in<G: Gates, A: Allocator>(
     port: &mut Port<G, A>,
     class: u8,
@@ -155,17 +169,37 @@ fn is_apart_in<G: Gates, A: Allocator>(
     events: &[Event<'_>],
 ) -> bool
     requires { class < CLASSES }
-    ensures { IsTrue result → IsKeptApart class (Events.Install command.entry ∷ events.now) port.old.port }
+    ensures { IsTrue result ↔ IsKeptApart class (Events.Install command.entry ∷ events.now) port.old.port }
 {
-    match port.install(command) {
-        Ok(_) => is_apart(command, class) && is_kept_apart(port, class, events),
-        Err(_) => false,
-    }
+    install_apart(port, class, command) && is_kept_apart(port, class, events)
 }
 
-/// Whether the claim speaks of a run: a command, which is accepted, keeps the class apart and is the only one, and
-/// events in which the frames of the class are the first of a flow. The port is a new one of this rate with stepped
-/// gates, an mtu of 1500 octets and room for 128 frames a class. It is refused only when out of memory.
+/// Whether the claim speaks of the command and the events, on two new ports.
+fn is_run_on<G: Gates, A: Allocator>(
+    first: &mut Port<G, A>,
+    second: &mut Port<G, A>,
+    rate: Rate,
+    class: u8,
+    command: &Command,
+    flow: Flow,
+    events: &[Event<'_>],
+) -> bool
+    requires class { class < CLASSES }
+    requires first { first.old.port ≡ new_port rate 1500 128 }
+    requires second { second.old.port ≡ new_port rate 1500 128 }
+    ensures { IsTrue result ↔ IsRunOf rate 1500 128 class command.now flow (Events.Install command.entry ∷ events.now) }
+{
+    // For the prover: a call on a port says what holds of every port.
+    let _now = first.now();
+    let apart = is_apart_in(first, class, command, events);
+    let flows = is_flow_in(second, rate, class, command, flow, events);
+    apart && flows
+}
+
+/// Whether the claim speaks of a run: a schedule, which is accepted, keeps the class apart and is the only command that
+/// is, and events in which the frames of the class are the first of a flow. Commands that are refused may be among
+/// them. Of a deletion the answer is no. The port is a new one of this rate with stepped gates, an mtu of 1500 octets
+/// and room for 128 frames a class. It is refused only when out of memory.
 pub fn is_run(
     alloc: Global,
     rate: Rate,
@@ -175,11 +209,9 @@ pub fn is_run(
     events: &[Event<'_>],
 ) -> Result<bool, PortFault>
     requires { class < CLASSES }
-    ensures premise { IfOk result (λ yes. IsTrue yes → (c : Change) → command.now ≡ Commands.Replace c → (n : ℕ) × IsRun rate 1500 128 class (plan_asked c) (flow ∷ []) n (Events.Install command.entry ∷ events.now)) }
+    ensures premise { IfOk result (λ yes. IsTrue yes ↔ IsRunOf rate 1500 128 class command.now flow (Events.Install command.entry ∷ events.now)) }
     ensures refused { IfErr result (λ fault. fault ≡ PortFault.Memory) }
 {
-    // For the prover: the getter says within which limits a rate lies.
-    let _ps = rate.ps_per_octet();
     let mut first = match Port::<Stepped>::new(alloc, rate, 1500, 128) {
         Ok(port) => port,
         Err(fault) => return Err(fault),
@@ -188,9 +220,7 @@ pub fn is_run(
         Ok(port) => port,
         Err(fault) => return Err(fault),
     };
-    let apart = is_apart_in(&mut first, class, command, events);
-    let flows = is_flow_in(&mut second, rate, class, command, flow, events);
-    Ok(apart && flows)
+    Ok(is_run_on(&mut first, &mut second, rate, class, command, flow, events))
 }
 
 /// What is answered about flows is worth this in every run that the claim speaks of.

@@ -157,6 +157,45 @@ fn the_claim_of_bounds_does_not_speak_of_other_runs(rt: HostRuntime) -> Result<(
     Ok(())
 }
 
+/// Of a run with commands that are refused it speaks: while the first one waits, and with another map.
+#[test]
+fn the_claim_of_bounds_speaks_of_a_run_with_refused_commands(rt: HostRuntime) -> Result<(), Fail> {
+    let rate = Rate::from_mbps(1000).ok().ok_or("a rate")?;
+    let alone = command(20_000, [0x80, 0x7f], [13_000, 87_000]).ok_or("a command")?;
+    let short = command(20_000, [0x80, 0x7f], [1, 87_000]).ok_or("a command")?;
+    let run = [
+        Event::Install(&Command::Delete),
+        Event::Clock(20_000_000),
+        Event::Install(&short),
+        frame(1, 7),
+    ];
+    assert_eq!(rt; is_run(rt.alloc(), rate, 7, &alone, FLOW, &run), Ok(true));
+    Ok(())
+}
+
+/// Not where the command is refused or a deletion, nor where a frame comes behind the last moment of a flow.
+#[test]
+fn the_claim_of_bounds_begins_with_a_schedule(rt: HostRuntime) -> Result<(), Fail> {
+    let rate = Rate::from_mbps(1000).ok().ok_or("a rate")?;
+    let short = command(20_000, [0x80, 0x7f], [1, 87_000]).ok_or("a command")?;
+    assert_eq!(rt; is_run(rt.alloc(), rate, 7, &short, FLOW, &[]), Ok(false));
+    assert_eq!(rt;
+        is_run(rt.alloc(), rate, 7, &Command::Delete, FLOW, &[]),
+        Ok(false)
+    );
+    let alone = command(20_000, [0x80, 0x7f], [13_000, 87_000]).ok_or("a command")?;
+    let once = Flow {
+        period: u128::MAX,
+        offset: 1,
+        ..FLOW
+    };
+    let one = [Event::Clock(20_000_001), frame(1, 7)];
+    assert_eq!(rt; is_run(rt.alloc(), rate, 7, &alone, once, &one), Ok(true));
+    let two = [Event::Clock(20_000_001), frame(1, 7), frame(2, 7)];
+    assert_eq!(rt; is_run(rt.alloc(), rate, 7, &alone, once, &two), Ok(false));
+    Ok(())
+}
+
 /// What is answered about that flow, about one that comes twice as often, with little room and with much, and about one
 /// that fits into no window.
 #[test]
