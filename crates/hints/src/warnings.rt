@@ -98,7 +98,7 @@ pub fn put_frame_dropped<W: Write>(
             Part::Number(u128::from(id)),
             Part::Text(b" at "),
             Part::Number(moment),
-            Part::Text(b": dropped "),
+            Part::Text(b" is dropped: "),
             Part::Text(dropped_name(why)),
             Part::Text(b"\n"),
         ],
@@ -117,7 +117,7 @@ pub fn put_frames_left<W: Write>(writer: &mut W, class: u8, count: u64) -> Resul
         &[
             Part::Text(b"taprio_port: class "),
             Part::Number(u128::from(class)),
-            Part::Text(b": "),
+            Part::Text(b" has "),
             Part::Number(u128::from(count)),
             Part::Text(noun),
         ],
