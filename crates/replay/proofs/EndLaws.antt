@@ -10,7 +10,7 @@ use Rattle.capture.specs.FileHeader.{IsHeaderFault}
 use Rattle.capture.specs.declared.fault.CapFault.TheVariants as CapFaults
 use Rattle.octet_writer.proofs.Fronts.{Appends-append, Appends-nil, sent_all}
 use Rattle.script.proofs.LeftLaws.{left-now, left-settled}
-use Rattle.script.specs.Responses.{end_lines, left_from, left_lines}
+use Rattle.script.specs.Responses.{end_lines, left_lines}
 use Rattle.summary.specs.Lines.{class_text, classes_from, summary_lines, wire_text}
 use Rattle.summary.specs.Observed.{class_at}
 use Rattle.job.specs.declared.fault.Fault.TheVariants as Faults
