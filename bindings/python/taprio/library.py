@@ -14,7 +14,7 @@ import pathlib
 from collections.abc import Callable
 from typing import Any, Union
 
-from .faults import NO_MEMORY, NO_ROOM, BadInput, BadValue, LibraryMissing, Replay, TaprioError, of_text
+from .faults import NO_MEMORY, NO_ROOM, BadInput, BadValue, LibraryMissing, Replay, TaprioError, index, of_text
 
 __all__ = [
     "BadInput",
@@ -114,7 +114,7 @@ def _loaded(path: str) -> ctypes.CDLL:
     except (OSError, AttributeError) as fault:
         raise LibraryMissing(
             f"the library can't be loaded ({fault}): build it with bindings/c/build, or name one in TAPRIO_LIBRARY, "
-            "or call the program instead with taprio.Program"
+            "or call the program instead with taprio.Program, or name it in TAPRIO_PORT"
         ) from fault
 
 
@@ -179,10 +179,11 @@ def octets(text: Octets) -> bytes:
 
 def number(value: int, bits: int, name: str) -> int:
     """A whole number in a field of so many bits. One that does not fit is the greatest, which is over the limits of every value."""
-    if not isinstance(value, int):
-        raise TypeError(f"{name} is a whole number")
+    given = index(value)
+    if given is None:
+        raise TypeError(f"{name} is a whole number, not {value!r}")
     most = (1 << bits) - 1
-    return int(value) if 0 <= value <= most else most
+    return given if 0 <= given <= most else most
 
 
 def _halves(moment: int | None, name: str) -> tuple[int, int, int]:

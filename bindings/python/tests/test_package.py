@@ -43,8 +43,8 @@ class Examples(unittest.TestCase):
 
 class Package(unittest.TestCase):
     def test_examples_in_texts(self):
-        """What the texts of the package show. (That of `taprio` itself runs the shared object.)"""
-        modules = [taprio.schedules] + ([taprio] if support.HAS_LIBRARY else [])
+        """What the texts of the package show. (That of `taprio` itself runs a port.)"""
+        modules = [taprio.schedules] + ([taprio] if support.PROGRAM or support.HAS_LIBRARY else [])
         for module in modules:
             failed, tried = doctest.testmod(module)
             self.assertEqual(failed, 0)
