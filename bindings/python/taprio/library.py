@@ -1,8 +1,8 @@
 """The jobs of the program as calls over the shared object: octets in, octets out, by ctypes.
 
 The shared object is what `bindings/c/build` makes. It is loaded at the first call that needs it, from the first of these places: the file that
-the variable TAPRIO_LIBRARY of the environment names, `libtaprio.so` beside this module (an installed package has it there), and
-`bindings/c/out/libtaprio.so` of the checkout. What it promises is in `bindings/c/taprio.h`.
+the variable TAPRIO_LIBRARY of the environment names, `libtaprio.so` beside this module (an installed package has it there), and in the
+checkout `bindings/c/out/libtaprio.so` and `out/unproved/libtaprio.so`. What it promises is in `bindings/c/taprio.h`.
 """
 
 from __future__ import annotations
@@ -101,9 +101,10 @@ _LATER = ("taprio_streams_from", "taprio_bounds", "taprio_frames", "taprio_repla
 def _path() -> str:
     """Where the shared object is, or should be."""
     here = pathlib.Path(__file__).resolve().parent
-    beside = here / "libtaprio.so"
-    built = here.parent.parent / "c" / "out" / "libtaprio.so"
-    return os.environ.get("TAPRIO_LIBRARY") or str(beside if beside.exists() else built)
+    proved = here.parent.parent / "c" / "out" / "libtaprio.so"
+    unproved = here.parents[2] / "out" / "unproved" / "libtaprio.so"
+    there = (it for it in (here / "libtaprio.so", proved, unproved) if it.exists())
+    return os.environ.get("TAPRIO_LIBRARY") or str(next(there, proved))
 
 
 @functools.lru_cache(maxsize=None)

@@ -7,8 +7,9 @@ import os
 import pathlib
 import shutil
 import subprocess
+import sys
 import tempfile
-from typing import Protocol, Union
+from typing import NoReturn, Protocol, Union
 
 from . import library
 from .faults import BAD_INPUT, BAD_VALUE, LibraryMissing, Replay, TaprioError, of_text
@@ -238,6 +239,11 @@ def found() -> str | None:
     if os.access(BESIDE, os.X_OK):
         return str(BESIDE)
     return of_checkout(str(CHECKOUT), "--built") or shutil.which("taprio_port") or of_checkout(str(CHECKOUT))
+
+
+def command() -> NoReturn:
+    """The command `taprio_port` of an installed package: the program that it has."""
+    os.execv(BESIDE, [str(BESIDE), *sys.argv[1:]])
 
 
 Chosen = Union[Backend, str, "os.PathLike[str]", None]
