@@ -447,7 +447,7 @@ static const char machine_bounds[] =
     "class 7 most 2 of 128 frames 5 every 1000000000\n"
     "bound 1 class 7 wait 230000000 to 230000000 end 230672000 to 230672000 deadline 250000000 met\n"
     "bound 100 class 7 wait 230672000 to 230672000 end 232464000 to 232464000 deadline 250000000 met\n"
-    "bound 200 class 5 none deadline 1000000000 missed\n"
+    "bound 200 class 5 none deadline 1000000000 unknown\n"
     "bound 300 class 5 none\n"
     "bound 400 class 0 unknown deadline 5000000000 unknown\n"
     "bound 500 class 6 wait 39000000 to 39000000 end 39992000 to 39992000 deadline 1000000000 met\n"
