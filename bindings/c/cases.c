@@ -727,6 +727,7 @@ static void driven(void) {
 
 int main(int count, char **words) {
     folder = count > 1 ? words[1] : "examples";
+    expect(strncmp(taprio_version(), TAPRIO_VERSION, strlen(TAPRIO_VERSION)) == 0, "the version", "the library");
     struct call c = {RUN, usual, whole, 0, 0, {0}, {0}};
     static const char *const scripts[] = {"first", "priorities", "schedule", "manual", "guard_band", "extension"};
     for (size_t at = 0; at < sizeof scripts / sizeof *scripts; at++) {

@@ -342,7 +342,7 @@ class Room:
 
 @support.wants_library
 class OverTheLibrary(Examples, Faults, Room, unittest.TestCase):
-    port = taprio
+    port = taprio.Library()
 
     def test_calls_that_are_not_there(self):
         """An object that was built before there were bounds is said to be old, and has the other calls."""
@@ -350,7 +350,7 @@ class OverTheLibrary(Examples, Faults, Room, unittest.TestCase):
             with self.assertRaisesRegex(taprio.LibraryMissing, "no taprio_bounds: build it again"):
                 taprio.library.bounds("", "")
             with self.assertRaisesRegex(taprio.LibraryMissing, "no taprio_streams_from"):
-                taprio.streams("", from_=1)
+                taprio.library.streams("", from_=1)
 
 
 @support.wants_library
