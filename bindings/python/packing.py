@@ -52,24 +52,25 @@ def modules() -> Files:
     return {str(path.relative_to(HERE)): (path.read_bytes(), 0o644) for path in paths}
 
 
-def metadata(about: dict) -> str:
+def metadata(about: dict, version: str) -> str:
     """The file METADATA."""
     extras = about.get("optional-dependencies", {})
-    lines = ["Metadata-Version: 2.1", f"Name: {about['name']}", f"Version: {about['version']}", f"Summary: {about['description']}"]
+    lines = ["Metadata-Version: 2.1", f"Name: {about['name']}", f"Version: {version}", f"Summary: {about['description']}"]
     lines += [f"License: {about['license']['text']}", f"Requires-Python: {about['requires-python']}"]
     for extra, names in extras.items():
         lines += [f"Provides-Extra: {extra}", *(f"Requires-Dist: {name}; extra == '{extra}'" for name in names)]
     return "\n".join(lines) + "\n"
 
 
-def wheel(folder: str, files: Files, with_command: bool, is_pure: bool) -> str:
-    """Writes a wheel of these files, and gives its name."""
+def wheel(folder: str, files: Files, with_command: bool, is_pure: bool, label: str = "") -> str:
+    """Writes a wheel of these files, and gives its name. A label stands behind the version."""
     about = project()
+    version = about["version"] + label
     tag = "py3-none-any" if is_pure else f"py3-none-{sysconfig.get_platform().replace('-', '_').replace('.', '_')}"
-    name = f"{about['name']}-{about['version']}"
+    name = f"{about['name']}-{version}"
     info = f"{name}.dist-info"
     says = f"Wheel-Version: 1.0\nGenerator: taprio\nRoot-Is-Purelib: {str(is_pure).lower()}\nTag: {tag}\n"
-    files = files | {f"{info}/METADATA": (metadata(about).encode(), 0o644), f"{info}/WHEEL": (says.encode(), 0o644)}
+    files = files | {f"{info}/METADATA": (metadata(about, version).encode(), 0o644), f"{info}/WHEEL": (says.encode(), 0o644)}
     if with_command:
         files[f"{info}/entry_points.txt"] = COMMAND.encode(), 0o644
     rows = []
@@ -85,10 +86,10 @@ def wheel(folder: str, files: Files, with_command: bool, is_pure: bool) -> str:
     return f"{name}-{tag}.whl"
 
 
-def build_wheel(wheel_directory: str, config_settings: object = None, metadata_directory: object = None) -> str:
+def build_wheel(wheel_directory: str, config_settings: object = None, metadata_directory: object = None, label: str = "") -> str:
     """The wheel that pip installs."""
     found = built()
-    return wheel(wheel_directory, modules() | found, "taprio/taprio_port" in found, not found)
+    return wheel(wheel_directory, modules() | found, "taprio/taprio_port" in found, not found, label)
 
 
 def build_editable(wheel_directory: str, config_settings: object = None, metadata_directory: object = None) -> str:
