@@ -5,7 +5,7 @@ import subprocess
 import sys
 
 TOP = pathlib.Path(__file__).resolve().parent.parent
-SECONDS = 60
+SECONDS = 180
 
 
 def passes(program, module):

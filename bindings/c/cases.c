@@ -447,7 +447,7 @@ static const char machine_bounds[] =
     "class 7 most 2 of 128 frames 5 every 1000000000\n"
     "bound 1 class 7 wait 230000000 to 230000000 end 230672000 to 230672000 deadline 250000000 met\n"
     "bound 100 class 7 wait 230672000 to 230672000 end 232464000 to 232464000 deadline 250000000 met\n"
-    "bound 200 class 5 none deadline 1000000000 missed\n"
+    "bound 200 class 5 none deadline 1000000000 unknown\n"
     "bound 300 class 5 none\n"
     "bound 400 class 0 unknown deadline 5000000000 unknown\n"
     "bound 500 class 6 wait 39000000 to 39000000 end 39992000 to 39992000 deadline 1000000000 met\n"
@@ -727,6 +727,7 @@ static void driven(void) {
 
 int main(int count, char **words) {
     folder = count > 1 ? words[1] : "examples";
+    expect(strncmp(taprio_version(), TAPRIO_VERSION, strlen(TAPRIO_VERSION)) == 0, "the version", "the library");
     struct call c = {RUN, usual, whole, 0, 0, {0}, {0}};
     static const char *const scripts[] = {"first", "priorities", "schedule", "manual", "guard_band", "extension"};
     for (size_t at = 0; at < sizeof scripts / sizeof *scripts; at++) {

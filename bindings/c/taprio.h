@@ -1,7 +1,8 @@
 /* Taprio: the transmission side of one Ethernet port with eight traffic classes whose gates are opened and closed by schedules
  * (IEEE Std 802.1Q-2018, 8.6.8.4). One function for each job of the program `taprio_port`, over memory: octets in, octets out.
  *
- * The library is proved; that these declarations fit it, and that a caller keeps what is said here, is not.
+ * The library is proved, but for `taprio_version`; that these declarations fit it, and that a caller keeps what is said here, is not.
+ * (One that is built with --unproved has a check at each step in the place of the proofs: where one fails, it ends the program by SIGILL.)
  *
  * What every call has in common
  * -----------------------------
@@ -49,6 +50,9 @@
 #ifdef __cplusplus
 extern "C" {
 #endif
+
+/* The version of the library: TAPRIO_VERSION, and behind a blank that it is not proved where it was built so. It ends with a NUL. */
+const char *taprio_version(void);
 
 enum taprio_status {
     TAPRIO_DONE = 0,

@@ -9,10 +9,11 @@ The five calls `run`, `check`, `streams`, `draw` and `replay` are jobs of the pr
     >>> taprio.run("frame 1 0 60\\nclock 1000000\\n")
     b'queued 1 class 0\\nstart 1 class 0 at 0 end 672000\\n'
 
-They stand on the shared object that `bindings/c/build` makes, which is loaded at the first of them (`taprio.library`). `Program` has the same
-calls over the program. `Port` is a port that is driven call by call, over the shared object. Calls may be made from several threads: they share nothing, and the interpreter goes on meanwhile.
+They run over the shared object that `bindings/c/build` makes, or over the program, whichever is there: `backend` says which is taken.
+`taprio.library` has the calls over the shared object, and `Program` over the program. `Port` is a port that is driven call by call, over the
+shared object alone. Calls may be made from several threads: they share nothing, and the interpreter goes on meanwhile.
 
-Nothing else here needs the shared object: `taprio.schedules` reads and writes schedules (times in nanoseconds), `Stream` is a stream of
+`taprio.schedules` reads and writes schedules (times in nanoseconds), `Stream` is a stream of
 frames (times in nanoseconds), `run_streams` runs both, `frames` gives those of a script or a capture, `bounds` tells how long the frames of streams
 wait for ever, `read_run`, `read_frames`, `read_check` and `read_bounds` give what the jobs answer as objects, and `read_capture` reads a capture.
 `moment` reads a moment such as `12.303us`, over the shared object.
@@ -31,7 +32,8 @@ from .faults import (
     Replay,
     TaprioError,
 )
-from .library import Library, check, draw, moment, replay, run, streams
+from .jobs import check, draw, replay, run, streams
+from .library import Library, moment
 from .plotting import plot
 from .port import Port
 from .program import Backend, Program, backend

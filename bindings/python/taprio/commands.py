@@ -77,14 +77,14 @@ def _octets(path: str) -> bytes:
         return file.read()
 
 
-def _read(octets: bytes, form: Form | None, map_: list[int] | None) -> tuple[list[Configured], Form]:
+def _read(octets: bytes, form: Form | None, map_: list[int] | None, device: str | None) -> tuple[list[Configured], Form]:
     """The schedules of a file, and its form."""
     try:
         text = octets.decode().removeprefix("\ufeff")
     except UnicodeDecodeError as wrong:
         raise BadSchedule(f"octet {wrong.start}", "a text in UTF-8", f"{octets[wrong.start]:#04x}") from None
     found = form or form_of(text)
-    return (read_qcw(text, map_) if found == "qcw" else read(text, found)), found
+    return (read_qcw(text, map_, device) if found == "qcw" else read(text, found, device)), found
 
 
 def _of_device(found: list[Configured], device: str | None) -> list[Configured]:
@@ -137,7 +137,7 @@ def main(words: list[str]) -> int:
             warnings.simplefilter("always")
             for path in given.files:
                 name = "standard input" if path == "-" else path
-                read_, form = _read(_octets(path), given.source, given.map)
+                read_, form = _read(_octets(path), given.source, given.map, given.dev)
                 # (a tc line sets a schedule, and each is taken)
                 chosen = _of_device(read_, given.dev)
                 found += _as_in(chosen if form == "tc" else _of_side(chosen, given.side), form, to)

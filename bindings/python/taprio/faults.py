@@ -2,6 +2,7 @@
 
 from __future__ import annotations
 
+import operator
 import re
 from typing import Any, NamedTuple
 
@@ -10,6 +11,16 @@ __all__ = ["BadAnswer", "BadCapture", "BadInput", "BadSchedule", "BadValue", "Le
 BAD_VALUE, BAD_INPUT, NO_MEMORY, NO_ROOM = 2, 3, 4, 5
 _BEFORE = "taprio_port: "
 _PLACE = re.compile(r"(\w+) (\w+)(?: (\d+))?: (\w+)")
+
+
+def index(value: object) -> int | None:
+    """A whole number: an `int`, or what stands for one, such as those of numpy; None of anything else, and of a truth."""
+    if isinstance(value, bool):
+        return None
+    try:
+        return operator.index(value)  # type: ignore[arg-type]
+    except TypeError:
+        return None
 
 
 class Replay(NamedTuple):

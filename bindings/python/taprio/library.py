@@ -1,8 +1,8 @@
 """The jobs of the program as calls over the shared object: octets in, octets out, by ctypes.
 
 The shared object is what `bindings/c/build` makes. It is loaded at the first call that needs it, from the first of these places: the file that
-the variable TAPRIO_LIBRARY of the environment names, `libtaprio.so` beside this module (an installed package has it there), and
-`bindings/c/out/libtaprio.so` of the checkout. What it promises is in `bindings/c/taprio.h`.
+the variable TAPRIO_LIBRARY of the environment names, `libtaprio.so` beside this module (an installed package has it there), and in the
+checkout `bindings/c/out/libtaprio.so` and `out/unproved/libtaprio.so`. What it promises is in `bindings/c/taprio.h`.
 """
 
 from __future__ import annotations
@@ -14,7 +14,7 @@ import pathlib
 from collections.abc import Callable
 from typing import Any, Union
 
-from .faults import NO_MEMORY, NO_ROOM, BadInput, BadValue, LibraryMissing, Replay, TaprioError, of_text
+from .faults import NO_MEMORY, NO_ROOM, BadInput, BadValue, LibraryMissing, Replay, TaprioError, index, of_text
 
 __all__ = [
     "BadInput",
@@ -101,9 +101,10 @@ _LATER = ("taprio_streams_from", "taprio_bounds", "taprio_frames", "taprio_repla
 def _path() -> str:
     """Where the shared object is, or should be."""
     here = pathlib.Path(__file__).resolve().parent
-    beside = here / "libtaprio.so"
-    built = here.parent.parent / "c" / "out" / "libtaprio.so"
-    return os.environ.get("TAPRIO_LIBRARY") or str(beside if beside.exists() else built)
+    proved = here.parent.parent / "c" / "out" / "libtaprio.so"
+    unproved = here.parents[2] / "out" / "unproved" / "libtaprio.so"
+    there = (it for it in (here / "libtaprio.so", proved, unproved) if it.exists())
+    return os.environ.get("TAPRIO_LIBRARY") or str(next(there, proved))
 
 
 @functools.lru_cache(maxsize=None)
@@ -114,7 +115,7 @@ def _loaded(path: str) -> ctypes.CDLL:
     except (OSError, AttributeError) as fault:
         raise LibraryMissing(
             f"the library can't be loaded ({fault}): build it with bindings/c/build, or name one in TAPRIO_LIBRARY, "
-            "or call the program instead with taprio.Program"
+            "or call the program instead with taprio.Program, or name it in TAPRIO_PORT"
         ) from fault
 
 
@@ -179,10 +180,11 @@ def octets(text: Octets) -> bytes:
 
 def number(value: int, bits: int, name: str) -> int:
     """A whole number in a field of so many bits. One that does not fit is the greatest, which is over the limits of every value."""
-    if not isinstance(value, int):
-        raise TypeError(f"{name} is a whole number")
+    given = index(value)
+    if given is None:
+        raise TypeError(f"{name} is a whole number, not {value!r}")
     most = (1 << bits) - 1
-    return int(value) if 0 <= value <= most else most
+    return given if 0 <= given <= most else most
 
 
 def _halves(moment: int | None, name: str) -> tuple[int, int, int]:

@@ -18,7 +18,7 @@ import types
 from dataclasses import dataclass
 from typing import Any
 
-from .faults import BadValue, Refused
+from .faults import BadValue, Refused, index
 from .library import function
 from .schedules import Schedule
 
@@ -173,11 +173,12 @@ class ClassCounters:
 
 def _whole(value: int, name: str, most: int) -> int:
     """A whole number of 0 to `most`."""
-    if not isinstance(value, int):
-        raise TypeError(f"{name} is a whole number")
-    if not 0 <= value <= most:
-        raise BadValue(f"{name} is 0 to {most}, not {value}", name)
-    return int(value)
+    given = index(value)
+    if given is None:
+        raise TypeError(f"{name} is a whole number, not {value!r}")
+    if not 0 <= given <= most:
+        raise BadValue(f"{name} is 0 to {most}, not {given}", name)
+    return given
 
 
 def _struct_of(schedule: Schedule) -> _Schedule:

@@ -5,9 +5,11 @@ from __future__ import annotations
 import functools
 import os
 import pathlib
+import shutil
 import subprocess
+import sys
 import tempfile
-from typing import Protocol, Union
+from typing import NoReturn, Protocol, Union
 
 from . import library
 from .faults import BAD_INPUT, BAD_VALUE, LibraryMissing, Replay, TaprioError, of_text
@@ -214,20 +216,34 @@ class Program:
         return found
 
 
+BESIDE = pathlib.Path(__file__).resolve().parent / "taprio_port"
 CHECKOUT = pathlib.Path(__file__).resolve().parents[3] / "taprio_port"
 
 
 @functools.lru_cache(maxsize=None)
-def of_checkout(path: str) -> str | None:
-    """The program of a checkout, from the script of that name. The script builds one where there is none, and says so on the standard
-    error; it takes about a minute. None where there is no script, or it can't."""
+def of_checkout(path: str, word: str = "--where") -> str | None:
+    """The program of a checkout, from the script of that name. With `--where` the script builds one where there is none, and says so on the
+    standard error; it takes about a minute. With `--built` it builds none. None where there is no script, or it can't."""
     if not os.path.isfile(path):
         return None
     with open(path, "rb") as file:
         if file.read(2) != b"#!":
             return path
-    ran = subprocess.run([path, "--where"], stdin=subprocess.DEVNULL, stdout=subprocess.PIPE, text=True, check=False)
+    ran = subprocess.run([path, word], stdin=subprocess.DEVNULL, stdout=subprocess.PIPE, text=True, check=False)
     return ran.stdout.strip() or None if ran.returncode == 0 else None
+
+
+def found() -> str | None:
+    """The program that is there: the one in the package, that of the checkout where it is built, the one on the PATH, and the one that the
+    checkout builds. None where there is none."""
+    if os.access(BESIDE, os.X_OK):
+        return str(BESIDE)
+    return of_checkout(str(CHECKOUT), "--built") or shutil.which("taprio_port") or of_checkout(str(CHECKOUT))
+
+
+def command() -> NoReturn:
+    """The command `taprio_port` of an installed package: the program that it has."""
+    os.execv(BESIDE, [str(BESIDE), *sys.argv[1:]])
 
 
 Chosen = Union[Backend, str, "os.PathLike[str]", None]
@@ -237,8 +253,9 @@ Chosen = Union[Backend, str, "os.PathLike[str]", None]
 def backend(chosen: Chosen = None) -> Backend:
     """What runs the jobs: "library" is the shared object, and any other text the path of the program.
 
-    None takes the first that there is: the program that the variable TAPRIO_PORT of the environment names, the shared object, and
-    the program of the checkout, which is built where it isn't yet. Raises `LibraryMissing` where there is none.
+    None takes the first that there is: the program that the variable TAPRIO_PORT of the environment names, the shared object, and the
+    program: the one in the package, that of the checkout, or `taprio_port` on the PATH. In a checkout without any it is built, which
+    takes about a minute. Raises `LibraryMissing` where there is none.
     """
     if chosen is None:
         named = os.environ.get("TAPRIO_PORT")
@@ -246,12 +263,12 @@ def backend(chosen: Chosen = None) -> Backend:
             return Program(named)
         if library.is_there():
             return Library()
-        built = of_checkout(str(CHECKOUT))
-        if built:
-            return Program(built)
+        program = found()
+        if program:
+            return Program(program)
         raise LibraryMissing(
-            "there is nothing that runs a port: build the library with bindings/c/build, or name it in TAPRIO_LIBRARY, or name the program "
-            "taprio_port in TAPRIO_PORT"
+            "there is nothing that runs a port: put the program taprio_port on the PATH, or name it in TAPRIO_PORT; or build the library with "
+            "bindings/c/build, or name it in TAPRIO_LIBRARY"
         )
     if isinstance(chosen, (str, os.PathLike)):
         if chosen == "library":

@@ -6,10 +6,11 @@ Moments and times are whole picoseconds, sizes are octets. `rows()` gives dicts,
 from __future__ import annotations
 
 import dataclasses
+import functools
 import re
 from collections import deque
 from collections.abc import Callable, Iterable, Sequence
-from typing import Any, Union
+from typing import Any, TypeVar, Union
 
 from .faults import BadAnswer
 from .library import Octets, octets
@@ -218,31 +219,46 @@ def rows(items: Iterable[Any]) -> list[dict[str, Any]]:
     return [{field.name: getattr(it, field.name) for field in dataclasses.fields(it)} for it in items]
 
 
-@dataclasses.dataclass(frozen=True)
+@dataclasses.dataclass(frozen=True, repr=False)
 class Run:
-    """The answers of a run."""
+    """The answers of a run. `answers` and `frames` are made of the text when they are first asked for."""
 
-    answers: tuple[Answer, ...]
-    """All of them, in their order."""
-    frames: tuple[Frame, ...]
-    """The frames that were queued or dropped, in the order in which they arrived."""
+    text: str
+    """The lines of the answers."""
     script: bytes | None = None
     """What was run, where it is known."""
 
-    @property
+    def __repr__(self) -> str:
+        return f"Run({len(self.frames)} frames)"
+
+    @functools.cached_property
+    def answers(self) -> tuple[Answer, ...]:
+        """All of them, in their order."""
+        return _answers(self.text)
+
+    @functools.cached_property
+    def frames(self) -> tuple[Frame, ...]:
+        """The frames that were queued or dropped, in the order in which they arrived."""
+        return _frames(self.text, None if self.script is None else _arrivals(self.script))
+
+    def _told(self, words: tuple[str, ...]) -> list[Answer]:
+        """The answers whose lines begin so."""
+        return [_answer(line, number) for number, line in enumerate(self.text.splitlines(), 1) if line.startswith(words)]
+
+    @functools.cached_property
     def summary(self) -> dict[int, ClassSummary]:
         """The summary of each class that had frames; empty where none was asked for."""
-        return {it.traffic_class: it for it in self.answers if isinstance(it, ClassSummary)}
+        return {it.traffic_class: it for it in self._told(("summary class ",)) if isinstance(it, ClassSummary)}
 
-    @property
+    @functools.cached_property
     def wire(self) -> WireSummary | None:
         """The summary of the wire."""
-        return next((it for it in self.answers if isinstance(it, WireSummary)), None)
+        return next((it for it in self._told(("summary wire ",)) if isinstance(it, WireSummary)), None)
 
-    @property
+    @functools.cached_property
     def left(self) -> dict[int, int]:
         """How many frames of each class wait at the end; empty where all have left or were dropped."""
-        return {it.traffic_class: it.frames for it in self.answers if isinstance(it, Left)}
+        return {it.traffic_class: it.frames for it in self._told(("left ",)) if isinstance(it, Left)}
 
     def of(self, ids: Iterable[int]) -> list[Frame]:
         """The frames with these ids, such as those of a stream: `run.of(stream.ids)`."""
@@ -500,19 +516,68 @@ def _report(lines: Sequence[str], number: int) -> Report:
     return Report(int(now), int(mask, 16), int(no_class), *classified, pairs or None, *(_change(it[0]) for it in changes))
 
 
+# The lines that there are many of, each read by one call for the whole text; the last part is any other line.
+_MANY_ANSWERS = re.compile(r"queued (\d+) class (\d+)$|start (\d+) class (\d+) at (\d+) end (\d+)$|dropped (\d+) (\w+)$|(.+)$", re.ASCII | re.MULTILINE)
+_MANY_LINES = re.compile(r"frame (\d+) (\d+) (\d+)(?: tagged)?$|clock (\d+)$|(.+)$", re.ASCII | re.MULTILINE)
+
+_Kind = TypeVar("_Kind")
+
+
+def _made(kind: type[_Kind], values: dict[str, Any]) -> _Kind:
+    """An object of these values. (The `__init__` of a frozen class takes most of the time of a long run.)"""
+    made = object.__new__(kind)
+    object.__setattr__(made, "__dict__", values)
+    return made
+
+
+def _answers(text: str) -> tuple[Answer, ...]:
+    """The answers of a text."""
+    lines = text.splitlines()
+    found: list[Answer] = []
+    at = 0
+    while at < len(lines):
+        line = lines[at]
+        words = line.split(" ")
+        if words[0] == "report":
+            found.append(_report(lines[at : at + len(_REPORT)], at + 1))
+            at += len(_REPORT)
+            continue
+        at += 1
+        found.append(_answer(line, at))
+    return tuple(found)
+
+
+def _arrival(words: list[str]) -> list[int] | None:
+    """The numbers of a line `clock` or `frame`, or None where it is malformed."""
+    numbers = words[1:-1] if words[-1] == "tagged" else words[1:]
+    if not all(word.isascii() and word.isdigit() for word in numbers) or len(numbers) != (1 if words[0] == "clock" else 3):
+        return None
+    return [int(it) for it in numbers]
+
+
 def _arrivals(script: Octets) -> list[tuple[int, int, int, int]]:
     """The frames of a script, up to its first malformed line: the moment, the id, the priority and the length."""
     now, found = 0, []
-    for _, words in logical_lines(octets(script).decode("utf-8", "replace")):
-        if words[0] not in ("clock", "frame"):
-            continue
-        numbers = words[1:-1] if words[-1] == "tagged" else words[1:]
-        if not all(word.isascii() and word.isdigit() for word in numbers) or len(numbers) != (1 if words[0] == "clock" else 3):
-            break
-        if words[0] == "clock":
-            now = max(now, int(numbers[0]))
+    text = octets(script).decode("utf-8", "replace")
+    if "\\" in text:
+        # (lines that go on in the next one)
+        text = "\n".join(" ".join(words) for _, words in logical_lines(text))
+    for id, priority, length, clock, other in _MANY_LINES.findall(text):
+        if other:
+            words = re.split(r"[ \t\r]+", other.strip(" \t\r"))
+            if words[0] not in ("clock", "frame"):
+                continue
+            numbers = _arrival(words)
+            if numbers is None:
+                break
+            if words[0] == "frame":
+                found.append((now, numbers[0], numbers[1], numbers[2]))
+            else:
+                now = max(now, numbers[0])
+        elif clock:
+            now = max(now, int(clock))
         else:
-            found.append((now, int(numbers[0]), int(numbers[1]), int(numbers[2])))
+            found.append((now, int(id), int(priority), int(length)))
     return found
 
 
@@ -520,82 +585,101 @@ def read_run(answers: Octets, script: Octets | None = None) -> Run:
     """The answers of a script, or the report of a replay. With the script that was run, it is known when each frame arrived.
 
     A text that a run doesn't write raises `BadAnswer`; the answers of another script do too."""
-    lines = octets(answers).decode("utf-8", "replace").splitlines()
-    found: list[Answer] = []
-    at = 0
-    while at < len(lines):
-        if lines[at].startswith("report "):
-            found.append(_report(lines[at : at + len(_REPORT)], at + 1))
-            at += len(_REPORT)
-        else:
-            found.append(_answer(lines[at], at + 1))
-            at += 1
-    return Run(
-        tuple(found), _frames(found, None if script is None else _arrivals(script)), None if script is None else octets(script)
-    )
+    run = of_answers(answers, script)
+    # (what is wrong with them is said here)
+    assert isinstance(run.answers, tuple) and isinstance(run.frames, tuple)
+    return run
 
 
-def _frames(answers: list[Answer], arrivals: list[tuple[int, int, int, int]] | None) -> tuple[Frame, ...]:
+def of_answers(answers: Octets, script: Octets | None = None) -> Run:
+    """The same for answers that a run has just given: they are read when they are asked for."""
+    return Run(octets(answers).decode("utf-8", "replace"), None if script is None else octets(script))
+
+
+def _frames(text: str, arrivals: list[tuple[int, int, int, int]] | None) -> tuple[Frame, ...]:
     """The frames of a run, in the order of their arrival. Those of a class leave in that order."""
-    found: list[Frame] = []
-    waiting: dict[int, deque[int]] = {}
-    for answer in answers:
-        if isinstance(answer, (Queued, Dropped)):
-            arrived = priority = length = None
-            if arrivals is not None:
-                if len(found) >= len(arrivals) or arrivals[len(found)][1] != answer.id:
-                    raise BadAnswer(f"frame {answer.id} is answered, and the script has another one there", 0)
-                arrived, _, priority, length = arrivals[len(found)]
-            queued = answer.traffic_class if isinstance(answer, Queued) else None
-            if queued is not None:
-                waiting.setdefault(queued, deque()).append(len(found))
-            dropped = answer.name if isinstance(answer, Dropped) else None
-            found.append(Frame(answer.id, queued, arrived, None, None, None, dropped, priority, length))
-        elif isinstance(answer, Started):
-            line = waiting.get(answer.traffic_class)
-            at = line.popleft() if line else None
-            if at is None or found[at].id != answer.id:
-                raise BadAnswer(f"frame {answer.id} starts, and isn't the first of its class", 0)
-            one = found[at]
-            wait = None if one.arrived is None else answer.start - one.arrived
-            found[at] = dataclasses.replace(one, start=answer.start, end=answer.end, wait=wait)
-    return tuple(found)
+    found: list[dict[str, Any]] = []
+    waiting: dict[str, deque[dict[str, Any]]] = {}
+    for queued, class_, started, of_class, at, end, dropped, name, other in _MANY_ANSWERS.findall(text):
+        if other:
+            continue
+        if started:
+            line = waiting.get(of_class)
+            one = line.popleft() if line else None
+            if one is None or one["id"] != int(started):
+                raise BadAnswer(f"frame {started} starts, and isn't the first of its class", 0)
+            one["start"], one["end"] = int(at), int(end)
+            if one["arrived"] is not None:
+                one["wait"] = one["start"] - one["arrived"]
+            continue
+        id = int(queued or dropped)
+        arrived = priority = length = None
+        if arrivals is not None:
+            if len(found) >= len(arrivals) or arrivals[len(found)][1] != id:
+                raise BadAnswer(f"frame {id} is answered, and the script has another one there", 0)
+            arrived, _, priority, length = arrivals[len(found)]
+        one = {
+            "id": id,
+            "traffic_class": int(class_) if queued else None,
+            "arrived": arrived,
+            "start": None,
+            "end": None,
+            "wait": None,
+            "dropped": name or None,
+            "priority": priority,
+            "length": length,
+            "stream": None,
+            "met": None,
+        }
+        found.append(one)
+        if queued:
+            waiting.setdefault(class_, deque()).append(one)
+    return tuple([_made(Frame, one) for one in found])
 
 
 _HEAD = "id,class,len,arrival_ps,start_ps,end_ps,wait_ps,fate"
-_HEADS = (_HEAD, f"{_HEAD},stream", f"{_HEAD},stream,deadline")
-_ROW = re.compile(r"(\d+),(\d?),(\d+),(\d+),(?:(\d+),(\d+),(\d+),sent|,,,(left|[A-Z]\w*))(?:,(\d*)(?:,(|met|missed))?)?")
+_ROW = r"^(\d+),(\d?),(\d+),(\d+),(?:(\d+),(\d+),(\d+),sent|,,,(left|[A-Z]\w*))"
+# Each head, and its rows; where there is no such column, it is empty.
+_TABLES = {
+    _HEAD: re.compile(f"{_ROW}()()$", re.ASCII | re.MULTILINE),
+    f"{_HEAD},stream": re.compile(rf"{_ROW},(\d*)()$", re.ASCII | re.MULTILINE),
+    f"{_HEAD},stream,deadline": re.compile(rf"{_ROW},(\d*),(|met|missed)$", re.ASCII | re.MULTILINE),
+}
 
 
 def read_frames(table: Octets) -> tuple[Frame, ...]:
     """The frames of a table that `frames` writes, in its order: a dropped frame stands where it came, one that was sent where it started, and
     those that are left at the end. A text that is no such table raises `BadAnswer`."""
-    lines = octets(table).decode("utf-8", "replace").splitlines()
-    if not lines or lines[0] not in _HEADS:
-        raise BadAnswer(f"line 1: expected the head of a table of frames, found {(lines or [''])[0][:60]!r}", 1)
-    found: list[Frame] = []
-    for number, line in enumerate(lines[1:], 2):
-        row = _ROW.fullmatch(line)
-        if not row or _HEADS.index(lines[0]) != sum(it is not None for it in (row[9], row[10])):
-            raise BadAnswer(f"line {number}: expected a row of a table of frames, found {line[:60]!r}", number)
-        id, class_, length, arrived, start, end, wait, fate, stream, deadline = row.groups()
-        dropped = None if fate == "left" else fate
-        found.append(
-            Frame(
-                int(id),
-                _number(class_ or None),
-                int(arrived),
-                _number(start),
-                _number(end),
-                _number(wait),
-                dropped,
-                None,
-                int(length),
-                _number(stream or None),
-                deadline == "met" if deadline else None,
-            )
-        )
-    return tuple(found)
+    head, _, text = octets(table).decode("utf-8", "replace").replace("\r\n", "\n").partition("\n")
+    if head not in _TABLES:
+        raise BadAnswer(f"line 1: expected the head of a table of frames, found {head[:60]!r}", 1)
+    row = _TABLES[head]
+    found = row.findall(text)
+    lines = text.count("\n") + (not text.endswith("\n")) if text else 0
+    if len(found) != lines:
+        number, line = next((number, line) for number, line in enumerate(text.split("\n"), 2) if not row.fullmatch(line))
+        raise BadAnswer(f"line {number}: expected a row of a table of frames, found {line[:60]!r}", number)
+    return tuple([_frame(*it) for it in found])
+
+
+def _frame(
+    id: str, class_: str, length: str, arrived: str, start: str, end: str, wait: str, fate: str, stream: str, deadline: str
+) -> Frame:
+    """The frame of a row."""
+    values = {
+        "id": int(id),
+        "traffic_class": int(class_) if class_ else None,
+        "arrived": int(arrived),
+        "start": int(start) if start else None,
+        "end": int(end) if start else None,
+        "wait": int(wait) if start else None,
+        "dropped": None if fate == "left" else fate or None,
+        "priority": None,
+        "length": int(length),
+        "stream": int(stream) if stream else None,
+        "met": deadline == "met" if deadline else None,
+    }
+    return _made(Frame, values)
 
 
 _WINDOW = re.compile(

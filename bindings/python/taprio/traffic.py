@@ -6,10 +6,11 @@ import dataclasses
 from collections.abc import Iterable
 from typing import Union
 
-from .faults import BadValue
+from .faults import BadValue, index
+from .jobs import lines
 from .library import Octets, octets
 from .program import Chosen, backend
-from .results import Bounds, Frame, Run, read_bounds, read_frames, read_run
+from .results import Bounds, Frame, Run, of_answers, read_bounds, read_frames
 from .schedules import Schedule
 
 __all__ = ["Stream", "bounds", "frames", "run_streams", "table"]
@@ -53,8 +54,10 @@ class Stream:
             value = getattr(self, name)
             if name == "deadline" and value is None:
                 continue
-            if isinstance(value, bool) or not isinstance(value, int) or not 0 <= value <= most:
+            given = index(value)
+            if given is None or not 0 <= given <= most:
                 raise BadValue(f"bad value of {name}: a whole number from 0 to {most} is expected, and {value!r} is given", name)
+            object.__setattr__(self, name, given)
         if self.count and self.first_id + self.count - 1 > 2**64 - 1:
             raise BadValue("bad value of count: the last id is over 2^64 - 1", "count")
         if self.count and self.offset + (self.count - 1) * self.period > GREATEST:
@@ -75,11 +78,6 @@ class Stream:
 def table(streams: Iterable[Stream]) -> str:
     """A table of streams, as `taprio.streams` and the jobs `streams` and `bounds` read it."""
     return "".join(f"{stream.line()}\n" for stream in streams)
-
-
-def _lines(schedule: Union[Schedule, Octets]) -> bytes:
-    """A schedule as the line that sets it; lines as they are."""
-    return f"{schedule.tc()}\n".encode() if isinstance(schedule, Schedule) else octets(schedule)
 
 
 def _table(streams: Union[Iterable[Stream], Octets]) -> bytes:
@@ -107,11 +105,12 @@ def run_streams(
     begin behind it. `from_ns`, in nanoseconds, is added to the offset of each stream."""
     chosen = backend(port)
     for name, value in (("until_ns", until_ns), ("from_ns", from_ns)):
-        if isinstance(value, bool) or not isinstance(value, int):
-            raise TypeError(f"{name} is a whole number")
-    script = chosen.streams(_table(streams), b"" if schedule is None else _lines(schedule), from_=1000 * from_ns)
+        if index(value) is None:
+            raise TypeError(f"{name} is a whole number, not {value!r}")
+    until_ns, from_ns = int(until_ns), int(from_ns)
+    script = chosen.streams(_table(streams), b"" if schedule is None else lines(schedule), from_=1000 * from_ns)
     answers = chosen.run(script, rate=rate, mtu=mtu, room=room, until=1000 * until_ns, summary=True)
-    return read_run(answers, script)
+    return of_answers(answers, script)
 
 
 def frames(
@@ -157,5 +156,5 @@ def bounds(
     moment at which the schedule comes into force, and each stream goes on for ever: its `count` is no matter, and a period of 0 raises
     `BadInput`. `rate` is in Mb/s, `mtu` in octets, `room` in frames of a class, and `frames`, 1 to 1,000,000,000, is how many frames of a
     class are looked at, at most. What runs it is `port`, as `taprio.backend` says. Times of the answer are picoseconds."""
-    told = backend(port).bounds(_table(streams), _lines(schedule), rate=rate, mtu=mtu, room=room, frames=frames)
+    told = backend(port).bounds(_table(streams), lines(schedule), rate=rate, mtu=mtu, room=room, frames=frames)
     return read_bounds(told)

@@ -75,6 +75,31 @@ class Commands(unittest.TestCase):
                 self.assertEqual(read(exported)[0].schedule.entries, read(LINE)[0].schedule.entries)
                 self.assertEqual(read(exported)[0].side, "oper" if form in ("show", "json") else "admin")
 
+    def test_one_device_beside_a_fault(self):
+        """What is wrong with another device is no reason to refuse the one that is asked for; without `--dev` it is."""
+        good = [it.schedule.with_cycle() for it in read(LINE)]
+        wrong = {"show": ("index 0", "index 5"), "json": ('"index":0', '"index":5'), "qcw": ("set-gate-states", "set-and-hold-mac")}
+        for form in ("tc", "show", "json", "qcw"):
+            faulty, sound = (write([taprio.schedules.Configured(*good, name)], form) for name in ("eth7", "eth0"))
+            faulty = faulty.replace(*wrong.get(form, ("sched-entry S", "sched-entry X")), 1)
+            if form == "json":
+                text = json.dumps(json.loads(faulty) + json.loads(sound))
+            elif form == "qcw":
+                text = json.loads(faulty)
+                for name, node in json.loads(sound).items():
+                    text[name]["interface"] += node["interface"]
+                text = json.dumps(text)
+            else:
+                text = faulty + sound
+            with self.subTest(form):
+                status, output, _ = self.ran("import", "--dev", "eth0", input=text)
+                self.assertEqual((status, output.split()[:5]), (0, "tc qdisc replace dev eth0".split()))
+                for words in ([], ["--dev", "eth7"]):
+                    status, output, errors = self.ran("import", *words, input=text)
+                    self.assertEqual((status, output), (3, ""), words)
+                status, _, alone = self.ran("import", "--dev", "eth0", input=faulty)
+                self.assertEqual((status, alone), (3, self.ran("import", input=faulty)[2]))
+
     def test_several_files(self):
         self.put("one", LINE)
         self.put("other", write(read(LINE.replace("eth0", "eth1")), "qcw"))

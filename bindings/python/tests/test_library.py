@@ -342,7 +342,7 @@ class Room:
 
 @support.wants_library
 class OverTheLibrary(Examples, Faults, Room, unittest.TestCase):
-    port = taprio
+    port = taprio.Library()
 
     def test_calls_that_are_not_there(self):
         """An object that was built before there were bounds is said to be old, and has the other calls."""
@@ -350,7 +350,7 @@ class OverTheLibrary(Examples, Faults, Room, unittest.TestCase):
             with self.assertRaisesRegex(taprio.LibraryMissing, "no taprio_bounds: build it again"):
                 taprio.library.bounds("", "")
             with self.assertRaisesRegex(taprio.LibraryMissing, "no taprio_streams_from"):
-                taprio.streams("", from_=1)
+                taprio.library.streams("", from_=1)
 
 
 @support.wants_library
@@ -406,13 +406,13 @@ class WithoutALibrary(unittest.TestCase):
         """The error is raised at the first call, and not where the module is loaded; it names the file, and what to do."""
         with support.environment(TAPRIO_LIBRARY="/nowhere/libtaprio.so"):
             with self.assertRaises(taprio.LibraryMissing) as raised:
-                taprio.run("")
-            for word in ("/nowhere/libtaprio.so", "bindings/c/build", "TAPRIO_LIBRARY", "taprio.Program"):
+                taprio.library.run("")
+            for word in ("/nowhere/libtaprio.so", "TAPRIO_PORT", "bindings/c/build", "TAPRIO_LIBRARY", "taprio.Program"):
                 self.assertIn(word, str(raised.exception))
             self.assertIsInstance(raised.exception, OSError)
             self.assertFalse(taprio.library.is_there())
             with self.assertRaises(TypeError):
-                taprio.run(5)
+                taprio.library.run(5)
 
     def test_another_object(self):
         """An object of another kind is no library, and that is said too."""
@@ -421,7 +421,7 @@ class WithoutALibrary(unittest.TestCase):
             file.flush()
             for path in (file.name, ctypes.util.find_library("c")):
                 with support.environment(TAPRIO_LIBRARY=path), self.assertRaisesRegex(taprio.LibraryMissing, "bindings/c/build"):
-                    taprio.check("")
+                    taprio.library.check("")
 
     def test_backends(self):
         """What is chosen is taken; without a choice the program that is named, and then what there is."""
@@ -432,7 +432,7 @@ class WithoutALibrary(unittest.TestCase):
             given = taprio.Program("/bin/true")
             self.assertIs(taprio.backend(given), given)
         with tempfile.TemporaryDirectory(prefix="taprio-checkout-") as folder, support.environment(
-            TAPRIO_LIBRARY="/nowhere/libtaprio.so", TAPRIO_PORT=None
+            TAPRIO_LIBRARY="/nowhere/libtaprio.so", TAPRIO_PORT=None, PATH=folder
         ):
             for name, text, found in (
                 ("script", "#!/bin/sh\n[ $1 = --where ] && echo /some/where/taprio_port\n", "/some/where/taprio_port"),
@@ -446,10 +446,92 @@ class WithoutALibrary(unittest.TestCase):
                     path.chmod(0o755)
                 with self.subTest(name), mock.patch.object(taprio.program, "CHECKOUT", path):
                     if found is None:
-                        with self.assertRaisesRegex(taprio.LibraryMissing, "bindings/c/build.*TAPRIO_LIBRARY.*TAPRIO_PORT"):
+                        with self.assertRaisesRegex(taprio.LibraryMissing, "PATH.*TAPRIO_PORT.*bindings/c/build.*TAPRIO_LIBRARY"):
                             taprio.backend()
                     else:
                         self.assertEqual(taprio.backend().path, found)
+
+    def test_where_the_program_is_found(self):
+        """In the package, then where a checkout has built it, then on the PATH, and then where a checkout builds it."""
+        with tempfile.TemporaryDirectory(prefix="taprio-found-") as folder, support.environment(
+            TAPRIO_LIBRARY="/nowhere/libtaprio.so", TAPRIO_PORT=None, PATH=f"{folder}/path"
+        ):
+
+            def put(name, text):
+                path = pathlib.Path(folder, name)
+                path.parent.mkdir(exist_ok=True)
+                path.write_text(text)
+                path.chmod(0o755)
+                return path
+
+            beside = pathlib.Path(folder, "beside", "taprio_port")
+            builds = put("builds", "#!/bin/sh\n[ $1 = --where ] && echo /made/taprio_port\n")
+            built = put("built", "#!/bin/sh\necho /built/taprio_port\n")
+            with mock.patch.object(taprio.program, "BESIDE", beside), mock.patch.object(taprio.program, "CHECKOUT", builds):
+                self.assertEqual(taprio.backend().path, "/made/taprio_port")
+                on_path = put("path/taprio_port", "")
+                self.assertEqual(taprio.backend().path, str(on_path))
+                with mock.patch.object(taprio.program, "CHECKOUT", built):
+                    self.assertEqual(taprio.backend().path, "/built/taprio_port")
+                    put("beside/taprio_port", "")
+                    self.assertEqual(taprio.backend().path, str(beside))
+
+
+@support.wants_port
+class Whichever(unittest.TestCase):
+    """The calls of the package itself, over the library or the program, whichever is there."""
+
+    def test_calls(self):
+        schedule = taprio.Schedule([(2, 50_000), (1, 200_000)], map=[0, 1])
+        chosen = taprio.backend()
+        self.assertEqual(taprio.run("frame 1 0 60\n", until=672_000), b"queued 1 class 0\nstart 1 class 0 at 0 end 672000\n")
+        self.assertEqual(taprio.run(SCHEDULE, summary=True), chosen.run(SCHEDULE, summary=True))
+        self.assertEqual(taprio.streams(STREAM, SCHEDULE, from_=1000), chosen.streams(STREAM, SCHEDULE, from_=1000))
+        self.assertEqual(taprio.draw("frame 1 0 60\n", width=400), chosen.draw("frame 1 0 60\n", width=400))
+        script, capture = octets("machine.script"), octets("machine.pcap")
+        self.assertEqual(taprio.replay(script, capture, stamp="end"), chosen.replay(script, capture, stamp="end"))
+        for given in (schedule, taprio.schedules.Configured(schedule), SCHEDULE, SCHEDULE.encode()):
+            self.assertEqual(taprio.check(given), b"apart 0 1\n")
+        self.assertEqual(taprio.check(schedule, rate=100, windows=True), chosen.check(SCHEDULE, 100, True))
+        for wrong in (5, None, {}):
+            with self.assertRaises(TypeError):
+                taprio.check(wrong)
+        with self.assertRaisesRegex(taprio.BadValue, "--room"):
+            taprio.run("", room=0)
+
+
+class Indexed:
+    """A whole number of another kind, such as those of numpy."""
+
+    def __init__(self, value):
+        self.value = value
+
+    def __index__(self):
+        return self.value
+
+
+@support.wants_port
+class Numbers(unittest.TestCase):
+    def test_whole_numbers(self):
+        """What has __index__ is a whole number; a fraction, a truth and a text are none."""
+        self.assertEqual(taprio.run("frame 1 0 60\n", rate=Indexed(100), until=Indexed(1)), taprio.run("frame 1 0 60\n", rate=100, until=1))
+        schedule = taprio.Schedule([(Indexed(1), Indexed(300_000))], base_time=Indexed(5), map=[Indexed(0)], classes=Indexed(1))
+        self.assertEqual(schedule, taprio.Schedule([(1, 300_000)], base_time=5, map=[0], classes=1))
+        self.assertTrue(all(type(it) is int for it in (schedule.base_time, schedule.classes, *schedule.map, *schedule.entries[0])))
+        stream = taprio.Stream(Indexed(1), Indexed(0), Indexed(60), Indexed(1000), count=Indexed(2))
+        self.assertEqual((stream, type(stream.count)), (taprio.Stream(1, 0, 60, 1000, count=2), int))
+        ran = taprio.run_streams(schedule, [stream], until_ns=Indexed(5000))
+        self.assertEqual(ran, taprio.run_streams(schedule, [stream], until_ns=5000))
+        for wrong in (1.0, True, "1", None):
+            with self.subTest(wrong):
+                with self.assertRaises(TypeError):
+                    taprio.run("", rate=wrong)
+                with self.assertRaises(TypeError):
+                    taprio.run_streams(schedule, [stream], until_ns=wrong)
+                with self.assertRaises(taprio.BadValue):
+                    taprio.Stream(1, wrong, 60, 1000)
+                with self.assertRaises(taprio.BadSchedule):
+                    taprio.Schedule([(1, wrong)])
 
 
 if __name__ == "__main__":

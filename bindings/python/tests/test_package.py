@@ -1,14 +1,20 @@
 """The package as a whole: the examples, its types, the words of its pages, and that it loads nothing that it needn't."""
 
 import doctest
+import importlib.util
 import inspect
 import os
+import pathlib
 import shutil
 import subprocess
 import sys
+import tempfile
 import unittest
+import zipfile
+from unittest import mock
 
 import support
+import packing
 import taprio
 import taprio.schedules
 
@@ -43,8 +49,8 @@ class Examples(unittest.TestCase):
 
 class Package(unittest.TestCase):
     def test_examples_in_texts(self):
-        """What the texts of the package show. (That of `taprio` itself runs the shared object.)"""
-        modules = [taprio.schedules] + ([taprio] if support.HAS_LIBRARY else [])
+        """What the texts of the package show. (That of `taprio` itself runs a port.)"""
+        modules = [taprio.schedules] + ([taprio] if support.PROGRAM or support.HAS_LIBRARY else [])
         for module in modules:
             failed, tried = doctest.testmod(module)
             self.assertEqual(failed, 0)
@@ -69,11 +75,47 @@ class Package(unittest.TestCase):
         self.assertEqual(ran.stdout, "[] 0\n")
 
     def test_it_is_packed_whole(self):
-        """pyproject.toml names each folder with modules."""
-        named = (PYTHON / "pyproject.toml").read_text()
-        self.assertIn(f'version = "{taprio.__version__}"', named)
-        folders = sorted({".".join(path.parent.relative_to(PYTHON).parts) for path in (PYTHON / "taprio").rglob("*.py")})
-        self.assertIn("packages = [" + ", ".join(f'"{name}"' for name in folders) + "]", named)
+        """The wheel has each module, what is built, and the same octets each time; one without a program brings no command."""
+        found = {"taprio/taprio_port": (b"#!", 0o755), "taprio/libtaprio.so": (b"", 0o755)}
+        about = packing.project()
+        self.assertEqual(about["version"], taprio.__version__)
+        for built, command in ((found, True), ({}, False)):
+            with tempfile.TemporaryDirectory(prefix="taprio-wheel-") as folder, mock.patch.object(packing, "built", lambda built=built: dict(built)):
+                name = packing.build_wheel(folder)
+                path = pathlib.Path(folder, name)
+                octets = path.read_bytes()
+                path.unlink()
+                self.assertEqual((packing.build_wheel(folder), path.read_bytes()), (name, octets))
+                self.assertEqual(name.endswith("-any.whl"), not built)
+                with zipfile.ZipFile(path) as archive:
+                    names = archive.namelist()
+                    rows = archive.read(f"taprio-{taprio.__version__}.dist-info/RECORD").decode().splitlines()
+            for module in (PYTHON / "taprio").rglob("*.py"):
+                self.assertIn(str(module.relative_to(PYTHON)), names)
+            self.assertEqual(set(built), set(found) & set(names))
+            self.assertEqual(f"taprio-{taprio.__version__}.dist-info/entry_points.txt" in names, command)
+            self.assertEqual([row.partition(",")[0] for row in rows], names)
+
+    @unittest.skipUnless(importlib.util.find_spec("pip"), "pip isn't installed")
+    def test_it_is_installed_without_a_network(self):
+        """pip takes it into a fresh environment, which has neither setuptools nor wheel to build with."""
+        with tempfile.TemporaryDirectory(prefix="taprio installed ") as folder:
+            given = {name: value for name, value in os.environ.items() if not name.startswith(("TAPRIO_", "PYTHON", "PIP_"))}
+            given |= {"PIP_NO_INDEX": "1", "PIP_DISABLE_PIP_VERSION_CHECK": "1", "PIP_NO_CACHE_DIR": "1"}
+            python = pathlib.Path(folder, "bin", "python")
+
+            def ran(*words, **variables):
+                done = subprocess.run(words, cwd=folder, env=given | variables, capture_output=True, text=True, timeout=120)
+                self.assertEqual(done.returncode, 0, done.stderr)
+                return done.stdout
+
+            ran(sys.executable, "-m", "venv", "--without-pip", folder)
+            ran(sys.executable, "-m", "pip", "--python", python, "install", PYTHON)
+            self.assertEqual(ran(python, "-c", "import taprio; print(taprio.Schedule([(1, 5)]).cycle_time)"), "5\n")
+            self.assertTrue(ran(python, "-c", "import taprio; print(taprio.__file__)").startswith(folder))
+            if support.PROGRAM:
+                run = "import taprio; print(taprio.run('clock 5'))"
+                self.assertEqual(ran(python, "-c", run, TAPRIO_PORT=support.PROGRAM), "b''\n")
 
     @unittest.skipUnless(shutil.which("mypy"), "mypy isn't installed")
     def test_types(self):

@@ -22,6 +22,8 @@ from taprio.schedules import (
     read_tc,
     write,
     write_qcw,
+    write_show,
+    write_show_json,
 )
 from taprio.schedules.model import logical_lines
 
@@ -554,6 +556,51 @@ class RoundTrips(Cases):
         for text, found in (("", "nothing"), ("\n# only\n", "nothing"), ("<rpc-reply/>", "XML"), ("frame 1 0 60", "'frame'")):
             self.fault(form_of, text, found=found)
         self.fault(read, b"tc \xff", place="octet 3", found="0xff")
+
+
+class Sequences(unittest.TestCase):
+    def test_what_is_no_sequence(self):
+        """A dict says something by its keys: it is refused with what is expected, and so is what has no order."""
+        for values, expected in (
+            ({"map": {6: 1}}, "map: expected a sequence of the class of each priority.* found dict"),
+            ({"map": {0, 1}}, "map: .* found set"),
+            ({"map": "01"}, "map: .* found str"),
+            ({"map": 5}, "map: .* found int"),
+            ({"map": [0], "max_sdu": {0: 128}}, "max_sdu: expected a sequence of the octets.* found dict"),
+            ({"map": [0], "queues": {1: 0}}, "queues: expected a sequence of pairs.* found dict"),
+        ):
+            with self.subTest(values), self.assertRaisesRegex(TypeError, expected):
+                Schedule([(1, 1000)], **values)
+        for entries, expected in (({1: 1000}, "entries: expected .* found dict"), ([1], "entry 0: expected a pair of gates and interval, found 1")):
+            with self.subTest(entries), self.assertRaisesRegex(TypeError, expected):
+                Schedule(entries)
+        self.assertEqual(Schedule(iter([(1, 1000)]), map=iter([0])), Schedule([(1, 1000)], map=(0,)))
+
+
+class LeftOutOfShow(unittest.TestCase):
+    def told(self, *schedules):
+        found = []
+        for written in (write_show, write_show_json):
+            with warnings.catch_warnings(record=True) as said:
+                warnings.simplefilter("always")
+                written(schedules)
+            found.append([str(it.message) for it in said])
+        self.assertEqual(found[0], found[1])
+        return found[0]
+
+    def test_sizes(self):
+        """`tc qdisc show` has one list of sizes, of the classes that there are: what it can't say is told."""
+        entries = [(1, 1000)]
+        self.assertEqual(self.told(Schedule(entries, map=[0, 1], max_sdu=[0, 128])), [])
+        self.assertEqual(
+            self.told(Schedule(entries, map=[0, 1], max_sdu=[0, 0, 128, 0, 64])),
+            ["eth0: max-sdu of class 2, 4 is left out: tc shows those of 2 classes"],
+        )
+        self.assertEqual(self.told(Schedule(entries, max_sdu=[128])), ["eth0: max-sdu is left out: tc shows none where there is no map"])
+        both = (Configured(Schedule(entries, map=[0], max_sdu=[128]), "eth0", "oper"), Configured(Schedule(entries, map=[0]), "eth0", "admin"))
+        self.assertEqual(
+            self.told(*both), ["eth0: max-sdu and flags of the admin schedule are left out: those of the other are shown"]
+        )
 
 
 if __name__ == "__main__":

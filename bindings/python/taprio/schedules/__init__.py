@@ -57,11 +57,11 @@ Form = Literal["tc", "show", "json", "qcw"]
 FORMS: tuple[Form, ...] = ("tc", "show", "json", "qcw")
 
 Schedules = Iterable[Union[Configured, Schedule]]
-_READERS: dict[Form, Callable[[str], list[Configured]]] = {
+_READERS: dict[Form, Callable[[str, str | None], list[Configured]]] = {
     "tc": read_tc,
     "show": read_show,
     "json": read_show_json,
-    "qcw": read_qcw,
+    "qcw": lambda text, device: read_qcw(text, device=device),
 }
 _WRITERS: dict[Form, Callable[[Schedules], str]] = {"tc": write_tc, "show": write_show, "json": write_show_json, "qcw": write_qcw}
 
@@ -88,15 +88,16 @@ def form_of(text: str) -> Form:
     raise BadSchedule("line 1", "tc lines, the output of tc qdisc show, or JSON", "nothing")
 
 
-def read(text: str | bytes, form: Form | None = None) -> list[Configured]:
-    """The schedules of a text, of all devices and both sides. Its form is found by the content where it isn't given."""
+def read(text: str | bytes, form: Form | None = None, device: str | None = None) -> list[Configured]:
+    """The schedules of a text, of all devices and both sides. Its form is found by the content where it isn't given. Where a device is given,
+    what is wrong with the schedules of other devices is passed over."""
     if isinstance(text, bytes):
         try:
             text = text.decode()
         except UnicodeDecodeError as wrong:
             raise BadSchedule(f"octet {wrong.start}", "a text in UTF-8", f"{wrong.object[wrong.start]:#04x}") from None
     text = text.removeprefix("\ufeff")
-    return _READERS[form or form_of(text)](text)
+    return _READERS[form or form_of(text)](text, device)
 
 
 def write(schedules: Schedules, form: Form = "tc") -> str:

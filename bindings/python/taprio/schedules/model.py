@@ -2,12 +2,13 @@
 
 from __future__ import annotations
 
+import contextlib
 import dataclasses
 import re
-from collections.abc import Iterable, Iterator, Sequence
+from collections.abc import Iterable, Iterator, Mapping, Sequence, Set
 from typing import Any, Literal, NamedTuple, NoReturn
 
-from ..faults import BadSchedule
+from ..faults import BadSchedule, index
 
 __all__ = ["CLOCKS", "Configured", "Entry", "Ranges", "Schedule", "Side", "device_word"]
 
@@ -41,9 +42,17 @@ def fault(place: str, expected: str, found: object) -> NoReturn:
 
 def whole(value: object, place: str, least: int, most: int, unit: str = "") -> int:
     """A whole number within limits."""
-    if isinstance(value, bool) or not isinstance(value, int) or not least <= value <= most:
+    given = index(value)
+    if given is None or not least <= given <= most:
         fault(place, f"a whole number from {least} to {most}{unit}", value)
-    return value
+    return given
+
+
+def listed(values: object, name: str, expected: str) -> list[Any]:
+    """What stands in a sequence. What has no order, or says something by its keys, is none."""
+    if isinstance(values, (Mapping, Set, str, bytes)) or not isinstance(values, Iterable):
+        raise TypeError(f"{name}: expected {expected}, found {type(values).__name__}")
+    return list(values)
 
 
 @dataclasses.dataclass(frozen=True, init=False)
@@ -92,7 +101,8 @@ class Schedule:
         def put(name: str, value: object) -> None:
             object.__setattr__(self, name, value)
 
-        put("entries", tuple(_entry(number, entry) for number, entry in enumerate(entries)))
+        pairs = listed(entries, "entries", "a sequence of pairs of gates and interval")
+        put("entries", tuple(_entry(number, entry) for number, entry in enumerate(pairs)))
         if not 1 <= len(self.entries) <= MOST_ENTRIES:
             fault("entries", f"1 to {MOST_ENTRIES} entries", len(self.entries))
         put("base_time", whole(base_time, "base_time", 0, U64, " nanoseconds"))
@@ -101,6 +111,7 @@ class Schedule:
         put("map", None)
         put("classes", None)
         if map is not None:
+            map = listed(map, "map", "a sequence of the class of each priority, such as [0, 0, 0, 0, 0, 0, 1, 0]")
             if not 1 <= len(map) <= PRIORITIES:
                 fault("map", f"1 to {PRIORITIES} classes", len(map))
             most = CLASSES if classes is None else whole(classes, "classes", 1, CLASSES)
@@ -108,14 +119,15 @@ class Schedule:
                 PRIORITIES - len(map)
             )
             put("map", padded)
-            put("classes", max(padded) + 1 if classes is None else classes)
+            put("classes", max(padded) + 1 if classes is None else most)
         elif classes is not None:
             fault("classes", "a map with it", "none")
         put("queues", None)
         if queues is not None:
-            put("queues", _ranges(self.classes, queues))
+            put("queues", _ranges(self.classes, listed(queues, "queues", "a sequence of pairs of count and offset, one for each class")))
         put("max_sdu", None)
         if max_sdu is not None:
+            max_sdu = listed(max_sdu, "max_sdu", "a sequence of the octets of each class from 0 up")
             if not 1 <= len(max_sdu) <= PRIORITIES:
                 fault("max_sdu", f"1 to {PRIORITIES} numbers of octets", len(max_sdu))
             sizes = [whole(it, f"max_sdu of class {at}", 0, U32, " octets") for at, it in enumerate(max_sdu)]
@@ -162,6 +174,28 @@ class Configured:
     """Where it stands in its document."""
 
 
+class Parts:
+    """The parts of a document, of which those of one device may be wanted: a fault of another device's is passed over then."""
+
+    def __init__(self, wanted: str | None) -> None:
+        self.wanted = wanted
+        self.fault: BadSchedule | None = None
+
+    @contextlib.contextmanager
+    def of(self, device: str | None) -> Iterator[None]:
+        """Reads what is said of a device."""
+        try:
+            yield
+        except BadSchedule as fault:
+            if self.wanted is None or device in (None, self.wanted):
+                raise
+            self.fault = self.fault or fault
+
+    def nothing(self, place: str, expected: str, found: str) -> NoReturn:
+        """Says that there is no schedule: by the fault that was passed over, where there is one."""
+        raise self.fault or BadSchedule(place, expected, found)
+
+
 def placed(place: str, *values: Any, **named: Any) -> Schedule:
     """A schedule of what was read at a place of a document, which a fault then names."""
     try:
@@ -171,7 +205,10 @@ def placed(place: str, *values: Any, **named: Any) -> Schedule:
 
 
 def _entry(number: int, entry: tuple[int, int]) -> Entry:
-    gates, interval = entry
+    try:
+        gates, interval = entry
+    except (TypeError, ValueError):
+        raise TypeError(f"entry {number}: expected a pair of gates and interval, found {entry!r}") from None
     return Entry(
         whole(gates, f"gates of entry {number}", 0, U8), whole(interval, f"interval of entry {number}", 1, U32, " nanoseconds")
     )

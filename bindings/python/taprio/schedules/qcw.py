@@ -11,7 +11,7 @@ from typing import Any
 
 from ..faults import BadSchedule, LeftOut
 from .documents import Node, load, local
-from .model import CLASSES, U8, U32, U64, Configured, Schedule, Side, placed
+from .model import CLASSES, U8, U32, U64, Configured, Parts, Schedule, Side, placed
 
 __all__ = ["RECOMMENDED", "read_qcw", "write_qcw"]
 
@@ -41,30 +41,40 @@ def _left_out(node: Node, why: str) -> None:
     warnings.warn(f"{node.place}: {why}", LeftOut, stacklevel=3)
 
 
-def read_qcw(text: str, map: Iterable[int] | None = None) -> list[Configured]:
+def read_qcw(text: str, map: Iterable[int] | None = None, device: str | None = None) -> list[Configured]:
     """The schedules of a document, of all ports and of both sides; names may stand with and without the prefixes of their modules.
 
     The document may be that of all interfaces, or any part of it that has a `gate-parameter-table`. `map` is the class of each priority,
     for ports without a `traffic-class-table`; where it isn't given either, `RECOMMENDED` is taken, and a warning says so. Ports without a
-    control list have no schedule, and are passed over."""
+    control list have no schedule, and are passed over; where a device is given, so are the faults of other devices."""
     document = load(text)
     given = None if map is None else tuple(map)
     found: list[Configured] = []
-    tables = 0
+    tables, parts = 0, Parts(device)
     for above, node in document.walk():
         if local(node.path.rpartition("/")[2]) == "gate-parameter-table":
             tables += 1
-            found += _table(node, above, given)
+            with parts.of(_device_of(above)):
+                found += _table(node, above, given)
         elif node is document and _is_table(node):
             tables += 1
             found += _table(node, [], given)
     if not found:
-        raise BadSchedule(
+        parts.nothing(
             "/",
             "a gate-parameter-table with an admin-control-list or an oper-control-list",
             f"{tables or 'no'} such tables, without a list" if tables else "none",
         )
     return found
+
+
+def _device_of(above: list[Node]) -> str | None:
+    """The interface that a table lies in."""
+    device = None
+    for outer in above:
+        named = outer.get("name")
+        device = named.text() if named else device
+    return device
 
 
 def _is_table(node: Node) -> bool:
@@ -94,10 +104,7 @@ def _table(table: Node, above: list[Node], given: tuple[int, ...] | None) -> lis
         _left_out(enabled, "it is false, so the port runs no schedule; what is read is what it would run")
     classes, map_ = _map(table, above, given)
     max_sdu = _max_sdu(members.get("queue-max-sdu-table"))
-    device = None
-    for outer in above:
-        named = outer.get("name")
-        device = named.text() if named else device
+    device = _device_of(above)
     return [
         Configured(_side(members, side, entries, classes, map_, max_sdu), device, side, table.place) for side, entries in sides
     ]

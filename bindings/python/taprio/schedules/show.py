@@ -12,7 +12,7 @@ from typing import Any, NoReturn
 
 from ..faults import BadSchedule, LeftOut
 from .documents import Node, load
-from .model import CLASSES, CLOCKS, PRIORITIES, U8, U16, U32, U64, Configured, Schedule, Side, default_ranges, device_word, placed
+from .model import CLASSES, CLOCKS, PRIORITIES, U8, U16, U32, U64, Configured, Parts, Schedule, Side, default_ranges, device_word, placed
 
 __all__ = ["read_show", "read_show_json", "write_show", "write_show_json"]
 
@@ -137,8 +137,9 @@ class _Words:
         return found
 
 
-def read_show(text: str) -> list[Configured]:
-    """The schedules in the text of `tc qdisc show`, of all devices. Other qdiscs are passed over.
+def read_show(text: str, device: str | None = None) -> list[Configured]:
+    """The schedules in the text of `tc qdisc show`, of all devices. Other qdiscs are passed over, and where a device is given, the faults of
+    other devices.
 
     With `-oneline`, `tc` writes a backslash for each end of a line; that is read too."""
     found: list[Configured] = []
@@ -149,7 +150,7 @@ def read_show(text: str) -> list[Configured]:
         raise BadSchedule(
             f"line {first + 1}", "a line that begins with qdisc", repr(lines[first][:40]) if text.strip() else "nothing"
         )
-    kinds = []
+    kinds, parts = [], Parts(device)
     for start, end in zip(starts, [*starts[1:], len(lines)]):
         head = _HEAD.fullmatch(lines[start].rstrip("\r "))
         assert head
@@ -159,11 +160,18 @@ def read_show(text: str) -> list[Configured]:
             for number in range(start + 1, end):
                 if not _STATISTICS.match(lines[number]):
                     words += [(number + 1, word) for word in lines[number].split()]
-            found += _of_text(_Words(words, end))
+            with parts.of(_device_of([word for _, word in words])):
+                found += _of_text(_Words(words, end))
     if not found:
         has = "one without a schedule" if "taprio" in kinds else ", ".join(kinds)
-        raise BadSchedule(f"line {starts[0] + 1}", "a qdisc of the kind taprio with a schedule", has)
+        parts.nothing(f"line {starts[0] + 1}", "a qdisc of the kind taprio with a schedule", has)
     return found
+
+
+def _device_of(words: list[str]) -> str | None:
+    """The device of a qdisc, by the words behind its handle."""
+    head = words[: words.index("tc")] if "tc" in words else words
+    return head[head.index("dev") + 1] if "dev" in head[:-1] else None
 
 
 def _of_text(words: _Words) -> list[Configured]:
@@ -249,8 +257,9 @@ def _flags(flags: int, place: str) -> int:
     return flags & 2
 
 
-def read_show_json(text: str) -> list[Configured]:
-    """The schedules in the JSON of `tc -j qdisc show`, of all devices. Other qdiscs are passed over.
+def read_show_json(text: str, device: str | None = None) -> list[Configured]:
+    """The schedules in the JSON of `tc -j qdisc show`, of all devices. Other qdiscs are passed over, and where a device is given, the faults of
+    other devices.
 
     `tc` of iproute2 6.1 leaves out the name of a schedule that comes next, which is no JSON then; this is read too."""
     try:
@@ -260,15 +269,17 @@ def read_show_json(text: str) -> list[Configured]:
             raise
         document = load(_NAMELESS.sub(', "admin": ', text))
     found: list[Configured] = []
-    kinds = []
+    kinds, parts = [], Parts(device)
     for qdisc in document.items():
         kind = qdisc.need("kind").text()
         kinds.append(kind)
         if kind == "taprio":
-            found += _of_json(qdisc)
+            named = qdisc.get("dev")
+            with parts.of(named.value if named and isinstance(named.value, str) else None):
+                found += _of_json(qdisc)
     if not found:
         has = "one without a schedule" if "taprio" in kinds else ", ".join(kinds) or "none"
-        raise BadSchedule("/", "a qdisc of the kind taprio with a schedule", has)
+        parts.nothing("/", "a qdisc of the kind taprio with a schedule", has)
     return found
 
 
@@ -338,6 +349,7 @@ def _qdiscs(schedules: Iterable[Configured | Schedule]) -> list[dict[str, Any]]:
         if other and (one.classes, one.map, one.queues, one.clock) != (other.classes, other.map, other.queues, other.clock):
             raise BadSchedule(device, "the same map, queues and clock of both schedules", "others")
         classes = one.classes or 0
+        max_sdu = _shown_sizes(device, one, other, classes)
         queues = one.queues or default_ranges(classes)
         options: dict[str, Any] = {
             "tc": classes,
@@ -350,10 +362,22 @@ def _qdiscs(schedules: Iterable[Configured | Schedule]) -> list[dict[str, Any]]:
         options |= _side_for_json(sides.get("oper"))
         if other:
             options["admin"] = _side_for_json(other)
-        if one.max_sdu is not None:
-            options["max-sdu"] = (list(one.max_sdu) + [0] * classes)[:classes]
+        if max_sdu:
+            options["max-sdu"] = max_sdu
         found.append({"kind": "taprio", "handle": "100:", "dev": device, "root": True, "refcnt": 9, "options": options})
     return found
+
+
+def _shown_sizes(device: str, one: Schedule, other: Schedule | None, classes: int) -> list[int]:
+    """The longest service data unit of each class, as tc shows them: once for both schedules, and of the classes that there are."""
+    if other and (one.max_sdu, one.flags) != (other.max_sdu, other.flags):
+        warnings.warn(f"{device}: max-sdu and flags of the admin schedule are left out: those of the other are shown", LeftOut, stacklevel=4)
+    sizes = list(one.max_sdu or ())
+    if any(sizes[classes:]):
+        beyond = [number for number, size in enumerate(sizes) if size and number >= classes]
+        text = f"max-sdu of class {', '.join(map(str, beyond))} is left out: tc shows those of {classes} classes"
+        warnings.warn(f"{device}: {text if classes else 'max-sdu is left out: tc shows none where there is no map'}", LeftOut, stacklevel=4)
+    return (sizes + [0] * classes)[:classes] if one.max_sdu is not None else []
 
 
 def _side_for_json(schedule: Schedule | None) -> dict[str, Any]:

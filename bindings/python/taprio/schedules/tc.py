@@ -8,7 +8,7 @@ from collections.abc import Iterable
 from typing import NoReturn
 
 from ..faults import BadSchedule, LeftOut
-from .model import CLASSES, CLOCKS, MOST_ENTRIES, PRIORITIES, U8, U16, U32, U64, Configured, Schedule, device_word, logical_lines
+from .model import CLASSES, CLOCKS, MOST_ENTRIES, PRIORITIES, U8, U16, U32, U64, Configured, Parts, Schedule, device_word, logical_lines
 
 __all__ = ["line", "read_tc", "write_tc"]
 
@@ -206,21 +206,26 @@ def _check_ranges(words: _Words, classes: int, ranges: list[tuple[int, int]]) ->
                 words.wrong("QueueOverlap", "ranges that don't overlap", f"{count}@{offset}")
 
 
-def read_tc(text: str) -> list[Configured]:
-    """The schedules of `tc` lines. Comments, empty lines and backslashes work as in scripts; a deletion has no schedule and is left out.
+def read_tc(text: str, device: str | None = None) -> list[Configured]:
+    """The schedules of `tc` lines. Comments, empty lines and backslashes work as in scripts; a deletion has no schedule and is left out. Where a
+    device is given, the faults of lines of other devices are passed over.
 
     Each schedule is of the side "admin": it is what the line sets."""
-    found = []
+    found: list[Configured] = []
+    parts = Parts(device)
     for number, words in logical_lines(text):
         if words[0].startswith("#"):
             continue
         if words[0] != "tc":
             raise BadSchedule(f"line {number}", "a line that begins with tc", repr(words[0]), "UnknownLine")
-        device, schedule = _command(_Words(number, words))
-        if schedule is None:
-            warnings.warn(f"line {number}: a deletion has no schedule, and is left out", LeftOut, stacklevel=2)
-        else:
-            found.append(Configured(schedule, device, "admin", f"line {number}"))
+        with parts.of(words[words.index("dev") + 1] if "dev" in words[:-1] else None):
+            of_device, schedule = _command(_Words(number, words))
+            if schedule is None:
+                warnings.warn(f"line {number}: a deletion has no schedule, and is left out", LeftOut, stacklevel=2)
+            else:
+                found.append(Configured(schedule, of_device, "admin", f"line {number}"))
+    if not found and parts.fault:
+        raise parts.fault
     return found
 
 
