@@ -10,7 +10,7 @@ import { Viewer } from "./viewer.js";
 import { Table } from "./tables.js";
 import { GREATEST, writeMoment } from "./moments.js";
 import { linesOf, readScript } from "./script.js";
-import { byClass, runVerdict } from "./frames.js";
+import { runVerdict } from "./frames.js";
 import { boundsIn, boundsVerdict, drawBounds } from "./bounds.js";
 import { count } from "./words.js";
 import { jobOf, kindOf, recordsOf, scriptOfReplay } from "./captures.js";
@@ -74,7 +74,7 @@ const writeTime = (time) => (at("ps").checked ? String(time) : time === 0n ? "0"
 const writeAt = (moment) => (at("ps").checked ? String(moment) : writeTime(moment - origin()));
 
 const CLASS_COLUMNS = [
-  ["class", "Class", "number"], ["frames", "Frames", "number"], ["sent", "Sent", "number"], ["left", "Waiting at the end", "number"],
+  ["class", "Class", "number"], ["queued", "Queued", "number"], ["sent", "Sent", "number"], ["dropped", "Dropped", "number"], ["left", "Waiting at the end", "number"],
   ["least", "Least wait", "time"], ["mean", "Mean wait", "time"], ["greatest", "Greatest wait", "time"],
 ];
 const WINDOW_COLUMNS = [
@@ -346,7 +346,7 @@ function windowsIn(answers) {
 }
 
 function showTables() {
-  const rows = { script: () => byClass(ran.frames), replay: () => byClass(ran.frames), check: () => ran.windows, bounds: () => ran.bounds[Number(at("which").value) || 0]?.streams ?? [], streams: () => byClass(ran.frames) }[ran.job]();
+  const rows = { script: () => ran.classes, replay: () => ran.classes, check: () => ran.windows, bounds: () => ran.bounds[Number(at("which").value) || 0]?.streams ?? [], streams: () => ran.classes }[ran.job]();
   for (const name of ["results-name", "numbers"]) at(name).hidden = !rows.length && !ran.frames.length;
   at("classes").hidden = !rows.length;
   at("save-table").hidden = !rows.length;
@@ -476,7 +476,7 @@ async function snapshot() {
   if (name === "replay" && !second.length) throw new BadOption("capture", "No capture is chosen: choose a classic pcap file, or drop one on the page.");
   if (name === "replay" && values.until === null) throw new BadOption("until");
   const { rate, mtu, room } = values;
-  return { job: name, text, beside: second, values, port: { rate, mtu, room }, until: null, frames: [], changes: [], first: 0n, last: 0n, windows: [], bounds: [], schedules: [], source: null, why: "", drawn: null, window: null };
+  return { job: name, text, beside: second, values, port: { rate, mtu, room }, until: null, frames: [], classes: [], changes: [], first: 0n, last: 0n, windows: [], bounds: [], schedules: [], source: null, why: "", drawn: null, window: null };
 }
 
 // Does a job for a run, and null where another run has begun since.
@@ -487,8 +487,8 @@ async function ask(mine, request) {
 
 // What a script and its answers come to.
 async function takeRun(mine, script, until, answers) {
-  const told = await ask(mine, { job: "fates", script, answers });
-  if (told) Object.assign(ran, { frames: told.frames, changes: told.changes, first: told.first, last: told.last, source: script, until });
+  const told = await ask(mine, { job: "fates", script, answers, values: { ...ran.values, until } });
+  if (told) Object.assign(ran, { frames: told.frames, classes: told.classes, changes: told.changes, first: told.first, last: told.last, source: script, until });
 }
 
 // The schedule of a check that is drawn: two of its cycles from its change on.

@@ -5,6 +5,7 @@ import functools
 import http.server
 import json
 import pathlib
+import random
 import re
 import subprocess
 import sys
@@ -425,6 +426,44 @@ def try_frames(page):
     page.same("waits for ever", page.do("return document.querySelector('#canvas .l')?.textContent"), "1 waits ▸")
 
 
+def random_drops(chance):
+    """A script in which frames are dropped for each reason, and the room of its queues."""
+    kinds = " ".join(str(chance.randrange(4)) for _ in range(16))
+    lines = [f"tc qdisc replace dev eth0 root taprio num_tc 4 map {kinds} sched-entry S {chance.randrange(1, 16):x} {chance.randrange(20, 200)}000 sched-entry S 0f 60000"] * chance.randrange(2)
+    now = 0
+    for frame in range(chance.randrange(3, 60)):
+        if chance.random() < 0.3:
+            now += chance.randrange(1, 40_000_000)
+            lines.append(f"clock {now}")
+        lines.append(f"frame {frame} {chance.randrange(8)} {chance.choice((60, 600, 1514, 59, 9000))}")
+    return "\n".join(lines) + f"\nclock {now + chance.randrange(0, 300_000_000)}\n", str(chance.randrange(1, 5))
+
+
+def summed(answers):
+    """The summary's numbers of each class, as the page saves them."""
+    found = re.findall(rb"^summary class (\d) queued (\d+) sent (\d+) dropped (\d+) octets \d+ least (\S+) mean (\S+) greatest (\S+)", answers, re.M)
+    rows = [[kind, queued, sent, dropped, b"%d" % (int(queued) - int(sent)), *(b"" if it == b"-" else it for it in waits)] for kind, queued, sent, dropped, *waits in found]
+    return b"".join(b",".join(it) + b"\n" for it in reversed(rows))
+
+
+def try_drops(page):
+    """The numbers of classes against the program's summary, and the class of each frame against its table, for runs with drops."""
+    chance = random.Random(20)
+    page.choose("first.script")
+    page.do("at('frames-box').open = true")
+    for number in range(100):
+        text, room = random_drops(chance) if number else ("frame 1 7 600\n" * 14 + "clock 100000000\n", "2")
+        page.set("room", room)
+        page.set("text", text)
+        page.run()
+        table = program("frames", "--room", room, text=text.encode())[1].decode().splitlines()[1:]
+        page.same(f"numbers of {text!r}", page.do("return at('classes').hidden") or page.saved("save-table").partition(b"\n")[2], summed(program("script", "--summary", "--room", room, text=text.encode())[1]) or True)
+        rows = page.do("return [...document.querySelectorAll('#frames-table tbody tr')].map((it) => [...it.cells].map((cell) => cell.textContent))")
+        page.same(f"classes of {text!r}", sorted([*it[:3], it[7]] for it in rows), sorted([it[0], it[1] or "–", it[2], it[7]] for it in (row.split(",") for row in table)))
+    page.choose("first.script")
+    page.do("at('frames-box').open = false")
+
+
 # The middle of a part of the picture, where the pointer goes.
 OVER = """const over = (it, down = 0.5) => { const r = it.getBoundingClientRect();
     at('frame').dispatchEvent(new PointerEvent('pointermove', { clientX: (r.left + r.right) / 2, clientY: r.top + down * r.height, bubbles: true })); return at('tip').hidden ? '' : at('tip').innerText; };"""
@@ -447,7 +486,7 @@ def try_tips(page):
         range.setStart(text, begin); range.setEnd(text, begin + 7); const r = range.getBoundingClientRect(); getSelection().removeAllRanges();
         at('answers').dispatchEvent(new MouseEvent('click', { clientX: r.left + 20, clientY: (r.top + r.bottom) / 2, bubbles: true }))""")
     page.same("the frame of a line", page.do("return [at('tip').firstChild.textContent, !!document.querySelector('#canvas .ring')]"), ["Frame 2, class 0", True])
-    page.same("classes", page.saved("save-table").decode(), "class,frames,sent,left,least_ps,mean_ps,greatest_ps\n7,1,1,0,13336000,13336000,13336000\n0,1,1,0,0,0,0\n")
+    page.same("classes", page.saved("save-table").decode(), "class,queued,sent,dropped,left,least_ps,mean_ps,greatest_ps\n7,1,1,0,0,13336000,13336000,13336000\n0,1,1,0,0,0,0,0\n")
     page.choose("machine.pcap")
     page.same("marks of cycles", page.do("return document.querySelectorAll('#canvas path.y').length"), 6)
     page.choose("planned.streams")
@@ -672,7 +711,7 @@ def try_marks(page):
     under = "const bar = document.querySelector('#canvas rect.f'); return [...document.querySelectorAll('#canvas path.w, #canvas path.c')].filter((it) => !it.getAttribute('d').includes('v') && bar.compareDocumentPosition(it) & 4).length"
     page.same("waits and changes on bars", page.do(under), 0)
     page.do("const r = document.querySelector('#canvas path.d:not(.h)').getBoundingClientRect(); at('frame').dispatchEvent(new PointerEvent('pointermove', { clientX: r.left + 4, clientY: r.top + 4, bubbles: true }))")
-    page.same("tip of a cross", page.do("return at('tip').innerText").split("\n")[::2], ["Frame 3", "dropped: Full"])
+    page.same("tip of a cross", page.do("return at('tip').innerText").split("\n")[::2], ["Frame 3, class 1", "dropped: Full"])
     dark = page.do("return matchMedia('(prefers-color-scheme: dark)').matches")
     page.browser.shoot(SHOTS / f"{page.browser.name}-dropped{'-dark' if dark else ''}.png")
 
@@ -828,7 +867,7 @@ def try_looks(page):
     shoot(page, "replay")
 
 
-TRIES = [try_examples, try_replay, try_typing, try_options, try_worked, try_faults, try_refused, try_zoom, try_keys, try_micros, try_moments, try_frames, try_tips, try_marks, try_pictures, try_bounds,
+TRIES = [try_examples, try_replay, try_typing, try_options, try_worked, try_faults, try_refused, try_zoom, try_keys, try_micros, try_moments, try_frames, try_drops, try_tips, try_marks, try_pictures, try_bounds,
          try_story, try_tabs, try_files, try_stale, try_link, try_stop, try_access, try_screens, try_sizes, try_looks]
 
 
