@@ -13,6 +13,7 @@ import { linesOf, readScript } from "./script.js";
 import { runVerdict } from "./frames.js";
 import { boundsIn, boundsVerdict, drawBounds } from "./bounds.js";
 import { count } from "./words.js";
+import { Inputs } from "./inputs.js";
 import { jobOf, kindOf, recordsOf, scriptOfReplay } from "./captures.js";
 import { STEPS } from "./gallery.js";
 import { INSTEAD, lacking } from "./support.js";
@@ -22,8 +23,10 @@ const RUNNING = "Running ..."; // what is said of a run that takes long
 const STOPPED = "Stopped."; // and of one that was stopped
 const LOOKING = "The frames are being looked through ...";
 const OWN = "own"; // the example that is what was typed
-const KEPT = "taprio"; // under which name the text is kept for a reload
-const MOST_KEPT = 1_000_000; // characters that are kept so
+const KEPT = "taprio"; // under which name what stands in the page is kept for a reload
+const MOST_KEPT = 1_000_000; // characters that are kept so; of a longer text the kept input is opened again
+const KEEP_AFTER = 300; // milliseconds after a change until one's own input is kept
+const MOST_PAST = 30; // texts that Ctrl+Z goes back to
 const FIRST = "schedule.script"; // the example that is shown at first
 const GOES_ON = 1_000_000_000n; // how long a table's script, and a replay, goes on after its last frame, in picoseconds
 const LONG = 500_000; // characters of answers after which the picture comes before the frames
@@ -37,6 +40,13 @@ const runner = new Runner(at("page-worker").textContent, octetsIn(at("page-wasm"
 const editor = new Editor(at("editor"));
 const beside = new Editor(at("beside-editor"));
 
+const inputs = new Inputs();
+const past = []; // what stood in the page before another text took its place, for Ctrl+Z
+const future = []; // and what was undone
+let entry = {}; // the kept input that stands in the page: its id and its stamp, once it has them
+let changed = false; // whether one's own input was changed since it was kept
+let keepTimer = 0;
+let keeping = Promise.resolve(); // the end of what is being kept
 let own = null; // what was typed, while an example is shown
 let ran = null; // the last run: its text, its values, and what was made of its answers
 let jobShown = "script"; // the job whose text stands in the page
@@ -660,7 +670,7 @@ function setJob(name) {
 }
 
 function setCapture(octets, name) {
-  [capture, captureName] = [octets, name ?? ""];
+  [capture, captureName] = [octets, octets.length ? name ?? "" : ""];
   at("capture-name").textContent = octets.length ? `${name}, ${count(octets.length, "octet")}` : "none is chosen";
 }
 
@@ -681,12 +691,17 @@ function load(state) {
   return runAll();
 }
 
-// Keeps the text for a reload, as far as this browser does so.
+// All that stands in the page.
+const allNow = () => ({ ...stateNow(), octets: capture, name: captureName, example: exampleShown, entry });
+
+// Keeps what stands in the page for a reload, as far as this browser does so, and one's own input for good.
 function keep() {
+  if (changed) keepSoon();
   try {
     const withCapture = job() === "replay" && 4 * capture.length < 3 * MOST_KEPT ? { capture: base64Of(capture), name: captureName } : {};
-    if (editor.text.length + beside.text.length > MOST_KEPT) sessionStorage.removeItem(KEPT);
-    else sessionStorage.setItem(KEPT, JSON.stringify({ ...stateNow(), ...withCapture, example: at("example").value }));
+    const state = { ...stateNow(), ...withCapture, example: exampleShown, entry, changed };
+    if (editor.text.length + beside.text.length > MOST_KEPT) delete state.text;
+    sessionStorage.setItem(KEPT, JSON.stringify(state));
   } catch {
     // (a browser may keep nothing for files)
   }
@@ -698,6 +713,103 @@ function kept() {
   } catch {
     return null;
   }
+}
+
+function keepSoon() {
+  clearTimeout(keepTimer);
+  keepTimer = setTimeout(keepNow, KEEP_AFTER);
+}
+
+// Keeps one's own input where it was changed. What is empty does not take the place of what was kept.
+function keepNow(name = null) {
+  clearTimeout(keepTimer);
+  if (!changed || exampleShown !== OWN || !editor.text.trim()) return keeping;
+  changed = false;
+  const [its, { example, entry: _, ...state }] = [entry, allNow()];
+  keeping = keeping.then(() => inputs.put(its, state, name ?? (captureName || null))).then(
+    () => (sayKept(""), entry === its && keep(), showInputs()),
+    (error) => sayKept(`Not kept for later: ${error.message}.`),
+  );
+  return keeping;
+}
+
+function sayKept(words) {
+  at("kept").hidden = !words;
+  at("kept-text").textContent = words;
+  if (words) addressOf(at("save-input"), editor.text, "text/plain");
+}
+
+// Lists the inputs that are kept.
+async function showInputs() {
+  const all = await inputs.all().catch(() => []);
+  at("inputs").hidden = all.length === 0;
+  at("inputs-name").textContent = `Your inputs (${all.length})`;
+  at("inputs-list").replaceChildren(...all.map(itemOf));
+  if (all.length) offerOwn();
+}
+
+// An input of the list: its name can be changed, and it can be opened and deleted.
+function itemOf({ id, name, date, size }) {
+  const [item, field, open, remove, told] = ["li", "input", "button", "button", "span"].map((it) => document.createElement(it));
+  field.value = name;
+  field.setAttribute("aria-label", "Name of the input");
+  field.addEventListener("change", () => inputs.rename(id, field.value.trim() || name).then(showInputs));
+  [open.type, open.textContent] = ["button", "Open"];
+  open.setAttribute("aria-label", `Open ${name}`);
+  open.addEventListener("click", () => openInput(id));
+  [remove.type, remove.textContent] = ["button", "Delete"];
+  remove.setAttribute("aria-label", `Delete ${name}`);
+  remove.addEventListener("click", () => inputs.remove(id).then(showInputs));
+  told.className = "hint";
+  told.textContent = `${new Date(date).toLocaleString()}, ${count(size, "character")}${entry.id === id && exampleShown === OWN ? ", open now" : ""}`;
+  item.append(field, open, remove, told);
+  return item;
+}
+
+// Opens a kept input; false where it is no longer there.
+async function openInput(id) {
+  notePast();
+  await keeping;
+  const [it, state] = [(await inputs.all()).find((one) => one.id === id), await inputs.state(id)];
+  if (!it || !state) return false;
+  showOwn({ id, stamp: it.stamp });
+  await load(state);
+  await showInputs();
+  return true;
+}
+
+// Notes what stands in the page before another text takes its place, so that Ctrl+Z brings it back.
+function notePast() {
+  if (!exampleShown) return;
+  keepNow();
+  changed = false;
+  noteOwn();
+  past.push(allNow());
+  if (past.length > MOST_PAST) past.shift();
+  future.length = 0;
+}
+
+// Goes back to what stood in the page before, or forth again.
+async function goBack(from, to) {
+  keepNow();
+  changed = false;
+  to.push(allNow());
+  const { example, entry: its, ...state } = from.pop();
+  if (example === OWN) showOwn(its);
+  else showExample(example);
+  await load(state);
+  editor.area.focus();
+}
+
+// Ctrl+Z and Ctrl+Y where the browser itself has nothing to undo in the text.
+function undoByKey(event) {
+  if (!(event.ctrlKey || event.metaKey) || event.altKey) return;
+  const key = event.key.toLowerCase();
+  const [from, to] = key === "y" || (key === "z" && event.shiftKey) ? [future, past] : key === "z" ? [past, future] : [[], []];
+  const part = [editor, beside].find((it) => it.area === event.target);
+  if (!from.length || (part ? !part.fresh : event.target.matches?.("input:not([type=radio], [type=checkbox])"))) return;
+  event.preventDefault();
+  goBack(from, to);
 }
 
 const byName = (name) => examples.find((it) => it.name === name);
@@ -726,14 +838,38 @@ function showExample(name) {
   at("example").value = name;
 }
 
-// The text is one's own from now on, and what is shown is of another.
-function becomeOwn() {
+function offerOwn() {
   if (!at("example").querySelector(`[value=${OWN}]`)) at("example").prepend(new Option("your own", OWN));
+}
+
+// What is shown is one's own, of this kept input.
+function showOwn(its) {
+  offerOwn();
   showExample(OWN);
+  entry = its;
   own = null;
+}
+
+// The text was changed, and is one's own from now on; what is shown is of another. The link of the page is of another text, too.
+function becomeOwn() {
+  if (exampleShown !== OWN) showOwn({});
+  changed = true;
+  future.length = 0;
+  dropLink();
   saySentence();
   setStale(true);
   keep();
+}
+
+function dropLink() {
+  if (location.hash.includes("text=")) history.replaceState(null, "", location.href.split("#")[0]);
+}
+
+// Another text of one's own begins: what stood here is kept as it is.
+function beginAnother() {
+  if (!editor.text.trim()) return;
+  notePast();
+  if (exampleShown === OWN) entry = {};
 }
 
 // What is typed or pasted in the place of all is another text: the time that the picture showed of the old one goes with it.
@@ -742,12 +878,21 @@ function forgetTime() {
   at("to").value = "";
 }
 
-function chooseExample() {
-  noteOwn();
+async function chooseExample() {
+  notePast();
   const name = at("example").value;
-  showExample(name);
-  if (name === OWN) return own && load(own);
-  return load(byName(name));
+  if (name !== OWN) {
+    showExample(name);
+    return load(byName(name));
+  }
+  if (own) {
+    const { entry: its, ...state } = own;
+    showOwn(its);
+    return load(state);
+  }
+  await keeping;
+  const [newest] = await inputs.all().catch(() => []);
+  return newest && openInput(newest.id);
 }
 
 // Goes to the example before or after.
@@ -760,7 +905,7 @@ function stepExample(step) {
 
 // Keeps one's own text while an example is shown.
 function noteOwn() {
-  if (exampleShown === OWN) own = { ...stateNow(), octets: capture, name: captureName };
+  if (exampleShown === OWN) own = { ...stateNow(), octets: capture, name: captureName, entry };
 }
 
 const SCRIPT_LINE = /^[ \t]*(?:clock|frame|stream|query|count)\b/m;
@@ -780,13 +925,14 @@ function fits(name) {
 // Another job by its tab: one's own text goes with it where it can, and else an example comes.
 function chooseJob() {
   const name = job();
-  noteOwn();
   if (at("example").value === OWN && fits(name)) {
     setJob(name);
+    changed = true;
     forgetTime();
     return runAll();
   }
   const first = STEPS.map(([it]) => byName(it)).find((it) => it?.job === name) ?? examples.find((it) => it.job === name);
+  noteOwn();
   at("example").value = own?.job === name ? OWN : first.name;
   return chooseExample();
 }
@@ -807,6 +953,7 @@ async function takeFile(file) {
     return;
   }
   if (kind.kind === "capture") {
+    beginAnother();
     setJob("replay");
     setCapture(octets, file.name);
     // (the frames of a replay are those of the capture)
@@ -816,12 +963,14 @@ async function takeFile(file) {
     const text = new TextDecoder().decode(octets);
     const name = jobOf(text, job());
     const part = name === "bounds" && STREAM_LINE.test(text) ? beside : editor;
+    beginAnother();
     part.text = text;
     part.writeMicros();
     setJob(name);
   }
   forgetTime();
   becomeOwn();
+  keepNow(file.name);
   await runAll();
 }
 
@@ -858,7 +1007,11 @@ async function openLink() {
   try {
     const state = await readLink(location.hash);
     if (!state) return false;
-    becomeOwn();
+    const before = kept();
+    // (a link that was made of what stood here before a reload is of the same input)
+    const same = before?.example === OWN && before.text === state.text && before.job === (state.job ?? "script");
+    notePast();
+    showOwn(same ? before.entry : {});
     await load(state);
   } catch (error) {
     say(`The link can't be read: ${error.message}`);
@@ -870,7 +1023,9 @@ async function openLink() {
 async function takeAsScript() {
   const text = ran.answers;
   const { rate, mtu, room } = wordsOfOptions();
-  becomeOwn();
+  notePast();
+  showOwn({});
+  changed = true;
   await load({ job: "script", rate, mtu, room, text });
 }
 
@@ -892,6 +1047,13 @@ function listenToDrops() {
   });
 }
 
+function changeOption() {
+  setStale(true);
+  dropLink();
+  changed = exampleShown === OWN;
+  keep();
+}
+
 function listenToInput() {
   at("form").addEventListener("submit", (event) => {
     event.preventDefault();
@@ -902,10 +1064,11 @@ function listenToInput() {
   });
   for (const radio of at("form").elements.job) radio.addEventListener("change", chooseJob);
   for (const part of [editor, beside]) {
-    part.area.addEventListener("beforeinput", () => part.whole && forgetTime());
+    part.area.addEventListener("beforeinput", () => part.whole && (beginAnother(), forgetTime()));
+    part.area.addEventListener("replace", () => (part.whole ? (beginAnother(), forgetTime()) : notePast()));
     part.area.addEventListener("input", () => (part.writeMicros(), becomeOwn()));
   }
-  for (const input of document.querySelectorAll(".options input, .options select")) input.addEventListener("input", () => (setStale(true), keep()));
+  for (const input of document.querySelectorAll(".options input, .options select")) input.addEventListener("input", changeOption);
   at("example").addEventListener("change", chooseExample);
   at("back").addEventListener("click", () => stepExample(-1));
   at("next").addEventListener("click", () => stepExample(1));
@@ -941,6 +1104,8 @@ function listen() {
   listenToResults();
   listenToDrops();
   addEventListener("hashchange", openLink);
+  addEventListener("keydown", undoByKey);
+  for (const name of ["pagehide", "visibilitychange"]) addEventListener(name, () => keepNow());
   let width = innerWidth;
   addEventListener("resize", () => {
     if (innerWidth === width) return;
@@ -957,13 +1122,21 @@ function refuseBrowser(why) {
   showFault(`This browser can't run the port: ${why}. ${INSTEAD}`);
 }
 
-// Goes on where a reload broke off, or begins with an example.
+// Goes on where a reload broke off, or with one's newest input, or begins with an example.
 async function goOn() {
   const state = kept();
-  const example = byName(state?.example ?? FIRST);
-  if (!example) becomeOwn();
-  else showExample(example.name);
-  await load(state ? { capture: example?.capture, ...state } : example);
+  if (state?.text !== undefined) {
+    const example = byName(state.example);
+    if (example) showExample(example.name);
+    else showOwn(state.entry ?? {});
+    changed = Boolean(state.changed);
+    await load({ capture: example?.capture, ...state });
+    return;
+  }
+  const newest = state?.entry?.id ?? (await inputs.all().catch(() => []))[0]?.id;
+  if (newest !== undefined && (await openInput(newest).catch(() => false))) return;
+  showExample(FIRST);
+  await load(byName(FIRST));
 }
 
 async function start() {
@@ -976,6 +1149,7 @@ async function start() {
     return;
   }
   listen();
+  await showInputs();
   if (!(await openLink())) await goOn();
 }
 

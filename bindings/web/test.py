@@ -97,6 +97,36 @@ class Page:
         self.browser.press("Enter", control=True)
         self.settle()
 
+    def forget(self):
+        """Deletes what the browser keeps for the page, and opens it anew."""
+        self.kept()
+        self.do("[...document.querySelectorAll('#inputs-list button:nth-of-type(2)')].forEach((it) => it.click())")
+        wait_for(self.browser, "return document.getElementById('inputs').hidden")
+        self.do("addEventListener('pagehide', () => sessionStorage.clear()); sessionStorage.clear()")
+        self.open("")
+
+    def reload(self):
+        self.do("window.old = true; location.reload()")
+        wait_for(self.browser, "return !window.old && document.readyState === 'complete'")
+        self.settle()
+
+    def paste(self, text, field="text"):
+        """Copies a text elsewhere in the page, and pastes it in the place of what stands in a field; the seconds that it takes."""
+        self.do(f"""const it = document.createElement('textarea'); it.id = 'copied'; it.value = 'it'; document.body.append(it); it.focus(); it.select();
+            it.addEventListener('copy', (event) => {{ event.clipboardData.setData('text/plain', {json.dumps(text)}); event.preventDefault(); }})""")
+        self.browser.press("c", control=True)
+        self.do(f"at('copied').remove(); at('{field}').focus()")
+        self.browser.press("a", control=True)
+        begun = time.monotonic()
+        self.browser.press("v", control=True)
+        self.do("return 1")
+        return time.monotonic() - begun
+
+    def kept(self):
+        """The names of the inputs that are kept, the newest first, once what was changed is kept."""
+        time.sleep(0.6)
+        return self.do("return [...document.querySelectorAll('#inputs-list input')].map((it) => it.value)")
+
     def saved(self, link):
         """The octets that a link of the page saves."""
         for it in self.downloads.iterdir():
@@ -719,8 +749,7 @@ def try_marks(page):
 def try_tabs(page):
     """Each tab shows an example of its own; one's own text goes along where it can, and is there again where it can't."""
     tab = "document.querySelector('input[name=job][value={}]').click()"
-    page.do("sessionStorage.clear()")
-    page.open("")
+    page.forget()
     for name, example in (("bounds", "drive.bounds"), ("check", "windows.schedules"), ("streams", "planned.streams"), ("replay", "machine.pcap"), ("script", "first.script")):
         page.do(tab.format(name))
         page.settle()
@@ -740,6 +769,116 @@ def try_tabs(page):
     page.click("#back")
     page.settle()
     page.same("one's own before the first example", page.do("return at('text').value"), text)
+
+
+LINE = "frame {} 0 60\nclock {}\n"
+
+
+def long_text(length):
+    """A script of about so many characters."""
+    lines = []
+    size = 0
+    while size < length:
+        lines.append(LINE.format(len(lines), 10**6 * len(lines)))
+        size += len(lines[-1])
+    return "".join(lines)
+
+
+def try_kept(page):
+    """One's own text outlives an edit of a link, an example, a key in it, a reload and a closed tab; Ctrl+Z goes across an example."""
+    shown = "return at('text').value"
+    page.forget()
+    page.same("nothing is kept at first", page.do("return at('inputs').hidden"), True)
+    page.open(f"#text={packed('frame 1 0 60')}")
+    page.same("a link is opened", page.do(shown), "frame 1 0 60")
+    page.do("at('text').focus()")
+    page.browser.type("# mine\n")
+    edited = page.do(shown)
+    page.reload()
+    page.same("an edit of a link", page.do(shown), edited)
+    page.same("its name", page.kept(), [edited.partition("\n")[0].lstrip("# ")])
+    page.click("#link")
+    wait_for(page.browser, "return location.hash.includes('text=')")
+    page.reload()
+    page.do("at('text').focus(); at('text').setSelectionRange(0, 0)")
+    page.browser.type("# again\n")
+    page.reload()
+    page.same("an edit of a link that was made", page.do(shown), f"# again\n{edited}")
+    page.same("of one input", page.kept(), ["again"])
+    page.choose("priorities.script")
+    example = page.do(shown)
+    page.do("at('text').focus()")
+    page.browser.press("z", control=True)
+    wait_for(page.browser, f"return document.getElementById('text').value === {json.dumps(f'# again{chr(10)}{edited}')}")
+    page.same("undone across an example", page.do("return at('example').value"), "own")
+    page.settle()
+    page.browser.press("y", control=True)
+    wait_for(page.browser, f"return document.getElementById('text').value === {json.dumps(example)}")
+    page.settle()
+    page.do("at('text').focus(); at('text').setSelectionRange(0, 0)")
+    page.browser.type("# key\n")
+    page.reload()
+    page.same("a key in an example", page.do(shown), f"# key\n{example}")
+    page.same("takes the place of no input", page.kept(), ["key", "again"])
+    page.do("at('inputs').open = true; document.querySelectorAll('#inputs-list button')[2].click()")
+    wait_for(page.browser, f"return document.getElementById('text').value === {json.dumps(f'# again{chr(10)}{edited}')}")
+    page.settle()
+    page.do("const it = document.querySelector('#inputs-list input'); it.value = 'my ring'; it.dispatchEvent(new Event('change'))")
+    page.do("sessionStorage.clear(); addEventListener('pagehide', () => sessionStorage.clear())")
+    page.open("")
+    page.same("after a closed tab", page.do(shown) in (f"# again\n{edited}", f"# key\n{example}"), True)
+    page.same("with a name", "my ring" in page.kept(), True)
+    for number in range(12):
+        page.paste(f"# number {number}\nframe 1 0 60\n")
+        page.same(f"paste {number}", page.do(shown), f"# number {number}\nframe 1 0 60\n")
+        page.kept()
+    page.same("the last ten", page.kept(), [f"number {it}" for it in range(11, 1, -1)])
+    page.do("document.querySelectorAll('#inputs-list button')[1].click()")
+    wait_for(page.browser, "return document.querySelectorAll('#inputs-list li').length === 9")
+    page.do("indexedDB.open = () => { throw new Error('no room') }; IDBDatabase.prototype.transaction = () => { throw new Error('no room') }")
+    page.do("at('text').focus()")
+    page.browser.type("# lost\n")
+    wait_for(page.browser, "return !document.getElementById('kept').hidden")
+    page.same("what is not kept", page.text("kept-text"), "Not kept for later: this browser keeps nothing for this page (no room).")
+    page.open("")
+    page.forget()
+
+
+def try_long(page):
+    """A long text is pasted without a pause, undone, kept over a reload, cleared and replaced."""
+    value = "return at('text').value"
+    page.choose("schedule.script")
+    before = page.do(value)
+    for length in (175_000, 1_200_000):
+        text = long_text(length)
+        plain = page.do(f"""const it = document.createElement('textarea'); it.wrap = 'off'; document.body.append(it); const begun = performance.now();
+            it.value = {json.dumps(text[:300_000])}; it.scrollTop; it.remove(); return (performance.now() - begun) / 1000""")
+        seconds = page.paste(text)
+        page.same(f"paste of {length} characters: {seconds:.1f} s, a plain area {plain:.1f} s", seconds < 1 + 3 * plain, True)
+        page.run()
+        page.same("all of it is there", page.text("status")[:5], "Done:")
+        page.answers(f"{length} characters", program("script", text=text.encode())[1])
+        page.same("named", page.kept()[0], "frame 0 0 60")
+        if length < 300_000:
+            page.do("at('text').focus()")
+            page.browser.press("z", control=True)
+            wait_for(page.browser, f"return document.getElementById('text').value === {json.dumps(before)}")
+            page.settle()
+    page.reload()
+    page.answers("1,200,000 characters after a reload", program("script", text=text.encode())[1])
+    page.same("held", page.do("return at('text').readOnly"), True)
+    page.do("at('text').focus()")
+    page.browser.press("a", control=True)
+    page.browser.press("Delete")
+    page.same("deleted", page.do("return [at('text').value, at('text').readOnly]"), ["", False])
+    page.paste(text)
+    page.same("held again", page.do("return at('text').readOnly"), True)
+    page.paste("frame 1 0 60\n")
+    page.same("replaced", page.do("return [at('text').value, at('text').readOnly]"), ["frame 1 0 60\n", False])
+    page.paste(text)
+    page.click(".held button")
+    page.same("cleared", page.do("return [at('text').value, at('text').readOnly]"), ["", False])
+    page.forget()
 
 
 def try_link(page):
@@ -868,7 +1007,7 @@ def try_looks(page):
 
 
 TRIES = [try_examples, try_replay, try_typing, try_options, try_worked, try_faults, try_refused, try_zoom, try_keys, try_micros, try_moments, try_frames, try_drops, try_tips, try_marks, try_pictures, try_bounds,
-         try_story, try_tabs, try_files, try_stale, try_link, try_stop, try_access, try_screens, try_sizes, try_looks]
+         try_story, try_tabs, try_kept, try_long, try_files, try_stale, try_link, try_stop, try_access, try_screens, try_sizes, try_looks]
 
 
 def try_page(kind, address, server):
