@@ -12,6 +12,7 @@ import { GREATEST, writeMoment } from "./moments.js";
 import { linesOf, readScript } from "./script.js";
 import { runVerdict } from "./frames.js";
 import { boundsIn, boundsVerdict, drawBounds } from "./bounds.js";
+import { dateOf, endOfRun, notYet, originOf, setClock, windowOf } from "./happens.js";
 import { count } from "./words.js";
 import { Inputs } from "./inputs.js";
 import { jobOf, kindOf, recordsOf, scriptOfReplay } from "./captures.js";
@@ -46,6 +47,7 @@ const future = []; // and what was undone
 let entry = {}; // the kept input that stands in the page: its id and its stamp, once it has them
 let changed = false; // whether one's own input was changed since it was kept
 let keepTimer = 0;
+let timeGiven = false; // whether the time that is shown was given by an example, for its own text
 let keeping = Promise.resolve(); // the end of what is being kept
 let own = null; // what was typed, while an example is shown
 let ran = null; // the last run: its text, its values, and what was made of its answers
@@ -185,10 +187,16 @@ function sayPicture(words) {
 // The width of a picture: what there is, between what the port takes.
 const widthNow = () => Math.min(2400, Math.max(400, Math.floor(at("view").clientWidth) - 2));
 
-function fillOrigins({ changes, first }) {
+// The moments from which time can count; that where things happen is chosen at first.
+function fillOrigins(run) {
+  const { changes, first, frames } = run;
+  const wanted = originOf(run);
   const list = changes.slice(0, 20).map(({ change }, place) => [`change ${place + 1} (${writeMoment(change)})`, change]);
-  list.push(["the first event" + (first ? ` (${writeMoment(first)})` : ""), first], ["moment 0", 0n]);
+  list.push(["the first event" + (first ? ` (${writeMoment(first)})` : ""), first]);
+  if (frames.length && frames[0].arrival !== first) list.push([`the first frame (${writeMoment(frames[0].arrival)})`, frames[0].arrival]);
+  list.push(["moment 0", 0n]);
   at("origin").replaceChildren(...list.map(([text, value]) => new Option(text, value)));
+  at("origin").selectedIndex = Math.max(0, list.findIndex(([, value]) => value === wanted));
 }
 
 // What stands below a picture: how to move in time, which schedule it is of, and from when time counts.
@@ -222,7 +230,8 @@ function layPicture() {
 
 // What to draw: where no end is given, the picture goes to the moment that the run goes to.
 async function drawValues() {
-  const { port, values: { until } } = ran;
+  const { port } = ran;
+  const until = ran.values.until ?? ran.until;
   const values = { ...(await valuesFor("draw", readMoments)), ...port, width: widthNow() };
   if (ran.window && values.from === null && values.to === null) Object.assign(values, ran.window);
   if (values.to === null && until !== null && until > (values.from ?? 0n)) values.to = until;
@@ -290,6 +299,7 @@ async function savePng() {
 }
 
 function setTime({ from, to }) {
+  timeGiven = false;
   at("from").value = writeMoment(from);
   at("to").value = writeMoment(to);
   return runPicture();
@@ -462,10 +472,38 @@ function streamsSaid(answers) {
   return ran.frames.length ? `As a script, run to 1 ms after its end: ${runVerdict(ran.frames, writeTime)}` : "The table has no frame.";
 }
 
+// What is said of a schedule that the run ends before, with a button that sets the clock of a script there.
+function laterSaid() {
+  const moment = ["script", "replay", "streams"].includes(ran.job) ? notYet(ran) : null;
+  at("set-clock").hidden = moment === null || ran.job !== "script";
+  if (moment === null) return "";
+  const date = dateOf(moment);
+  return ` No schedule is in force yet: it comes into force at ${writeMoment(moment)}${date ? `, ${date} if counted from 1970` : ""}, and the run ends at ${writeMoment(endOfRun(ran))}. Until then every gate is open.`;
+}
+
 function sayVerdict(answers) {
   const said = { script: runSaid, replay: runSaid, streams: () => streamsSaid(answers), bounds: boundsSaid, check: () => checkVerdict(answers) }[ran.job]();
-  const change = ran.changes.length && ["script", "replay"].includes(ran.job) ? ` In force from ${writeMoment(ran.changes[0].change)}.` : "";
-  at("verdict").textContent = said + (ran.frames.length ? "" : change);
+  const later = laterSaid();
+  const change = ran.changes.length && !later && ["script", "replay"].includes(ran.job) ? ` In force from ${writeMoment(ran.changes[0].change)}.` : "";
+  at("verdict").textContent = said + later + (ran.frames.length ? "" : change);
+}
+
+function clearVerdict(words = "") {
+  at("verdict").textContent = words;
+  at("set-clock").hidden = true;
+}
+
+// Sets the clock of the script to the moment at which its schedule comes into force, and what comes after that as much later.
+async function setClockThere() {
+  const moment = notYet(ran);
+  notePast();
+  const { text, shift } = setClock(editor.text, moment);
+  const [until] = await momentsIn(["until"], readMoments).catch(() => [null]);
+  editor.text = text;
+  if (until !== null && until + shift <= GREATEST) at("until").value = writeMoment(until + shift);
+  forgetTime();
+  becomeOwn();
+  await runAll();
 }
 
 // 4. A run
@@ -484,7 +522,6 @@ async function snapshot() {
   const second = name === "replay" ? capture : encoded(["streams", "bounds"].includes(name) ? beside.text : "");
   const values = await valuesFor(name, readMoments);
   if (name === "replay" && !second.length) throw new BadOption("capture", "No capture is chosen: choose a classic pcap file, or drop one on the page.");
-  if (name === "replay" && values.until === null) throw new BadOption("until");
   const { rate, mtu, room } = values;
   return { job: name, text, beside: second, values, port: { rate, mtu, room }, until: null, frames: [], classes: [], changes: [], first: 0n, last: 0n, windows: [], bounds: [], schedules: [], source: null, why: "", drawn: null, window: null };
 }
@@ -499,6 +536,7 @@ async function ask(mine, request) {
 async function takeRun(mine, script, until, answers) {
   const told = await ask(mine, { job: "fates", script, answers, values: { ...ran.values, until } });
   if (told) Object.assign(ran, { frames: told.frames, classes: told.classes, changes: told.changes, first: told.first, last: told.last, source: script, until });
+  if (told && ["script", "replay"].includes(ran.job)) ran.window = windowOf(ran);
 }
 
 // The schedule of a check that is drawn: two of its cycles from its change on.
@@ -530,10 +568,18 @@ async function takeScript(mine, script) {
   } else ran.why = `No picture: the script that is made has a fault. ${explain(told.fault).text} Open it as a script to mend it.`;
 }
 
+// A replay is drawn as the script that it comes to. Where no end is given it goes on until no frame can start, which is at the last end.
+async function takeReplay(mine, answers) {
+  const script = scriptOfReplay(linesOf(ran.text), recordsOf(ran.beside));
+  const ends = [...answers.matchAll(/^start .* end (\d+)/gm)].map(([, end]) => BigInt(end));
+  const last = ends.reduce((most, it) => (it > most ? it : most), readScript(script).last);
+  await takeRun(mine, script, ran.values.until ?? last, answers);
+}
+
 async function takeAnswers(mine, answers) {
   const name = ran.job;
   if (name === "script") await takeRun(mine, ran.text, ran.values.until, answers);
-  else if (name === "replay") await takeRun(mine, scriptOfReplay(linesOf(ran.text), recordsOf(ran.beside)), ran.values.until, answers);
+  else if (name === "replay") await takeReplay(mine, answers);
   else if (name === "streams") await takeScript(mine, answers);
   else if (name === "bounds") ran.bounds = boundsIn(answers);
   else if (name === "check") {
@@ -565,6 +611,7 @@ async function work(mine) {
   else if (told.status === 0) await takeAnswers(mine, answers);
   if (mine !== turn) return;
   fillOrigins(ran);
+  at("results").hidden = false;
   setStale(false);
   showAnswers(ran.job, told.output, answers);
   showRefused(ran.job, ran.text, answers);
@@ -572,7 +619,7 @@ async function work(mine) {
   at("save-departures").hidden = true;
   if (ran.job === "replay") addressOf(at("save-departures"), told.departures, "application/vnd.tcpdump.pcap");
   sayStatus(told);
-  at("verdict").textContent = late ? LOOKING : "";
+  clearVerdict(late ? LOOKING : "");
   if (told.status !== 0) {
     showFault(told.fault);
     hidePicture(["script", "replay", "check"].includes(ran.job) ? "No picture: the run has a fault." : "");
@@ -590,7 +637,8 @@ async function takeLate(mine, answers) {
   fillOrigins(ran);
   showTables();
   sayVerdict(answers);
-  if (ran.drawn) layPicture();
+  if (ran.window) await draw(mine);
+  else if (ran.drawn) layPicture();
 }
 
 function showError(error) {
@@ -599,6 +647,10 @@ function showError(error) {
     if (at("verdict").textContent === LOOKING) at("verdict").textContent = "The frames were not looked through.";
   } else if (error instanceof BadOption) {
     say("A value is refused (status 2).");
+    // (nothing is told of what stands here: what is shown would be of another run)
+    clearVerdict();
+    at("refused").hidden = true;
+    at("results").hidden = true;
     showFault(error.message, error.field);
   } else {
     say("It could not be run.");
@@ -684,6 +736,7 @@ function load(state) {
   editor.text = state.text ?? "";
   beside.text = state.beside ?? "";
   for (const part of [editor, beside]) part.writeMicros();
+  timeGiven = exampleShown !== OWN;
   saySentence();
   setCapture(state.octets ?? octetsIn(state.capture ?? ""), state.name);
   at("link-row").hidden = true;
@@ -853,6 +906,7 @@ function showOwn(its) {
 // The text was changed, and is one's own from now on; what is shown is of another. The link of the page is of another text, too.
 function becomeOwn() {
   if (exampleShown !== OWN) showOwn({});
+  if (timeGiven) forgetTime();
   changed = true;
   future.length = 0;
   dropLink();
@@ -874,6 +928,7 @@ function beginAnother() {
 
 // What is typed or pasted in the place of all is another text: the time that the picture showed of the old one goes with it.
 function forgetTime() {
+  timeGiven = false;
   at("from").value = "";
   at("to").value = "";
 }
@@ -958,7 +1013,7 @@ async function takeFile(file) {
     setCapture(octets, file.name);
     // (the frames of a replay are those of the capture)
     if (FRAME_LINE.test(editor.text)) editor.text = editor.text.split("\n").filter((it) => !FRAME_LINE.test(it)).join("\n");
-    await runPast(endOf(octets));
+    at("until").value = "";
   } else {
     const text = new TextDecoder().decode(octets);
     const name = jobOf(text, job());
@@ -972,16 +1027,6 @@ async function takeFile(file) {
   becomeOwn();
   keepNow(file.name);
   await runAll();
-}
-
-// A while after the last record.
-const endOf = (octets) => (recordsOf(octets).at(-1)?.moment ?? 0n) + GOES_ON;
-
-// A replay runs on to this moment at least. (A run that goes on is of what stood here before.)
-async function runPast(moment) {
-  if (!at("stop").disabled) runner.stop();
-  const [now] = await momentsIn(["until"], readMoments).catch(() => [null]);
-  if (now === null || now < moment) at("until").value = writeMoment(moment);
 }
 
 async function makeLink() {
@@ -1081,6 +1126,8 @@ function listenToInput() {
 
 function listenToResults() {
   at("draw").addEventListener("click", runPicture);
+  at("set-clock").addEventListener("click", setClockThere);
+  for (const name of ["from", "to"]) at(name).addEventListener("input", () => (timeGiven = false));
   at("save-png").addEventListener("click", savePng);
   at("origin").addEventListener("change", () => ran && (layPicture(), showTables()));
   at("which").addEventListener("change", () => begin(async (mine) => {

@@ -135,11 +135,13 @@ class Page:
         time.sleep(0.12)
         self.click(f"#{link}")
         end = time.monotonic() + 20
+        # (a browser may begin with an empty file)
+        empty_until = time.monotonic() + 1
         last = None
         while time.monotonic() < end:
             found = [it for it in self.downloads.iterdir() if it.suffix not in (".part", ".crdownload") and not it.name.startswith(".")]
             octets = found[0].read_bytes() if len(found) == 1 else None
-            if octets is not None and octets == last and not any(it.suffix in (".part", ".crdownload") for it in self.downloads.iterdir()):
+            if octets is not None and octets == last and (octets or time.monotonic() > empty_until) and not any(it.suffix in (".part", ".crdownload") for it in self.downloads.iterdir()):
                 return octets
             last = octets
             time.sleep(0.03)
@@ -217,9 +219,13 @@ def try_replay(page):
         page.answers("report", report)
         page.same("departures", page.saved("save-departures"), departures)
     page.set("until", "")
+    page.set("summary", False)
     page.run()
-    page.same("a replay without an end", page.text("fault-text").split(":")[0], "bad value of --until")
-    page.same("what it wants", page.text("fault-text").endswith("a replay needs one."), True)
+    report, departures, _ = replayed()
+    page.answers("report of a replay without an end", report)
+    page.same("departures of a replay without an end", page.saved("save-departures"), departures)
+    frames = program("frames", "--capture", EXAMPLES / "machine.pcap", text=(EXAMPLES / "machine.script").read_bytes())[1]
+    page.same("frames of a replay without an end", page.saved("save-frames"), frames)
 
 
 def try_typing(page):
@@ -336,7 +342,10 @@ def try_gestures(page, text):
     left, top, width, height = page.do("const it = at('canvas').getBoundingClientRect(); return [it.left, it.top, it.width, it.height]")
     x = {share: left + 64 + (width - 96) * share for share in (0.2, 0.4, 0.5)}
     middle = top + height / 2
-    page.do(f"at('frame').dispatchEvent(new WheelEvent('wheel', {{ deltaY: -100, clientX: {x[0.5]}, clientY: {middle}, bubbles: true, cancelable: true }}))")
+    wheel = "const turned = (it) => at('frame').dispatchEvent(new WheelEvent('wheel', {{ deltaY: -100, clientX: {}, clientY: {}, bubbles: true, cancelable: true, ...it }}));".format(x[0.5], middle)
+    page.same("a wheel alone scrolls the page, and is told how to zoom", page.do(f"{wheel} return [turned({{}}), at('from').value, at('tip').innerText, /Ctrl and the wheel/.test(at('zoom-hint').textContent)]"),
+              [True, "", "Ctrl and the wheel zoom", True])
+    page.same("a wheel with Ctrl does not", page.do(f"{wheel} return turned({{ ctrlKey: true }})"), False)
     wait_for(page.browser, "return document.getElementById('from').value !== ''")
     gesture(page, "the wheel", (10, 90), text)
     page.browser.drag((x[0.4], middle), (x[0.2], middle))
@@ -373,7 +382,7 @@ def try_keys(page):
         at('frame').setPointerCapture = () => {{}}; send('pointerdown', 1, {x[0.4]}); send('pointerdown', 2, {x[0.6]}); send('pointermove', 1, {x[0.3]}); send('pointermove', 2, {x[0.7]});
         send('pointerup', 1, {x[0.3]}); send('pointerup', 2, {x[0.7]}); delete at('frame').setPointerCapture""")
     gesture(page, "two fingers", (25, 75), text)
-    page.do(f"for (let k = 0; k < 2; k += 1) at('frame').dispatchEvent(new WheelEvent('wheel', {{ deltaY: -50, clientX: {x[0.4] / 2 + x[0.6] / 2}, clientY: {top + height / 2}, bubbles: true, cancelable: true }}))")
+    page.do(f"for (let k = 0; k < 2; k += 1) at('frame').dispatchEvent(new WheelEvent('wheel', {{ deltaY: -50, ctrlKey: true, clientX: {x[0.4] / 2 + x[0.6] / 2}, clientY: {top + height / 2}, bubbles: true, cancelable: true }}))")
     gesture(page, "two turns of a wheel at once", (30, 70), text)
     page.do(f"at('frame').dispatchEvent(new WheelEvent('wheel', {{ deltaY: 22.3, ctrlKey: true, clientX: {x[0.4] / 2 + x[0.6] / 2}, clientY: {top + height / 2}, bubbles: true, cancelable: true }}))")
     gesture(page, "two fingers on a touchpad", (25, 75), text)
@@ -492,6 +501,73 @@ def try_drops(page):
         page.same(f"classes of {text!r}", sorted([*it[:3], it[7]] for it in rows), sorted([it[0], it[1] or "–", it[2], it[7]] for it in (row.split(",") for row in table)))
     page.choose("first.script")
     page.do("at('frames-box').open = false")
+
+
+TODAY = 1764403200 * 10**12 # a base time of our days, in picoseconds
+DATED = """tc qdisc replace dev eth0 root taprio num_tc 2 map 0 1 queues 1@0 1@1 base-time 1764403200000000000 \\
+  sched-entry S 01 300000 sched-entry S 02 300000
+frame 1 0 600
+clock 20000000
+frame 2 1 600
+clock 40000000
+"""
+
+
+def try_dates(page):
+    """A base time of our days: time counts from the frames, the verdict says that no schedule is in force, and the clock is set there."""
+    ticks = "return [...document.querySelectorAll('#canvas text.m')].map((it) => it.textContent)"
+    page.choose("first.script")
+    page.type(DATED)
+    page.same("the marks of time", page.do(f"{ticks}.slice(0, 2)"), ["0", "10 us"])
+    wanted = "2 frames sent, longest wait 0 (frame 1, class 0). No schedule is in force yet: it comes into force at 1764403200 s, 2025-11-29 08:00:00 if counted from 1970, and the run ends at 40 us. Until then every gate is open."
+    page.same("not in force", page.text("verdict"), wanted)
+    page.browser.shoot(SHOTS / f"{page.browser.name}-not-in-force.png")
+    page.click("#set-clock")
+    page.settle()
+    moved = DATED.replace("frame 1", f"clock {TODAY}\nframe 1").replace("clock 20000000", f"clock {TODAY + 20000000}").replace("clock 40000000", f"clock {TODAY + 40000000}")
+    page.same("the clock is set", page.do("return at('text').value"), moved)
+    page.answers("the clock is set", program("script", text=moved.encode())[1])
+    page.same("it is in force", ["No schedule is in force" in page.text("verdict"), page.do("return at('set-clock').checkVisibility()")], [False, False])
+    page.same("marks count from the change", page.do(f"{ticks}.filter((it) => /^(0|[0-9]+ us)$/.test(it)).length") >= 4, True)
+    page.same("bands of the eight classes before it, and of the one that is open", page.do("return document.querySelectorAll('#canvas rect.o').length"), 9)
+    page.browser.shoot(SHOTS / f"{page.browser.name}-in-force.png")
+    page.do("at('text').focus()")
+    page.browser.press("z", control=True)
+    wait_for(page.browser, f"return document.getElementById('text').value === {json.dumps(DATED)}")
+    page.settle()
+    octets = bytearray((EXAMPLES / "machine.pcap").read_bytes())
+    at = 24
+    while at < len(octets):
+        seconds = int.from_bytes(octets[at:at + 4], "little")
+        octets[at:at + 4] = (seconds + 1764403200).to_bytes(4, "little")
+        at += 16 + int.from_bytes(octets[at + 8:at + 12], "little")
+    page.choose("machine.pcap")
+    give(page, "dated.pcap", bytes(octets))
+    page.click("[data-step=whole]")
+    page.settle()
+    page.same("the whole of a replay", page.do(f"{ticks}.every((it) => /^-?(0|[0-9.]+ (us|ms))$/.test(it))"), True)
+    page.same("its frames are drawn apart", page.do("return document.querySelectorAll('#canvas rect.f').length") > 10, True)
+    page.browser.shoot(SHOTS / f"{page.browser.name}-dated-replay.png")
+
+
+def try_forgotten(page):
+    """The time that an example shows goes with its text, and the verdict of another run with a value that is refused."""
+    page.choose("schedule.script")
+    page.same("the example's time", page.do("return at('to').value !== ''"), True)
+    page.do("const it = at('text'); it.focus(); it.setSelectionRange(it.value.length, it.value.length)")
+    page.browser.type("clock 900000000\nframe 3 0 60\nclock 990000000\n")
+    page.browser.press("Enter", control=True)
+    page.settle()
+    page.same("another text is shown whole", page.do("return at('to').value"), "")
+    page.picture("a third frame", page.do("return at('text').value").encode())
+    page.same("the third frame is drawn", page.do("return [...document.querySelectorAll('#frames-table tbody tr')].length >= 0 && /^3 frames sent/.test(at('verdict').textContent)"), True)
+    page.set("until", "soon")
+    page.run()
+    page.same("a refused value", page.text("fault-text").split(":")[0], "bad value of --until")
+    page.same("no verdict of another run", [page.text("verdict"), page.do("return at('results').checkVisibility()")], ["", False])
+    page.set("until", "")
+    page.run()
+    page.same("and it is there again", [page.text("verdict")[:13], page.do("return at('results').checkVisibility()")], ["3 frames sent", True])
 
 
 # The middle of a part of the picture, where the pointer goes.
@@ -665,12 +741,13 @@ def at_size(page, width, height, dark=False):
 
 def try_screens(page):
     """That the first screen of each step shows its text, its verdict and its picture without scrolling."""
-    for width, height in ((1280, 900), (390, 844)):
+    for width, height in ((1366, 768), (1280, 900), (390, 844)):
         at_size(page, width, height)
         for name in page.do(STORY):
             page.choose(name)
             page.do("scrollTo(0, 0)")
-            seen = "const inside = (it) => { const r = it.getBoundingClientRect(); return r.height > 0 && r.top >= 0 && r.bottom <= innerHeight; };"
+            seen = "const inside = (it) => { const r = it.getBoundingClientRect(); return r.height > 0 && r.top >= 0 && r.bottom <= innerHeight && r.right <= innerWidth; };"
+            page.same(f"what the page is, at {width}", page.do(f"{seen} return inside(document.querySelector('header p'))"), True)
             page.same(f"first screen of {name} at {width}", page.do(f"{seen} return ['text', 'verdict', 'frame'].filter((it) => !inside(at(it)))"), [])
         page.choose("schedule.script")
         page.browser.shoot(SHOTS / f"{page.browser.name}-first-{width}.png")
@@ -824,6 +901,7 @@ def try_kept(page):
     wait_for(page.browser, f"return document.getElementById('text').value === {json.dumps(f'# again{chr(10)}{edited}')}")
     page.settle()
     page.do("const it = document.querySelector('#inputs-list input'); it.value = 'my ring'; it.dispatchEvent(new Event('change'))")
+    page.kept()
     page.do("sessionStorage.clear(); addEventListener('pagehide', () => sessionStorage.clear())")
     page.open("")
     page.same("after a closed tab", page.do(shown) in (f"# again\n{edited}", f"# key\n{example}"), True)
@@ -1007,7 +1085,7 @@ def try_looks(page):
 
 
 TRIES = [try_examples, try_replay, try_typing, try_options, try_worked, try_faults, try_refused, try_zoom, try_keys, try_micros, try_moments, try_frames, try_drops, try_tips, try_marks, try_pictures, try_bounds,
-         try_story, try_tabs, try_kept, try_long, try_files, try_stale, try_link, try_stop, try_access, try_screens, try_sizes, try_looks]
+         try_story, try_tabs, try_kept, try_long, try_files, try_forgotten, try_dates, try_stale, try_link, try_stop, try_access, try_screens, try_sizes, try_looks]
 
 
 def try_page(kind, address, server):
