@@ -8,7 +8,8 @@ const LONG_PASTE = 5_000; // characters of a text that is pasted by the page: a 
  * An editor over a textarea that stands in a `.editor` with a `.numbers` and a `.mark`, with a `.held` behind it. Of a text that is too long to be
  * laid out some lines are shown, which can't be edited: all of it can be copied, cleared, and replaced by what is typed or pasted.
  *
- * Before the page itself puts in what is pasted or clears the text, the textarea has the event `replace`, and after it `input`.
+ * Before the page itself puts in what is pasted or clears the text, the textarea has the event `replace`, which says whether the whole text goes,
+ * and after it `input`.
  */
 export class Editor {
   #held = null; // the lines of a text that is too long
@@ -102,7 +103,8 @@ export class Editor {
 
   // Puts a text in the place of what is selected, or of all, and the cursor behind it.
   #replace(text, begin = 0, end = this.area.value.length) {
-    this.area.dispatchEvent(new Event("replace"));
+    const whole = this.#held !== null || (begin === 0 && end === this.area.value.length);
+    this.area.dispatchEvent(new CustomEvent("replace", { detail: { whole } }));
     const [before, after] = this.#held ? ["", ""] : [this.area.value.slice(0, begin), this.area.value.slice(end)];
     this.text = `${before}${text}${after}`;
     if (!this.#held) {

@@ -70,7 +70,7 @@ export class Inputs {
    *
    * @param {{id?: number, stamp?: string}} entry gets the id and the stamp
    * @param {object} state
-   * @param {string | null} name null: by its text, unless it was named
+   * @param {string | null} name null: by its text, unless it has a name that was given
    */
   async put(entry, state, name) {
     const size = sizeOfState(state);
@@ -81,7 +81,8 @@ export class Inputs {
       const old = entry.id === undefined ? undefined : await answerOf(list.get(entry.id));
       const same = old !== undefined && old.stamp === entry.stamp;
       const stamp = `${Date.now()} ${Math.random()}`;
-      const told = { name: (same && old.named ? old.name : name) ?? nameOf(state.text), named: same && old.named, date: Date.now(), size, stamp };
+      const given = same && old.named ? old.name : name;
+      const told = { name: given ?? nameOf(state.text), named: given !== null, date: Date.now(), size, stamp };
       const id = await answerOf(list.put(same ? { ...told, id: old.id } : told));
       states.put(state, id);
       await this.#trim(list, states, id);

@@ -1110,7 +1110,7 @@ function listenToInput() {
   for (const radio of at("form").elements.job) radio.addEventListener("change", chooseJob);
   for (const part of [editor, beside]) {
     part.area.addEventListener("beforeinput", () => part.whole && (beginAnother(), forgetTime()));
-    part.area.addEventListener("replace", () => (part.whole ? (beginAnother(), forgetTime()) : notePast()));
+    part.area.addEventListener("replace", ({ detail }) => (detail.whole ? (beginAnother(), forgetTime()) : notePast()));
     part.area.addEventListener("input", () => (part.writeMicros(), becomeOwn()));
   }
   for (const input of document.querySelectorAll(".options input, .options select")) input.addEventListener("input", changeOption);

@@ -679,6 +679,12 @@ def try_files(page):
     text = b"frame 7 3 100\nclock 5000000\n"
     give(page, "my.script", text)
     page.answers("a file", program("script", text=text)[1])
+    page.do("at('text').focus()")
+    page.browser.type("# more")
+    page.same("an input has the name of its file", page.kept()[0], "my.script")
+    page.do("at('text').focus()")
+    page.browser.press("a", control=True)
+    page.browser.type(text.decode())
     give(page, "my.pcapng", bytes.fromhex("0a0d0d0a1c000000"))
     page.same("pcapng", page.text("status"), "my.pcapng: this is a pcapng file. Make a classic one of it: editcap -F nsecpcap IN OUT")
     page.same("and the text stays", page.do("return at('text').value"), text.decode())
@@ -932,7 +938,7 @@ def try_long(page):
         plain = page.do(f"""const it = document.createElement('textarea'); it.wrap = 'off'; document.body.append(it); const begun = performance.now();
             it.value = {json.dumps(text[:300_000])}; it.scrollTop; it.remove(); return (performance.now() - begun) / 1000""")
         seconds = page.paste(text)
-        page.same(f"paste of {length} characters: {seconds:.1f} s, a plain area {plain:.1f} s", seconds < 1 + 3 * plain, True)
+        page.same(f"paste of {length} characters: {seconds:.1f} s, a plain area {plain:.1f} s", seconds < 3 + 4 * plain, True)
         page.run()
         page.same("all of it is there", page.text("status")[:5], "Done:")
         page.answers(f"{length} characters", program("script", text=text.encode())[1])
@@ -954,8 +960,11 @@ def try_long(page):
     page.paste("frame 1 0 60\n")
     page.same("replaced", page.do("return [at('text').value, at('text').readOnly]"), ["frame 1 0 60\n", False])
     page.paste(text)
+    kept = page.kept()
     page.click(".held button")
     page.same("cleared", page.do("return [at('text').value, at('text').readOnly]"), ["", False])
+    page.browser.type("frame 5 0 60\n")
+    page.same("what was cleared is kept", page.kept(), ["frame 5 0 60", *kept][:10])
     page.forget()
 
 
