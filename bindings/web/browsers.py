@@ -12,6 +12,10 @@ class Broken(Exception):
     """What a page or a browser said instead of an answer."""
 
 
+# What Chromium does at a key with Ctrl, which it is told: without a window nothing maps its keys.
+EDITS = {"a": "selectAll", "c": "copy", "v": "paste", "z": "undo", "y": "redo"}
+
+
 class Chromium:
     """Chromium, with one page."""
 
@@ -80,12 +84,12 @@ class Chromium:
         self.call("Input.insertText", text=text)
 
     def press(self, key, control=False):
-        code = {"Enter": 13, "Tab": 9, "ArrowDown": 40, "Home": 36, "a": 65}[key]
-        values = {"key": key, "code": key if len(key) > 1 else "KeyA", "windowsVirtualKeyCode": code, "modifiers": 2 if control else 0}
+        code = {"Enter": 13, "Tab": 9, "ArrowDown": 40, "Home": 36, "Delete": 46}.get(key) or ord(key.upper())
+        values = {"key": key, "code": key if len(key) > 1 else f"Key{key.upper()}", "windowsVirtualKeyCode": code, "modifiers": 2 if control else 0}
         if key == "Enter":
             values["text"] = "\r"
-        if key == "a" and control:
-            values["commands"] = ["selectAll"]
+        if control and key in EDITS:
+            values["commands"] = [EDITS[key]]
         self.call("Input.dispatchKeyEvent", type="keyDown", **values)
         values.pop("text", None)
         self.call("Input.dispatchKeyEvent", type="keyUp", **values)
@@ -200,7 +204,7 @@ class Firefox:
         self.call("WebDriver:ElementSendKeys", id=next(iter(element.values())), text=text)
 
     def press(self, key, control=False):
-        value = {"Enter": "\ue007", "Tab": "\ue004", "ArrowDown": "\ue015", "Home": "\ue011"}.get(key, key)
+        value = {"Enter": "\ue007", "Tab": "\ue004", "ArrowDown": "\ue015", "Home": "\ue011", "Delete": "\ue017"}.get(key, key)
         keys = (["\ue009"] if control else []) + [value]
         downs = [{"type": "keyDown", "value": it} for it in keys]
         self.keys(*downs, *({"type": "keyUp", "value": it["value"]} for it in reversed(downs)))

@@ -2,16 +2,21 @@
 
 const MOST = 300_000; // characters of a text that a browser lays out at once
 const AT_ONCE = 400; // lines that are shown of a longer one
+const LONG_PASTE = 5_000; // characters of a text that is pasted by the page: a browser takes seconds and more for a long one
 
 /**
  * An editor over a textarea that stands in a `.editor` with a `.numbers` and a `.mark`, with a `.held` behind it. Of a text that is too long to be
- * laid out some lines are shown, which can't be edited.
+ * laid out some lines are shown, which can't be edited: all of it can be copied, cleared, and replaced by what is typed or pasted.
+ *
+ * Before the page itself puts in what is pasted or clears the text, the textarea has the event `replace`, which says whether the whole text goes,
+ * and after it `input`.
  */
 export class Editor {
   #held = null; // the lines of a text that is too long
   #text = ""; // that text
   #base = 0; // how many lines stand before those that are shown
   #count = 0; // how many are shown
+  #put = ""; // what was put into the textarea last
 
   /** @param {HTMLElement} box */
   constructor(box) {
@@ -19,9 +24,14 @@ export class Editor {
     this.numbers = box.querySelector(".numbers");
     this.mark = box.querySelector(".mark");
     this.note = box.parentElement.querySelector(".held");
+    this.noteText = this.note.querySelector("span");
     this.line = null;
     this.area.addEventListener("input", () => this.#changed());
     this.area.addEventListener("scroll", () => this.#place());
+    this.area.addEventListener("paste", (event) => this.#paste(event));
+    this.area.addEventListener("copy", (event) => this.#copy(event));
+    this.area.addEventListener("keydown", (event) => this.#key(event));
+    this.note.querySelector("button").addEventListener("click", () => (this.#replace(""), this.area.focus()));
     new ResizeObserver(() => this.#place()).observe(this.area);
     this.#changed();
   }
@@ -36,7 +46,7 @@ export class Editor {
     this.#text = long ? text : "";
     this.area.readOnly = long;
     this.note.hidden = !long;
-    if (long) this.note.textContent = `${this.#held.length.toLocaleString("en")} lines: ${AT_ONCE} of them are shown, and can't be changed here.`;
+    if (long) this.noteText.textContent = `${this.#held.length.toLocaleString("en")} lines: ${AT_ONCE} of them are shown, and can't be changed here. Select all to replace them.`;
     this.#show(0, text);
     this.area.scrollTo(0, 0);
     this.#changed();
@@ -50,6 +60,11 @@ export class Editor {
     this.text = plain;
     this.area.setSelectionRange(selectionStart, selectionEnd);
     this.area.scrollTop = scrollTop;
+  }
+
+  /** Whether nothing was changed since the page put the text in, so that the browser has nothing to undo. */
+  get fresh() {
+    return this.#held !== null || this.area.value === this.#put;
   }
 
   /** Whether all of the text is selected, so that what is typed or pasted takes its place. */
@@ -83,6 +98,43 @@ export class Editor {
   #show(base, text) {
     this.#base = this.#held ? base : 0;
     this.area.value = this.#held ? this.#held.slice(base, base + AT_ONCE).join("\n") : text;
+    this.#put = this.area.value;
+  }
+
+  // Puts a text in the place of what is selected, or of all, and the cursor behind it.
+  #replace(text, begin = 0, end = this.area.value.length) {
+    const whole = this.#held !== null || (begin === 0 && end === this.area.value.length);
+    this.area.dispatchEvent(new CustomEvent("replace", { detail: { whole } }));
+    const [before, after] = this.#held ? ["", ""] : [this.area.value.slice(0, begin), this.area.value.slice(end)];
+    this.text = `${before}${text}${after}`;
+    if (!this.#held) {
+      const place = before.length + text.length;
+      this.area.setSelectionRange(place, place);
+      this.area.scrollTop = Math.max(0, (`${before}${text}`.split("\n").length - 4) * this.#height());
+    }
+    this.area.dispatchEvent(new Event("input", { bubbles: true }));
+  }
+
+  #paste(event) {
+    const text = (event.clipboardData?.getData("text/plain") ?? "").replace(/\r\n?/g, "\n");
+    if (this.#held ? !this.whole : text.length < LONG_PASTE) return;
+    event.preventDefault();
+    this.#replace(text, this.area.selectionStart, this.area.selectionEnd);
+  }
+
+  #copy(event) {
+    if (!this.#held || !this.whole) return;
+    event.preventDefault();
+    event.clipboardData.setData("text/plain", this.#text);
+  }
+
+  // What is typed takes the place of a text that can't be edited where all of it is selected.
+  #key(event) {
+    if (!this.#held || !this.whole || event.ctrlKey || event.metaKey || event.altKey) return;
+    const typed = event.key === "Enter" ? "\n" : event.key.length === 1 ? event.key : "";
+    if (!typed && !["Delete", "Backspace"].includes(event.key)) return;
+    event.preventDefault();
+    this.#replace(typed);
   }
 
   #height() {

@@ -2,30 +2,44 @@
 import { count } from "./words.js";
 
 /**
+ * The classes of the frames that were dropped, in their order, by the port's table of the frames: null where a frame has no class.
+ *
+ * @param {string} table the program's `frames`, comma-separated values below a line of names
+ * @returns {(number | null)[]}
+ */
+export function droppedIn(table) {
+  const [head, ...rows] = table.trimEnd().split("\n").map((it) => it.split(","));
+  const [kind, fate] = [head.indexOf("class"), head.indexOf("fate")];
+  return rows.filter((it) => !["sent", "left"].includes(it[fate])).map((it) => (it[kind] === "" ? null : Number(it[kind])));
+}
+
+/**
  * The frames of a run, in the order in which they came. Within a class the first that came starts first.
  *
  * @param {{id: string, length: string, moment: bigint}[]} arrivals
  * @param {string} answers
+ * @param {(number | null)[]} dropped the classes of those that were dropped, in their order
  * @returns {{id: string, class: number | null, length: string, arrival: bigint, start: bigint | null, end: bigint | null,
  *   wait: bigint | null, fate: string, taken: number, told: number}[]} `fate` is `sent`, `left` or the name of a drop; `taken` and `told` are
  *   the numbers of the answers' lines that tell of its arrival, and last of it
  */
-export function framesOf(arrivals, answers) {
+export function framesOf(arrivals, answers, dropped) {
   const found = [];
+  let drops = 0;
   const waiting = Array.from({ length: 8 }, () => ({ frames: [], next: 0 }));
   const arrive = (told, kind, fate) => {
     const it = arrivals[found.length];
     if (!it) return;
     const frame = { id: it.id, class: kind, length: it.length, arrival: it.moment, start: null, end: null, wait: null, fate, taken: told, told };
     found.push(frame);
-    if (kind !== null) waiting[kind].frames.push(frame);
+    if (fate === "left") waiting[kind].frames.push(frame);
   };
   let told = 0;
   for (const line of answers.split("\n")) {
     told += 1;
     const words = line.split(" ");
     if (words[0] === "queued") arrive(told, Number(words[3]), "left");
-    else if (words[0] === "dropped") arrive(told, null, words[2]);
+    else if (words[0] === "dropped") arrive(told, dropped[drops++] ?? null, words[2]);
     else if (words[0] === "start") {
       const queue = waiting[Number(words[3])];
       const frame = queue?.frames[queue.next++];
@@ -37,25 +51,20 @@ export function framesOf(arrivals, answers) {
   return found;
 }
 
-/** The frames of each class, and what their waits come to. */
-export function byClass(frames) {
-  const found = new Map();
-  for (const frame of frames) {
-    if (frame.class === null) continue;
-    const it = found.get(frame.class) ?? { class: frame.class, frames: 0, sent: 0, left: 0, least: null, mean: null, greatest: null, sum: 0n };
-    found.set(frame.class, it);
-    it.frames += 1;
-    if (frame.wait === null) {
-      it.left += 1;
-      continue;
-    }
-    it.sent += 1;
-    it.sum += frame.wait;
-    if (it.least === null || frame.wait < it.least) it.least = frame.wait;
-    if (it.greatest === null || frame.wait > it.greatest) it.greatest = frame.wait;
-  }
-  for (const it of found.values()) if (it.sent) it.mean = it.sum / BigInt(it.sent);
-  return [...found.values()].sort((a, b) => b.class - a.class);
+const SUMMARY = /^summary class (\d) queued (\d+) sent (\d+) dropped (\d+) octets \d+ least (\d+|-) mean (\d+|-) greatest (\d+|-) most \d+$/gm;
+
+/**
+ * The numbers of each class, as the port sums them up.
+ *
+ * @param {string} answers with the lines of a summary
+ */
+export function byClass(answers) {
+  const time = (word) => (word === "-" ? null : BigInt(word));
+  const rows = [...answers.matchAll(SUMMARY)].map(([, kind, queued, sent, dropped, least, mean, greatest]) => ({
+    class: Number(kind), queued: Number(queued), sent: Number(sent), dropped: Number(dropped), left: Number(queued) - Number(sent),
+    least: time(least), mean: time(mean), greatest: time(greatest),
+  }));
+  return rows.reverse();
 }
 
 /**

@@ -10,9 +10,11 @@ import { Viewer } from "./viewer.js";
 import { Table } from "./tables.js";
 import { GREATEST, writeMoment } from "./moments.js";
 import { linesOf, readScript } from "./script.js";
-import { byClass, runVerdict } from "./frames.js";
+import { runVerdict } from "./frames.js";
 import { boundsIn, boundsVerdict, drawBounds } from "./bounds.js";
+import { dateOf, endOfRun, notYet, originOf, setClock, windowOf } from "./happens.js";
 import { count } from "./words.js";
+import { Inputs } from "./inputs.js";
 import { jobOf, kindOf, recordsOf, scriptOfReplay } from "./captures.js";
 import { STEPS } from "./gallery.js";
 import { INSTEAD, lacking } from "./support.js";
@@ -22,8 +24,10 @@ const RUNNING = "Running ..."; // what is said of a run that takes long
 const STOPPED = "Stopped."; // and of one that was stopped
 const LOOKING = "The frames are being looked through ...";
 const OWN = "own"; // the example that is what was typed
-const KEPT = "taprio"; // under which name the text is kept for a reload
-const MOST_KEPT = 1_000_000; // characters that are kept so
+const KEPT = "taprio"; // under which name what stands in the page is kept for a reload
+const MOST_KEPT = 1_000_000; // characters that are kept so; of a longer text the kept input is opened again
+const KEEP_AFTER = 300; // milliseconds after a change until one's own input is kept
+const MOST_PAST = 30; // texts that Ctrl+Z goes back to
 const FIRST = "schedule.script"; // the example that is shown at first
 const GOES_ON = 1_000_000_000n; // how long a table's script, and a replay, goes on after its last frame, in picoseconds
 const LONG = 500_000; // characters of answers after which the picture comes before the frames
@@ -37,6 +41,14 @@ const runner = new Runner(at("page-worker").textContent, octetsIn(at("page-wasm"
 const editor = new Editor(at("editor"));
 const beside = new Editor(at("beside-editor"));
 
+const inputs = new Inputs();
+const past = []; // what stood in the page before another text took its place, for Ctrl+Z
+const future = []; // and what was undone
+let entry = {}; // the kept input that stands in the page: its id and its stamp, once it has them
+let changed = false; // whether one's own input was changed since it was kept
+let keepTimer = 0;
+let timeGiven = false; // whether the time that is shown was given by an example, for its own text
+let keeping = Promise.resolve(); // the end of what is being kept
 let own = null; // what was typed, while an example is shown
 let ran = null; // the last run: its text, its values, and what was made of its answers
 let jobShown = "script"; // the job whose text stands in the page
@@ -74,7 +86,7 @@ const writeTime = (time) => (at("ps").checked ? String(time) : time === 0n ? "0"
 const writeAt = (moment) => (at("ps").checked ? String(moment) : writeTime(moment - origin()));
 
 const CLASS_COLUMNS = [
-  ["class", "Class", "number"], ["frames", "Frames", "number"], ["sent", "Sent", "number"], ["left", "Waiting at the end", "number"],
+  ["class", "Class", "number"], ["queued", "Queued", "number"], ["sent", "Sent", "number"], ["dropped", "Dropped", "number"], ["left", "Waiting at the end", "number"],
   ["least", "Least wait", "time"], ["mean", "Mean wait", "time"], ["greatest", "Greatest wait", "time"],
 ];
 const WINDOW_COLUMNS = [
@@ -175,10 +187,16 @@ function sayPicture(words) {
 // The width of a picture: what there is, between what the port takes.
 const widthNow = () => Math.min(2400, Math.max(400, Math.floor(at("view").clientWidth) - 2));
 
-function fillOrigins({ changes, first }) {
+// The moments from which time can count; that where things happen is chosen at first.
+function fillOrigins(run) {
+  const { changes, first, frames } = run;
+  const wanted = originOf(run);
   const list = changes.slice(0, 20).map(({ change }, place) => [`change ${place + 1} (${writeMoment(change)})`, change]);
-  list.push(["the first event" + (first ? ` (${writeMoment(first)})` : ""), first], ["moment 0", 0n]);
+  list.push(["the first event" + (first ? ` (${writeMoment(first)})` : ""), first]);
+  if (frames.length && frames[0].arrival !== first) list.push([`the first frame (${writeMoment(frames[0].arrival)})`, frames[0].arrival]);
+  list.push(["moment 0", 0n]);
   at("origin").replaceChildren(...list.map(([text, value]) => new Option(text, value)));
+  at("origin").selectedIndex = Math.max(0, list.findIndex(([, value]) => value === wanted));
 }
 
 // What stands below a picture: how to move in time, which schedule it is of, and from when time counts.
@@ -212,7 +230,8 @@ function layPicture() {
 
 // What to draw: where no end is given, the picture goes to the moment that the run goes to.
 async function drawValues() {
-  const { port, values: { until } } = ran;
+  const { port } = ran;
+  const until = ran.values.until ?? ran.until;
   const values = { ...(await valuesFor("draw", readMoments)), ...port, width: widthNow() };
   if (ran.window && values.from === null && values.to === null) Object.assign(values, ran.window);
   if (values.to === null && until !== null && until > (values.from ?? 0n)) values.to = until;
@@ -280,6 +299,7 @@ async function savePng() {
 }
 
 function setTime({ from, to }) {
+  timeGiven = false;
   at("from").value = writeMoment(from);
   at("to").value = writeMoment(to);
   return runPicture();
@@ -346,7 +366,7 @@ function windowsIn(answers) {
 }
 
 function showTables() {
-  const rows = { script: () => byClass(ran.frames), replay: () => byClass(ran.frames), check: () => ran.windows, bounds: () => ran.bounds[Number(at("which").value) || 0]?.streams ?? [], streams: () => byClass(ran.frames) }[ran.job]();
+  const rows = { script: () => ran.classes, replay: () => ran.classes, check: () => ran.windows, bounds: () => ran.bounds[Number(at("which").value) || 0]?.streams ?? [], streams: () => ran.classes }[ran.job]();
   for (const name of ["results-name", "numbers"]) at(name).hidden = !rows.length && !ran.frames.length;
   at("classes").hidden = !rows.length;
   at("save-table").hidden = !rows.length;
@@ -452,10 +472,38 @@ function streamsSaid(answers) {
   return ran.frames.length ? `As a script, run to 1 ms after its end: ${runVerdict(ran.frames, writeTime)}` : "The table has no frame.";
 }
 
+// What is said of a schedule that the run ends before, with a button that sets the clock of a script there.
+function laterSaid() {
+  const moment = ["script", "replay", "streams"].includes(ran.job) ? notYet(ran) : null;
+  at("set-clock").hidden = moment === null || ran.job !== "script";
+  if (moment === null) return "";
+  const date = dateOf(moment);
+  return ` No schedule is in force yet: it comes into force at ${writeMoment(moment)}${date ? `, ${date} if counted from 1970` : ""}, and the run ends at ${writeMoment(endOfRun(ran))}. Until then every gate is open.`;
+}
+
 function sayVerdict(answers) {
   const said = { script: runSaid, replay: runSaid, streams: () => streamsSaid(answers), bounds: boundsSaid, check: () => checkVerdict(answers) }[ran.job]();
-  const change = ran.changes.length && ["script", "replay"].includes(ran.job) ? ` In force from ${writeMoment(ran.changes[0].change)}.` : "";
-  at("verdict").textContent = said + (ran.frames.length ? "" : change);
+  const later = laterSaid();
+  const change = ran.changes.length && !later && ["script", "replay"].includes(ran.job) ? ` In force from ${writeMoment(ran.changes[0].change)}.` : "";
+  at("verdict").textContent = said + later + (ran.frames.length ? "" : change);
+}
+
+function clearVerdict(words = "") {
+  at("verdict").textContent = words;
+  at("set-clock").hidden = true;
+}
+
+// Sets the clock of the script to the moment at which its schedule comes into force, and what comes after that as much later.
+async function setClockThere() {
+  const moment = notYet(ran);
+  notePast();
+  const { text, shift } = setClock(editor.text, moment);
+  const [until] = await momentsIn(["until"], readMoments).catch(() => [null]);
+  editor.text = text;
+  if (until !== null && until + shift <= GREATEST) at("until").value = writeMoment(until + shift);
+  forgetTime();
+  becomeOwn();
+  await runAll();
 }
 
 // 4. A run
@@ -474,9 +522,8 @@ async function snapshot() {
   const second = name === "replay" ? capture : encoded(["streams", "bounds"].includes(name) ? beside.text : "");
   const values = await valuesFor(name, readMoments);
   if (name === "replay" && !second.length) throw new BadOption("capture", "No capture is chosen: choose a classic pcap file, or drop one on the page.");
-  if (name === "replay" && values.until === null) throw new BadOption("until");
   const { rate, mtu, room } = values;
-  return { job: name, text, beside: second, values, port: { rate, mtu, room }, until: null, frames: [], changes: [], first: 0n, last: 0n, windows: [], bounds: [], schedules: [], source: null, why: "", drawn: null, window: null };
+  return { job: name, text, beside: second, values, port: { rate, mtu, room }, until: null, frames: [], classes: [], changes: [], first: 0n, last: 0n, windows: [], bounds: [], schedules: [], source: null, why: "", drawn: null, window: null };
 }
 
 // Does a job for a run, and null where another run has begun since.
@@ -487,8 +534,9 @@ async function ask(mine, request) {
 
 // What a script and its answers come to.
 async function takeRun(mine, script, until, answers) {
-  const told = await ask(mine, { job: "fates", script, answers });
-  if (told) Object.assign(ran, { frames: told.frames, changes: told.changes, first: told.first, last: told.last, source: script, until });
+  const told = await ask(mine, { job: "fates", script, answers, values: { ...ran.values, until } });
+  if (told) Object.assign(ran, { frames: told.frames, classes: told.classes, changes: told.changes, first: told.first, last: told.last, source: script, until });
+  if (told && ["script", "replay"].includes(ran.job)) ran.window = windowOf(ran);
 }
 
 // The schedule of a check that is drawn: two of its cycles from its change on.
@@ -520,10 +568,18 @@ async function takeScript(mine, script) {
   } else ran.why = `No picture: the script that is made has a fault. ${explain(told.fault).text} Open it as a script to mend it.`;
 }
 
+// A replay is drawn as the script that it comes to. Where no end is given it goes on until no frame can start, which is at the last end.
+async function takeReplay(mine, answers) {
+  const script = scriptOfReplay(linesOf(ran.text), recordsOf(ran.beside));
+  const ends = [...answers.matchAll(/^start .* end (\d+)/gm)].map(([, end]) => BigInt(end));
+  const last = ends.reduce((most, it) => (it > most ? it : most), readScript(script).last);
+  await takeRun(mine, script, ran.values.until ?? last, answers);
+}
+
 async function takeAnswers(mine, answers) {
   const name = ran.job;
   if (name === "script") await takeRun(mine, ran.text, ran.values.until, answers);
-  else if (name === "replay") await takeRun(mine, scriptOfReplay(linesOf(ran.text), recordsOf(ran.beside)), ran.values.until, answers);
+  else if (name === "replay") await takeReplay(mine, answers);
   else if (name === "streams") await takeScript(mine, answers);
   else if (name === "bounds") ran.bounds = boundsIn(answers);
   else if (name === "check") {
@@ -555,6 +611,7 @@ async function work(mine) {
   else if (told.status === 0) await takeAnswers(mine, answers);
   if (mine !== turn) return;
   fillOrigins(ran);
+  at("results").hidden = false;
   setStale(false);
   showAnswers(ran.job, told.output, answers);
   showRefused(ran.job, ran.text, answers);
@@ -562,7 +619,7 @@ async function work(mine) {
   at("save-departures").hidden = true;
   if (ran.job === "replay") addressOf(at("save-departures"), told.departures, "application/vnd.tcpdump.pcap");
   sayStatus(told);
-  at("verdict").textContent = late ? LOOKING : "";
+  clearVerdict(late ? LOOKING : "");
   if (told.status !== 0) {
     showFault(told.fault);
     hidePicture(["script", "replay", "check"].includes(ran.job) ? "No picture: the run has a fault." : "");
@@ -580,7 +637,8 @@ async function takeLate(mine, answers) {
   fillOrigins(ran);
   showTables();
   sayVerdict(answers);
-  if (ran.drawn) layPicture();
+  if (ran.window) await draw(mine);
+  else if (ran.drawn) layPicture();
 }
 
 function showError(error) {
@@ -589,6 +647,10 @@ function showError(error) {
     if (at("verdict").textContent === LOOKING) at("verdict").textContent = "The frames were not looked through.";
   } else if (error instanceof BadOption) {
     say("A value is refused (status 2).");
+    // (nothing is told of what stands here: what is shown would be of another run)
+    clearVerdict();
+    at("refused").hidden = true;
+    at("results").hidden = true;
     showFault(error.message, error.field);
   } else {
     say("It could not be run.");
@@ -660,7 +722,7 @@ function setJob(name) {
 }
 
 function setCapture(octets, name) {
-  [capture, captureName] = [octets, name ?? ""];
+  [capture, captureName] = [octets, octets.length ? name ?? "" : ""];
   at("capture-name").textContent = octets.length ? `${name}, ${count(octets.length, "octet")}` : "none is chosen";
 }
 
@@ -674,6 +736,7 @@ function load(state) {
   editor.text = state.text ?? "";
   beside.text = state.beside ?? "";
   for (const part of [editor, beside]) part.writeMicros();
+  timeGiven = exampleShown !== OWN;
   saySentence();
   setCapture(state.octets ?? octetsIn(state.capture ?? ""), state.name);
   at("link-row").hidden = true;
@@ -681,12 +744,17 @@ function load(state) {
   return runAll();
 }
 
-// Keeps the text for a reload, as far as this browser does so.
+// All that stands in the page.
+const allNow = () => ({ ...stateNow(), octets: capture, name: captureName, example: exampleShown, entry });
+
+// Keeps what stands in the page for a reload, as far as this browser does so, and one's own input for good.
 function keep() {
+  if (changed) keepSoon();
   try {
     const withCapture = job() === "replay" && 4 * capture.length < 3 * MOST_KEPT ? { capture: base64Of(capture), name: captureName } : {};
-    if (editor.text.length + beside.text.length > MOST_KEPT) sessionStorage.removeItem(KEPT);
-    else sessionStorage.setItem(KEPT, JSON.stringify({ ...stateNow(), ...withCapture, example: at("example").value }));
+    const state = { ...stateNow(), ...withCapture, example: exampleShown, entry, changed };
+    if (editor.text.length + beside.text.length > MOST_KEPT) delete state.text;
+    sessionStorage.setItem(KEPT, JSON.stringify(state));
   } catch {
     // (a browser may keep nothing for files)
   }
@@ -698,6 +766,103 @@ function kept() {
   } catch {
     return null;
   }
+}
+
+function keepSoon() {
+  clearTimeout(keepTimer);
+  keepTimer = setTimeout(keepNow, KEEP_AFTER);
+}
+
+// Keeps one's own input where it was changed. What is empty does not take the place of what was kept.
+function keepNow(name = null) {
+  clearTimeout(keepTimer);
+  if (!changed || exampleShown !== OWN || !editor.text.trim()) return keeping;
+  changed = false;
+  const [its, { example, entry: _, ...state }] = [entry, allNow()];
+  keeping = keeping.then(() => inputs.put(its, state, name ?? (captureName || null))).then(
+    () => (sayKept(""), entry === its && keep(), showInputs()),
+    (error) => sayKept(`Not kept for later: ${error.message}.`),
+  );
+  return keeping;
+}
+
+function sayKept(words) {
+  at("kept").hidden = !words;
+  at("kept-text").textContent = words;
+  if (words) addressOf(at("save-input"), editor.text, "text/plain");
+}
+
+// Lists the inputs that are kept.
+async function showInputs() {
+  const all = await inputs.all().catch(() => []);
+  at("inputs").hidden = all.length === 0;
+  at("inputs-name").textContent = `Your inputs (${all.length})`;
+  at("inputs-list").replaceChildren(...all.map(itemOf));
+  if (all.length) offerOwn();
+}
+
+// An input of the list: its name can be changed, and it can be opened and deleted.
+function itemOf({ id, name, date, size }) {
+  const [item, field, open, remove, told] = ["li", "input", "button", "button", "span"].map((it) => document.createElement(it));
+  field.value = name;
+  field.setAttribute("aria-label", "Name of the input");
+  field.addEventListener("change", () => inputs.rename(id, field.value.trim() || name).then(showInputs));
+  [open.type, open.textContent] = ["button", "Open"];
+  open.setAttribute("aria-label", `Open ${name}`);
+  open.addEventListener("click", () => openInput(id));
+  [remove.type, remove.textContent] = ["button", "Delete"];
+  remove.setAttribute("aria-label", `Delete ${name}`);
+  remove.addEventListener("click", () => inputs.remove(id).then(showInputs));
+  told.className = "hint";
+  told.textContent = `${new Date(date).toLocaleString()}, ${count(size, "character")}${entry.id === id && exampleShown === OWN ? ", open now" : ""}`;
+  item.append(field, open, remove, told);
+  return item;
+}
+
+// Opens a kept input; false where it is no longer there.
+async function openInput(id) {
+  notePast();
+  await keeping;
+  const [it, state] = [(await inputs.all()).find((one) => one.id === id), await inputs.state(id)];
+  if (!it || !state) return false;
+  showOwn({ id, stamp: it.stamp });
+  await load(state);
+  await showInputs();
+  return true;
+}
+
+// Notes what stands in the page before another text takes its place, so that Ctrl+Z brings it back.
+function notePast() {
+  if (!exampleShown) return;
+  keepNow();
+  changed = false;
+  noteOwn();
+  past.push(allNow());
+  if (past.length > MOST_PAST) past.shift();
+  future.length = 0;
+}
+
+// Goes back to what stood in the page before, or forth again.
+async function goBack(from, to) {
+  keepNow();
+  changed = false;
+  to.push(allNow());
+  const { example, entry: its, ...state } = from.pop();
+  if (example === OWN) showOwn(its);
+  else showExample(example);
+  await load(state);
+  editor.area.focus();
+}
+
+// Ctrl+Z and Ctrl+Y where the browser itself has nothing to undo in the text.
+function undoByKey(event) {
+  if (!(event.ctrlKey || event.metaKey) || event.altKey) return;
+  const key = event.key.toLowerCase();
+  const [from, to] = key === "y" || (key === "z" && event.shiftKey) ? [future, past] : key === "z" ? [past, future] : [[], []];
+  const part = [editor, beside].find((it) => it.area === event.target);
+  if (!from.length || (part ? !part.fresh : event.target.matches?.("input:not([type=radio], [type=checkbox])"))) return;
+  event.preventDefault();
+  goBack(from, to);
 }
 
 const byName = (name) => examples.find((it) => it.name === name);
@@ -726,28 +891,63 @@ function showExample(name) {
   at("example").value = name;
 }
 
-// The text is one's own from now on, and what is shown is of another.
-function becomeOwn() {
+function offerOwn() {
   if (!at("example").querySelector(`[value=${OWN}]`)) at("example").prepend(new Option("your own", OWN));
+}
+
+// What is shown is one's own, of this kept input.
+function showOwn(its) {
+  offerOwn();
   showExample(OWN);
+  entry = its;
   own = null;
+}
+
+// The text was changed, and is one's own from now on; what is shown is of another. The link of the page is of another text, too.
+function becomeOwn() {
+  if (exampleShown !== OWN) showOwn({});
+  if (timeGiven) forgetTime();
+  changed = true;
+  future.length = 0;
+  dropLink();
   saySentence();
   setStale(true);
   keep();
 }
 
+function dropLink() {
+  if (location.hash.includes("text=")) history.replaceState(null, "", location.href.split("#")[0]);
+}
+
+// Another text of one's own begins: what stood here is kept as it is.
+function beginAnother() {
+  if (!editor.text.trim()) return;
+  notePast();
+  if (exampleShown === OWN) entry = {};
+}
+
 // What is typed or pasted in the place of all is another text: the time that the picture showed of the old one goes with it.
 function forgetTime() {
+  timeGiven = false;
   at("from").value = "";
   at("to").value = "";
 }
 
-function chooseExample() {
-  noteOwn();
+async function chooseExample() {
+  notePast();
   const name = at("example").value;
-  showExample(name);
-  if (name === OWN) return own && load(own);
-  return load(byName(name));
+  if (name !== OWN) {
+    showExample(name);
+    return load(byName(name));
+  }
+  if (own) {
+    const { entry: its, ...state } = own;
+    showOwn(its);
+    return load(state);
+  }
+  await keeping;
+  const [newest] = await inputs.all().catch(() => []);
+  return newest && openInput(newest.id);
 }
 
 // Goes to the example before or after.
@@ -760,7 +960,7 @@ function stepExample(step) {
 
 // Keeps one's own text while an example is shown.
 function noteOwn() {
-  if (exampleShown === OWN) own = { ...stateNow(), octets: capture, name: captureName };
+  if (exampleShown === OWN) own = { ...stateNow(), octets: capture, name: captureName, entry };
 }
 
 const SCRIPT_LINE = /^[ \t]*(?:clock|frame|stream|query|count)\b/m;
@@ -780,13 +980,14 @@ function fits(name) {
 // Another job by its tab: one's own text goes with it where it can, and else an example comes.
 function chooseJob() {
   const name = job();
-  noteOwn();
   if (at("example").value === OWN && fits(name)) {
     setJob(name);
+    changed = true;
     forgetTime();
     return runAll();
   }
   const first = STEPS.map(([it]) => byName(it)).find((it) => it?.job === name) ?? examples.find((it) => it.job === name);
+  noteOwn();
   at("example").value = own?.job === name ? OWN : first.name;
   return chooseExample();
 }
@@ -807,32 +1008,25 @@ async function takeFile(file) {
     return;
   }
   if (kind.kind === "capture") {
+    beginAnother();
     setJob("replay");
     setCapture(octets, file.name);
     // (the frames of a replay are those of the capture)
     if (FRAME_LINE.test(editor.text)) editor.text = editor.text.split("\n").filter((it) => !FRAME_LINE.test(it)).join("\n");
-    await runPast(endOf(octets));
+    at("until").value = "";
   } else {
     const text = new TextDecoder().decode(octets);
     const name = jobOf(text, job());
     const part = name === "bounds" && STREAM_LINE.test(text) ? beside : editor;
+    beginAnother();
     part.text = text;
     part.writeMicros();
     setJob(name);
   }
   forgetTime();
   becomeOwn();
+  keepNow(file.name);
   await runAll();
-}
-
-// A while after the last record.
-const endOf = (octets) => (recordsOf(octets).at(-1)?.moment ?? 0n) + GOES_ON;
-
-// A replay runs on to this moment at least. (A run that goes on is of what stood here before.)
-async function runPast(moment) {
-  if (!at("stop").disabled) runner.stop();
-  const [now] = await momentsIn(["until"], readMoments).catch(() => [null]);
-  if (now === null || now < moment) at("until").value = writeMoment(moment);
 }
 
 async function makeLink() {
@@ -858,7 +1052,11 @@ async function openLink() {
   try {
     const state = await readLink(location.hash);
     if (!state) return false;
-    becomeOwn();
+    const before = kept();
+    // (a link that was made of what stood here before a reload is of the same input)
+    const same = before?.example === OWN && before.text === state.text && before.job === (state.job ?? "script");
+    notePast();
+    showOwn(same ? before.entry : {});
     await load(state);
   } catch (error) {
     say(`The link can't be read: ${error.message}`);
@@ -870,7 +1068,9 @@ async function openLink() {
 async function takeAsScript() {
   const text = ran.answers;
   const { rate, mtu, room } = wordsOfOptions();
-  becomeOwn();
+  notePast();
+  showOwn({});
+  changed = true;
   await load({ job: "script", rate, mtu, room, text });
 }
 
@@ -892,6 +1092,13 @@ function listenToDrops() {
   });
 }
 
+function changeOption() {
+  setStale(true);
+  dropLink();
+  changed = exampleShown === OWN;
+  keep();
+}
+
 function listenToInput() {
   at("form").addEventListener("submit", (event) => {
     event.preventDefault();
@@ -902,10 +1109,11 @@ function listenToInput() {
   });
   for (const radio of at("form").elements.job) radio.addEventListener("change", chooseJob);
   for (const part of [editor, beside]) {
-    part.area.addEventListener("beforeinput", () => part.whole && forgetTime());
+    part.area.addEventListener("beforeinput", () => part.whole && (beginAnother(), forgetTime()));
+    part.area.addEventListener("replace", ({ detail }) => (detail.whole ? (beginAnother(), forgetTime()) : notePast()));
     part.area.addEventListener("input", () => (part.writeMicros(), becomeOwn()));
   }
-  for (const input of document.querySelectorAll(".options input, .options select")) input.addEventListener("input", () => (setStale(true), keep()));
+  for (const input of document.querySelectorAll(".options input, .options select")) input.addEventListener("input", changeOption);
   at("example").addEventListener("change", chooseExample);
   at("back").addEventListener("click", () => stepExample(-1));
   at("next").addEventListener("click", () => stepExample(1));
@@ -918,6 +1126,8 @@ function listenToInput() {
 
 function listenToResults() {
   at("draw").addEventListener("click", runPicture);
+  at("set-clock").addEventListener("click", setClockThere);
+  for (const name of ["from", "to"]) at(name).addEventListener("input", () => (timeGiven = false));
   at("save-png").addEventListener("click", savePng);
   at("origin").addEventListener("change", () => ran && (layPicture(), showTables()));
   at("which").addEventListener("change", () => begin(async (mine) => {
@@ -941,6 +1151,8 @@ function listen() {
   listenToResults();
   listenToDrops();
   addEventListener("hashchange", openLink);
+  addEventListener("keydown", undoByKey);
+  for (const name of ["pagehide", "visibilitychange"]) addEventListener(name, () => keepNow());
   let width = innerWidth;
   addEventListener("resize", () => {
     if (innerWidth === width) return;
@@ -957,13 +1169,21 @@ function refuseBrowser(why) {
   showFault(`This browser can't run the port: ${why}. ${INSTEAD}`);
 }
 
-// Goes on where a reload broke off, or begins with an example.
+// Goes on where a reload broke off, or with one's newest input, or begins with an example.
 async function goOn() {
   const state = kept();
-  const example = byName(state?.example ?? FIRST);
-  if (!example) becomeOwn();
-  else showExample(example.name);
-  await load(state ? { capture: example?.capture, ...state } : example);
+  if (state?.text !== undefined) {
+    const example = byName(state.example);
+    if (example) showExample(example.name);
+    else showOwn(state.entry ?? {});
+    changed = Boolean(state.changed);
+    await load({ capture: example?.capture, ...state });
+    return;
+  }
+  const newest = state?.entry?.id ?? (await inputs.all().catch(() => []))[0]?.id;
+  if (newest !== undefined && (await openInput(newest).catch(() => false))) return;
+  showExample(FIRST);
+  await load(byName(FIRST));
 }
 
 async function start() {
@@ -976,6 +1196,7 @@ async function start() {
     return;
   }
   listen();
+  await showInputs();
   if (!(await openLink())) await goOn();
 }
 

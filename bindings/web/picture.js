@@ -130,6 +130,14 @@ function putInLayers(svg) {
   svg.append(...crosses.map((it) => element("path", { class: "h", d: it.getAttribute("d") })), ...crosses);
 }
 
+const isDropped = (frame) => frame.start === null && frame.fate !== "left";
+
+// The place of the row at a height of the port's picture, from the top: eight classes, and the wire.
+const placeOfRow = (y) => Math.floor((y - TOP + 4) / STEP);
+
+// The place of the row in which a frame's cross lies: that of its class, or that of the wire where it has none.
+const placeOfCross = (frame) => (frame.class === null ? 8 : 7 - frame.class);
+
 // Where the crosses of dropped frames lie, in pixels: the middle of each.
 function crossesIn(svg) {
   return [...svg.querySelectorAll("path.d")].flatMap((it) => {
@@ -184,7 +192,7 @@ export class Picture {
 
   /** The class of a row at a height in pixels, "wire", or null. */
   row(y) {
-    const place = Math.floor((y + ABOVE - TOP + 4) / STEP);
+    const place = placeOfRow(y + ABOVE);
     return place < 0 || place > 8 ? null : place === 8 ? "wire" : 7 - place;
   }
 
@@ -214,7 +222,7 @@ export class Picture {
   // The frame whose cross lies at a place.
   #droppedAt(x, y) {
     const cross = this.crosses.find((it) => Math.abs(it.x - x) < CROSS && Math.abs(it.y - ABOVE - y) < CROSS);
-    return cross && this.frames.find((it) => it.class === null && Math.abs(xOf(this.shown, it.arrival) - cross.x) <= 1);
+    return cross && this.frames.find((it) => isDropped(it) && this.#isAt(cross, it));
   }
 
   /** The open time of a class at a place, by the picture's bands: about from when to when, or null. */
@@ -232,7 +240,7 @@ export class Picture {
   mark(frame) {
     this.ring.remove();
     if (!frame) return;
-    if (frame.class === null) {
+    if (isDropped(frame)) {
       this.#ringCross(frame);
       return;
     }
@@ -248,7 +256,11 @@ export class Picture {
   }
 
   #crossOf(frame) {
-    return this.crosses.find((it) => Math.abs(it.x - xOf(this.shown, frame.arrival)) <= 1);
+    return this.crosses.find((it) => this.#isAt(it, frame));
+  }
+
+  #isAt(cross, frame) {
+    return placeOfRow(cross.y) === placeOfCross(frame) && Math.abs(cross.x - xOf(this.shown, frame.arrival)) <= 1;
   }
 
   #ringCross(frame) {
@@ -260,10 +272,10 @@ export class Picture {
 
   /** Where a frame lies, in pixels: the middle of its bar, its cross, or where it begins to wait. */
   placeOf(frame) {
-    const cross = frame.class === null ? this.#crossOf(frame) : null;
+    const cross = isDropped(frame) ? this.#crossOf(frame) : null;
     if (cross) return { x: cross.x, y: cross.y - ABOVE };
     const x = xOf(this.shown, frame.start ?? frame.arrival) + (frame.start === null ? 0 : (xOf(this.shown, frame.end) - xOf(this.shown, frame.start)) / 2);
-    return { x, y: rowOf(frame.class ?? 0) + ROW / 2 - ABOVE };
+    return { x, y: TOP + placeOfCross(frame) * STEP + ROW / 2 - ABOVE };
   }
 }
 

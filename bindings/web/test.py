@@ -5,6 +5,7 @@ import functools
 import http.server
 import json
 import pathlib
+import random
 import re
 import subprocess
 import sys
@@ -96,6 +97,36 @@ class Page:
         self.browser.press("Enter", control=True)
         self.settle()
 
+    def forget(self):
+        """Deletes what the browser keeps for the page, and opens it anew."""
+        self.kept()
+        self.do("[...document.querySelectorAll('#inputs-list button:nth-of-type(2)')].forEach((it) => it.click())")
+        wait_for(self.browser, "return document.getElementById('inputs').hidden")
+        self.do("addEventListener('pagehide', () => sessionStorage.clear()); sessionStorage.clear()")
+        self.open("")
+
+    def reload(self):
+        self.do("window.old = true; location.reload()")
+        wait_for(self.browser, "return !window.old && document.readyState === 'complete'")
+        self.settle()
+
+    def paste(self, text, field="text"):
+        """Copies a text elsewhere in the page, and pastes it in the place of what stands in a field; the seconds that it takes."""
+        self.do(f"""const it = document.createElement('textarea'); it.id = 'copied'; it.value = 'it'; document.body.append(it); it.focus(); it.select();
+            it.addEventListener('copy', (event) => {{ event.clipboardData.setData('text/plain', {json.dumps(text)}); event.preventDefault(); }})""")
+        self.browser.press("c", control=True)
+        self.do(f"at('copied').remove(); at('{field}').focus()")
+        self.browser.press("a", control=True)
+        begun = time.monotonic()
+        self.browser.press("v", control=True)
+        self.do("return 1")
+        return time.monotonic() - begun
+
+    def kept(self):
+        """The names of the inputs that are kept, the newest first, once what was changed is kept."""
+        time.sleep(0.6)
+        return self.do("return [...document.querySelectorAll('#inputs-list input')].map((it) => it.value)")
+
     def saved(self, link):
         """The octets that a link of the page saves."""
         for it in self.downloads.iterdir():
@@ -104,11 +135,13 @@ class Page:
         time.sleep(0.12)
         self.click(f"#{link}")
         end = time.monotonic() + 20
+        # (a browser may begin with an empty file)
+        empty_until = time.monotonic() + 1
         last = None
         while time.monotonic() < end:
             found = [it for it in self.downloads.iterdir() if it.suffix not in (".part", ".crdownload") and not it.name.startswith(".")]
             octets = found[0].read_bytes() if len(found) == 1 else None
-            if octets is not None and octets == last and not any(it.suffix in (".part", ".crdownload") for it in self.downloads.iterdir()):
+            if octets is not None and octets == last and (octets or time.monotonic() > empty_until) and not any(it.suffix in (".part", ".crdownload") for it in self.downloads.iterdir()):
                 return octets
             last = octets
             time.sleep(0.03)
@@ -186,9 +219,13 @@ def try_replay(page):
         page.answers("report", report)
         page.same("departures", page.saved("save-departures"), departures)
     page.set("until", "")
+    page.set("summary", False)
     page.run()
-    page.same("a replay without an end", page.text("fault-text").split(":")[0], "bad value of --until")
-    page.same("what it wants", page.text("fault-text").endswith("a replay needs one."), True)
+    report, departures, _ = replayed()
+    page.answers("report of a replay without an end", report)
+    page.same("departures of a replay without an end", page.saved("save-departures"), departures)
+    frames = program("frames", "--capture", EXAMPLES / "machine.pcap", text=(EXAMPLES / "machine.script").read_bytes())[1]
+    page.same("frames of a replay without an end", page.saved("save-frames"), frames)
 
 
 def try_typing(page):
@@ -305,7 +342,10 @@ def try_gestures(page, text):
     left, top, width, height = page.do("const it = at('canvas').getBoundingClientRect(); return [it.left, it.top, it.width, it.height]")
     x = {share: left + 64 + (width - 96) * share for share in (0.2, 0.4, 0.5)}
     middle = top + height / 2
-    page.do(f"at('frame').dispatchEvent(new WheelEvent('wheel', {{ deltaY: -100, clientX: {x[0.5]}, clientY: {middle}, bubbles: true, cancelable: true }}))")
+    wheel = "const turned = (it) => at('frame').dispatchEvent(new WheelEvent('wheel', {{ deltaY: -100, clientX: {}, clientY: {}, bubbles: true, cancelable: true, ...it }}));".format(x[0.5], middle)
+    page.same("a wheel alone scrolls the page, and is told how to zoom", page.do(f"{wheel} return [turned({{}}), at('from').value, at('tip').innerText, /Ctrl and the wheel/.test(at('zoom-hint').textContent)]"),
+              [True, "", "Ctrl and the wheel zoom", True])
+    page.same("a wheel with Ctrl does not", page.do(f"{wheel} return turned({{ ctrlKey: true }})"), False)
     wait_for(page.browser, "return document.getElementById('from').value !== ''")
     gesture(page, "the wheel", (10, 90), text)
     page.browser.drag((x[0.4], middle), (x[0.2], middle))
@@ -342,7 +382,7 @@ def try_keys(page):
         at('frame').setPointerCapture = () => {{}}; send('pointerdown', 1, {x[0.4]}); send('pointerdown', 2, {x[0.6]}); send('pointermove', 1, {x[0.3]}); send('pointermove', 2, {x[0.7]});
         send('pointerup', 1, {x[0.3]}); send('pointerup', 2, {x[0.7]}); delete at('frame').setPointerCapture""")
     gesture(page, "two fingers", (25, 75), text)
-    page.do(f"for (let k = 0; k < 2; k += 1) at('frame').dispatchEvent(new WheelEvent('wheel', {{ deltaY: -50, clientX: {x[0.4] / 2 + x[0.6] / 2}, clientY: {top + height / 2}, bubbles: true, cancelable: true }}))")
+    page.do(f"for (let k = 0; k < 2; k += 1) at('frame').dispatchEvent(new WheelEvent('wheel', {{ deltaY: -50, ctrlKey: true, clientX: {x[0.4] / 2 + x[0.6] / 2}, clientY: {top + height / 2}, bubbles: true, cancelable: true }}))")
     gesture(page, "two turns of a wheel at once", (30, 70), text)
     page.do(f"at('frame').dispatchEvent(new WheelEvent('wheel', {{ deltaY: 22.3, ctrlKey: true, clientX: {x[0.4] / 2 + x[0.6] / 2}, clientY: {top + height / 2}, bubbles: true, cancelable: true }}))")
     gesture(page, "two fingers on a touchpad", (25, 75), text)
@@ -425,6 +465,111 @@ def try_frames(page):
     page.same("waits for ever", page.do("return document.querySelector('#canvas .l')?.textContent"), "1 waits ▸")
 
 
+def random_drops(chance):
+    """A script in which frames are dropped for each reason, and the room of its queues."""
+    kinds = " ".join(str(chance.randrange(4)) for _ in range(16))
+    lines = [f"tc qdisc replace dev eth0 root taprio num_tc 4 map {kinds} sched-entry S {chance.randrange(1, 16):x} {chance.randrange(20, 200)}000 sched-entry S 0f 60000"] * chance.randrange(2)
+    now = 0
+    for frame in range(chance.randrange(3, 60)):
+        if chance.random() < 0.3:
+            now += chance.randrange(1, 40_000_000)
+            lines.append(f"clock {now}")
+        lines.append(f"frame {frame} {chance.randrange(8)} {chance.choice((60, 600, 1514, 59, 9000))}")
+    return "\n".join(lines) + f"\nclock {now + chance.randrange(0, 300_000_000)}\n", str(chance.randrange(1, 5))
+
+
+def summed(answers):
+    """The summary's numbers of each class, as the page saves them."""
+    found = re.findall(rb"^summary class (\d) queued (\d+) sent (\d+) dropped (\d+) octets \d+ least (\S+) mean (\S+) greatest (\S+)", answers, re.M)
+    rows = [[kind, queued, sent, dropped, b"%d" % (int(queued) - int(sent)), *(b"" if it == b"-" else it for it in waits)] for kind, queued, sent, dropped, *waits in found]
+    return b"".join(b",".join(it) + b"\n" for it in reversed(rows))
+
+
+def try_drops(page):
+    """The numbers of classes against the program's summary, and the class of each frame against its table, for runs with drops."""
+    chance = random.Random(20)
+    page.choose("first.script")
+    page.do("at('frames-box').open = true")
+    for number in range(100):
+        text, room = random_drops(chance) if number else ("frame 1 7 600\n" * 14 + "clock 100000000\n", "2")
+        page.set("room", room)
+        page.set("text", text)
+        page.run()
+        table = program("frames", "--room", room, text=text.encode())[1].decode().splitlines()[1:]
+        page.same(f"numbers of {text!r}", page.do("return at('classes').hidden") or page.saved("save-table").partition(b"\n")[2], summed(program("script", "--summary", "--room", room, text=text.encode())[1]) or True)
+        rows = page.do("return [...document.querySelectorAll('#frames-table tbody tr')].map((it) => [...it.cells].map((cell) => cell.textContent))")
+        page.same(f"classes of {text!r}", sorted([*it[:3], it[7]] for it in rows), sorted([it[0], it[1] or "–", it[2], it[7]] for it in (row.split(",") for row in table)))
+    page.choose("first.script")
+    page.do("at('frames-box').open = false")
+
+
+TODAY = 1764403200 * 10**12 # a base time of our days, in picoseconds
+DATED = """tc qdisc replace dev eth0 root taprio num_tc 2 map 0 1 queues 1@0 1@1 base-time 1764403200000000000 \\
+  sched-entry S 01 300000 sched-entry S 02 300000
+frame 1 0 600
+clock 20000000
+frame 2 1 600
+clock 40000000
+"""
+
+
+def try_dates(page):
+    """A base time of our days: time counts from the frames, the verdict says that no schedule is in force, and the clock is set there."""
+    ticks = "return [...document.querySelectorAll('#canvas text.m')].map((it) => it.textContent)"
+    page.choose("first.script")
+    page.type(DATED)
+    page.same("the marks of time", page.do(f"{ticks}.slice(0, 2)"), ["0", "10 us"])
+    wanted = "2 frames sent, longest wait 0 (frame 1, class 0). No schedule is in force yet: it comes into force at 1764403200 s, 2025-11-29 08:00:00 if counted from 1970, and the run ends at 40 us. Until then every gate is open."
+    page.same("not in force", page.text("verdict"), wanted)
+    page.browser.shoot(SHOTS / f"{page.browser.name}-not-in-force.png")
+    page.click("#set-clock")
+    page.settle()
+    moved = DATED.replace("frame 1", f"clock {TODAY}\nframe 1").replace("clock 20000000", f"clock {TODAY + 20000000}").replace("clock 40000000", f"clock {TODAY + 40000000}")
+    page.same("the clock is set", page.do("return at('text').value"), moved)
+    page.answers("the clock is set", program("script", text=moved.encode())[1])
+    page.same("it is in force", ["No schedule is in force" in page.text("verdict"), page.do("return at('set-clock').checkVisibility()")], [False, False])
+    page.same("marks count from the change", page.do(f"{ticks}.filter((it) => /^(0|[0-9]+ us)$/.test(it)).length") >= 4, True)
+    page.same("bands of the eight classes before it, and of the one that is open", page.do("return document.querySelectorAll('#canvas rect.o').length"), 9)
+    page.browser.shoot(SHOTS / f"{page.browser.name}-in-force.png")
+    page.do("at('text').focus()")
+    page.browser.press("z", control=True)
+    wait_for(page.browser, f"return document.getElementById('text').value === {json.dumps(DATED)}")
+    page.settle()
+    octets = bytearray((EXAMPLES / "machine.pcap").read_bytes())
+    at = 24
+    while at < len(octets):
+        seconds = int.from_bytes(octets[at:at + 4], "little")
+        octets[at:at + 4] = (seconds + 1764403200).to_bytes(4, "little")
+        at += 16 + int.from_bytes(octets[at + 8:at + 12], "little")
+    page.choose("machine.pcap")
+    give(page, "dated.pcap", bytes(octets))
+    page.click("[data-step=whole]")
+    page.settle()
+    page.same("the whole of a replay", page.do(f"{ticks}.every((it) => /^-?(0|[0-9.]+ (us|ms))$/.test(it))"), True)
+    page.same("its frames are drawn apart", page.do("return document.querySelectorAll('#canvas rect.f').length") > 10, True)
+    page.browser.shoot(SHOTS / f"{page.browser.name}-dated-replay.png")
+
+
+def try_forgotten(page):
+    """The time that an example shows goes with its text, and the verdict of another run with a value that is refused."""
+    page.choose("schedule.script")
+    page.same("the example's time", page.do("return at('to').value !== ''"), True)
+    page.do("const it = at('text'); it.focus(); it.setSelectionRange(it.value.length, it.value.length)")
+    page.browser.type("clock 900000000\nframe 3 0 60\nclock 990000000\n")
+    page.browser.press("Enter", control=True)
+    page.settle()
+    page.same("another text is shown whole", page.do("return at('to').value"), "")
+    page.picture("a third frame", page.do("return at('text').value").encode())
+    page.same("the third frame is drawn", page.do("return [...document.querySelectorAll('#frames-table tbody tr')].length >= 0 && /^3 frames sent/.test(at('verdict').textContent)"), True)
+    page.set("until", "soon")
+    page.run()
+    page.same("a refused value", page.text("fault-text").split(":")[0], "bad value of --until")
+    page.same("no verdict of another run", [page.text("verdict"), page.do("return at('results').checkVisibility()")], ["", False])
+    page.set("until", "")
+    page.run()
+    page.same("and it is there again", [page.text("verdict")[:13], page.do("return at('results').checkVisibility()")], ["3 frames sent", True])
+
+
 # The middle of a part of the picture, where the pointer goes.
 OVER = """const over = (it, down = 0.5) => { const r = it.getBoundingClientRect();
     at('frame').dispatchEvent(new PointerEvent('pointermove', { clientX: (r.left + r.right) / 2, clientY: r.top + down * r.height, bubbles: true })); return at('tip').hidden ? '' : at('tip').innerText; };"""
@@ -447,7 +592,7 @@ def try_tips(page):
         range.setStart(text, begin); range.setEnd(text, begin + 7); const r = range.getBoundingClientRect(); getSelection().removeAllRanges();
         at('answers').dispatchEvent(new MouseEvent('click', { clientX: r.left + 20, clientY: (r.top + r.bottom) / 2, bubbles: true }))""")
     page.same("the frame of a line", page.do("return [at('tip').firstChild.textContent, !!document.querySelector('#canvas .ring')]"), ["Frame 2, class 0", True])
-    page.same("classes", page.saved("save-table").decode(), "class,frames,sent,left,least_ps,mean_ps,greatest_ps\n7,1,1,0,13336000,13336000,13336000\n0,1,1,0,0,0,0\n")
+    page.same("classes", page.saved("save-table").decode(), "class,queued,sent,dropped,left,least_ps,mean_ps,greatest_ps\n7,1,1,0,0,13336000,13336000,13336000\n0,1,1,0,0,0,0,0\n")
     page.choose("machine.pcap")
     page.same("marks of cycles", page.do("return document.querySelectorAll('#canvas path.y').length"), 6)
     page.choose("planned.streams")
@@ -534,6 +679,12 @@ def try_files(page):
     text = b"frame 7 3 100\nclock 5000000\n"
     give(page, "my.script", text)
     page.answers("a file", program("script", text=text)[1])
+    page.do("at('text').focus()")
+    page.browser.type("# more")
+    page.same("an input has the name of its file", page.kept()[0], "my.script")
+    page.do("at('text').focus()")
+    page.browser.press("a", control=True)
+    page.browser.type(text.decode())
     give(page, "my.pcapng", bytes.fromhex("0a0d0d0a1c000000"))
     page.same("pcapng", page.text("status"), "my.pcapng: this is a pcapng file. Make a classic one of it: editcap -F nsecpcap IN OUT")
     page.same("and the text stays", page.do("return at('text').value"), text.decode())
@@ -596,12 +747,13 @@ def at_size(page, width, height, dark=False):
 
 def try_screens(page):
     """That the first screen of each step shows its text, its verdict and its picture without scrolling."""
-    for width, height in ((1280, 900), (390, 844)):
+    for width, height in ((1366, 768), (1280, 900), (390, 844)):
         at_size(page, width, height)
         for name in page.do(STORY):
             page.choose(name)
             page.do("scrollTo(0, 0)")
-            seen = "const inside = (it) => { const r = it.getBoundingClientRect(); return r.height > 0 && r.top >= 0 && r.bottom <= innerHeight; };"
+            seen = "const inside = (it) => { const r = it.getBoundingClientRect(); return r.height > 0 && r.top >= 0 && r.bottom <= innerHeight && r.right <= innerWidth; };"
+            page.same(f"what the page is, at {width}", page.do(f"{seen} return inside(document.querySelector('header p'))"), True)
             page.same(f"first screen of {name} at {width}", page.do(f"{seen} return ['text', 'verdict', 'frame'].filter((it) => !inside(at(it)))"), [])
         page.choose("schedule.script")
         page.browser.shoot(SHOTS / f"{page.browser.name}-first-{width}.png")
@@ -672,7 +824,7 @@ def try_marks(page):
     under = "const bar = document.querySelector('#canvas rect.f'); return [...document.querySelectorAll('#canvas path.w, #canvas path.c')].filter((it) => !it.getAttribute('d').includes('v') && bar.compareDocumentPosition(it) & 4).length"
     page.same("waits and changes on bars", page.do(under), 0)
     page.do("const r = document.querySelector('#canvas path.d:not(.h)').getBoundingClientRect(); at('frame').dispatchEvent(new PointerEvent('pointermove', { clientX: r.left + 4, clientY: r.top + 4, bubbles: true }))")
-    page.same("tip of a cross", page.do("return at('tip').innerText").split("\n")[::2], ["Frame 3", "dropped: Full"])
+    page.same("tip of a cross", page.do("return at('tip').innerText").split("\n")[::2], ["Frame 3, class 1", "dropped: Full"])
     dark = page.do("return matchMedia('(prefers-color-scheme: dark)').matches")
     page.browser.shoot(SHOTS / f"{page.browser.name}-dropped{'-dark' if dark else ''}.png")
 
@@ -680,8 +832,7 @@ def try_marks(page):
 def try_tabs(page):
     """Each tab shows an example of its own; one's own text goes along where it can, and is there again where it can't."""
     tab = "document.querySelector('input[name=job][value={}]').click()"
-    page.do("sessionStorage.clear()")
-    page.open("")
+    page.forget()
     for name, example in (("bounds", "drive.bounds"), ("check", "windows.schedules"), ("streams", "planned.streams"), ("replay", "machine.pcap"), ("script", "first.script")):
         page.do(tab.format(name))
         page.settle()
@@ -701,6 +852,120 @@ def try_tabs(page):
     page.click("#back")
     page.settle()
     page.same("one's own before the first example", page.do("return at('text').value"), text)
+
+
+LINE = "frame {} 0 60\nclock {}\n"
+
+
+def long_text(length):
+    """A script of about so many characters."""
+    lines = []
+    size = 0
+    while size < length:
+        lines.append(LINE.format(len(lines), 10**6 * len(lines)))
+        size += len(lines[-1])
+    return "".join(lines)
+
+
+def try_kept(page):
+    """One's own text outlives an edit of a link, an example, a key in it, a reload and a closed tab; Ctrl+Z goes across an example."""
+    shown = "return at('text').value"
+    page.forget()
+    page.same("nothing is kept at first", page.do("return at('inputs').hidden"), True)
+    page.open(f"#text={packed('frame 1 0 60')}")
+    page.same("a link is opened", page.do(shown), "frame 1 0 60")
+    page.do("at('text').focus()")
+    page.browser.type("# mine\n")
+    edited = page.do(shown)
+    page.reload()
+    page.same("an edit of a link", page.do(shown), edited)
+    page.same("its name", page.kept(), [edited.partition("\n")[0].lstrip("# ")])
+    page.click("#link")
+    wait_for(page.browser, "return location.hash.includes('text=')")
+    page.reload()
+    page.do("at('text').focus(); at('text').setSelectionRange(0, 0)")
+    page.browser.type("# again\n")
+    page.reload()
+    page.same("an edit of a link that was made", page.do(shown), f"# again\n{edited}")
+    page.same("of one input", page.kept(), ["again"])
+    page.choose("priorities.script")
+    example = page.do(shown)
+    page.do("at('text').focus()")
+    page.browser.press("z", control=True)
+    wait_for(page.browser, f"return document.getElementById('text').value === {json.dumps(f'# again{chr(10)}{edited}')}")
+    page.same("undone across an example", page.do("return at('example').value"), "own")
+    page.settle()
+    page.browser.press("y", control=True)
+    wait_for(page.browser, f"return document.getElementById('text').value === {json.dumps(example)}")
+    page.settle()
+    page.do("at('text').focus(); at('text').setSelectionRange(0, 0)")
+    page.browser.type("# key\n")
+    page.reload()
+    page.same("a key in an example", page.do(shown), f"# key\n{example}")
+    page.same("takes the place of no input", page.kept(), ["key", "again"])
+    page.do("at('inputs').open = true; document.querySelectorAll('#inputs-list button')[2].click()")
+    wait_for(page.browser, f"return document.getElementById('text').value === {json.dumps(f'# again{chr(10)}{edited}')}")
+    page.settle()
+    page.do("const it = document.querySelector('#inputs-list input'); it.value = 'my ring'; it.dispatchEvent(new Event('change'))")
+    page.kept()
+    page.do("sessionStorage.clear(); addEventListener('pagehide', () => sessionStorage.clear())")
+    page.open("")
+    page.same("after a closed tab", page.do(shown) in (f"# again\n{edited}", f"# key\n{example}"), True)
+    page.same("with a name", "my ring" in page.kept(), True)
+    for number in range(12):
+        page.paste(f"# number {number}\nframe 1 0 60\n")
+        page.same(f"paste {number}", page.do(shown), f"# number {number}\nframe 1 0 60\n")
+        page.kept()
+    page.same("the last ten", page.kept(), [f"number {it}" for it in range(11, 1, -1)])
+    page.do("document.querySelectorAll('#inputs-list button')[1].click()")
+    wait_for(page.browser, "return document.querySelectorAll('#inputs-list li').length === 9")
+    page.do("indexedDB.open = () => { throw new Error('no room') }; IDBDatabase.prototype.transaction = () => { throw new Error('no room') }")
+    page.do("at('text').focus()")
+    page.browser.type("# lost\n")
+    wait_for(page.browser, "return !document.getElementById('kept').hidden")
+    page.same("what is not kept", page.text("kept-text"), "Not kept for later: this browser keeps nothing for this page (no room).")
+    page.open("")
+    page.forget()
+
+
+def try_long(page):
+    """A long text is pasted without a pause, undone, kept over a reload, cleared and replaced."""
+    value = "return at('text').value"
+    page.choose("schedule.script")
+    before = page.do(value)
+    for length in (175_000, 1_200_000):
+        text = long_text(length)
+        plain = page.do(f"""const it = document.createElement('textarea'); it.wrap = 'off'; document.body.append(it); const begun = performance.now();
+            it.value = {json.dumps(text[:300_000])}; it.scrollTop; it.remove(); return (performance.now() - begun) / 1000""")
+        seconds = page.paste(text)
+        page.same(f"paste of {length} characters: {seconds:.1f} s, a plain area {plain:.1f} s", seconds < 3 + 4 * plain, True)
+        page.run()
+        page.same("all of it is there", page.text("status")[:5], "Done:")
+        page.answers(f"{length} characters", program("script", text=text.encode())[1])
+        page.same("named", page.kept()[0], "frame 0 0 60")
+        if length < 300_000:
+            page.do("at('text').focus()")
+            page.browser.press("z", control=True)
+            wait_for(page.browser, f"return document.getElementById('text').value === {json.dumps(before)}")
+            page.settle()
+    page.reload()
+    page.answers("1,200,000 characters after a reload", program("script", text=text.encode())[1])
+    page.same("held", page.do("return at('text').readOnly"), True)
+    page.do("at('text').focus()")
+    page.browser.press("a", control=True)
+    page.browser.press("Delete")
+    page.same("deleted", page.do("return [at('text').value, at('text').readOnly]"), ["", False])
+    page.paste(text)
+    page.same("held again", page.do("return at('text').readOnly"), True)
+    page.paste("frame 1 0 60\n")
+    page.same("replaced", page.do("return [at('text').value, at('text').readOnly]"), ["frame 1 0 60\n", False])
+    page.paste(text)
+    kept = page.kept()
+    page.click(".held button")
+    page.same("cleared", page.do("return [at('text').value, at('text').readOnly]"), ["", False])
+    page.browser.type("frame 5 0 60\n")
+    page.same("what was cleared is kept", page.kept(), ["frame 5 0 60", *kept][:10])
+    page.forget()
 
 
 def try_link(page):
@@ -828,8 +1093,8 @@ def try_looks(page):
     shoot(page, "replay")
 
 
-TRIES = [try_examples, try_replay, try_typing, try_options, try_worked, try_faults, try_refused, try_zoom, try_keys, try_micros, try_moments, try_frames, try_tips, try_marks, try_pictures, try_bounds,
-         try_story, try_tabs, try_files, try_stale, try_link, try_stop, try_access, try_screens, try_sizes, try_looks]
+TRIES = [try_examples, try_replay, try_typing, try_options, try_worked, try_faults, try_refused, try_zoom, try_keys, try_micros, try_moments, try_frames, try_drops, try_tips, try_marks, try_pictures, try_bounds,
+         try_story, try_tabs, try_kept, try_long, try_files, try_forgotten, try_dates, try_stale, try_link, try_stop, try_access, try_screens, try_sizes, try_looks]
 
 
 def try_page(kind, address, server):

@@ -4,7 +4,10 @@ import { clamped, lengthOf, momentIn, stepped, zoomed } from "./picture.js";
 const MOVED = 4; // pixels after which a press is a drag
 const LINE = 33; // pixels of a wheel that counts in lines
 const TURN = 0.00223; // how much a pixel of a wheel zooms: a hundred of them by 1.25
-const PINCHED = 0.01; // and one of two fingers on a touchpad, which come as a wheel with Ctrl
+const PINCHED = 0.01; // and one of two fingers on a touchpad, which come as a wheel with Ctrl, a few pixels at once
+const NOTCH = 50; // pixels of the least turn of a wheel
+const ZOOM_HINT = "Ctrl and the wheel zoom"; // what a wheel alone, which scrolls the page, is told
+const HINT_TIME = 1500; // milliseconds that it is told
 
 /** What moves a picture in a box. Times that are wanted go to `want`, a frame that is chosen to `choose`. */
 export class Viewer {
@@ -87,16 +90,27 @@ export class Viewer {
 
   #wheel(event) {
     if (!this.#hasTime()) return;
+    const zooms = event.ctrlKey || event.metaKey;
+    if (!zooms && !event.shiftKey && Math.abs(event.deltaX) <= Math.abs(event.deltaY)) {
+      this.#hintAt(this.#place(event));
+      return;
+    }
     event.preventDefault();
     const scale = event.deltaMode === WheelEvent.DOM_DELTA_LINE ? LINE : 1;
     const [across, down] = [event.deltaX * scale, event.deltaY * scale];
     const base = this.#base();
-    if (event.shiftKey || Math.abs(across) > Math.abs(down)) {
+    if (!zooms) {
       this.#shift(lengthOf(base, across || down));
       return;
     }
-    const factor = Math.exp(down * (event.ctrlKey ? PINCHED : TURN));
+    const factor = Math.exp(down * (Math.abs(down) < NOTCH ? PINCHED : TURN));
     this.#want(zoomed(base, momentIn(base, this.#place(event).x), Math.min(2, Math.max(0.5, factor))));
+  }
+
+  #hintAt({ x, y }) {
+    this.#showTip([ZOOM_HINT], x, y);
+    clearTimeout(this.hiding);
+    this.hiding = setTimeout(() => this.#hide(), HINT_TIME);
   }
 
   #shift(length) {
@@ -185,7 +199,12 @@ export class Viewer {
   }
 
   #tell(found, x, y) {
-    this.tip.replaceChildren(...this.calls.tell(found));
+    clearTimeout(this.hiding);
+    this.#showTip(this.calls.tell(found), x, y);
+  }
+
+  #showTip(parts, x, y) {
+    this.tip.replaceChildren(...parts);
     this.tip.hidden = false;
     const scale = this.#scale();
     const room = this.box.clientWidth - this.tip.offsetWidth - 8;

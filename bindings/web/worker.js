@@ -1,7 +1,7 @@
 // The worker: does one job after the other, away from the page.
 import { readMoments, run } from "./taprio.js";
 import { changesOf, readScript } from "./script.js";
-import { framesOf } from "./frames.js";
+import { byClass, droppedIn, framesOf } from "./frames.js";
 import { INSTEAD } from "./support.js";
 
 let module = null;
@@ -17,10 +17,18 @@ async function answer({ octets, request }) {
   return { told: { ...told, time: performance.now() - begun } };
 }
 
-// What a script and its answers come to, frame by frame.
-function fatesIn({ script, answers }) {
+// What the port answers to a script, in a job.
+function answersTo(script, job, values) {
+  const { output } = run(module, { job, input: new TextEncoder().encode(script), beside: new Uint8Array(), values });
+  return new TextDecoder().decode(output);
+}
+
+// What a script and its answers come to, frame by frame and by class.
+function fatesIn({ script, answers, values }) {
   const { arrivals, commands, first, last } = readScript(script);
-  return { frames: framesOf(arrivals, answers), changes: changesOf(commands, answers), first, last };
+  const dropped = /^dropped /m.test(answers) ? droppedIn(answersTo(script, "frames", values)) : [];
+  const classes = byClass(answersTo(script, "script", { ...values, summary: true }));
+  return { frames: framesOf(arrivals, answers, dropped), classes, changes: changesOf(commands, answers), first, last };
 }
 
 // What is done beside the program's jobs.
