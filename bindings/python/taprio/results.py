@@ -243,7 +243,7 @@ class Run:
 
     def _told(self, words: tuple[str, ...]) -> list[Answer]:
         """The answers whose lines begin so."""
-        return [_answer(line, number) for number, line in enumerate(self.text.splitlines(), 1) if line.startswith(words)]
+        return [_answer(line, number) for number, line in enumerate(self.text.split("\n"), 1) if line.startswith(words)]
 
     @functools.cached_property
     def summary(self) -> dict[int, ClassSummary]:
@@ -532,18 +532,16 @@ def _made(kind: type[_Kind], values: dict[str, Any]) -> _Kind:
 
 def _answers(text: str) -> tuple[Answer, ...]:
     """The answers of a text."""
-    lines = text.splitlines()
+    lines = text.removesuffix("\n").split("\n") if text else []
     found: list[Answer] = []
     at = 0
     while at < len(lines):
-        line = lines[at]
-        words = line.split(" ")
-        if words[0] == "report":
+        if lines[at].startswith("report "):
             found.append(_report(lines[at : at + len(_REPORT)], at + 1))
             at += len(_REPORT)
-            continue
-        at += 1
-        found.append(_answer(line, at))
+        else:
+            found.append(_answer(lines[at], at + 1))
+            at += 1
     return tuple(found)
 
 
@@ -593,7 +591,8 @@ def read_run(answers: Octets, script: Octets | None = None) -> Run:
 
 def of_answers(answers: Octets, script: Octets | None = None) -> Run:
     """The same for answers that a run has just given: they are read when they are asked for."""
-    return Run(octets(answers).decode("utf-8", "replace"), None if script is None else octets(script))
+    text = octets(answers).decode("utf-8", "replace").replace("\r\n", "\n")
+    return Run(text, None if script is None else octets(script))
 
 
 def _frames(text: str, arrivals: list[tuple[int, int, int, int]] | None) -> tuple[Frame, ...]:
