@@ -7,10 +7,11 @@ from __future__ import annotations
 
 import dataclasses
 import functools
+import itertools
 import re
 from collections import deque
-from collections.abc import Callable, Iterable, Sequence
-from typing import Any, TypeVar, Union
+from collections.abc import Callable, Iterable, Iterator, Sequence
+from typing import Any, TypeVar, Union, overload
 
 from .faults import BadAnswer
 from .library import Octets, octets
@@ -29,6 +30,7 @@ __all__ = [
     "Counted",
     "Dropped",
     "Frame",
+    "Frames",
     "Installed",
     "Left",
     "Queued",
@@ -216,7 +218,7 @@ class Frame:
 
 def rows(items: Iterable[Any]) -> list[dict[str, Any]]:
     """A dict of each object of this module, by the names of its attributes."""
-    return [{field.name: getattr(it, field.name) for field in dataclasses.fields(it)} for it in items]
+    return [dict(vars(it)) for it in items]
 
 
 @dataclasses.dataclass(frozen=True, repr=False)
@@ -646,7 +648,41 @@ _TABLES = {
 }
 
 
-def read_frames(table: Octets) -> tuple[Frame, ...]:
+class Frames(Sequence[Frame]):
+    """The frames of a table, which are read here as a tuple has them. Each is made where it is asked for, so many of them take little time
+    and memory: `list(frames)` keeps them."""
+
+    def __init__(self, table: list[tuple[str, ...]]) -> None:
+        self._table = table
+
+    def __len__(self) -> int:
+        return len(self._table)
+
+    @overload
+    def __getitem__(self, at: int) -> Frame: ...
+
+    @overload
+    def __getitem__(self, at: slice) -> Frames: ...
+
+    def __getitem__(self, at: int | slice) -> Frame | Frames:
+        return Frames(self._table[at]) if isinstance(at, slice) else _frame(*self._table[at])
+
+    def __iter__(self) -> Iterator[Frame]:
+        return itertools.starmap(_frame, self._table)
+
+    def __eq__(self, other: object) -> bool:
+        if not isinstance(other, (Frames, tuple)):
+            return NotImplemented
+        return len(self) == len(other) and all(one == it for one, it in zip(self, other))
+
+    def __hash__(self) -> int:
+        return hash(tuple(self))
+
+    def __repr__(self) -> str:
+        return repr(tuple(self))
+
+
+def read_frames(table: Octets) -> Frames:
     """The frames of a table that `frames` writes, in its order: a dropped frame stands where it came, one that was sent where it started, and
     those that are left at the end. A text that is no such table raises `BadAnswer`."""
     head, _, text = octets(table).decode("utf-8", "replace").replace("\r\n", "\n").partition("\n")
@@ -658,7 +694,7 @@ def read_frames(table: Octets) -> tuple[Frame, ...]:
     if len(found) != lines:
         number, line = next((number, line) for number, line in enumerate(text.split("\n"), 2) if not row.fullmatch(line))
         raise BadAnswer(f"line {number}: expected a row of a table of frames, found {line[:60]!r}", number)
-    return tuple([_frame(*it) for it in found])
+    return Frames(found)
 
 
 def _frame(

@@ -248,6 +248,16 @@ class Frames(unittest.TestCase):
         table = "id,class,len,arrival_ps,start_ps,end_ps,wait_ps,fate\n2,0,13,0,,,,Runt\n1,0,60,0,0,672000,0,sent\n"
         self.assertEqual(results.read_frames(table.replace("\n", "\r\n")), results.read_frames(table))
         self.assertEqual(results.read_frames(table.removesuffix("\n")), results.read_frames(table))
+        read = results.read_frames(table)
+        self.assertEqual((len(read), read[1], read[-2], read[1:], read[:0]), (2, list(read)[1], list(read)[0], tuple(read)[1:], ()))
+        self.assertEqual((read, hash(read), repr(read)), (tuple(read), hash(tuple(read)), repr(tuple(read))))
+        self.assertNotEqual(read, tuple(read)[1:])
+        self.assertNotEqual(read, list(read))
+        self.assertEqual(pickle.loads(pickle.dumps(read)), read)
+        self.assertEqual([it["dropped"] for it in results.rows(read)], ["Runt", None])
+        self.assertEqual(list(results.rows(read)[0]), [it.name for it in dataclasses.fields(results.Frame)])
+        with self.assertRaises(IndexError):
+            read[2]
         self.assertEqual(pickle.loads(pickle.dumps(found)), found)
         self.assertEqual(dataclasses.replace(found.frames[0], id=1), found.frames[0])
         self.assertEqual(results.read_run(""), results.Run(""))
