@@ -7,10 +7,11 @@ from __future__ import annotations
 
 import dataclasses
 import functools
+import itertools
 import re
 from collections import deque
-from collections.abc import Callable, Iterable, Sequence
-from typing import Any, TypeVar, Union
+from collections.abc import Callable, Iterable, Iterator, Sequence
+from typing import Any, TypeVar, Union, overload
 
 from .faults import BadAnswer
 from .library import Octets, octets
@@ -29,6 +30,7 @@ __all__ = [
     "Counted",
     "Dropped",
     "Frame",
+    "Frames",
     "Installed",
     "Left",
     "Queued",
@@ -216,7 +218,7 @@ class Frame:
 
 def rows(items: Iterable[Any]) -> list[dict[str, Any]]:
     """A dict of each object of this module, by the names of its attributes."""
-    return [{field.name: getattr(it, field.name) for field in dataclasses.fields(it)} for it in items]
+    return [dict(vars(it)) for it in items]
 
 
 @dataclasses.dataclass(frozen=True, repr=False)
@@ -243,7 +245,7 @@ class Run:
 
     def _told(self, words: tuple[str, ...]) -> list[Answer]:
         """The answers whose lines begin so."""
-        return [_answer(line, number) for number, line in enumerate(self.text.splitlines(), 1) if line.startswith(words)]
+        return [_answer(line, number) for number, line in enumerate(self.text.split("\n"), 1) if line.startswith(words)]
 
     @functools.cached_property
     def summary(self) -> dict[int, ClassSummary]:
@@ -532,18 +534,16 @@ def _made(kind: type[_Kind], values: dict[str, Any]) -> _Kind:
 
 def _answers(text: str) -> tuple[Answer, ...]:
     """The answers of a text."""
-    lines = text.splitlines()
+    lines = text.removesuffix("\n").split("\n") if text else []
     found: list[Answer] = []
     at = 0
     while at < len(lines):
-        line = lines[at]
-        words = line.split(" ")
-        if words[0] == "report":
+        if lines[at].startswith("report "):
             found.append(_report(lines[at : at + len(_REPORT)], at + 1))
             at += len(_REPORT)
-            continue
-        at += 1
-        found.append(_answer(line, at))
+        else:
+            found.append(_answer(lines[at], at + 1))
+            at += 1
     return tuple(found)
 
 
@@ -593,7 +593,8 @@ def read_run(answers: Octets, script: Octets | None = None) -> Run:
 
 def of_answers(answers: Octets, script: Octets | None = None) -> Run:
     """The same for answers that a run has just given: they are read when they are asked for."""
-    return Run(octets(answers).decode("utf-8", "replace"), None if script is None else octets(script))
+    text = octets(answers).decode("utf-8", "replace").replace("\r\n", "\n")
+    return Run(text, None if script is None else octets(script))
 
 
 def _frames(text: str, arrivals: list[tuple[int, int, int, int]] | None) -> tuple[Frame, ...]:
@@ -647,7 +648,41 @@ _TABLES = {
 }
 
 
-def read_frames(table: Octets) -> tuple[Frame, ...]:
+class Frames(Sequence[Frame]):
+    """The frames of a table, which are read here as a tuple has them. Each is made where it is asked for, so many of them take little time
+    and memory: `list(frames)` keeps them."""
+
+    def __init__(self, table: list[tuple[str, ...]]) -> None:
+        self._table = table
+
+    def __len__(self) -> int:
+        return len(self._table)
+
+    @overload
+    def __getitem__(self, at: int) -> Frame: ...
+
+    @overload
+    def __getitem__(self, at: slice) -> Frames: ...
+
+    def __getitem__(self, at: int | slice) -> Frame | Frames:
+        return Frames(self._table[at]) if isinstance(at, slice) else _frame(*self._table[at])
+
+    def __iter__(self) -> Iterator[Frame]:
+        return itertools.starmap(_frame, self._table)
+
+    def __eq__(self, other: object) -> bool:
+        if not isinstance(other, (Frames, tuple)):
+            return NotImplemented
+        return len(self) == len(other) and all(one == it for one, it in zip(self, other))
+
+    def __hash__(self) -> int:
+        return hash(tuple(self))
+
+    def __repr__(self) -> str:
+        return repr(tuple(self))
+
+
+def read_frames(table: Octets) -> Frames:
     """The frames of a table that `frames` writes, in its order: a dropped frame stands where it came, one that was sent where it started, and
     those that are left at the end. A text that is no such table raises `BadAnswer`."""
     head, _, text = octets(table).decode("utf-8", "replace").replace("\r\n", "\n").partition("\n")
@@ -659,7 +694,7 @@ def read_frames(table: Octets) -> tuple[Frame, ...]:
     if len(found) != lines:
         number, line = next((number, line) for number, line in enumerate(text.split("\n"), 2) if not row.fullmatch(line))
         raise BadAnswer(f"line {number}: expected a row of a table of frames, found {line[:60]!r}", number)
-    return tuple([_frame(*it) for it in found])
+    return Frames(found)
 
 
 def _frame(

@@ -10,7 +10,7 @@ from .faults import BadValue, index
 from .jobs import lines
 from .library import Octets, octets
 from .program import Chosen, backend
-from .results import Bounds, Frame, Run, of_answers, read_bounds, read_frames
+from .results import Bounds, Frames, Run, of_answers, read_bounds, read_frames
 from .schedules import Schedule
 
 __all__ = ["Stream", "bounds", "frames", "run_streams", "table"]
@@ -123,7 +123,7 @@ def frames(
     streams: Union[Iterable[Stream], Octets, None] = None,
     capture: Octets | None = None,
     port: Chosen = None,
-) -> tuple[Frame, ...]:
+) -> Frames:
     """The frames of a script, each with its class, its length, when it came, started and ended, and how long it waited; or why it was
     dropped. One that is left has no start. `pandas.DataFrame(taprio.results.rows(frames))` makes a table of them.
 

@@ -3,6 +3,7 @@
 import dataclasses
 import importlib.util
 import pathlib
+import pickle
 import random
 import subprocess
 import sys
@@ -234,6 +235,32 @@ class Checks(unittest.TestCase):
 
 class Frames(unittest.TestCase):
     """A table of frames holds what a run's answers tell of each frame, and reads so."""
+
+    def test_ends_of_lines(self):
+        """A text whose lines end as those of Windows is the same run and the same table."""
+        script = "frame 1 0 60\nframe 2 0 13\nclock 1000000\n"
+        answers = "queued 1 class 0\ndropped 2 Runt\nstart 1 class 0 at 0 end 672000\n"
+        found = results.read_run(answers, script)
+        self.assertEqual([(it.id, it.start, it.dropped) for it in found.frames], [(1, 0, None), (2, None, "Runt")])
+        self.assertEqual(results.read_run(answers.replace("\n", "\r\n"), script.replace("\n", "\r\n")).frames, found.frames)
+        self.assertEqual(results.read_run(answers, script.replace("frame 1 0 60", "frame  1\t0 \\\n 60  tagged")).frames, found.frames)
+        self.assertEqual(results.read_run(answers.removesuffix("\n"), script).frames, found.frames)
+        table = "id,class,len,arrival_ps,start_ps,end_ps,wait_ps,fate\n2,0,13,0,,,,Runt\n1,0,60,0,0,672000,0,sent\n"
+        self.assertEqual(results.read_frames(table.replace("\n", "\r\n")), results.read_frames(table))
+        self.assertEqual(results.read_frames(table.removesuffix("\n")), results.read_frames(table))
+        read = results.read_frames(table)
+        self.assertEqual((len(read), read[1], read[-2], read[1:], read[:0]), (2, list(read)[1], list(read)[0], tuple(read)[1:], ()))
+        self.assertEqual((read, hash(read), repr(read)), (tuple(read), hash(tuple(read)), repr(tuple(read))))
+        self.assertNotEqual(read, tuple(read)[1:])
+        self.assertNotEqual(read, list(read))
+        self.assertEqual(pickle.loads(pickle.dumps(read)), read)
+        self.assertEqual([it["dropped"] for it in results.rows(read)], ["Runt", None])
+        self.assertEqual(list(results.rows(read)[0]), [it.name for it in dataclasses.fields(results.Frame)])
+        with self.assertRaises(IndexError):
+            read[2]
+        self.assertEqual(pickle.loads(pickle.dumps(found)), found)
+        self.assertEqual(dataclasses.replace(found.frames[0], id=1), found.frames[0])
+        self.assertEqual(results.read_run(""), results.Run(""))
 
     @support.wants_frames
     def test_a_script(self):
