@@ -375,7 +375,7 @@ def _shown_sizes(device: str, one: Schedule, other: Schedule | None, classes: in
     sizes = list(one.max_sdu or ())
     if any(sizes[classes:]):
         beyond = [number for number, size in enumerate(sizes) if size and number >= classes]
-        text = f"max-sdu of class {', '.join(map(str, beyond))} is left out: tc shows those of {classes} classes"
+        text = f"max-sdu of class {', '.join(map(str, beyond))} is left out: tc shows those of {classes} class{'es' if classes > 1 else ''}"
         warnings.warn(f"{device}: {text if classes else 'max-sdu is left out: tc shows none where there is no map'}", LeftOut, stacklevel=4)
     return (sizes + [0] * classes)[:classes] if one.max_sdu is not None else []
 
