@@ -2,7 +2,7 @@
 import { GREATEST } from "./moments.js";
 import { linesOf } from "./script.js";
 
-const FAR = 1_000_000_000_000n; // picoseconds: what is as far from the frames is not told beside them
+const FAR = 1_000_000_000_000n; // a second, in picoseconds: what is as far before the frames is not told beside them
 
 /** The last moment of a run: that of its last line, that to which it goes on, or the end of its last frame. */
 export const endOfRun = ({ until, last, frames }) => frames.reduce((most, { end }) => (end !== null && end > most ? end : most), until !== null && until > last ? until : last);
@@ -49,8 +49,13 @@ export function notYet(run) {
   return run.changes.length && run.changes.every((it) => it.change > end) ? run.changes.at(-1).change : null;
 }
 
-/** A moment as a date, where it is one of our days. */
-export const dateOf = (moment) => (moment < 1000n * 1_000_000n * FAR ? "" : new Date(Number(moment / 1_000_000_000n)).toISOString().replace(/\.000Z$/, "").replace("T", " "));
+const FIRST_DATE = 1_000_000_000n * FAR; // in 2001; the greatest moment is in 2262
+
+/** A moment as a date, where it is one of our days; else nothing. */
+export function dateOf(moment) {
+  if (moment < FIRST_DATE) return "";
+  return new Date(Number(moment / 1_000_000_000n)).toISOString().replace(/\.000Z$/, "").replace("T", " ");
+}
 
 /**
  * A script whose clock is set to a moment behind its last schedule command: what comes after that is as much later as the clock is.

@@ -535,6 +535,8 @@ def try_dates(page):
     page.browser.press("z", control=True)
     wait_for(page.browser, f"return document.getElementById('text').value === {json.dumps(DATED)}")
     page.settle()
+    page.type("tc qdisc replace dev eth0 root taprio num_tc 1 map 0 base-time 9000000000000000000 sched-entry S 01 300000\nframe 1 0 60\nclock 20000000\n")
+    page.same("a late date", page.text("verdict").partition("yet: ")[2].partition(", and")[0], "it comes into force at 9000000000 s, 2255-03-14 16:00:00 if counted from 1970")
     octets = bytearray((EXAMPLES / "machine.pcap").read_bytes())
     at = 24
     while at < len(octets):
@@ -919,6 +921,13 @@ def try_kept(page):
     page.same("the last ten", page.kept(), [f"number {it}" for it in range(11, 1, -1)])
     page.do("document.querySelectorAll('#inputs-list button')[1].click()")
     wait_for(page.browser, "return document.querySelectorAll('#inputs-list li').length === 9")
+    page.paste("# two\nframe 1 0 60\n")
+    page.kept()
+    page.do("""indexedDB.open('taprio').onsuccess = ({ target: { result: database } }) => { const list = database.transaction('list', 'readwrite').objectStore('list');
+        list.openCursor(null, 'prev').onsuccess = ({ target: { result: it } }) => { it.update({ ...it.value, stamp: 'of another window' }); database.close(); }; }""")
+    time.sleep(0.3)
+    page.browser.type("# x\n")
+    page.same("two windows do not overwrite each other", page.kept()[:2], ["two", "two"])
     page.do("indexedDB.open = () => { throw new Error('no room') }; IDBDatabase.prototype.transaction = () => { throw new Error('no room') }")
     page.do("at('text').focus()")
     page.browser.type("# lost\n")
