@@ -15,3 +15,4 @@ pub mod TakenLaws
 pub mod WrittenLaws
 pub mod WalkSteps
 pub mod ReportLaws
+pub mod AlertLaws

@@ -9,6 +9,7 @@ pub mod Told
 pub mod ToldLines
 pub mod ToldLaws
 pub mod Walked
+pub mod Alerts
 pub mod Separated
 pub mod Texts
 pub mod Kinds

@@ -1,6 +1,7 @@
 //! What a port answers to the lines of a script, written as it comes.
 
 ghost use Rattle.std.specs.Prelude.{ℕ, List, Option, Result, ◌≡◌, ◌<◌, ◌≤◌, length, OnOk};
+ghost use Rattle.script.specs.Alerts.{Alerting, alerts_from, left_alert};
 ghost use Rattle.script.specs.Words.{queue_of, IsSoundPort, Command, Writes, HasFewVisits, IsAnswered, Asks, tc_request, left_lines, left_text, IsReader, TcFault, greatest_moment, words_of, Observed};
 ghost use Rattle.abstract_port.specs.declared.Event.TheVariants as Events;
 
@@ -221,7 +222,8 @@ fn put_left_in<A: Allocator, W: Write, H: Watch>(
     watch: &mut H,
 ) -> Result<(), WriteFault>
     requires { class < CLASSES }
-    ensures { Writes result (W.contents writer.old) (W.contents writer.new) (left_text class (length (queue_of port.now.port class))) }
+    ensures text { Writes result (W.contents writer.old) (W.contents writer.new) (left_text class (length (queue_of port.now.port class))) }
+    ensures alerts { H.alerted (left_alert class (length (queue_of port.now.port class))) watch.old watch.new }
 {
     let waiting = port.counters(class).waiting;
     if waiting == 0 {
@@ -238,7 +240,8 @@ pub(crate) fn put_all_left<A: Allocator, W: Write, H: Watch>(
     writer: &mut W,
     watch: &mut H,
 ) -> Result<(), WriteFault>
-    ensures { Writes result (W.contents writer.old) (W.contents writer.new) (left_lines port.now.port) }
+    ensures text { Writes result (W.contents writer.old) (W.contents writer.new) (left_lines port.now.port) }
+    ensures alerts { Alerting H.alerted (alerts_from 8 0 port.now.port) result watch.old watch.new }
 {
     for class in 0..CLASSES as u8 {
         put_left_in(port, class, writer, watch)?;

@@ -2,6 +2,7 @@
 
 ghost use Rattle.std.specs.Prelude.{◌≡◌, ◌≤◌, IfErr};
 ghost use Rattle.octet_writer.specs.Buffered.{writer_contents};
+ghost use Rattle.script.specs.Alerts.{IsWatchedEnding};
 ghost use Rattle.script.specs.Words.{greatest_moment, octets_of, words_of_values, IsEnding, IsRefusal, settings_given, settings_or_usual, whole_script};
 
 use crate::faults::say_value;
@@ -90,6 +91,7 @@ pub fn answer_script<A: Allocator, B: Allocator, R: Read, W: Write + Drop, E: Er
 ) -> (Ended, W)
     ensures ending { IsEnding whole_script (settings_given greatest_moment (words_of_values values.entry))
         (R.remaining reader.old) result.0 (writer_contents W.contents answers) (W.contents result.1) (E.contents errors.old) (E.contents errors.new) }
+    ensures watched { IsWatchedEnding H.alerted (settings_given greatest_moment (words_of_values values.entry)) (R.remaining reader.old) result.0 watch.old watch.new }
     ensures unread { IfErr (settings_given greatest_moment (words_of_values values.entry)) (λ _. reader.new ≡ reader.old) }
 {
     match settings_given(values, MAX_MOMENT) {

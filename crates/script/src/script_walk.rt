@@ -4,7 +4,8 @@ ghost use Rattle.std.specs.Prelude.{ℕ, List, Result, [], ◌≡◌, ◌<◌, �
 ghost use Rattle.abstract_port.specs.Answers.{port_after};
 ghost use Rattle.abstract_port.specs.declared.Event.TheVariants as Events;
 ghost use Rattle.line_reader.specs.LineReader.{current_line, current_number};
-ghost use Rattle.script.specs.Told.{Tells};
+ghost use Rattle.script.specs.Alerts.{Watched, alerts_of, refused_alert};
+ghost use Rattle.script.specs.Told.{Tells, told_of, told_to};
 ghost use Rattle.script.specs.Walked.{IsSilent, IsTaken, StepsHeard, Walked, WalkedOn};
 ghost use Rattle.script.specs.Words.{Asks, Command, HasFewVisits, IsReader, TcFault, events_of, greatest_moment, most_lines, reading_of, script_left, tc_request, words_of};
 
@@ -32,7 +33,8 @@ fn take_frame<A: Allocator, W, O: Observer<W>, H: Watch>(
     out: &mut W,
     watch: &mut H,
 ) -> Result<(), Halt>
-    ensures { IsTaken O.heard O.cut (Asks (Events.Arrive frame.now)) result port.old port.new observer.old out.old observer.new out.new }
+    ensures taken { IsTaken O.heard O.cut (Asks (Events.Arrive frame.now)) result port.old port.new observer.old out.old observer.new out.new }
+    ensures alerts { H.alerted (alerts_of (told_to (Asks (Events.Arrive frame.now)) port.old.port)) watch.old watch.new }
 {
     let now = port.now();
     match port.arrive(*frame) {
@@ -128,7 +130,9 @@ fn take_count<A: Allocator, W, O: Observer<W>>(
 }
 
 /// Calls who watches where the command of the line of this number is refused.
-fn tell_refusal<H: Watch>(watch: &mut H, number: u32, line: &[u8], answer: Result<u128, Refused>) {
+fn tell_refusal<H: Watch>(watch: &mut H, number: u32, line: &[u8], answer: Result<u128, Refused>)
+    ensures { H.alerted (refused_alert answer) watch.old watch.new }
+{
     if let Err(why) = answer {
         watch.command_failed(number, line, Failure::Refused(why));
     }
@@ -144,7 +148,8 @@ fn take_command<A: Allocator, W, O: Observer<W>, H: Watch>(
     out: &mut W,
     watch: &mut H,
 ) -> Result<(), Halt>
-    ensures { IsTaken O.heard O.cut (Asks (Events.Install command.entry)) result port.old port.new observer.old out.old observer.new out.new }
+    ensures taken { IsTaken O.heard O.cut (Asks (Events.Install command.entry)) result port.old port.new observer.old out.old observer.new out.new }
+    ensures alerts { H.alerted (alerts_of (told_to (Asks (Events.Install command.entry)) port.old.port)) watch.old watch.new }
 {
     let now = port.now();
     let answer = port.install(command);
@@ -162,7 +167,8 @@ pub fn take<A: Allocator, W, O: Observer<W>, H: Watch>(
     out: &mut W,
     watch: &mut H,
 ) -> Result<(), Halt>
-    ensures { IsTaken O.heard O.cut (Asks event.now) result port.old port.new observer.old out.old observer.new out.new }
+    ensures taken { IsTaken O.heard O.cut (Asks event.now) result port.old port.new observer.old out.old observer.new out.new }
+    ensures alerts { H.alerted (alerts_of (told_to (Asks event.now) port.old.port)) watch.old watch.new }
 {
     match event {
         Event::Arrive(frame) => take_frame(port, observer, frame, out, watch),
@@ -183,7 +189,8 @@ fn take_read<A: Allocator, W, O: Observer<W>, H: Watch>(
     out: &mut W,
     watch: &mut H,
 ) -> Result<(), Halt>
-    ensures { IsTaken O.heard O.cut (tc_request read.now) result port.old port.new observer.old out.old observer.new out.new }
+    ensures taken { IsTaken O.heard O.cut (tc_request read.now) result port.old port.new observer.old out.old observer.new out.new }
+    ensures alerts { H.alerted (alerts_of (told_to (tc_request read.now) port.old.port)) watch.old watch.new }
 {
     // For the prover: a call on a port says what holds of every port.
     let _now = port.now();
@@ -210,6 +217,7 @@ pub fn take_tc<A: Allocator, W, O: Observer<W>, H: Watch>(
 ) -> Result<(), Halt>
     ensures taken { (read : List (List ℕ) → Result Command TcFault) → IsReader read →
         IsTaken O.heard O.cut (tc_request (read (words_of line.now))) result port.old port.new observer.old out.old observer.new out.new }
+    ensures alerts { (read : List (List ℕ) → Result Command TcFault) → IsReader read → H.alerted (alerts_of (told_to (tc_request (read (words_of line.now))) port.old.port)) watch.old watch.new }
     ensures few { HasFewVisits port.old.port port.old port.new }
 {
     read_tc_into(line, place);
@@ -263,6 +271,8 @@ pub fn walk<A: Allocator, B: Allocator, R: Read + Drop, W, O: Observer<W>, H: Wa
 ) -> Result<(), RunFault>
     ensures told { (read : List (List ℕ) → Result Command TcFault) → IsReader read → IfSome (script_left R.remaining lines.old) (λ script.
         Walked O.heard O.cut (reading_of read script) port.old.port port.new.port result observer.old out.old observer.new out.new) }
+    ensures alerts { (read : List (List ℕ) → Result Command TcFault) → IsReader read → IfSome (script_left R.remaining lines.old) (λ script.
+        Watched H.alerted (alerts_of (told_of (reading_of read script).requests port.old.port)) result watch.old watch.new) }
     ensures few { (read : List (List ℕ) → Result Command TcFault) → IsReader read → IfSome (script_left R.remaining lines.old) (λ script.
         HasFewVisits (port_after (events_of (reading_of read script).requests) port.old.port) port.old port.new) }
 {

@@ -1,6 +1,7 @@
 //! What is written at the end of a run.
 
 ghost use Rattle.std.specs.Prelude.{◌<◌, ◌≤◌};
+ghost use Rattle.script.specs.Alerts.{Alerting, alerts_from};
 ghost use Rattle.script.specs.Words.{counters_of, greatest_moment, Writes, end_lines, class_text, summary_lines, class_at};
 
 use crate::answers::{RunningPort, put_all_left};
@@ -51,7 +52,8 @@ pub fn put_end<A: Allocator, W: Write, H: Watch>(
     watch: &mut H,
 ) -> Result<(), WriteFault>
     requires { moment ≤ greatest_moment }
-    ensures { Writes result (W.contents writer.old) (W.contents writer.new) (end_lines (record port.now.port { now = moment }) summary.now) }
+    ensures text { Writes result (W.contents writer.old) (W.contents writer.new) (end_lines (record port.now.port { now = moment }) summary.now) }
+    ensures alerts { Alerting H.alerted (alerts_from 8 0 port.now.port) result watch.old watch.new }
 {
     match summary {
         None => put_all_left(port, writer, watch),

@@ -1,5 +1,8 @@
 //! Who watches a run.
 
+ghost use Rattle.std.specs.Prelude.{◌∷◌, ◌++◌, [], List};
+ghost use Rattle.script.specs.Alerts.{Alert, Failed, Late, Left, Lost};
+
 use abstract_port::{Dropped, Refused};
 use tc_reader::TcFault;
 use wire_time::Frame;
@@ -27,24 +30,36 @@ pub enum Missed {
 }
 
 /// Who watches a run. Nothing that it does changes what is written.
+///
+/// What counts for strictness is told as an alert, and contracts of runs say which alerts are told, in order. Of the
+/// other calls they say nothing.
 pub trait Watch {
+    /// From one value to another it was told these alerts.
+    ghost alerted: { List Alert → Self → Self → Type 0 };
+
     /// So many records of a capture are taken, the last at this moment, in picoseconds.
-    fn records_taken(&mut self, _records: u32, _moment: u128) {}
+    fn records_taken(&mut self, records: u32, moment: u128)
+        ensures { alerted [] self.old self.new };
 
     /// The line of this number, whose text this is, begins with `tc`, and this is wrong with it. The run goes on.
-    fn command_failed(&mut self, _number: u32, _line: &[u8], _why: Failure) {}
+    fn command_failed(&mut self, number: u32, line: &[u8], why: Failure)
+        ensures { alerted (Failed why ∷ []) self.old self.new };
 
     /// This frame, which comes at this moment, in picoseconds, is dropped for this reason.
-    fn frame_dropped(&mut self, _moment: u128, _frame: &Frame, _why: Dropped) {}
+    fn frame_dropped(&mut self, moment: u128, frame: &Frame, why: Dropped)
+        ensures { alerted (Lost moment frame.now why ∷ []) self.old self.new };
 
     /// The run has ended, and the class still has so many frames, one at least.
-    fn frames_left(&mut self, _class: u8, _count: u64) {}
+    fn frames_left(&mut self, class: u8, count: u64)
+        ensures { alerted (Left class count ∷ []) self.old self.new };
 
     /// The line whose text this is has a fault that ends the run.
-    fn line_failed(&mut self, _line: &[u8]) {}
+    fn line_failed(&mut self, line: &[u8])
+        ensures { alerted [] self.old self.new };
 
     /// The line of this number, whose text this is, is skipped, or passed on as it is.
-    fn line_passed(&mut self, _number: u32, _line: &[u8]) {}
+    fn line_passed(&mut self, number: u32, line: &[u8])
+        ensures { alerted [] self.old self.new };
 
     /// Whether hints are wanted for which more has to be worked out than is answered.
     fn wants_hints(&self) -> bool {
@@ -53,17 +68,50 @@ pub trait Watch {
 
     /// By the schedule of the line of this number the class has bounds, and one frame more in each `every` picoseconds,
     /// as short as its shortest one, would be too many.
-    fn class_is_busy(&mut self, _number: u32, _class: u8, _every: u128) {}
+    fn class_is_busy(&mut self, number: u32, class: u8, every: u128)
+        ensures { alerted [] self.old self.new };
 
     /// The line of this number of a table is a stream of so many frames, whose ids count from this one.
-    fn stream_read(&mut self, _number: u32, _first_id: u64, _count: u32) {}
+    fn stream_read(&mut self, number: u32, first_id: u64, count: u32)
+        ensures { alerted [] self.old self.new };
 
     /// The frame of this id is of the stream with this first id, which has a deadline, and isn't in time.
-    fn deadline_failed(&mut self, _id: u64, _stream: u64, _why: Missed) {}
+    fn deadline_failed(&mut self, id: u64, stream: u64, why: Missed)
+        ensures { alerted (Late id stream why ∷ []) self.old self.new };
+
+    ghost nothing: { (s : Self) → alerted [] s s };
+
+    ghost both: { (xs ys : List Alert) (s t u : Self) → alerted xs s t → alerted ys t u → alerted (xs ++ ys) s u };
 }
 
 /// Nobody watches.
 #[derive(Clone, Copy, Debug)]
 pub struct Unwatched;
 
-impl Watch for Unwatched {}
+impl Watch for Unwatched {
+    ghost use Rattle.std.specs.Prelude.{⊤};
+
+    ghost alerted = { λ alerts s t. ⊤ };
+
+    fn records_taken(&mut self, _records: u32, _moment: u128) {}
+
+    fn command_failed(&mut self, _number: u32, _line: &[u8], _why: Failure) {}
+
+    fn frame_dropped(&mut self, _moment: u128, _frame: &Frame, _why: Dropped) {}
+
+    fn frames_left(&mut self, _class: u8, _count: u64) {}
+
+    fn line_failed(&mut self, _line: &[u8]) {}
+
+    fn line_passed(&mut self, _number: u32, _line: &[u8]) {}
+
+    fn class_is_busy(&mut self, _number: u32, _class: u8, _every: u128) {}
+
+    fn stream_read(&mut self, _number: u32, _first_id: u64, _count: u32) {}
+
+    fn deadline_failed(&mut self, _id: u64, _stream: u64, _why: Missed) {}
+
+    ghost nothing = { λ s. tt };
+
+    ghost both = { λ xs ys s t u a b. tt };
+}

@@ -1,18 +1,30 @@
-use Rattle.std.proofs.Common.{List, ℕ, ap, subst}
+use Rattle.std.proofs.Common.{List, [], ◌∷◌, ℕ, ap, subst}
 use Rattle.std.specs.Io.KnownBytes.{Appends}
+use Rattle.script.specs.Alerts.{Left}
 use Rattle.script.specs.Words.{Writes}
 use Rattle.octet_writer.proofs.Fronts.{Appends-nil}
+use Rattle.script.proofs.AlertLaws.{alerts_same, none_alerted, some_alerted}
 use Rattle.script.proofs.LeftLaws.{none_left, some_left}
 use Rattle.script.proofs.answers.put_left_in.Goals as goal
 
-pub returns-then-waiting-eq0 : goal.returns-then-waiting-eq0
-returns-then-waiting-eq0 g c =
+pub returns-then-waiting-eq0-clause-text : goal.returns-then-waiting-eq0-clause-text
+returns-then-waiting-eq0-clause-text g c =
     let same = ap (λ k. k.waiting) c.counters-waiting.ensures in
     let P : List ℕ → Type 0 = λ text. Appends (g.W.Write.contents c.args.writer.now) (g.W.Write.contents c.args.writer.now) text in
     subst P (none_left c.args.class _ _ same c.if-waiting-eq0.true) (Appends-nil (g.W.Write.contents c.args.writer.now))
 
-pub returns-else-waiting-eq0 : goal.returns-else-waiting-eq0
-returns-else-waiting-eq0 g c =
+pub returns-else-waiting-eq0-clause-text : goal.returns-else-waiting-eq0-clause-text
+returns-else-waiting-eq0-clause-text g c =
     let same = ap (λ k. k.waiting) c.counters-waiting.ensures in
     let P : List ℕ → Type 0 = λ text. Writes c.put_left.result (g.W.Write.contents c.args.writer.now) (g.W.Write.contents c.put_left.new.writer) text in
     subst P (some_left c.args.class _ _ same c.if-waiting-eq0.false) c.put_left.ensures
+
+pub returns-then-waiting-eq0-clause-alerts : goal.returns-then-waiting-eq0-clause-alerts
+returns-then-waiting-eq0-clause-alerts g c =
+    let same = ap (λ k. k.waiting) c.counters-waiting.ensures in
+    alerts_same g.H.Watch.alerted [] _ c.args.watch.now c.args.watch.now (none_alerted c.args.class _ _ same c.if-waiting-eq0.true) (g.met.H.Watch.nothing c.args.watch.now)
+
+pub returns-else-waiting-eq0-clause-alerts : goal.returns-else-waiting-eq0-clause-alerts
+returns-else-waiting-eq0-clause-alerts g c =
+    let same = ap (λ k. k.waiting) c.counters-waiting.ensures in
+    alerts_same g.H.Watch.alerted (Left c.args.class c.counters-waiting.result.waiting ∷ []) _ c.args.watch.now c.frames_left.new.self (some_alerted c.args.class _ _ same c.if-waiting-eq0.false) c.frames_left.ensures
