@@ -1,0 +1,20 @@
+pub mod SlotLaws
+pub mod ListLaws
+pub mod PartLaws
+pub mod Busy
+pub mod Bounded
+pub mod Offered
+pub mod TrafficLaws
+pub mod Counting
+pub mod SporadicLaws
+pub mod WindowLaws
+pub mod CycleLaws
+pub mod PeriodicLaws
+mod Example
+pub mod PriorityLaws
+pub mod Sharing
+pub mod SharedSlots
+pub mod SharedLaws
+pub mod SharedCycleLaws
+mod SharedExample
+pub mod SharedDrops

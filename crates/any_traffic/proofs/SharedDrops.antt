@@ -1,0 +1,173 @@
+-- Where no more frames of a class wait at any time than there is room for, besides one, none is dropped.
+use Rattle.std.proofs.Common.{◌≡◌, ◌<◌, ◌≤◌, ℕ, zero, suc, ◌+◌, ◌-◌, Bool, true, false, cond, ◌||◌, ltb, eqb, inl, inr, List, [], ◌∷◌, ◌++◌, length, map, slice_get, option_to_list, Option, Some, None, Result, Ok, Err, refl, sym, ap, ◌∙◌, subst, arith, le_refl, append_assoc}
+use Rattle.std.proofs.lemmas.Bool.{cases_Bool, ltb-false, or_parts}
+use Rattle.std.proofs.lemmas.List.Elements.{filter-append}
+use Rattle.std.proofs.lemmas.Option.{same_Some}
+use Rattle.wire_time.specs.Moment.{greatest_moment}
+use Rattle.wire_time.specs.declared.Frame.{Frame}
+use Rattle.list_config.specs.History.{Accepted, open_through}
+use Rattle.abstract_port.specs.declared.Answer.{Answer}
+use Rattle.abstract_port.specs.declared.Answer.TheVariants as Answered
+use Rattle.abstract_port.specs.declared.Dropped.{Dropped}
+use Rattle.abstract_port.specs.declared.Event.{Event}
+use Rattle.abstract_port.specs.declared.Event.TheVariants.{Arrive, Install, Clock, Query, Count}
+use Rattle.abstract_port.specs.declared.Refused.{Refused}
+use Rattle.abstract_port.specs.declared.Start.{Start}
+use Rattle.abstract_port.specs.AbstractPort.{AbstractPort, choice, counters_of, installs, new_port, queue_of, verdict}
+use Rattle.abstract_port.specs.Answers.{answers_of, answers_to, arrival_answer, command_answer}
+use Rattle.abstract_port.specs.Laws.{starts_in}
+use Rattle.abstract_port.proofs.RunLaws.{clock_back, clock_on}
+use Rattle.abstract_port.proofs.RunTurns.{starts_in-append, starts_in-starts}
+use Rattle.separation.specs.Served.{frames_of}
+use Rattle.separation.specs.Traffic.{Came, IsOnly, offered_by, offered_in, queued_by, queued_in, starts_of_class}
+use Rattle.separation.proofs.Lives.{starts_until_live}
+use Rattle.separation.proofs.Lockstep.{choice_passes, leaves_from, live, start_with, tick, tick_start, with_moment}
+use Rattle.delay_bounds.proofs.QueueLaws.{Taken, none_offered, one_queued, one_full, now_came, room_kept, taken}
+use Rattle.any_traffic.specs.Runs.{queued, started}
+use Rattle.any_traffic.specs.SharedRuns.{AreScheduled, AtMostWait, SharedDropsLaw}
+use Rattle.any_traffic.proofs.ListLaws.{get_more, none_here, one_at}
+use Rattle.any_traffic.proofs.PartLaws.{count_frames}
+use Rattle.any_traffic.proofs.Offered.{onward, still_large}
+use Rattle.any_traffic.proofs.SharedLaws.{shared_come}
+use Rattle.any_traffic.proofs.Sharing.{AreShared, SharedHolds, event_holds, new_shared}
+
+-- ---- starts from a moment on
+
+abbrev AreAfter : ℕ → List Start → Type 0
+AreAfter t [] = Unit {0}
+AreAfter t (x ∷ xs) = (t ≤ x.at) × AreAfter t xs
+
+after_from : (t u : ℕ) (xs : List Start) → u ≤ t → AreAfter t xs → AreAfter u xs
+after_from t u [] le h = tt
+after_from t u (x ∷ xs) le h = (let from = h.0 in omega (arith, le, from), after_from t u xs le h.1)
+
+after_both : (t : ℕ) (xs ys : List Start) → AreAfter t xs → AreAfter t ys → AreAfter t (xs ++ ys)
+after_both t [] ys a b = b
+after_both t (x ∷ xs) ys a b = (a.0, after_both t xs ys a.1 b)
+
+after_class : (t c : ℕ) (xs : List Start) → AreAfter t xs → AreAfter t (starts_of_class c xs)
+after_class t c [] h = tt
+after_class t c (x ∷ xs) h = by (eqb x.class c) (after_class t c xs h.1)
+  where
+    by : (b : Bool) → AreAfter t (starts_of_class c xs) → AreAfter t (cond b (x ∷ starts_of_class c xs) (starts_of_class c xs))
+    by true rest = (h.0, rest)
+    by false rest = rest
+
+tick_after : (p : AbstractPort) → AreAfter p.now (option_to_list (tick p).0)
+tick_after p = go (choice p p.now) refl
+  where
+    go : (o : Option ℕ) → choice p p.now ≡ o → AreAfter p.now (option_to_list (tick p).0)
+    go None e = subst (λ z. AreAfter p.now (option_to_list z.0)) (sym (ap (start_with p) e)) tt
+    go (Some k) e = (let l = leaves_from p k (choice_passes p p.now k e).0 in subst (λ z. AreAfter p.now (option_to_list z.0)) (sym (tick_start p k l e)) (le_refl p.now, tt))
+
+live_after : (n : ℕ) (p : AbstractPort) → AreAfter p.now (live n p).0
+unfolding live
+live_after zero p = tt
+live_after (suc n) p =
+    let q = with_moment (tick p).1 (p.now + 1) in
+    after_both p.now (option_to_list (tick p).0) (live n q).0 (tick_after p) (after_from (p.now + 1) p.now (live n q).0 (omega arith) (live_after n q))
+
+event_after : (event : Event) (p : AbstractPort) → 0 < p.ps → AreAfter p.now (starts_in (answers_to event p).0)
+event_after (Arrive f) p pos = by (verdict p f)
+  where
+    by : (v : Result ℕ Dropped) → AreAfter p.now (starts_in (arrival_answer f v ∷ []))
+    by (Ok class) = tt
+    by (Err why) = tt
+event_after (Install b) p pos = by (installs p b.now).0
+  where
+    by : (r : Result ℕ Refused) → AreAfter p.now (starts_in (command_answer r ∷ []))
+    by (Ok change) = tt
+    by (Err why) = tt
+event_after (Clock m) p pos =
+    elim (cases_Bool (ltb m p.now || ltb greatest_moment m)) [
+      | inl t ↦ subst (λ z. AreAfter p.now (starts_in z.0)) (sym (clock_back m p t)) tt
+      | inr f ↦
+          let le = ltb-false m p.now (or_parts _ _ f).0 in
+          let is : answers_to (Clock m) p ≡ (map Answered.Start (live (m - p.now) p).0, (live (m - p.now) p).1) = clock_on m p f ∙ ap (λ z. (map Answered.Start z.0, z.1)) (starts_until_live p m pos le) in
+          subst (AreAfter p.now) (sym (ap (λ z. starts_in z.0) is ∙ starts_in-starts (live (m - p.now) p).0)) (live_after (m - p.now) p)
+    ]
+event_after Query p pos = tt
+event_after (Count n) p pos = by (ltb n 8)
+  where
+    by : (b : Bool) → AreAfter p.now (starts_in (cond b (Answered.Counters n (counters_of p n) ∷ []) (Answered.BadClass ∷ [])))
+    by true = tt
+    by false = tt
+
+-- ---- lists
+
+behind_after : (t : ℕ) (xs ys : List Start) (x : Start) → AreAfter t ys → slice_get (xs ++ ys) (length xs) ≡ Some x → t ≤ x.at
+behind_after t [] [] x h e = absurd (none_here 0 x e)
+behind_after t [] (y ∷ ys) x h e = subst (λ (z : Start). t ≤ z.at) (same_Some y x e) h.0
+behind_after t (z ∷ xs) ys x h e = behind_after t xs ys x h e
+
+module _ (may : ℕ → ℕ → Bool) (ps c : ℕ) where
+  shared_count : (all : List Start) (free now : ℕ) (came : List Came) (starts : List Start) (wire : ℕ) (waiting : List Frame)
+      → AreShared may ps c all free now came starts wire waiting → length starts + length waiting ≡ length came
+  shared_count all free now came [] wire waiting s = (let same = ap length s.frames ∙ count_frames came in omega (arith, same))
+  shared_count all free now [] (x ∷ starts) wire waiting s = absurd s
+  shared_count all free now (f ∷ came) (x ∷ starts) wire waiting s = (let rest = shared_count all x.«end» now came starts wire waiting s.1 in omega (arith, rest))
+
+-- ---- a run
+
+module _ (c : ℕ) (a : Accepted) (pace : ℕ) (lc : c < 8) (pos : 0 < pace) where
+  run_after : (events : List Event) (p : AbstractPort) (came : List Came) (all : List Start) → 68 ≤ p.mtu
+      → SharedHolds c a pace lc pos p came all → AreScheduled c events p → IsOnly a events p
+      → AreAfter p.now (starts_in (answers_of events p))
+  run_after [] p came all large h k only = tt
+  run_after (event ∷ rest) p came all large h k only =
+      let q = (answers_to event p).1 in
+      let given = (answers_to event p).0 in
+      let later = run_after rest q (came ++ queued_by c event p) (all ++ starts_in given) (still_large event p large) (event_holds c a pace lc pos event p came all large h k.0 only.0) k.1 only.1 in
+      subst (AreAfter p.now) (sym (starts_in-append given (answers_of rest q)))
+      (after_both p.now (starts_in given) (starts_in (answers_of rest q)) (event_after event p (subst (λ (n : ℕ). 0 < n) (sym h.rate) pos)) (after_from q.now p.now (starts_in (answers_of rest q)) (onward event p) later))
+
+  module _ (waiting room : ℕ) (whole : List Came) (mine : List Start) (few : AtMostWait waiting whole mine) (less : waiting < room) where
+    queue_few : (p : AbstractPort) (came more : List Came) (all later : List Start) → SharedHolds c a pace lc pos p came all
+        → came ++ more ≡ whole → starts_of_class c all ++ later ≡ mine → AreAfter p.now later → length (queue_of p c) ≤ waiting
+    queue_few p came more all later h is own after = by (length (queue_of p c)) refl
+      where
+        by : (n : ℕ) → length (queue_of p c) ≡ n → length (queue_of p c) ≤ waiting
+        by zero e = omega (arith, e)
+        by (suc n) e =
+            let count = shared_count (open_through (a ∷ []) c) pace c all 0 p.now came (starts_of_class c all) h.wire (queue_of p c) h.served in
+            let k : ℕ = length (starts_of_class c all) in
+            let f = one_at came k (omega (arith, count, e)) in
+            let g = one_at came (k + n) (omega (arith, count, e)) in
+            let come = shared_come (open_through (a ∷ []) c) pace c all 0 p.now came (starts_of_class c all) h.wire (queue_of p c) h.served (k + n) g.0 g.1 in
+            let most = few k n p.now f.0 g.0 (sym (ap (λ xs. slice_get xs k) is) ∙ get_more came more k f.0 f.1) (sym (ap (λ xs. slice_get xs (k + n)) is) ∙ get_more came more (k + n) g.0 g.1) come
+            (λ x there. behind_after p.now (starts_of_class c all) later x after (ap (λ xs. slice_get xs k) own ∙ there)) in
+            omega (arith, most, e)
+
+    all_queued : (events : List Event) (p : AbstractPort) (came : List Came) (all : List Start) → 68 ≤ p.mtu → p.room ≡ room
+        → SharedHolds c a pace lc pos p came all → AreScheduled c events p → IsOnly a events p
+        → came ++ queued_in c events p ≡ whole → starts_of_class c all ++ starts_of_class c (starts_in (answers_of events p)) ≡ mine
+        → queued_in c events p ≡ offered_in c events p
+    all_queued [] p came all large size h k only is own = refl
+    all_queued (event ∷ rest) p came all large size h k only is own =
+        go (taken c event p large)
+        (all_queued rest q (came ++ queued_by c event p) (all ++ starts_in given) (still_large event p large) (room_kept event p ∙ size) (event_holds c a pace lc pos event p came all large h k.0 only.0) k.1 only.1
+        (append_assoc came (queued_by c event p) (queued_in c rest q) ∙ is)
+        (ap (λ xs. xs ++ starts_of_class c (starts_in (answers_of rest q))) (filter-append (λ (s : Start). eqb s.class c) all (starts_in given))
+        ∙ (append_assoc (starts_of_class c all) (starts_of_class c (starts_in given)) (starts_of_class c (starts_in (answers_of rest q)))
+        ∙ (ap (λ xs. starts_of_class c all ++ xs) (sym (ap (starts_of_class c) (starts_in-append given (answers_of rest q)) ∙ filter-append (λ (s : Start). eqb s.class c) (starts_in given) (starts_in (answers_of rest q)))) ∙ own))))
+      where
+        q : AbstractPort
+        q = (answers_to event p).1
+
+        given : List Answer
+        given = (answers_to event p).0
+
+        go : Taken c p (offered_by c event p) (queued_by c event p) → queued_in c rest q ≡ offered_in c rest q
+            → queued_by c event p ++ queued_in c rest q ≡ offered_by c event p ++ offered_in c rest q
+        go (none_offered o n) same = ap (λ xs. xs ++ queued_in c rest q) n ∙ (same ∙ sym (ap (λ xs. xs ++ offered_in c rest q) o))
+        go (one_queued f o n some) same = ap (λ xs. xs ++ queued_in c rest q) n ∙ (ap (λ xs. now_came p f ∷ xs) same ∙ sym (ap (λ xs. xs ++ offered_in c rest q) o))
+        go (one_full f o n many) same =
+            let most = queue_few p came (queued_in c (event ∷ rest) p) all (starts_of_class c (starts_in (answers_of (event ∷ rest) p))) h is own
+            (after_class p.now c (starts_in (answers_of (event ∷ rest) p)) (run_after (event ∷ rest) p came all large h k only)) in
+            absurd (omega (arith, many, most, less, size))
+
+pub shared_drops_law : SharedDropsLaw
+shared_drops_law ps mtu room c waiting a events rate large lc only k few less =
+    let some : 0 < ps = omega (arith, rate) in
+    let p = new_port ps mtu room in
+    all_queued c a ps lc some waiting room (queued ps mtu room c events) (started ps mtu room c events) few less events p [] [] large refl (new_shared c a ps lc some mtu room) k only refl refl

@@ -1,0 +1,11 @@
+pub mod Runs
+pub mod ArrivalCurve
+pub mod Slots
+pub mod AnyTraffic
+pub mod Sporadic
+pub mod BusyPeriod
+pub mod ArrivalWindows
+pub mod Priority
+pub mod SharedSlots
+pub mod SharedRuns
+pub mod SharedBounds
