@@ -31,7 +31,8 @@ module _ (h : List Accepted) (ps class d change wait most : ℕ) (curve : ℕ �
   reached k m j f b e =
       let g = b.frame in
       let sum = b.sum in
-      let order : (f : Came) (j : ℕ) → slice_get came (k + j) ≡ Some f → (g.moment ≤ f.moment) × (b.more + j + 1 ≤ curve (f.moment - g.moment)) =
+      let order : (f : Came) (j : ℕ) → slice_get came (k + j) ≡ Some f → (g.moment ≤ f.moment) ×
+      (b.more + j + 1 ≤ curve (f.moment - g.moment)) =
       λ f j e.
       (let at : k + j ≡ b.place + (b.more + j) = omega (arith, sum) in
       let there = sym (ap (slice_get came) at) ∙ e in
@@ -45,14 +46,19 @@ module _ (h : List Accepted) (ps class d change wait most : ℕ) (curve : ℕ �
       let all : curve x - 1 ≡ b.more + (curve x - 1 - b.more) = omega (arith, count) in
       let r = slot_before (open_through h class) d g.moment b.more (curve x - 1 - b.more) (curve x - 1) w.0 all w.1 in
       let le = r.2 in
-      let bound = w.2 in
-      (record { frame = g; gone = b.more; slot = r.0; since = since; is = r.1; late = b.by r.0 r.1; order = order }, omega (arith, le, bound, from))
+      let bound = w.2 in (
+        record { frame = g; gone = b.more; slot = r.0; since = since; is = r.1; late = b.by r.0 r.1; order = order },
+        omega
+            (arith, le, bound, from),
+      )
 
-  module _ (now : ℕ) (starts : List Start) (wire : ℕ) (waiting : List Frame) (served : AreServed (open_through h class) ps class 0 now came starts wire waiting) where
+  module _ (now : ℕ) (starts : List Start) (wire : ℕ) (waiting : List Frame)
+      (served : AreServed (open_through h class) ps class 0 now came starts wire waiting) where
     pub soon : (k : ℕ) (f : Came) (x : Start) → slice_get came k ≡ Some f → slice_get starts k ≡ Some x → x.at ≤ f.moment + wait
     soon k f x e y =
         let at : k ≡ k + 0 = omega arith in
-        let r = reached k x.at 0 f (started_by h ps class d came (l.keep).short now starts wire waiting served k f x e y) (sym (ap (slice_get came) at) ∙ e) in
+        let r = reached k x.at 0 f (started_by h ps class d came (l.keep).short now starts wire waiting served k f x e y)
+        (sym (ap (slice_get came) at) ∙ e) in
         let late = (r.0).late in
         let bound = r.1 in
         omega (arith, late, bound)

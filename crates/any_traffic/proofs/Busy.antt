@@ -15,7 +15,8 @@ use Rattle.any_traffic.proofs.ListLaws.{none_here}
 use Rattle.any_traffic.proofs.PartLaws.{come_by, count_frames}
 use Rattle.any_traffic.proofs.SlotLaws.{slot_last}
 
-module _ (h : List Accepted) (ps class d : ℕ) (whole : List Came) (short : (k : ℕ) (f : Came) → slice_get whole k ≡ Some f → occupancy_of ps f.frame.len ≤ d) where
+module _ (h : List Accepted) (ps class d : ℕ) (whole : List Came)
+    (short : (k : ℕ) (f : Came) → slice_get whole k ≡ Some f → occupancy_of ps f.frame.len ≤ d) where
   abbrev may : ℕ → ℕ → Bool
   may = open_through h class
 
@@ -43,7 +44,8 @@ module _ (h : List Accepted) (ps class d : ℕ) (whole : List Came) (short : (k 
 
   -- a frame comes when the wire is free
   from_here : (k free : ℕ) (f : Came) → slice_get whole k ≡ Some f → free ≤ f.moment → IsBusy k (max f.moment free)
-  from_here k free f e le = record { place = k; more = 0; sum = omega arith; frame = f; first = e; next = λ s slot. (f.moment, omega (arith, le), slot) }
+  from_here k free f e le = record
+      { place = k; more = 0; sum = omega arith; frame = f; first = e; next = λ s slot. (f.moment, omega (arith, le), slot) }
 
   comes_in : (k free : ℕ) (f : Came) → slice_get whole k ≡ Some f → IsState k free → IsBusy k (max f.moment free)
   comes_in k free f e (inl none) = from_here k free f e (omega (arith, none))
@@ -64,7 +66,8 @@ module _ (h : List Accepted) (ps class d : ℕ) (whole : List Came) (short : (k 
   starts_by k free now f x e b start =
       let need = short k f e in
       let no_later : (s : ℕ) → IsSlot may d (b.frame).moment b.more s → x.at ≤ s =
-      λ s slot. (let n = b.next s slot in first_rises h class (occupancy_of ps f.frame.len) d (max f.moment free) n.0 x.at s need n.1 start.first n.2) in
+      λ s slot. (let n = b.next s slot in first_rises h class (occupancy_of ps f.frame.len) d
+      (max f.moment free) n.0 x.at s need n.1 start.first n.2) in
       let ends : x.«end» ≡ x.at + occupancy_of ps f.frame.len = ap (λ (y : Start). y.«end») start.is in
       let sum = b.sum in (
         record { place = b.place; more = b.more; sum = b.sum; frame = b.frame; first = b.first; by = no_later },
@@ -93,7 +96,8 @@ module _ (h : List Accepted) (ps class d : ℕ) (whole : List Came) (short : (k 
           let from = (n.2).from in
           elim (cases_lt s now) [
             | inr later ↦ later
-            | inl before ↦ absurd (both_ways _ (w s (omega (arith, le, from)) before) (open_within (gates h) class s d s (occupancy_of ps f.frame.len) (n.2).fits (le_refl s) (omega (arith, need))))
+            | inl before ↦ absurd (both_ways _ (w s (omega (arith, le, from)) before)
+                (open_within (gates h) class s d s (occupancy_of ps f.frame.len) (n.2).fits (le_refl s) (omega (arith, need))))
           ]
 
   -- ---- all of them
@@ -106,7 +110,8 @@ module _ (h : List Accepted) (ps class d : ℕ) (whole : List Came) (short : (k 
   all_by : (i free now : ℕ) (came : List Came) (starts : List Start) (wire : ℕ) (waiting : List Frame)
       → ((k : ℕ) (f : Came) → slice_get came k ≡ Some f → slice_get whole (i + k) ≡ Some f) → IsState i free
       → AreServed may ps class free now came starts wire waiting → AreBy i now came starts
-  all_by i free now [] [] wire waiting here state served = record { started = λ k f x e y. absurd (none_here k f e); waiting = λ f e. absurd (none_here 0 f e) }
+  all_by i free now [] [] wire waiting here state served = record
+      { started = λ k f x e y. absurd (none_here k f e); waiting = λ f e. absurd (none_here 0 f e) }
   all_by i free now (f ∷ came) [] wire waiting here state served =
       let at : i + 0 ≡ i = omega arith in
       let mine = sym (ap (slice_get whole) at) ∙ here 0 f refl in
@@ -117,10 +122,13 @@ module _ (h : List Accepted) (ps class d : ℕ) (whole : List Came) (short : (k 
       let at : i + 0 ≡ i = omega arith in
       let mine = sym (ap (slice_get whole) at) ∙ here 0 f refl in
       let start = starts_by i free now f x mine (comes_in i free f mine state) served.0 in
-      let rest = all_by (suc i) x.«end» now came starts wire waiting (λ k g e. (let on : i + suc k ≡ suc i + k = omega arith in sym (ap (slice_get whole) on) ∙ here (suc k) g e)) (inr start.1) served.1 in
+      let rest = all_by (suc i) x.«end» now came starts wire waiting
+      (λ k g e. (let on : i + suc k ≡ suc i + k = omega arith in sym (ap (slice_get whole) on) ∙ here (suc k) g e))
+      (inr start.1) served.1 in
       record {
         started = started start.0 rest;
-        waiting = λ g e. (let on : suc i + length starts ≡ i + suc (length starts) = omega arith in subst (λ k. IsBy k now) on (rest.waiting g e));
+        waiting = λ g e. (let on : suc i + length starts ≡ i + suc (length starts) = omega arith in subst (λ k. IsBy k now) on
+            (rest.waiting g e));
       }
     where
       started : IsBy i x.at → AreBy (suc i) now came starts → (k : ℕ) (g : Came) (y : Start) → slice_get (f ∷ came) k ≡ Some g
@@ -128,21 +136,24 @@ module _ (h : List Accepted) (ps class d : ℕ) (whole : List Came) (short : (k 
       started first rest zero g y e z =
           let at : i ≡ i + 0 = omega arith in
           subst (λ k. IsBy k y.at) at (subst (λ (s : Start). IsBy i s.at) (same_Some x y z) first)
-      started first rest (suc k) g y e z = (let on : suc i + k ≡ i + suc k = omega arith in subst (λ m. IsBy m y.at) on (rest.started k g y e z))
+      started first rest (suc k) g y e z =
+          (let on : suc i + k ≡ i + suc k = omega arith in subst (λ m. IsBy m y.at) on (rest.started k g y e z))
 
   pub started_by : (now : ℕ) (starts : List Start) (wire : ℕ) (waiting : List Frame)
       → AreServed may ps class 0 now whole starts wire waiting
       → (k : ℕ) (f : Came) (x : Start) → slice_get whole k ≡ Some f → slice_get starts k ≡ Some x → IsBy k x.at
   started_by now starts wire waiting served k f x e y =
       let at : 0 + k ≡ k = omega arith in
-      subst (λ m. IsBy m x.at) at ((all_by 0 0 now whole starts wire waiting (λ m g i. (let on : m ≡ 0 + m = omega arith in sym (ap (slice_get whole) on) ∙ i)) (inl refl) served).started k f x e y)
+      subst (λ m. IsBy m x.at) at ((all_by 0 0 now whole starts wire waiting
+      (λ m g i. (let on : m ≡ 0 + m = omega arith in sym (ap (slice_get whole) on) ∙ i)) (inl refl) served).started k f x e y)
 
   pub waiting_by : (now : ℕ) (starts : List Start) (wire : ℕ) (waiting : List Frame)
       → AreServed may ps class 0 now whole starts wire waiting
       → (f : Came) → slice_get whole (length starts) ≡ Some f → IsBy (length starts) now
   waiting_by now starts wire waiting served f e =
       let at : 0 + length starts ≡ length starts = omega arith in
-      subst (λ m. IsBy m now) at ((all_by 0 0 now whole starts wire waiting (λ m g i. (let on : m ≡ 0 + m = omega arith in sym (ap (slice_get whole) on) ∙ i)) (inl refl) served).waiting f e)
+      subst (λ m. IsBy m now) at ((all_by 0 0 now whole starts wire waiting
+      (λ m g i. (let on : m ≡ 0 + m = omega arith in sym (ap (slice_get whole) on) ∙ i)) (inl refl) served).waiting f e)
 
 -- ---- the frames that came, and those of them that started or wait
 
@@ -151,7 +162,8 @@ module _ (may : ℕ → ℕ → Bool) (ps class : ℕ) where
       → AreServed may ps class free now came starts wire waiting → length starts + length waiting ≡ length came
   all_counted free now came [] wire waiting served = (let same = ap length served.frames ∙ count_frames came in omega (arith, same))
   all_counted free now [] (x ∷ starts) wire waiting served = absurd served
-  all_counted free now (f ∷ came) (x ∷ starts) wire waiting served = (let rest = all_counted x.«end» now came starts wire waiting served.1 in omega (arith, rest))
+  all_counted free now (f ∷ came) (x ∷ starts) wire waiting served =
+      (let rest = all_counted x.«end» now came starts wire waiting served.1 in omega (arith, rest))
 
   pub all_come : (free now : ℕ) (came : List Came) (starts : List Start) (wire : ℕ) (waiting : List Frame)
       → AreServed may ps class free now came starts wire waiting
@@ -173,5 +185,7 @@ module _ (may : ℕ → ℕ → Bool) (ps class : ℕ) where
   own_start free now came [] wire waiting served k f x e y = absurd (none_here k x y)
   own_start free now [] (s ∷ starts) wire waiting served k f x e y = absurd served
   own_start free now (g ∷ came) (s ∷ starts) wire waiting served zero f x e y =
-      subst (λ (z : Came). x ≡ start_at ps class x.at z.frame) (same_Some g f e) (subst (λ (z : Start). z ≡ start_at ps class z.at g.frame) (same_Some s x y) (served.0).is)
-  own_start free now (g ∷ came) (s ∷ starts) wire waiting served (suc k) f x e y = own_start s.«end» now came starts wire waiting served.1 k f x e y
+      subst (λ (z : Came). x ≡ start_at ps class x.at z.frame) (same_Some g f e)
+      (subst (λ (z : Start). z ≡ start_at ps class z.at g.frame) (same_Some s x y) (served.0).is)
+  own_start free now (g ∷ came) (s ∷ starts) wire waiting served
+      (suc k) f x e y = own_start s.«end» now came starts wire waiting served.1 k f x e y

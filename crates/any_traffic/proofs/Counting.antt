@@ -111,7 +111,8 @@ module _ (f : ℕ → ℕ) (n : ℕ) where
       → m ≤ total 0 n (λ i. one_if (test i))
   no_more test m within apart pass =
       let all = all_counted m within in
-      let few = total_rises 0 n (λ i. passing (λ k. eqb (f k) i) m) (λ i. one_if (test i)) (λ i. by i (passing (λ k. eqb (f k) i) m) refl) in
+      let few = total_rises 0 n (λ i. passing (λ k. eqb (f k) i) m) (λ i. one_if (test i))
+      (λ i. by i (passing (λ k. eqb (f k) i) m) refl) in
       omega (arith, all, few)
     where
       by : (i c : ℕ) → passing (λ k. eqb (f k) i) m ≡ c → passing (λ k. eqb (f k) i) m ≤ one_if (test i)
@@ -138,7 +139,9 @@ module _ (place number : ℕ → ℕ) (n : ℕ) (low wide : ℕ → ℕ) where
       let p : ℕ = place m in
       let inside = within.0 in
       let first = total_one (low p) (wide p) (number m) within.1 within.2 in
-      let same = total_rises (low p) (wide p) (λ v. one_if (eqb (number m) v)) (λ v. one_if (is_pair p v m)) (λ v. (let z : one_if (is_pair p v m) ≡ one_if (eqb (number m) v) = ap (λ b. one_if (b && eqb (number m) v)) (eq-eqb p p refl) in omega (arith, z))) in
+      let same = total_rises (low p) (wide p) (λ v. one_if (eqb (number m) v)) (λ v. one_if (is_pair p v m))
+      (λ v. (let z : one_if (is_pair p v m) ≡ one_if (eqb (number m) v) = ap (λ b. one_if (b && eqb (number m) v))
+      (eq-eqb p p refl) in omega (arith, z))) in
       let at = total_at 0 n p (λ i. total (low i) (wide i) (λ v. one_if (is_pair i v m))) (omega arith) (omega (arith, inside)) in
       omega (arith, first, same, at)
 
@@ -151,8 +154,10 @@ module _ (place number : ℕ → ℕ) (n : ℕ) (low wide : ℕ → ℕ) where
   all_paired (suc m) within =
       let rest = all_paired m (λ k less. within k (omega (arith, less))) in
       let one = one_pair m (within m (omega arith)) in
-      let apart = total_more 0 n (λ i. total (low i) (wide i) (λ v. one_if (is_pair i v m))) (λ i. total (low i) (wide i) (λ v. passing (is_pair i v) m)) in
-      let both = total_rises 0 n (λ i. total (low i) (wide i) (λ v. one_if (is_pair i v m)) + total (low i) (wide i) (λ v. passing (is_pair i v) m)) (λ i. total (low i) (wide i) (λ v. passing (is_pair i v) (suc m)))
+      let apart = total_more 0 n (λ i. total (low i) (wide i) (λ v. one_if (is_pair i v m)))
+      (λ i. total (low i) (wide i) (λ v. passing (is_pair i v) m)) in
+      let both = total_rises 0 n (λ i. total (low i) (wide i) (λ v. one_if (is_pair i v m)) + total (low i) (wide i)
+      (λ v. passing (is_pair i v) m)) (λ i. total (low i) (wide i) (λ v. passing (is_pair i v) (suc m)))
       (λ i. (let z = total_more (low i) (wide i) (λ v. one_if (is_pair i v m)) (λ v. passing (is_pair i v) m) in omega (arith, z))) in
       omega (arith, rest, one, apart, both)
 
@@ -161,7 +166,8 @@ module _ (place number : ℕ → ℕ) (n : ℕ) (low wide : ℕ → ℕ) where
       → ((j k : ℕ) → j < m → k < m → place j ≡ place k → number j ≡ number k → j ≡ k) → m ≤ total 0 n wide
   no_more_pairs m within apart =
       let all = all_paired m within in
-      let few = total_rises 0 n (λ i. total (low i) (wide i) (λ v. passing (is_pair i v) m)) wide (λ i. total_few (low i) (wide i) (λ v. passing (is_pair i v) m) (λ v. once i v)) in
+      let few = total_rises 0 n (λ i. total (low i) (wide i) (λ v. passing (is_pair i v) m)) wide
+      (λ i. total_few (low i) (wide i) (λ v. passing (is_pair i v) m) (λ v. once i v)) in
       omega (arith, all, few)
     where
       once : (i v : ℕ) → passing (is_pair i v) m ≤ 1

@@ -14,6 +14,7 @@ mod Example
 pub mod PriorityLaws
 pub mod Sharing
 pub mod SharedSlots
+pub mod StartLaws
 pub mod SharedLaws
 pub mod SharedCycleLaws
 mod SharedExample

@@ -40,7 +40,8 @@ onward (Install b) p = (let same = install_now p b.now (refusal p b.now) in omeg
 onward (Clock m) p =
     elim (cases_Bool (ltb m p.now || ltb greatest_moment m)) [
       | inl t ↦ subst (λ z. p.now ≤ z.1.now) (sym (clock_back m p t)) (le_refl p.now)
-      | inr f ↦ subst (λ z. p.now ≤ z.1.now) (sym (clock_on m p f)) (le_trans (next_start-onward p m) (starts_from-keeps (waiting p + 1) m (next_start p m).0 (next_start p m).1).1)
+      | inr f ↦ subst (λ z. p.now ≤ z.1.now) (sym (clock_on m p f))
+          (le_trans (next_start-onward p m) (starts_from-keeps (waiting p + 1) m (next_start p m).0 (next_start p m).1).1)
     ]
 onward Query p = le_refl p.now
 onward (Count k) p = le_refl p.now
@@ -66,7 +67,9 @@ mtu_kept (Install b) p = install_mtu p b.now (refusal p b.now)
 mtu_kept (Clock m) p =
     elim (cases_Bool (ltb m p.now || ltb greatest_moment m)) [
       | inl t ↦ ap (λ z. z.1.mtu) (clock_back m p t)
-      | inr f ↦ ap (λ z. z.1.mtu) (clock_on m p f) ∙ (starts_from-unmoved (λ q. q.mtu) still (waiting p + 1) m (next_start p m).0 (next_start p m).1 ∙ next_start-unmoved (λ q. q.mtu) still p m)
+      | inr f ↦ ap (λ z. z.1.mtu) (clock_on m p f) ∙
+          (starts_from-unmoved (λ q. q.mtu) still (waiting p + 1) m (next_start p m).0 (next_start p m).1 ∙ next_start-unmoved
+          (λ q. q.mtu) still p m)
     ]
   where
     still : IsUnmoved (λ q. q.mtu)
@@ -82,7 +85,8 @@ still_large event p large = subst (λ (k : ℕ). 68 ≤ k) (sym (mtu_kept event 
 pub are_rising : (class : ℕ) (events : List Event) (p : AbstractPort) → 68 ≤ p.mtu → AreRising p.now (offered_in class events p)
 are_rising class [] p large = tt
 are_rising class (event ∷ rest) p large =
-    by (taken class event p large) (rising_from (answers_to event p).1.now p.now (offered_in class rest (answers_to event p).1) (onward event p) (are_rising class rest (answers_to event p).1 (still_large event p large)))
+    by (taken class event p large) (rising_from (answers_to event p).1.now p.now (offered_in class rest (answers_to event p).1)
+    (onward event p) (are_rising class rest (answers_to event p).1 (still_large event p large)))
   where
     os : List Came
     os = offered_in class rest (answers_to event p).1
@@ -101,7 +105,8 @@ are_rising class (event ∷ rest) p large =
 pub are_part : (class : ℕ) (events : List Event) (p : AbstractPort) → 68 ≤ p.mtu
     → ArePart (queued_in class events p) (offered_in class events p)
 are_part class [] p large = tt
-are_part class (event ∷ rest) p large = by (taken class event p large) (are_part class rest (answers_to event p).1 (still_large event p large))
+are_part class (event ∷ rest) p large = by (taken class event p large)
+    (are_part class rest (answers_to event p).1 (still_large event p large))
   where
     qs : List Came
     qs = queued_in class rest (answers_to event p).1
@@ -115,7 +120,8 @@ are_part class (event ∷ rest) p large = by (taken class event p large) (are_pa
 
     by : Taken class p (offered_by class event p) (queued_by class event p) → ArePart qs os
         → ArePart (queued_by class event p ++ qs) (offered_by class event p ++ os)
-    by (none_offered o q) r = subst (λ xs. ArePart (xs ++ qs) (offered_by class event p ++ os)) (sym q) (subst (λ xs. ArePart qs (xs ++ os)) (sym o) r)
+    by (none_offered o q) r = subst (λ xs. ArePart (xs ++ qs) (offered_by class event p ++ os)) (sym q)
+        (subst (λ xs. ArePart qs (xs ++ os)) (sym o) r)
     by (one_queued f o q few) r =
         subst (λ xs. ArePart (xs ++ qs) (offered_by class event p ++ os)) (sym q)
         (subst (λ xs. ArePart (now_came p f ∷ qs) (xs ++ os)) (sym o) (inl (refl, r)))
@@ -184,7 +190,9 @@ module _ (ps class : ℕ) (a : Accepted) (lc : class < 8) where
   all_since [] p came starts h apart only k g e = absurd (none_here k g e)
   all_since (event ∷ rest) p came starts h apart only k g e =
       go (taken class event p (h.lawful).mtu) (offered_forced class event p (h.lawful).mtu apart.0)
-      (all_since rest (answers_to event p).1 (came ++ queued_by class event p) (starts ++ starts_of_class class (starts_in (answers_to event p).0)) (takes class a ps lc event p came starts h apart.0 only.0) apart.1 only.1) k g e
+      (all_since rest (answers_to event p).1 (came ++ queued_by class event p)
+      (starts ++ starts_of_class class (starts_in (answers_to event p).0))
+      (takes class a ps lc event p came starts h apart.0 only.0) apart.1 only.1) k g e
     where
       os : List Came
       os = offered_in class rest (answers_to event p).1
@@ -221,8 +229,10 @@ module _ (ps class : ℕ) (a : Accepted) (lc : class < 8) where
     all_taken [] p came starts size h apart only l = refl
     all_taken (event ∷ rest) p came starts size h apart only l =
         go (taken class event p (h.lawful).mtu)
-        (λ come is lawful. all_taken rest (answers_to event p).1 come (starts ++ starts_of_class class (starts_in (answers_to event p).0)) (room_kept event p ∙ size)
-        (subst (λ xs. Holds class a ps (answers_to event p).1 xs (starts ++ starts_of_class class (starts_in (answers_to event p).0))) is (takes class a ps lc event p came starts h apart.0 only.0)) apart.1 only.1 lawful)
+        (λ come is lawful. all_taken rest (answers_to event p).1 come (starts ++ starts_of_class class (starts_in (answers_to event p).0))
+        (room_kept event p ∙ size)
+        (subst (λ xs. Holds class a ps (answers_to event p).1 xs (starts ++ starts_of_class class (starts_in (answers_to event p).0))) is
+        (takes class a ps lc event p came starts h apart.0 only.0)) apart.1 only.1 lawful)
       where
         qs : List Came
         qs = queued_in class rest (answers_to event p).1
@@ -236,10 +246,13 @@ module _ (ps class : ℕ) (a : Accepted) (lc : class < 8) where
         -- one that comes finds room
         has_room : (f : Frame) → AreLawful ps d a.change curve (came ++ (now_came p f ∷ os)) → length (queue_of p class) < p.room
         has_room f l' =
-            let lawful = part_lawful ps d a.change curve (came ++ now_came p f ∷ []) ((came ++ now_came p f ∷ []) ++ os) (part_front (came ++ now_came p f ∷ []) os)
+            let lawful = part_lawful ps d a.change curve (came ++ now_came p f ∷ []) ((came ++ now_came p f ∷ []) ++ os)
+            (part_front (came ++ now_came p f ∷ []) os)
             (subst (AreLawful ps d a.change curve) (sym (append_assoc came (now_came p f ∷ []) os)) l') in
-            let served = subst (λ y. AreServed (open_through (a ∷ []) class) y class 0 p.now came starts h.free (queue_of p class)) h.rate h.served in
-            let more = few p.now (came ++ now_came p f ∷ []) starts h.free (queue_of p class ++ f ∷ []) lawful (comes (open_through (a ∷ []) class) ps class 0 p.now came starts h.free (queue_of p class) f served) in
+            let served = subst (λ y. AreServed (open_through (a ∷ []) class) y class 0 p.now came starts h.free (queue_of p class)) h.rate
+            h.served in
+            let more = few p.now (came ++ now_came p f ∷ []) starts h.free (queue_of p class ++ f ∷ []) lawful
+            (comes (open_through (a ∷ []) class) ps class 0 p.now came starts h.free (queue_of p class) f served) in
             let long : length (queue_of p class ++ f ∷ []) ≡ length (queue_of p class) + 1 = length-append (queue_of p class) (f ∷ []) in
             omega (arith, more, long, enough, size)
 
@@ -251,7 +264,8 @@ module _ (ps class : ℕ) (a : Accepted) (lc : class < 8) where
             ∙ sym (ap (λ xs. xs ++ os) o))
         go (one_queued f o q some) on =
             let l' = subst (λ xs. AreLawful ps d a.change curve (came ++ (xs ++ os))) o l in
-            let same = on (came ++ now_came p f ∷ []) (ap (λ xs. came ++ xs) q) (subst (AreLawful ps d a.change curve) (sym (append_assoc came (now_came p f ∷ []) os)) l') in
+            let same = on (came ++ now_came p f ∷ []) (ap (λ xs. came ++ xs) q)
+            (subst (AreLawful ps d a.change curve) (sym (append_assoc came (now_came p f ∷ []) os)) l') in
             ap (λ xs. xs ++ qs) q ∙ (ap (λ xs. now_came p f ∷ xs) same ∙ sym (ap (λ xs. xs ++ os) o))
         go (one_full f o q many) on =
             let l' = subst (λ xs. AreLawful ps d a.change curve (came ++ (xs ++ os))) o l in

@@ -26,12 +26,16 @@ module _ (ps change : ℕ) (flow : Flow) where
       let at = first.3 in
       let same = ap (λ (y : Came). y.moment) (same_Some g f e) in
       let none : flow.period * 0 ≡ 0 = omega arith in
-      let need = ap (λ (x : ℕ × ℕ). (flow_at (flow ∷ []) x.1).need) is in
-      (omega (arith, moment, at, same, none), subst (λ (y : Came). occupancy_of ps y.frame.len ≡ flow.need) (same_Some g f e) (first.4 ∙ sym need))
+      let need = ap (λ (x : ℕ × ℕ). (flow_at (flow ∷ []) x.1).need) is in (
+        omega (arith, moment, at, same, none),
+        subst (λ (y : Came). occupancy_of ps y.frame.len ≡ flow.need) (same_Some g f e)
+            (first.4 ∙ sym need),
+      )
   each_at n t (g ∷ came) (suc k) f c e =
       let first = coming_first (flow ∷ []) n (t ∷ []) ps change g came c in
       let is = first_one t first.1 first.2 in
-      let rest = subst (λ (x : ℕ × ℕ). AreComing ps change (flow ∷ []) (coming (flow ∷ []) first.0 (set (t ∷ []) x.1 (x.0 + (flow_at (flow ∷ []) x.1).period))) came) (sym is) first.5 in
+      let rest = subst (λ (x : ℕ × ℕ). AreComing ps change (flow ∷ [])
+      (coming (flow ∷ []) first.0 (set (t ∷ []) x.1 (x.0 + (flow_at (flow ∷ []) x.1).period))) came) (sym is) first.5 in
       let r = each_at first.0 (t + flow.period) came k f rest e in
       let at = r.0 in
       let more : flow.period * suc k ≡ flow.period * k + flow.period = mul-suc flow.period k in
@@ -76,7 +80,10 @@ periodic_law ps mtu room class n plan flow events r =
     }
 
     by : (i : ℕ) (f : Sporadic) → slice_get (as_sporadic flow ∷ []) i ≡ Some f
-        → AreFramesOf ps f (frames_at i (replicate (length (offered_in class events (new_port ps mtu room))) 0) (offered_in class events (new_port ps mtu room)))
-    by zero f e = subst (λ x. AreFramesOf ps x (frames_at 0 (replicate (length (offered_in class events (new_port ps mtu room))) 0) (offered_in class events (new_port ps mtu room)))) (same_Some (as_sporadic flow) f e)
+        → AreFramesOf ps f (frames_at i (replicate (length (offered_in class events (new_port ps mtu room))) 0)
+        (offered_in class events (new_port ps mtu room)))
+    by zero f e = subst (λ x. AreFramesOf ps x
+        (frames_at 0 (replicate (length (offered_in class events (new_port ps mtu room))) 0)
+        (offered_in class events (new_port ps mtu room)))) (same_Some (as_sporadic flow) f e)
         (subst (AreFramesOf ps (as_sporadic flow)) (sym (all_of (offered_in class events (new_port ps mtu room)))) are_of)
     by (suc i) f e = absurd (none_here i f e)

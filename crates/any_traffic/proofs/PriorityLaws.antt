@@ -65,4 +65,11 @@ module _ (p : AbstractPort) (class : ℕ) (lc : class < 8) where
 pub priority_law : PriorityLaw
 priority_law p upto m class lc le less is =
     let s = scanned p class lc (upto - p.now) p.now m le (omega (arith, le, less)) is in
-    record { start = s.start; first = s.first; among = ap (λ z. z.0) (starts_until-some p upto s.start s.first); by = s.by; priority = s.priority }
+    record {
+      start = s.start;
+      first = s.first;
+      among = ap (λ z. z.0)
+          (starts_until-some p upto s.start s.first);
+      by = s.by;
+      priority = s.priority;
+    }

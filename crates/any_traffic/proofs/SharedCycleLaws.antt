@@ -7,7 +7,8 @@ use Rattle.delay_bounds.specs.Walk.{may_by}
 use Rattle.any_traffic.specs.SharedBounds.{IsSharedBusyPeriod, IsSlotFor, SharedCycleLaw, most_above}
 use Rattle.any_traffic.specs.SharedSlots.{IsFirstShared, IsNextShared, IsNextWindow, IsSharedSlot, is_opening}
 
-module _ (may : ℕ → ℕ → Bool) (own pitch : ℕ) (blocking : ℕ → ℕ) (e : ℕ) (again : Repeats may e) (blocked : (u : ℕ) → blocking (u + e) ≡ blocking u) where
+module _ (may : ℕ → ℕ → Bool) (own pitch : ℕ) (blocking : ℕ → ℕ) (e : ℕ) (again : Repeats may e)
+    (blocked : (u : ℕ) → blocking (u + e) ≡ blocking u) where
   long_later : (u d : ℕ) → may (u + e) (blocking (u + e) + d) ≡ may u (blocking u + d)
   long_later u d = ap (λ k. may (u + e) (k + d)) (blocked u) ∙ again u (blocking u + d)
 
@@ -29,7 +30,8 @@ module _ (may : ℕ → ℕ → Bool) (own pitch : ℕ) (blocking : ℕ → ℕ)
         opens = opening_later w.opening (omega (arith, after)) ∙ w.opens;
         least = λ u from below.
             let at : u - e + e ≡ u = omega (arith, from) in
-            ap (is_opening may own pitch blocking) (sym at) ∙ (opening_later (u - e) (omega (arith, from)) ∙ w.least (u - e) (omega (arith, from)) (omega (arith, below, from)));
+            ap (is_opening may own pitch blocking) (sym at) ∙
+            (opening_later (u - e) (omega (arith, from)) ∙ w.least (u - e) (omega (arith, from)) (omega (arith, below, from)));
         begins = omega (arith, begins, same);
       }
 
@@ -53,7 +55,8 @@ blocking_repeats blocking c again (suc k) u =
     ap blocking at ∙ (again (u + c * k) ∙ blocking_repeats blocking c again k u)
 
 pub shared_cycle_law : SharedCycleLaw
-shared_cycle_law plan class pitch wait waiting need blocking curve most higher above blocked cycle t = subst (IsSharedBusyPeriod plan class need blocking pitch curve most higher wait waiting) whole moved
+shared_cycle_law plan class pitch wait waiting need blocking curve most higher above blocked cycle t = subst
+    (IsSharedBusyPeriod plan class need blocking pitch curve most higher wait waiting) whole moved
   where
     c : ℕ
     c = in_ps plan.cycle
@@ -72,14 +75,20 @@ shared_cycle_law plan class pitch wait waiting need blocking curve most higher a
 
     moves : (n s : ℕ) → IsSharedSlot (may_by plan class) (need class) pitch blocking p n s
         → IsSharedSlot (may_by plan class) (need class) pitch blocking (p + e) n (s + e)
-    moves n s h = shared_later (may_by plan class) (need class) pitch blocking e (by_repeats plan above class (t / c)) (blocking_repeats blocking c blocked (t / c)) p n s h
+    moves n s h = shared_later (may_by plan class) (need class) pitch blocking e (by_repeats plan above class (t / c))
+        (blocking_repeats blocking c blocked (t / c)) p n s h
 
     same_time : (s : ℕ) → s - p ≡ s + e - (p + e)
     same_time s = omega arith
 
     slot_moves : (k s : ℕ) → IsSlotFor plan class need blocking pitch curve most higher p k s
         → IsSlotFor plan class need blocking pitch curve most higher (p + e) k (s + e)
-    slot_moves k s w = record { behind = w.behind; is = moves w.behind s w.is; enough = subst (λ y. k + most_above curve most higher y ≤ w.behind + 1) (same_time s) w.enough }
+    slot_moves k s w = record {
+      behind = w.behind;
+      is = moves w.behind s w.is;
+      enough = subst
+          (λ y. k + most_above curve most higher y ≤ w.behind + 1) (same_time s) w.enough;
+    }
 
     moved : IsSharedBusyPeriod plan class need blocking pitch curve most higher wait waiting (p + e)
     moved =

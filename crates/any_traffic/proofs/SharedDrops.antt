@@ -58,14 +58,16 @@ tick_after p = go (choice p p.now) refl
   where
     go : (o : Option ℕ) → choice p p.now ≡ o → AreAfter p.now (option_to_list (tick p).0)
     go None e = subst (λ z. AreAfter p.now (option_to_list z.0)) (sym (ap (start_with p) e)) tt
-    go (Some k) e = (let l = leaves_from p k (choice_passes p p.now k e).0 in subst (λ z. AreAfter p.now (option_to_list z.0)) (sym (tick_start p k l e)) (le_refl p.now, tt))
+    go (Some k) e = (let l = leaves_from p k (choice_passes p p.now k e).0 in subst (λ z. AreAfter p.now (option_to_list z.0))
+        (sym (tick_start p k l e)) (le_refl p.now, tt))
 
 live_after : (n : ℕ) (p : AbstractPort) → AreAfter p.now (live n p).0
 unfolding live
 live_after zero p = tt
 live_after (suc n) p =
     let q = with_moment (tick p).1 (p.now + 1) in
-    after_both p.now (option_to_list (tick p).0) (live n q).0 (tick_after p) (after_from (p.now + 1) p.now (live n q).0 (omega arith) (live_after n q))
+    after_both p.now (option_to_list (tick p).0) (live n q).0 (tick_after p)
+    (after_from (p.now + 1) p.now (live n q).0 (omega arith) (live_after n q))
 
 event_after : (event : Event) (p : AbstractPort) → 0 < p.ps → AreAfter p.now (starts_in (answers_to event p).0)
 event_after (Arrive f) p pos = by (verdict p f)
@@ -83,7 +85,8 @@ event_after (Clock m) p pos =
       | inl t ↦ subst (λ z. AreAfter p.now (starts_in z.0)) (sym (clock_back m p t)) tt
       | inr f ↦
           let le = ltb-false m p.now (or_parts _ _ f).0 in
-          let is : answers_to (Clock m) p ≡ (map Answered.Start (live (m - p.now) p).0, (live (m - p.now) p).1) = clock_on m p f ∙ ap (λ z. (map Answered.Start z.0, z.1)) (starts_until_live p m pos le) in
+          let is : answers_to (Clock m) p ≡ (map Answered.Start (live (m - p.now) p).0, (live (m - p.now) p).1) = clock_on m p f ∙ ap
+          (λ z. (map Answered.Start z.0, z.1)) (starts_until_live p m pos le) in
           subst (AreAfter p.now) (sym (ap (λ z. starts_in z.0) is ∙ starts_in-starts (live (m - p.now) p).0)) (live_after (m - p.now) p)
     ]
 event_after Query p pos = tt
@@ -105,7 +108,8 @@ module _ (may : ℕ → ℕ → Bool) (ps c : ℕ) where
       → AreShared may ps c all free now came starts wire waiting → length starts + length waiting ≡ length came
   shared_count all free now came [] wire waiting s = (let same = ap length s.frames ∙ count_frames came in omega (arith, same))
   shared_count all free now [] (x ∷ starts) wire waiting s = absurd s
-  shared_count all free now (f ∷ came) (x ∷ starts) wire waiting s = (let rest = shared_count all x.«end» now came starts wire waiting s.1 in omega (arith, rest))
+  shared_count all free now (f ∷ came) (x ∷ starts) wire waiting s =
+      (let rest = shared_count all x.«end» now came starts wire waiting s.1 in omega (arith, rest))
 
 -- ---- a run
 
@@ -117,9 +121,11 @@ module _ (c : ℕ) (a : Accepted) (pace : ℕ) (lc : c < 8) (pos : 0 < pace) whe
   run_after (event ∷ rest) p came all large h k only =
       let q = (answers_to event p).1 in
       let given = (answers_to event p).0 in
-      let later = run_after rest q (came ++ queued_by c event p) (all ++ starts_in given) (still_large event p large) (event_holds c a pace lc pos event p came all large h k.0 only.0) k.1 only.1 in
+      let later = run_after rest q (came ++ queued_by c event p) (all ++ starts_in given) (still_large event p large)
+      (event_holds c a pace lc pos event p came all large h k.0 only.0) k.1 only.1 in
       subst (AreAfter p.now) (sym (starts_in-append given (answers_of rest q)))
-      (after_both p.now (starts_in given) (starts_in (answers_of rest q)) (event_after event p (subst (λ (n : ℕ). 0 < n) (sym h.rate) pos)) (after_from q.now p.now (starts_in (answers_of rest q)) (onward event p) later))
+      (after_both p.now (starts_in given) (starts_in (answers_of rest q)) (event_after event p (subst (λ (n : ℕ). 0 < n) (sym h.rate) pos))
+      (after_from q.now p.now (starts_in (answers_of rest q)) (onward event p) later))
 
   module _ (waiting room : ℕ) (whole : List Came) (mine : List Start) (few : AtMostWait waiting whole mine) (less : waiting < room) where
     queue_few : (p : AbstractPort) (came more : List Came) (all later : List Start) → SharedHolds c a pace lc pos p came all
@@ -129,12 +135,15 @@ module _ (c : ℕ) (a : Accepted) (pace : ℕ) (lc : c < 8) (pos : 0 < pace) whe
         by : (n : ℕ) → length (queue_of p c) ≡ n → length (queue_of p c) ≤ waiting
         by zero e = omega (arith, e)
         by (suc n) e =
-            let count = shared_count (open_through (a ∷ []) c) pace c all 0 p.now came (starts_of_class c all) h.wire (queue_of p c) h.served in
+            let count = shared_count (open_through (a ∷ []) c) pace c all 0 p.now came (starts_of_class c all) h.wire
+            (queue_of p c) h.served in
             let k : ℕ = length (starts_of_class c all) in
             let f = one_at came k (omega (arith, count, e)) in
             let g = one_at came (k + n) (omega (arith, count, e)) in
-            let come = shared_come (open_through (a ∷ []) c) pace c all 0 p.now came (starts_of_class c all) h.wire (queue_of p c) h.served (k + n) g.0 g.1 in
-            let most = few k n p.now f.0 g.0 (sym (ap (λ xs. slice_get xs k) is) ∙ get_more came more k f.0 f.1) (sym (ap (λ xs. slice_get xs (k + n)) is) ∙ get_more came more (k + n) g.0 g.1) come
+            let come = shared_come (open_through (a ∷ []) c) pace c all 0 p.now came (starts_of_class c all) h.wire (queue_of p c) h.served
+            (k + n) g.0 g.1 in
+            let most = few k n p.now f.0 g.0 (sym (ap (λ xs. slice_get xs k) is) ∙ get_more came more k f.0 f.1)
+            (sym (ap (λ xs. slice_get xs (k + n)) is) ∙ get_more came more (k + n) g.0 g.1) come
             (λ x there. behind_after p.now (starts_of_class c all) later x after (ap (λ xs. slice_get xs k) own ∙ there)) in
             omega (arith, most, e)
 
@@ -145,11 +154,15 @@ module _ (c : ℕ) (a : Accepted) (pace : ℕ) (lc : c < 8) (pos : 0 < pace) whe
     all_queued [] p came all large size h k only is own = refl
     all_queued (event ∷ rest) p came all large size h k only is own =
         go (taken c event p large)
-        (all_queued rest q (came ++ queued_by c event p) (all ++ starts_in given) (still_large event p large) (room_kept event p ∙ size) (event_holds c a pace lc pos event p came all large h k.0 only.0) k.1 only.1
+        (all_queued rest q (came ++ queued_by c event p) (all ++ starts_in given) (still_large event p large) (room_kept event p ∙ size)
+        (event_holds c a pace lc pos event p came all large h k.0 only.0) k.1 only.1
         (append_assoc came (queued_by c event p) (queued_in c rest q) ∙ is)
-        (ap (λ xs. xs ++ starts_of_class c (starts_in (answers_of rest q))) (filter-append (λ (s : Start). eqb s.class c) all (starts_in given))
+        (ap (λ xs. xs ++ starts_of_class c (starts_in (answers_of rest q)))
+        (filter-append (λ (s : Start). eqb s.class c) all (starts_in given))
         ∙ (append_assoc (starts_of_class c all) (starts_of_class c (starts_in given)) (starts_of_class c (starts_in (answers_of rest q)))
-        ∙ (ap (λ xs. starts_of_class c all ++ xs) (sym (ap (starts_of_class c) (starts_in-append given (answers_of rest q)) ∙ filter-append (λ (s : Start). eqb s.class c) (starts_in given) (starts_in (answers_of rest q)))) ∙ own))))
+        ∙ (ap (λ xs. starts_of_class c all ++ xs)
+        (sym (ap (starts_of_class c) (starts_in-append given (answers_of rest q)) ∙ filter-append (λ (s : Start). eqb s.class c)
+        (starts_in given) (starts_in (answers_of rest q)))) ∙ own))))
       where
         q : AbstractPort
         q = (answers_to event p).1
@@ -160,9 +173,11 @@ module _ (c : ℕ) (a : Accepted) (pace : ℕ) (lc : c < 8) (pos : 0 < pace) whe
         go : Taken c p (offered_by c event p) (queued_by c event p) → queued_in c rest q ≡ offered_in c rest q
             → queued_by c event p ++ queued_in c rest q ≡ offered_by c event p ++ offered_in c rest q
         go (none_offered o n) same = ap (λ xs. xs ++ queued_in c rest q) n ∙ (same ∙ sym (ap (λ xs. xs ++ offered_in c rest q) o))
-        go (one_queued f o n some) same = ap (λ xs. xs ++ queued_in c rest q) n ∙ (ap (λ xs. now_came p f ∷ xs) same ∙ sym (ap (λ xs. xs ++ offered_in c rest q) o))
+        go (one_queued f o n some) same = ap (λ xs. xs ++ queued_in c rest q) n ∙
+            (ap (λ xs. now_came p f ∷ xs) same ∙ sym (ap (λ xs. xs ++ offered_in c rest q) o))
         go (one_full f o n many) same =
-            let most = queue_few p came (queued_in c (event ∷ rest) p) all (starts_of_class c (starts_in (answers_of (event ∷ rest) p))) h is own
+            let most = queue_few p came (queued_in c (event ∷ rest) p) all
+            (starts_of_class c (starts_in (answers_of (event ∷ rest) p))) h is own
             (after_class p.now c (starts_in (answers_of (event ∷ rest) p)) (run_after (event ∷ rest) p came all large h k only)) in
             absurd (omega (arith, many, most, less, size))
 
@@ -170,4 +185,5 @@ pub shared_drops_law : SharedDropsLaw
 shared_drops_law ps mtu room c waiting a events rate large lc only k few less =
     let some : 0 < ps = omega (arith, rate) in
     let p = new_port ps mtu room in
-    all_queued c a ps lc some waiting room (queued ps mtu room c events) (started ps mtu room c events) few less events p [] [] large refl (new_shared c a ps lc some mtu room) k only refl refl
+    all_queued c a ps lc some waiting room (queued ps mtu room c events) (started ps mtu room c events) few less events p [] [] large refl
+    (new_shared c a ps lc some mtu room) k only refl refl

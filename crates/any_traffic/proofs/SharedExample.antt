@@ -36,7 +36,8 @@ are_above j u more less own open_too = (0, (let same : 7 ≡ j = omega (arith, m
 
 shared_at : (n t : ℕ) → IsSharedSlot (may_by both_open 6) 3000000 3000000 blocked t n (t + 2999999 + n * 3000000)
 shared_at zero t = (let at : t + 2999999 + 0 * 3000000 ≡ t + 2999999 = omega arith in inl (always t 5999999, at))
-shared_at (suc n) t = (let at : t + 2999999 + suc n * 3000000 ≡ t + 2999999 + n * 3000000 + 3000000 = omega arith in (t + 2999999 + n * 3000000, shared_at n t, inl (always (t + 2999999 + n * 3000000) 6000000, at)))
+shared_at (suc n) t = (let at : t + 2999999 + suc n * 3000000 ≡ t + 2999999 + n * 3000000 + 3000000 = omega arith in
+    (t + 2999999 + n * 3000000, shared_at n t, inl (always (t + 2999999 + n * 3000000) 6000000, at)))
 
 is_sharing : IsSharing both_open 6 (7 ∷ []) needs blocked 3000000
 is_sharing = record { among = are_above; blocked = is_blocking; apart = is_pitch }
@@ -57,4 +58,9 @@ are_bounds = record {
   where
     by : (t x q : ℕ) → x / 100000000 ≡ q → (q ≡ 0) ⊎ ((s : ℕ) × IsFor t q s × (s < t + x))
     by t x zero e = inl refl
-    by t x (suc q) e = inr (t + 2999999 + (2 * q + 4) * 3000000, record { behind = 2 * q + 4; is = shared_at (2 * q + 4) t; enough = omega arith }, omega (arith, e))
+    by t x (suc q) e = inr (
+      t + 2999999 +
+          (2 * q + 4) * 3000000,
+      record { behind = 2 * q + 4; is = shared_at (2 * q + 4) t; enough = omega arith },
+      omega (arith, e),
+    )

@@ -31,148 +31,13 @@ use Rattle.any_traffic.proofs.ListLaws.{none_here, one_at, one_before}
 use Rattle.any_traffic.proofs.PartLaws.{come_by, part_at, part_pair}
 use Rattle.any_traffic.proofs.Offered.{are_part, queued_order}
 use Rattle.any_traffic.proofs.SharedSlots.{AreSound, at_slot, count_all, count_of, is_counted}
+use Rattle.any_traffic.proofs.StartLaws.{apart_at, class_at, class_of, class_one, class_pair, class_within, count_own, long_at, since_at, span, start_holds}
 use Rattle.any_traffic.proofs.Sharing.{AreLong, AreShared, AreSince, IsSharedStart, IsTaken, SharedHolds, shared_run}
-
--- ---- all starts of a run
-
-long_at : (xs : List Start) (k : ℕ) (x : Start) → AreLong xs → slice_get xs k ≡ Some x → x.at < x.«end»
-long_at [] k x l e = absurd (none_here k x e)
-long_at (y ∷ xs) zero x l e = subst (λ (z : Start). z.at < z.«end») (same_Some y x e) l.0
-long_at (y ∷ xs) (suc k) x l e = long_at xs k x l.2 e
-
-class_within : (xs : List Start) (k : ℕ) (x : Start) → AreLong xs → slice_get xs k ≡ Some x → x.class < 8
-class_within [] k x l e = absurd (none_here k x e)
-class_within (y ∷ xs) zero x l e = subst (λ (z : Start). z.class < 8) (same_Some y x e) l.1
-class_within (y ∷ xs) (suc k) x l e = class_within xs k x l.2 e
-
-since_at : (t : ℕ) (came : List Came) (k : ℕ) (f : Came) → AreSince t came → slice_get came k ≡ Some f → t ≤ f.moment
-since_at t [] k f l e = absurd (none_here k f e)
-since_at t (g ∷ came) zero f l e = subst (λ (z : Came). t ≤ z.moment) (same_Some g f e) l.0
-since_at t (g ∷ came) (suc k) f l e = since_at t came k f l.1 e
-
-apart_from : (free : ℕ) (xs : List Start) (k : ℕ) (x : Start) → AreLong xs → AreApart free xs → slice_get xs k ≡ Some x → free ≤ x.at
-apart_from free [] k x l h e = absurd (none_here k x e)
-apart_from free (y ∷ xs) zero x l h e = subst (λ (z : Start). free ≤ z.at) (same_Some y x e) h.0
-apart_from free (y ∷ xs) (suc k) x l h e = (let rest = apart_from y.«end» xs k x l.2 h.1 e in let here = h.0 in let long = l.0 in omega (arith, rest, here, long))
-
-apart_at : (free : ℕ) (xs : List Start) (i j : ℕ) (x y : Start) → AreLong xs → AreApart free xs → slice_get xs i ≡ Some x
-    → slice_get xs j ≡ Some y → i < j → x.«end» ≤ y.at
-apart_at free [] i j x y l h e f less = absurd (none_here i x e)
-apart_at free (z ∷ xs) i zero x y l h e f less = absurd (omega (arith, less))
-apart_at free (z ∷ xs) zero (suc j) x y l h e f less = subst (λ (w : Start). w.«end» ≤ y.at) (same_Some z x e) (apart_from z.«end» xs j y l.2 h.1 f)
-apart_at free (z ∷ xs) (suc i) (suc j) x y l h e f less = apart_at z.«end» xs i j x y l.2 h.1 e f (omega (arith, less))
-
-start_holds : (P : Answer → Type 0) (xs : List Answer) → ((k : ℕ) (d : Answer) → k < length xs → P (slice_index_or xs k d))
-    → (k : ℕ) (x : Start) → slice_get (starts_in xs) k ≡ Some x → P (Answered.Start x)
-start_holds P [] h k x e = absurd (none_here k x e)
-start_holds P (Answered.Start s ∷ xs) h zero x e = subst (λ z. P (Answered.Start z)) (same_Some s x e) (h 0 (Answered.Start s) (omega arith))
-start_holds P (Answered.Start s ∷ xs) h (suc k) x e = start_holds P xs (λ j d less. h (suc j) d (omega (arith, less))) k x e
-start_holds P (answer ∷ xs) h k x e = start_holds P xs (λ j d less. h (suc j) d (omega (arith, less))) k x e
-
--- ---- the starts of a class
-
-class_at : (c : ℕ) (xs : List Start) (k : ℕ) (x : Start) → slice_get xs k ≡ Some x → x.class ≡ c
-    → (i : ℕ) × (slice_get (starts_of_class c xs) i ≡ Some x)
-class_at c [] k x e same = absurd (none_here k x e)
-class_at c (y ∷ xs) zero x e same =
-    let is = same_Some y x e in
-    let passes : eqb y.class c ≡ true = ap (λ (z : Start). eqb z.class c) is ∙ eq-eqb x.class c same in
-    (0, ap (λ b. slice_get (cond b (y ∷ starts_of_class c xs) (starts_of_class c xs)) 0) passes ∙ e)
-class_at c (y ∷ xs) (suc k) x e same = by (eqb y.class c) (class_at c xs k x e same)
-  where
-    by : (b : Bool) → (i : ℕ) × (slice_get (starts_of_class c xs) i ≡ Some x)
-        → (i : ℕ) × (slice_get (cond b (y ∷ starts_of_class c xs) (starts_of_class c xs)) i ≡ Some x)
-    by true r = (suc r.0, r.1)
-    by false r = r
-
--- where one stands among all, and two in their order
-class_one : (c : ℕ) (xs : List Start) (i : ℕ) (x : Start) → slice_get (starts_of_class c xs) i ≡ Some x
-    → (k : ℕ) × (slice_get xs k ≡ Some x)
-class_one c [] i x e = absurd (none_here i x e)
-class_one c (z ∷ xs) i x e = by (eqb z.class c) i e (class_one c xs)
-  where
-    by : (b : Bool) (i : ℕ) → slice_get (cond b (z ∷ starts_of_class c xs) (starts_of_class c xs)) i ≡ Some x
-        → ((i : ℕ) (x : Start) → slice_get (starts_of_class c xs) i ≡ Some x → (k : ℕ) × (slice_get xs k ≡ Some x))
-        → (k : ℕ) × (slice_get (z ∷ xs) k ≡ Some x)
-    by true zero e ih = (0, e)
-    by true (suc i) e ih = (let r = ih i x e in (suc r.0, r.1))
-    by false i e ih = (let r = ih i x e in (suc r.0, r.1))
-
-class_pair : (c : ℕ) (xs : List Start) (i j : ℕ) (x y : Start) → slice_get (starts_of_class c xs) i ≡ Some x
-    → slice_get (starts_of_class c xs) j ≡ Some y → i < j
-    → (k : ℕ) × (l : ℕ) × (slice_get xs k ≡ Some x) × (slice_get xs l ≡ Some y) × (k < l)
-class_pair c [] i j x y e f less = absurd (none_here i x e)
-class_pair c (z ∷ xs) i j x y e f less = by (eqb z.class c) i j e f less (class_pair c xs) (class_one c xs)
-  where
-    by : (b : Bool) (i j : ℕ) → slice_get (cond b (z ∷ starts_of_class c xs) (starts_of_class c xs)) i ≡ Some x
-        → slice_get (cond b (z ∷ starts_of_class c xs) (starts_of_class c xs)) j ≡ Some y → i < j
-        → ((i j : ℕ) (x y : Start) → slice_get (starts_of_class c xs) i ≡ Some x → slice_get (starts_of_class c xs) j ≡ Some y → i < j → (k : ℕ) × (l : ℕ) × (slice_get xs k ≡ Some x) × (slice_get xs l ≡ Some y) × (k < l))
-        → ((i : ℕ) (x : Start) → slice_get (starts_of_class c xs) i ≡ Some x → (k : ℕ) × (slice_get xs k ≡ Some x))
-        → (k : ℕ) × (l : ℕ) × (slice_get (z ∷ xs) k ≡ Some x) × (slice_get (z ∷ xs) l ≡ Some y) × (k < l)
-    by true i zero e f less ih one = absurd (omega (arith, less))
-    by true zero (suc j) e f less ih one = (let r = one j y f in (0, suc r.0, e, r.1, omega arith))
-    by true (suc i) (suc j) e f less ih one = (let r = ih i j x y e f (omega (arith, less)) in let on = r.4 in (suc r.0, suc r.1, r.2, r.3, omega (arith, on)))
-    by false i j e f less ih one = (let r = ih i j x y e f less in let on = r.4 in (suc r.0, suc r.1, r.2, r.3, omega (arith, on)))
-
-class_of : (c : ℕ) (xs : List Start) (i : ℕ) (x : Start) → slice_get (starts_of_class c xs) i ≡ Some x → x.class ≡ c
-class_of c [] i x e = absurd (none_here i x e)
-class_of c (z ∷ xs) i x e = by (eqb z.class c) refl i e (class_of c xs)
-  where
-    by : (b : Bool) → eqb z.class c ≡ b → (i : ℕ) → slice_get (cond b (z ∷ starts_of_class c xs) (starts_of_class c xs)) i ≡ Some x
-        → ((i : ℕ) (x : Start) → slice_get (starts_of_class c xs) i ≡ Some x → x.class ≡ c) → x.class ≡ c
-    by true t zero e ih = sym (ap (λ (y : Start). y.class) (same_Some z x e)) ∙ eqb-true z.class c t
-    by true t (suc i) e ih = ih i x e
-    by false f i e ih = ih i x e
-
--- as many of a class start among all as among its own
-count_own : (j p s : ℕ) (xs : List Start) → count_of j p s xs ≡ count_of j p s (starts_of_class j xs)
-count_own j p s [] = refl
-count_own j p s (x ∷ xs) = by (eqb x.class j) refl (count_own j p s xs)
-  where
-    by : (b : Bool) → eqb x.class j ≡ b → count_of j p s xs ≡ count_of j p s (starts_of_class j xs)
-        → one_if (b && (leb p x.at && ltb x.at s)) + count_of j p s xs ≡ count_of j p s (cond b (x ∷ starts_of_class j xs) (starts_of_class j xs))
-    by true e ih =
-        let here : one_if (is_counted j p s x) ≡ one_if (leb p x.at && ltb x.at s) = ap (λ b. one_if (b && (leb p x.at && ltb x.at s))) e in
-        omega (arith, ih, here)
-    by false e ih = omega (arith, ih)
-
--- the first and the last of those that are counted
-pub record IsSpan (p s : ℕ) (xs : List Start) (m : ℕ) : Type 0 where
-  pub place : ℕ
-  pub first : Start
-  pub last : Start
-  pub one : slice_get xs place ≡ Some first
-  pub other : slice_get xs (place + m) ≡ Some last
-  pub from : p ≤ first.at
-  pub before : last.at < s
-
-span : (j p s : ℕ) (xs : List Start) (m : ℕ)
-    → ((i k : ℕ) (x y : Start) → slice_get xs i ≡ Some x → slice_get xs k ≡ Some y → i ≤ k → x.at ≤ y.at) → count_of j p s xs ≡ suc m
-    → IsSpan p s xs m
-span j p s [] m rising e = absurd (omega (arith, e))
-span j p s (x ∷ xs) m rising e = by (is_counted j p s x) refl m e (λ m e. span j p s xs m (λ i k y z f g le. rising (suc i) (suc k) y z f g (omega (arith, le))) e)
-  where
-    by : (b : Bool) → is_counted j p s x ≡ b → (m : ℕ) → one_if b + count_of j p s xs ≡ suc m
-        → ((m : ℕ) → count_of j p s xs ≡ suc m → IsSpan p s xs m) → IsSpan p s (x ∷ xs) m
-    by false t m e ih =
-        let r = ih m (omega (arith, e)) in
-        let at : suc (r.place + m) ≡ suc r.place + m = omega arith in
-        record { place = suc r.place; first = r.first; last = r.last; one = r.one; other = ap (slice_get (x ∷ xs)) (sym at) ∙ r.other; from = r.from; before = r.before }
-    by true t zero e ih =
-        let test = and_parts (leb p x.at) (ltb x.at s) (and_parts (eqb x.class j) (leb p x.at && ltb x.at s) t).1 in
-        record { place = 0; first = x; last = x; one = refl; other = refl; from = leb-true p x.at test.0; before = ltb-true x.at s test.1 }
-    by true t (suc m) e ih =
-        let test = and_parts (leb p x.at) (ltb x.at s) (and_parts (eqb x.class j) (leb p x.at && ltb x.at s) t).1 in
-        let r = ih m (omega (arith, e)) in
-        let w = one_before xs m (r.place + m) r.last (omega arith) r.other in
-        let le = rising (suc m) (suc (r.place + m)) w.0 r.last w.1 r.other (omega arith) in
-        let before = r.before in
-        let at : suc m ≡ 0 + suc m = omega arith in
-        record { place = 0; first = x; last = w.0; one = refl; other = sym (ap (slice_get (x ∷ xs)) at) ∙ w.1; from = leb-true p x.at test.0; before = omega (arith, le, before) }
 
 -- ---- since when the class has been waiting
 
-module _ (h : List Accepted) (ps c d : ℕ) (all : List Start) (whole : List Came) (short : (k : ℕ) (f : Came) → slice_get whole k ≡ Some f → occupancy_of ps f.frame.len ≤ d) where
+module _ (h : List Accepted) (ps c d : ℕ) (all : List Start) (whole : List Came)
+    (short : (k : ℕ) (f : Came) → slice_get whole k ≡ Some f → occupancy_of ps f.frame.len ≤ d) where
   abbrev mine : List Start
   mine = starts_of_class c all
 
@@ -240,7 +105,8 @@ module _ (h : List Accepted) (ps c d : ℕ) (all : List Start) (whole : List Cam
     first = b.first;
     busy = λ t from below fits. elim (cases_lt t (max f.moment free)) [
       | inl early ↦ b.busy t from early fits
-      | inr late ↦ (let need = short k f e in blocked t late below (open_within (gates h) c t d t (occupancy_of ps f.frame.len) fits (le_refl t) (omega (arith, need))))
+      | inr late ↦ (let need = short k f e in blocked t late below
+          (open_within (gates h) c t d t (occupancy_of ps f.frame.len) fits (le_refl t) (omega (arith, need))))
     ];
     clear = b.clear;
     joined = b.joined;
@@ -276,7 +142,15 @@ module _ (h : List Accepted) (ps c d : ℕ) (all : List Start) (whole : List Cam
             first = b.first;
             busy = λ t from below fits. elim (cases_lt t x.at) [
               | inl early ↦ b.busy t from early fits
-              | inr late ↦ record { place = among.0; start = x; there = among.1; from = late; until = below; priority = λ here. omega (arith, class) }
+              | inr late ↦ record {
+                place = among.0;
+                start = x;
+                there = among.1;
+                from = late;
+                until = below;
+                priority = λ here. omega
+                    (arith, class);
+              }
             ];
             clear = b.clear;
             joined = λ i z y from less there own. b.joined i z y from (omega (arith, less)) there own;
@@ -292,7 +166,8 @@ module _ (h : List Accepted) (ps c d : ℕ) (all : List Start) (whole : List Cam
       → ((k : ℕ) (f : Came) → slice_get came k ≡ Some f → slice_get whole (i + k) ≡ Some f)
       → ((k : ℕ) (x : Start) → slice_get starts k ≡ Some x → slice_get mine (i + k) ≡ Some x) → IsGone i free
       → AreShared (open_through h c) ps c all free now came starts wire waiting → AreFrom i now came starts
-  all_from i free now [] [] wire waiting here there g s = record { begun = λ k f x e y. absurd (none_here k f e); waits = λ f e. absurd (none_here 0 f e) }
+  all_from i free now [] [] wire waiting here there g s = record
+      { begun = λ k f x e y. absurd (none_here k f e); waits = λ f e. absurd (none_here 0 f e) }
   all_from i free now (f ∷ came) [] wire waiting here there g s =
       let at : i + 0 ≡ i = omega arith in
       let own = sym (ap (slice_get whole) at) ∙ here 0 f refl in
@@ -308,7 +183,8 @@ module _ (h : List Accepted) (ps c d : ℕ) (all : List Start) (whole : List Cam
       (λ k z e. (let on : i + suc k ≡ suc i + k = omega arith in sym (ap (slice_get mine) on) ∙ there (suc k) z e)) start.1 s.1 in
       record {
         begun = begun start.0 rest;
-        waits = λ z e. (let on : suc i + length starts ≡ i + suc (length starts) = omega arith in subst (λ k. IsFrom k k now) on (rest.waits z e));
+        waits = λ z e. (let on : suc i + length starts ≡ i + suc (length starts) = omega arith in subst (λ k. IsFrom k k now) on
+            (rest.waits z e));
       }
     where
       begun : IsFrom i i x.at → AreFrom (suc i) now came starts → (k : ℕ) (z : Came) (y : Start) → slice_get (f ∷ came) k ≡ Some z
@@ -316,13 +192,20 @@ module _ (h : List Accepted) (ps c d : ℕ) (all : List Start) (whole : List Cam
       begun first rest zero z y e v =
           let at : i ≡ i + 0 = omega arith in
           subst (λ k. IsFrom k k y.at) at (subst (λ (w : Start). IsFrom i i w.at) (same_Some x y v) first)
-      begun first rest (suc k) z y e v = (let on : suc i + k ≡ i + suc k = omega arith in subst (λ m. IsFrom m m y.at) on (rest.begun k z y e v))
+      begun first rest (suc k) z y e v =
+          (let on : suc i + k ≡ i + suc k = omega arith in subst (λ m. IsFrom m m y.at) on (rest.begun k z y e v))
 
   module _ (now wire : ℕ) (waiting : List Frame) (s : AreShared (open_through h c) ps c all 0 now whole mine wire waiting) where
     whole_from : AreFrom 0 now whole mine
     whole_from =
-        all_from 0 0 now whole mine wire waiting (λ k f e. (let at : k ≡ 0 + k = omega arith in sym (ap (slice_get whole) at) ∙ e)) (λ k x e. (let at : k ≡ 0 + k = omega arith in sym (ap (slice_get mine) at) ∙ e))
-        (record { ended = λ i y there less. absurd (omega (arith, less)); closes = λ i y there same. absurd (omega (arith, same)); before = inl (refl, refl) }) s
+        all_from 0 0 now whole mine wire waiting (λ k f e. (let at : k ≡ 0 + k = omega arith in sym (ap (slice_get whole) at) ∙ e))
+        (λ k x e. (let at : k ≡ 0 + k = omega arith in sym (ap (slice_get mine) at) ∙ e))
+        (record {
+          ended = λ i y there less. absurd (omega (arith, less));
+          closes = λ i y there same. absurd
+              (omega (arith, same));
+          before = inl (refl, refl);
+        }) s
 
     pub begun_from : (k : ℕ) (f : Came) (x : Start) → slice_get whole k ≡ Some f → slice_get mine k ≡ Some x → IsFrom k k x.at
     begun_from k f x e y = (let at : 0 + k ≡ k = omega arith in subst (λ m. IsFrom m m x.at) at (whole_from.begun k f x e y))
@@ -334,7 +217,17 @@ module _ (h : List Accepted) (ps c d : ℕ) (all : List Start) (whole : List Cam
         let g = one_before whole (length mine) k f le e in
         let b = whole_from.waits g.0 g.1 in
         let within = b.within in
-        record { place = b.place; frame = b.frame; within = omega (arith, within, le); first = b.first; busy = b.busy; clear = b.clear; joined = λ i z y from less there own. (let started = slice_get_within mine i y own in b.joined i z y from (omega (arith, started)) there own) }
+        record {
+          place = b.place;
+          frame = b.frame;
+          within = omega
+              (arith, within, le);
+          first = b.first;
+          busy = b.busy;
+          clear = b.clear;
+          joined = λ i z y from less there own.
+              (let started = slice_get_within mine i y own in b.joined i z y from (omega (arith, started)) there own);
+        }
 
 -- ---- frames and their starts
 
@@ -357,7 +250,8 @@ module _ (may : ℕ → ℕ → Bool) (ps c : ℕ) (all : List Start) where
   own_shared free now came [] wire waiting s k f x e y = absurd (none_here k x y)
   own_shared free now [] (z ∷ starts) wire waiting s k f x e y = absurd s
   own_shared free now (g ∷ came) (z ∷ starts) wire waiting s zero f x e y =
-      subst (λ (v : Came). x ≡ start_at ps c x.at v.frame) (same_Some g f e) (subst (λ (v : Start). v ≡ start_at ps c v.at g.frame) (same_Some z x y) (s.0).is)
+      subst (λ (v : Came). x ≡ start_at ps c x.at v.frame) (same_Some g f e)
+      (subst (λ (v : Start). v ≡ start_at ps c v.at g.frame) (same_Some z x y) (s.0).is)
   own_shared free now (g ∷ came) (z ∷ starts) wire waiting s (suc k) f x e y = own_shared z.«end» now came starts wire waiting s.1 k f x e y
 
   pub start_before : (free now : ℕ) (came : List Came) (starts : List Start) (wire : ℕ) (waiting : List Frame)
@@ -389,7 +283,8 @@ module _ (came : List Came) (starts : List Start) (curve : ℕ → ℕ) (most : 
     (frames : (k : ℕ) (x : Start) → slice_get starts k ≡ Some x → (f : Came) × (slice_get came k ≡ Some f) × (f.moment ≤ x.at))
     (few : (k n : ℕ) (f g : Came) → slice_get came k ≡ Some f → slice_get came (k + n) ≡ Some g → n + 1 ≤ curve (g.moment - f.moment))
     (order : (k n : ℕ) (f g : Came) → slice_get came k ≡ Some f → slice_get came (k + n) ≡ Some g → f.moment ≤ g.moment)
-    (rises : (x y : ℕ) → x ≤ y → curve x ≤ curve y) (waits : AtMostWait most came starts) (p s i : ℕ) (y : Start) (there : slice_get starts i ≡ Some y) (from : p ≤ y.at) where
+    (rises : (x y : ℕ) → x ≤ y → curve x ≤ curve y) (waits : AtMostWait most came starts) (p s i : ℕ) (y : Start)
+    (there : slice_get starts i ≡ Some y) (from : p ≤ y.at) where
   -- those up to one that has come by the beginning
   some_wait : (n : ℕ) (f : Came) → slice_get came (i + n) ≡ Some f → f.moment ≤ p → n + 1 ≤ most
   some_wait n f e le =
@@ -450,7 +345,8 @@ sum_le g h (j ∷ higher) le =
 
 -- ---- a run
 
-module _ (ps mtu room : ℕ) (events : List Event) (a : Accepted) (rate : 80 ≤ ps) (large : 68 ≤ mtu) (only : IsOnly a events (new_port ps mtu room)) where
+module _ (ps mtu room : ℕ) (events : List Event) (a : Accepted) (rate : 80 ≤ ps) (large : 68 ≤ mtu)
+    (only : IsOnly a events (new_port ps mtu room)) where
   abbrev all_starts : List Start
   all_starts = starts_in (answers_of events (new_port ps mtu room))
 
@@ -489,9 +385,11 @@ module _ (ps mtu room : ℕ) (events : List Event) (a : Accepted) (rate : 80 ≤
     queued_keep : (need : ℕ) (curve : ℕ → ℕ) → ConformTo ps need curve (offered_in c events (new_port ps mtu room))
         → ConformTo ps need curve (queued_in c events (new_port ps mtu room))
     queued_keep need curve keep = record {
-      short = λ k f e. (let r = part_at (queued_in c events (new_port ps mtu room)) (offered_in c events (new_port ps mtu room)) k f (are_part c events (new_port ps mtu room) large) e in keep.short r.0 f r.1);
+      short = λ k f e. (let r = part_at (queued_in c events (new_port ps mtu room)) (offered_in c events (new_port ps mtu room)) k f
+          (are_part c events (new_port ps mtu room) large) e in keep.short r.0 f r.1);
       few = λ k n f g e h.
-          let r = part_pair (queued_in c events (new_port ps mtu room)) (offered_in c events (new_port ps mtu room)) k n f g (are_part c events (new_port ps mtu room) large) e h in
+          let r = part_pair (queued_in c events (new_port ps mtu room)) (offered_in c events (new_port ps mtu room)) k n f g
+          (are_part c events (new_port ps mtu room) large) e h in
           let apart = r.apart in
           let few = keep.few r.place r.more f g r.first r.second in
           omega (arith, apart, few);
@@ -511,13 +409,17 @@ module _ (ps mtu room : ℕ) (events : List Event) (a : Accepted) (rate : 80 ≤
           let last = frames j lj k (r.place + m) r.last r.other in
           let come = last.2 in
           let before = r.before in
-          let few = all_few (queued_in j events (new_port ps mtu room)) (starts_of_class j all_starts) curve most (frames j lj k) keep.few (queued_order j events (new_port ps mtu room) large) w.rises w.waits
+          let few = all_few (queued_in j events (new_port ps mtu room)) (starts_of_class j all_starts) curve most (frames j lj k) keep.few
+          (queued_order j events (new_port ps mtu room) large) w.rises w.waits
           p s r.place r.first r.one r.from m last.0 last.1 (omega (arith, come, before)) in
           omega (arith, few, e)
 
-  module _ (c : ℕ) (lc : c < 8) (plan : Plan) (is : a.plan ≡ Some plan) (above : 0 < plan.cycle) (need blocking : ℕ → ℕ) (pitch : ℕ) (curve : ℕ → ℕ → ℕ) (most : ℕ → ℕ) (higher : List ℕ)
-      (few : (i j : ℕ) → slice_get higher i ≡ Some j → j < 8) (blocked : IsBlocking plan c need blocking) (pitched : IsPitch c higher need pitch) (those : AreAbove plan c higher)
-      (run : IsSharedRun ps mtu room events c need curve most higher a plan) (full : (port_after events (new_port ps mtu room)).history ≡ a ∷ []) where
+  module _ (c : ℕ) (lc : c < 8) (plan : Plan) (is : a.plan ≡ Some plan) (above : 0 < plan.cycle) (need blocking : ℕ → ℕ) (pitch : ℕ)
+      (curve : ℕ → ℕ → ℕ) (most : ℕ → ℕ) (higher : List ℕ)
+      (few : (i j : ℕ) → slice_get higher i ≡ Some j → j < 8) (blocked : IsBlocking plan c need blocking)
+      (pitched : IsPitch c higher need pitch) (those : AreAbove plan c higher)
+      (run : IsSharedRun ps mtu room events c need curve most higher a plan)
+      (full : (port_after events (new_port ps mtu room)).history ≡ a ∷ []) where
     abbrev came : List Came
     came = queued_in c events (new_port ps mtu room)
 
@@ -533,7 +435,8 @@ module _ (ps mtu room : ℕ) (events : List Event) (a : Accepted) (rate : 80 ≤
     sound : AreSound (a ∷ []) need all_starts
     sound = record {
       through = λ i y e. subst (λ h. open_through h y.class y.at (y.«end» - y.at) ≡ true) full
-          (start_holds (IsOpenBy (port_after events (new_port ps mtu room)).history) (answers_of events (new_port ps mtu room)) (keeping ps mtu room rate large events).open_by_end i y e);
+          (start_holds (IsOpenBy (port_after events (new_port ps mtu room)).history) (answers_of events (new_port ps mtu room))
+          (keeping ps mtu room rate large events).open_by_end i y e);
       apart = λ i j x y e f less. apart_at 0 all_starts i j x y (held c lc k).long (keeping ps mtu room rate large events).apart e f less;
       some = λ i y e. long_at all_starts i y (held c lc k).long e;
       short = run.short;
@@ -552,7 +455,8 @@ module _ (ps mtu room : ℕ) (events : List Event) (a : Accepted) (rate : 80 ≤
     main i m f e b later n s slot enough = elim (cases_lt (a.change + s) m) [
       | inr le ↦ le
       | inl less ↦
-          let x = at_slot a plan is above c higher need blocking pitch all_starts sound blocked pitched those pos p m busy clear n s slot less in
+          let x = at_slot a plan is above c higher need blocking pitch all_starts sound blocked pitched those pos p m busy clear n s slot
+          less in
           let count = subst (λ t. suc n ≤ count_all c higher t (a.change + s + 1) all_starts) at x.count in
           let own = own_few less in
           let others = sum_le (λ j. count_of j (b.frame).moment (a.change + s + 1) all_starts) (λ j. most j + curve j (s - p)) higher
@@ -590,7 +494,8 @@ module _ (ps mtu room : ℕ) (events : List Event) (a : Accepted) (rate : 80 ≤
               | inr more ↦
                   let g = frames c lc k own.0 y own.1 in
                   let parts : own.0 ≡ b.place + (own.0 - b.place) = omega (arith, more) in
-                  let order = queued_order c events (new_port ps mtu room) large b.place (own.0 - b.place) b.frame g.0 b.first (sym (ap (slice_get came) parts) ∙ g.1) in
+                  let order = queued_order c events (new_port ps mtu room) large b.place (own.0 - b.place) b.frame g.0 b.first
+                  (sym (ap (slice_get came) parts) ∙ g.1) in
                   let come = g.2 in
                   absurd (omega (arith, order, come, early, same))
             ]
@@ -602,7 +507,8 @@ module _ (ps mtu room : ℕ) (events : List Event) (a : Accepted) (rate : 80 ≤
                 → count_of c (b.frame).moment (a.change + s + 1) all_starts ≤ i - b.place
             by zero e = omega (arith, e)
             by (suc q) e =
-                let r = span c (b.frame).moment (a.change + s + 1) begun q (rising c lc k) (sym (count_own c (b.frame).moment (a.change + s + 1) all_starts) ∙ e) in
+                let r = span c (b.frame).moment (a.change + s + 1) begun q (rising c lc k)
+                (sym (count_own c (b.frame).moment (a.change + s + 1) all_starts) ∙ e) in
                 let from = r.from in
                 let before = r.before in
                 let first : b.place ≤ r.place = elim (cases_lt r.place b.place) [
@@ -623,10 +529,12 @@ module _ (ps mtu room : ℕ) (events : List Event) (a : Accepted) (rate : 80 ≤
     now = (port_after events (new_port ps mtu room)).now
 
     started_by : (i : ℕ) (x : Start) → slice_get begun i ≡ Some x → x.at ≤ now
-    started_by i x e = start_before (open_through (a ∷ []) c) ps c all_starts 0 now came begun (held c lc k).wire (queue_of (port_after events (new_port ps mtu room)) c) (held c lc k).served i x e
+    started_by i x e = start_before (open_through (a ∷ []) c) ps c all_starts 0 now came begun (held c lc k).wire
+        (queue_of (port_after events (new_port ps mtu room)) c) (held c lc k).served i x e
 
     come_by_now : (i : ℕ) (f : Came) → slice_get came i ≡ Some f → f.moment ≤ now
-    come_by_now i f e = shared_come (open_through (a ∷ []) c) ps c all_starts 0 now came begun (held c lc k).wire (queue_of (port_after events (new_port ps mtu room)) c) (held c lc k).served i f e
+    come_by_now i f e = shared_come (open_through (a ∷ []) c) ps c all_starts 0 now came begun (held c lc k).wire
+        (queue_of (port_after events (new_port ps mtu room)) c) (held c lc k).served i f e
 
     -- a moment at which the frame at a place starts, or the last moment where it has not
     record IsMoment (i m : ℕ) : Type 0 where
@@ -655,7 +563,8 @@ module _ (ps mtu room : ℕ) (events : List Event) (a : Accepted) (rate : 80 ≤
     module _ (wait waiting : ℕ) (Within : ℕ → ℕ → Type 0)
         (soon : (t x : ℕ) → Within t x → IsSoon plan c need blocking pitch curve most higher wait t x)
         (scarce : (t x : ℕ) → Within t x → AreFew plan c need blocking pitch curve most higher waiting t x)
-        (holds : (i m j : ℕ) (f g : Came) (b : IsUp i m) → IsMoment i m → slice_get came i ≡ Some f → i ≤ j → slice_get came j ≡ Some g → (j ≡ i) ⊎ (g.moment ≤ m) → Within ((b.frame).moment - a.change) (g.moment - (b.frame).moment)) where
+        (holds : (i m j : ℕ) (f g : Came) (b : IsUp i m) → IsMoment i m → slice_get came i ≡ Some f → i ≤ j → slice_get came j ≡ Some g →
+        (j ≡ i) ⊎ (g.moment ≤ m) → Within ((b.frame).moment - a.change) (g.moment - (b.frame).moment)) where
       bound : (i m : ℕ) (f : Came) → slice_get came i ≡ Some f → IsUp i m → IsMoment i m → m ≤ f.moment + wait
       bound i m f e b at =
           let g = b.frame in
@@ -700,28 +609,36 @@ module _ (ps mtu room : ℕ) (events : List Event) (a : Accepted) (rate : 80 ≤
 
       in_time : IsSharedInTime ps mtu room events c wait waiting
       in_time = record {
-        own = λ i f x e y. own_shared (open_through (a ∷ []) c) ps c all_starts 0 now came begun (held c lc k).wire (queue_of (port_after events (new_port ps mtu room)) c) (held c lc k).served i f x e y;
-        soon = λ i f x e y. bound i x.at f e (begun_from (a ∷ []) ps c (need c) all_starts came keep.short now (held c lc k).wire (queue_of (port_after events (new_port ps mtu room)) c) (held c lc k).served i f x e y) (at_start i x y);
+        own = λ i f x e y. own_shared (open_through (a ∷ []) c) ps c all_starts 0 now came begun (held c lc k).wire
+            (queue_of (port_after events (new_port ps mtu room)) c) (held c lc k).served i f x e y;
+        soon = λ i f x e y. bound i x.at f e
+            (begun_from (a ∷ []) ps c (need c) all_starts came keep.short now (held c lc k).wire
+            (queue_of (port_after events (new_port ps mtu room)) c) (held c lc k).served i f x e y) (at_start i x y);
         starts = λ i f e past. elim (cases_lt i (length begun)) [
           | inl less ↦ less
           | inr le ↦
-              let late = bound i now f e (waits_from (a ∷ []) ps c (need c) all_starts came keep.short now (held c lc k).wire (queue_of (port_after events (new_port ps mtu room)) c) (held c lc k).served i f e le) (at_now i le) in
+              let late = bound i now f e (waits_from (a ∷ []) ps c (need c) all_starts came keep.short now (held c lc k).wire
+              (queue_of (port_after events (new_port ps mtu room)) c) (held c lc k).served i f e le) (at_now i le) in
               absurd (omega (arith, late, past))
         ];
         few = λ i n t f g e h come first. elim (cases_lt i (length begun)) [
           | inl less ↦
               let x = one_at begun i less in
               let after = first x.0 x.1 in
-              few_wait i n x.0.at f g e h (begun_from (a ∷ []) ps c (need c) all_starts came keep.short now (held c lc k).wire (queue_of (port_after events (new_port ps mtu room)) c) (held c lc k).served i f x.0 e x.1) (at_start i x.0 x.1) (omega (arith, after, come))
+              few_wait i n x.0.at f g e h (begun_from (a ∷ []) ps c (need c) all_starts came keep.short now (held c lc k).wire
+              (queue_of (port_after events (new_port ps mtu room)) c) (held c lc k).served i f x.0 e x.1) (at_start i x.0 x.1)
+              (omega (arith, after, come))
           | inr le ↦
-              few_wait i n now f g e h (waits_from (a ∷ []) ps c (need c) all_starts came keep.short now (held c lc k).wire (queue_of (port_after events (new_port ps mtu room)) c) (held c lc k).served i f e le) (at_now i le)
+              few_wait i n now f g e h (waits_from (a ∷ []) ps c (need c) all_starts came keep.short now (held c lc k).wire
+              (queue_of (port_after events (new_port ps mtu room)) c) (held c lc k).served i f e le) (at_now i le)
               (come_by_now (i + n) g h)
         ];
       }
 
     -- ---- up to when the class may have been waiting
 
-    module _ (wait waiting : ℕ) (rises : (x y : ℕ) → x ≤ y → curve c x ≤ curve c y) (times : (t : ℕ) → IsSharedBusyPeriod plan c need blocking pitch curve most higher wait waiting t) where
+    module _ (wait waiting : ℕ) (rises : (x y : ℕ) → x ≤ y → curve c x ≤ curve c y)
+        (times : (t : ℕ) → IsSharedBusyPeriod plan c need blocking pitch curve most higher wait waiting t) where
       -- the last frame by a moment, and the one behind it
       record IsLastBy (place until j : ℕ) : Type 0 where
         at : ℕ
@@ -737,14 +654,38 @@ module _ (ps mtu room : ℕ) (events : List Event) (a : Accepted) (rate : 80 ≤
       last_by : (place until n j : ℕ) (o g : Came) → slice_get came place ≡ Some o → o.moment ≤ until → j ≡ place + n
           → slice_get came j ≡ Some g → until < g.moment → IsLastBy place until j
       last_by place until zero j o g e le is h over =
-          let same = ap (λ (z : Came). z.moment) (same_Some o g (sym e ∙ (ap (slice_get came) (let z : place ≡ j = omega (arith, is) in z) ∙ h))) in
+          let same = ap (λ (z : Came). z.moment)
+          (same_Some o g (sym e ∙ (ap (slice_get came) (let z : place ≡ j = omega (arith, is) in z) ∙ h))) in
           absurd (omega (arith, le, over, same))
       last_by place until (suc n) j o g e le is h over =
           let f = one_before came (place + n) j g (omega (arith, is)) h in
           let at : j ≡ suc (place + n) = omega (arith, is) in
           elim (cases_lt until (f.0).moment) [
-            | inr by ↦ record { at = place + n; from = omega arith; before = omega (arith, is); frame = f.0; next = g; one = f.1; two = sym (ap (slice_get came) at) ∙ h; by = by; over = over }
-            | inl later ↦ (let r = last_by place until n (place + n) o f.0 e le refl f.1 later in let before = r.before in record { at = r.at; from = r.from; before = omega (arith, before, is); frame = r.frame; next = r.next; one = r.one; two = r.two; by = r.by; over = r.over })
+            | inr by ↦ record {
+              at = place + n;
+              from = omega arith;
+              before = omega (arith, is);
+              frame = f.0;
+              next = g;
+              one = f.1;
+              two = sym
+                  (ap (slice_get came) at) ∙ h;
+              by = by;
+              over = over;
+            }
+            | inl later ↦ (let r = last_by place until n
+                (place + n) o f.0 e le refl f.1 later in let before = r.before in record {
+                  at = r.at;
+                  from = r.from;
+                  before = omega
+                      (arith, before, is);
+                  frame = r.frame;
+                  next = r.next;
+                  one = r.one;
+                  two = r.two;
+                  by = r.by;
+                  over = r.over;
+                })
           ]
 
       within_busy : (i m j : ℕ) (f g : Came) (b : IsUp i m) → IsMoment i m → slice_get came i ≡ Some f → i ≤ j → slice_get came j ≡ Some g
@@ -752,7 +693,8 @@ module _ (ps mtu room : ℕ) (events : List Event) (a : Accepted) (rate : 80 ≤
           → g.moment - (b.frame).moment ≤ (times ((b.frame).moment - a.change)).last
       within_busy i m j f g b at e le h come = elim (cases_lt last (g.moment - (b.frame).moment)) [
         | inr within ↦ within
-        | inl over ↦ absurd (goes_over (last_by b.place ((b.frame).moment + last) (j - b.place) j b.frame g b.first (omega arith) (let w = b.within in omega (arith, w, le)) h (omega (arith, over))))
+        | inl over ↦ absurd (goes_over (last_by b.place ((b.frame).moment + last) (j - b.place) j b.frame g b.first (omega arith)
+            (let w = b.within in omega (arith, w, le)) h (omega (arith, over))))
       ]
         where
           p : ℕ
@@ -777,13 +719,15 @@ module _ (ps mtu room : ℕ) (events : List Event) (a : Accepted) (rate : 80 ≤
               let some = occupancy_pos ps ((r.frame).frame).len some_time in
               let over = r.over in
               let next = r.before in
-              let enough : r.at - b.place + 1 + most_above curve most higher (q.slot - p) ≤ (q.is).behind + 1 = omega (arith, space, up, count) in
+              let enough : r.at - b.place + 1 + most_above curve most higher (q.slot - p) ≤ (q.is).behind + 1 = omega
+              (arith, space, up, count) in
               elim (cases_lt r.at i) [
                 | inr behind ↦
                     let late = main i m f e b at.later (q.is).behind q.slot (q.is).is (omega (arith, enough, behind)) in
                     let more : suc r.at ≤ j = next in
                     let to : j ≡ suc r.at + (j - suc r.at) = omega (arith, more) in
-                    let order = queued_order c events (new_port ps mtu room) large (suc r.at) (j - suc r.at) r.next g r.two (sym (ap (slice_get came) to) ∙ h) in
+                    let order = queued_order c events (new_port ps mtu room) large (suc r.at) (j - suc r.at) r.next g r.two
+                    (sym (ap (slice_get came) to) ∙ h) in
                     elim come [
                       | inl same ↦ omega (arith, same, behind, next)
                       | inr in_it ↦ omega (arith, late, order, in_it, over, ends, short, some, since)
@@ -818,7 +762,9 @@ module _ (ps mtu room : ℕ) (events : List Event) (a : Accepted) (rate : 80 ≤
                         clear = b.clear;
                         joined = λ l z x on less there' own'. b.joined l z x on (omega (arith, less, early)) there' own';
                       } in
-                      let late = main r.at m r.frame r.one own (λ l z there' on. (let within = slice_get_within begun l z there' in absurd (omega (arith, within, on, unstarted)))) (q.is).behind q.slot (q.is).is enough in
+                      let late = main r.at m r.frame r.one own
+                      (λ l z there' on. (let within = slice_get_within begun l z there' in absurd
+                      (omega (arith, within, on, unstarted)))) (q.is).behind q.slot (q.is).is enough in
                       let end = at.waits (omega (arith, unstarted, early)) in
                       let come_now = come_by_now (suc r.at) r.next r.two in
                       omega (arith, late, end, come_now, over, ends, short, some, since)
@@ -844,10 +790,12 @@ pub shared_law : SharedLaw
 shared_law ps mtu room c pitch wait waiting need blocking curve most higher a plan events sharing run bounds =
     by (held ps mtu room events a run.rate run.large run.only c run.listed (run.own).scheduled).phase
   where
-    by : ((port_after events (new_port ps mtu room)).history ≡ a ∷ []) ⊎ (((port_after events (new_port ps mtu room)).history ≡ []) × (queued_in c events (new_port ps mtu room) ≡ []))
+    by : ((port_after events (new_port ps mtu room)).history ≡ a ∷ []) ⊎
+        (((port_after events (new_port ps mtu room)).history ≡ []) × (queued_in c events (new_port ps mtu room) ≡ []))
         → IsSharedInTime ps mtu room events c wait waiting
     by (inl full) =
-        in_time ps mtu room events a run.rate run.large run.only c run.listed plan run.is run.cycle need blocking pitch curve most higher run.all_listed sharing.blocked sharing.apart sharing.among run full wait waiting (λ t x. Unit {0})
+        in_time ps mtu room events a run.rate run.large run.only c run.listed plan run.is run.cycle need blocking pitch curve most higher
+        run.all_listed sharing.blocked sharing.apart sharing.among run full wait waiting (λ t x. Unit {0})
         (λ t x in_it. bounds.soon t x) (λ t x in_it. bounds.few t x) (λ i m j f g b at e le h come. tt)
     by (inr none) = nothing_late ps mtu room c wait waiting events none.1
 
@@ -855,8 +803,10 @@ pub shared_busy_law : SharedBusyLaw
 shared_busy_law ps mtu room c pitch wait waiting need blocking curve most higher a plan events sharing run rises times =
     by (held ps mtu room events a run.rate run.large run.only c run.listed (run.own).scheduled).phase
   where
-    by : ((port_after events (new_port ps mtu room)).history ≡ a ∷ []) ⊎ (((port_after events (new_port ps mtu room)).history ≡ []) × (queued_in c events (new_port ps mtu room) ≡ []))
+    by : ((port_after events (new_port ps mtu room)).history ≡ a ∷ []) ⊎
+        (((port_after events (new_port ps mtu room)).history ≡ []) × (queued_in c events (new_port ps mtu room) ≡ []))
         → IsSharedInTime ps mtu room events c wait waiting
     by (inl full) =
-        in_busy_time ps mtu room events a run.rate run.large run.only c run.listed plan run.is run.cycle need blocking pitch curve most higher run.all_listed sharing.blocked sharing.apart sharing.among run full wait waiting rises times
+        in_busy_time ps mtu room events a run.rate run.large run.only c run.listed plan run.is run.cycle need blocking pitch curve most
+        higher run.all_listed sharing.blocked sharing.apart sharing.among run full wait waiting rises times
     by (inr none) = nothing_late ps mtu room c wait waiting events none.1

@@ -52,8 +52,10 @@ count_more j p s t [] k y e same le from after before = absurd (none_here k y e)
 count_more j p s t (x ∷ xs) zero y e same le from after before =
     let rest = count_rises j p s t xs le in
     let is : x ≡ y = same_Some x y e in
-    let none : is_counted j p s y ≡ false = ap (λ b. eqb y.class j && (leb p y.at && b)) (le-ltb y.at s after) ∙ (ap (λ b. b && (leb p y.at && false)) (eq-eqb y.class j same) ∙ ap (λ b. b && false) (le-leb p y.at from)) in
-    let one : is_counted j p t y ≡ true = ap (λ b. b && (leb p y.at && ltb y.at t)) (eq-eqb y.class j same) ∙ (ap (λ b. b && ltb y.at t) (le-leb p y.at from) ∙ lt-ltb y.at t before) in
+    let none : is_counted j p s y ≡ false = ap (λ b. eqb y.class j && (leb p y.at && b)) (le-ltb y.at s after) ∙
+    (ap (λ b. b && (leb p y.at && false)) (eq-eqb y.class j same) ∙ ap (λ b. b && false) (le-leb p y.at from)) in
+    let one : is_counted j p t y ≡ true = ap (λ b. b && (leb p y.at && ltb y.at t)) (eq-eqb y.class j same) ∙
+    (ap (λ b. b && ltb y.at t) (le-leb p y.at from) ∙ lt-ltb y.at t before) in
     let zero_here : one_if (is_counted j p s x) ≡ 0 = ap (λ z. one_if (is_counted j p s z)) is ∙ ap one_if none in
     let one_here : one_if (is_counted j p t x) ≡ 1 = ap (λ z. one_if (is_counted j p t z)) is ∙ ap one_if one in
     omega (arith, rest, zero_here, one_here)
@@ -114,8 +116,10 @@ pub record AreSound (h : List Accepted) (need : ℕ → ℕ) (all : List Start) 
   pub short : (k : ℕ) (y : Start) → slice_get all k ≡ Some y → y.«end» ≤ y.at + need y.class
   pub few : (k : ℕ) (y : Start) → slice_get all k ≡ Some y → y.class < 8
 
-module _ (a : Accepted) (plan : Plan) (is : a.plan ≡ Some plan) (above : 0 < plan.cycle) (c : ℕ) (higher : List ℕ) (need blocking : ℕ → ℕ) (pitch : ℕ) (all : List Start)
-    (sound : AreSound (a ∷ []) need all) (blocked : IsBlocking plan c need blocking) (pitched : IsPitch c higher need pitch) (those : AreAbove plan c higher) (pos : 0 < need c)
+module _ (a : Accepted) (plan : Plan) (is : a.plan ≡ Some plan) (above : 0 < plan.cycle) (c : ℕ) (higher : List ℕ) (need blocking : ℕ → ℕ)
+    (pitch : ℕ) (all : List Start)
+    (sound : AreSound (a ∷ []) need all) (blocked : IsBlocking plan c need blocking) (pitched : IsPitch c higher need pitch)
+    (those : AreAbove plan c higher) (pos : 0 < need c)
     (p until : ℕ)
     (busy : (t : ℕ) → a.change + p ≤ t → t < until → open_through (a ∷ []) c t (need c) ≡ true → IsTaken c all t)
     (clear : (k : ℕ) (y : Start) → slice_get all k ≡ Some y → y.class ≡ c → y.at < a.change + p → y.«end» ≤ a.change + p) where
@@ -126,7 +130,8 @@ module _ (a : Accepted) (plan : Plan) (is : a.plan ≡ Some plan) (above : 0 < p
   open_on : (k : ℕ) (y : Start) → slice_get all k ≡ Some y → (t d : ℕ) → y.at ≤ a.change + t → a.change + t + d ≤ y.«end»
       → may_by plan y.class t d ≡ true
   open_on k y e t d from to =
-      sym (by_plan y.class t d) ∙ open_within (gates (a ∷ [])) y.class y.at (y.«end» - y.at) (a.change + t) d (sound.through k y e) from (omega (arith, from, to))
+      sym (by_plan y.class t d) ∙ open_within (gates (a ∷ [])) y.class y.at (y.«end» - y.at) (a.change + t) d (sound.through k y e) from
+      (omega (arith, from, to))
 
   -- one frame at a time
   same_start : (i j : ℕ) (x y : Start) (t : ℕ) → slice_get all i ≡ Some x → slice_get all j ≡ Some y → x.at ≤ t → t < x.«end» → y.at ≤ t
@@ -146,8 +151,10 @@ module _ (a : Accepted) (plan : Plan) (is : a.plan ≡ Some plan) (above : 0 < p
       let m : ℕ = z.at - a.change in
       let at : a.change + m ≡ z.at = omega (arith, after) in
       let here : may_by plan c m (need c) ≡ true =
-      sym (by_plan c m (need c)) ∙ open_within (gates (a ∷ [])) c (a.change + u) (more + need c) (a.change + m) (need c) (by_plan c u (more + need c) ∙ opened) (omega (arith, at, after)) (omega (arith, at, by)) in
-      let taken = busy z.at (omega (arith, from, after)) (omega (arith, by, before)) (ap (λ t. open_through (a ∷ []) c t (need c)) (sym at) ∙ (by_plan c m (need c) ∙ here)) in
+      sym (by_plan c m (need c)) ∙ open_within (gates (a ∷ [])) c (a.change + u) (more + need c) (a.change + m) (need c)
+      (by_plan c u (more + need c) ∙ opened) (omega (arith, at, after)) (omega (arith, at, by)) in
+      let taken = busy z.at (omega (arith, from, after)) (omega (arith, by, before))
+      (ap (λ t. open_through (a ∷ []) c t (need c)) (sym at) ∙ (by_plan c m (need c) ∙ here)) in
       let some = sound.some k z e in
       let same : z ≡ taken.start = same_start k taken.place z taken.start z.at e taken.there (le_refl z.at) some taken.from taken.until in
       let ats = ap (λ (y : Start). y.at) same in
@@ -157,7 +164,8 @@ module _ (a : Accepted) (plan : Plan) (is : a.plan ≡ Some plan) (above : 0 < p
         | inr no_more ↦ inl (omega (arith, no_more, above_it, classes))
         | inl less ↦ inr
             (those z.class m less (sound.few k z e)
-            (sym (by_plan c m 1) ∙ open_within (gates (a ∷ [])) c (a.change + m) (need c) (a.change + m) 1 (by_plan c m (need c) ∙ here) (le_refl (a.change + m)) (omega (arith, pos)))
+            (sym (by_plan c m 1) ∙ open_within (gates (a ∷ [])) c (a.change + m) (need c) (a.change + m) 1 (by_plan c m (need c) ∙ here)
+            (le_refl (a.change + m)) (omega (arith, pos)))
             (open_on k z e m 1 (omega (arith, at)) (omega (arith, at, some))))
       ]
 
@@ -182,7 +190,8 @@ module _ (a : Accepted) (plan : Plan) (is : a.plan ≡ Some plan) (above : 0 < p
       s = a.change + (u + blocking u)
 
       at_slot : open_through (a ∷ []) c s (need c) ≡ true
-      at_slot = open_within (gates (a ∷ [])) c (a.change + u) (blocking u + need c) s (need c) (by_plan c u (blocking u + need c) ∙ opened) (omega arith) (omega arith)
+      at_slot = open_within (gates (a ∷ [])) c (a.change + u) (blocking u + need c) s (need c) (by_plan c u (blocking u + need c) ∙ opened)
+          (omega arith) (omega arith)
 
       -- one that started before has ended
       gone : (k : ℕ) (z : Start) → slice_get all k ≡ Some z → z.at < a.change + u → z.«end» ≤ s
@@ -192,7 +201,8 @@ module _ (a : Accepted) (plan : Plan) (is : a.plan ≡ Some plan) (above : 0 < p
             let r : ℕ = z.«end» - (a.change + u) in
             let short = sound.short k z e in
             let other : z.class ≡ c → ⊥ = λ same. (let ended = none k z e same less in omega (arith, ended, on)) in
-            let within = blocked.at z.class u r other (omega (arith, short, less, on)) (open_on k z e u r (omega (arith, less)) (omega (arith, on))) (first u refl k z e less on) in
+            let within = blocked.at z.class u r other (omega (arith, short, less, on))
+            (open_on k z e u r (omega (arith, less)) (omega (arith, on))) (first u refl k z e less on) in
             omega (arith, within, on)
       ]
         where
@@ -214,7 +224,8 @@ module _ (a : Accepted) (plan : Plan) (is : a.plan ≡ Some plan) (above : 0 < p
 
   -- behind a slot, in the same window
   from_slot : (r : ℕ) → p ≤ r → may_by plan c r (pitch + need c) ≡ true → a.change + (r + pitch) < until
-      → ((k : ℕ) (z : Start) → slice_get all k ≡ Some z → z.at ≤ a.change + r → a.change + r < z.«end» → IsGood c higher z.class × (a.change + p ≤ z.at))
+      → ((k : ℕ) (z : Start) → slice_get all k ≡ Some z → z.at ≤ a.change + r → a.change + r < z.«end» → IsGood c higher z.class ×
+      (a.change + p ≤ z.at))
       → IsPassed (a.change + r + 1) (r + pitch)
   from_slot r le opened before held = found (busy s (omega (arith, le)) before at_slot)
     where
@@ -222,7 +233,8 @@ module _ (a : Accepted) (plan : Plan) (is : a.plan ≡ Some plan) (above : 0 < p
       s = a.change + (r + pitch)
 
       at_slot : open_through (a ∷ []) c s (need c) ≡ true
-      at_slot = open_within (gates (a ∷ [])) c (a.change + r) (pitch + need c) s (need c) (by_plan c r (pitch + need c) ∙ opened) (omega arith) (omega arith)
+      at_slot = open_within (gates (a ∷ [])) c (a.change + r) (pitch + need c) s (need c) (by_plan c r (pitch + need c) ∙ opened)
+          (omega arith) (omega arith)
 
       needs : (j : ℕ) → IsGood c higher j → need j ≤ pitch
       needs j (inl same) = subst (λ k. need k ≤ pitch) (sym same) pitched.own
@@ -241,7 +253,11 @@ module _ (a : Accepted) (plan : Plan) (is : a.plan ≡ Some plan) (above : 0 < p
           → IsGood c higher z.class × (a.change + r + 1 ≤ z.at)
       good_of k z e by on = elim (cases_lt (a.change + r) z.at) [
         | inr early ↦ (let ended = gone k z e early in absurd (omega (arith, ended, on)))
-        | inl after ↦ (among r pitch opened le (omega (arith, before)) k z e (omega (arith, after)) (omega (arith, by)), omega (arith, after))
+        | inl after ↦ (
+          among r pitch opened le (omega (arith, before)) k z e (omega (arith, after)) (omega (arith, by)),
+          omega
+              (arith, after),
+        )
       ]
 
       found : IsTaken c all s → IsPassed (a.change + r + 1) (r + pitch)
@@ -259,7 +275,8 @@ module _ (a : Accepted) (plan : Plan) (is : a.plan ≡ Some plan) (above : 0 < p
     | inr ended ↦ ended
     | inl on ↦
         let back : suc v - 1 ≡ v = omega arith in
-        let open_then : may_by plan c (suc v - 1) 1 ≡ true = subst (λ j. may_by plan j (suc v - 1) 1 ≡ true) same (open_on k y e (suc v - 1) 1 (omega (arith, less, back)) (omega (arith, on, back))) in
+        let open_then : may_by plan c (suc v - 1) 1 ≡ true = subst (λ j. may_by plan j (suc v - 1) 1 ≡ true) same
+        (open_on k y e (suc v - 1) 1 (omega (arith, less, back)) (omega (arith, on, back))) in
         absurd (false≢true (sym (ap not open_then) ∙ (and_parts _ _ opens).0))
   ]
 
@@ -276,11 +293,13 @@ module _ (a : Accepted) (plan : Plan) (is : a.plan ≡ Some plan) (above : 0 < p
   first_passed u s le e x =
       let after = x.after in
       let by = x.by in
-      let one = all_more c higher (a.change + p) (a.change + p) (a.change + s + 1) all x.place x.start x.there x.good (omega (arith, le, e)) (omega (arith, after, le)) (omega (arith, after, le)) (omega (arith, by, e)) in
+      let one = all_more c higher (a.change + p) (a.change + p) (a.change + s + 1) all x.place x.start x.there x.good (omega (arith, le, e))
+      (omega (arith, after, le)) (omega (arith, after, le)) (omega (arith, by, e)) in
       record {
         later = omega (arith, le, e);
         count = omega (arith, one);
-        held = λ k z i from on. (let g = x.no_other k z i (omega (arith, from, e)) (omega (arith, on, e)) in let after = g.1 in (g.0, omega (arith, after, le)));
+        held = λ k z i from on. (let g = x.no_other k z i (omega (arith, from, e)) (omega (arith, on, e)) in let after = g.1 in
+            (g.0, omega (arith, after, le)));
       }
 
   next_passed : (n r u s t : ℕ) → IsAt n r → a.change + r + 1 ≤ u → s ≡ t → r ≤ t → IsPassed u t → IsAt (suc n) s
@@ -289,11 +308,13 @@ module _ (a : Accepted) (plan : Plan) (is : a.plan ≡ Some plan) (above : 0 < p
       let by = x.by in
       let later = b.later in
       let count = b.count in
-      let one = all_more c higher (a.change + p) (a.change + r + 1) (a.change + s + 1) all x.place x.start x.there x.good (omega (arith, on, e)) (omega (arith, after, le, later)) (omega (arith, after, le)) (omega (arith, by, e)) in
+      let one = all_more c higher (a.change + p) (a.change + r + 1) (a.change + s + 1) all x.place x.start x.there x.good
+      (omega (arith, on, e)) (omega (arith, after, le, later)) (omega (arith, after, le)) (omega (arith, by, e)) in
       record {
         later = omega (arith, later, on, e);
         count = omega (arith, one, count);
-        held = λ k z i from then. (let g = x.no_other k z i (omega (arith, from, e)) (omega (arith, then, e)) in let after = g.1 in (g.0, omega (arith, after, le, later)));
+        held = λ k z i from then. (let g = x.no_other k z i (omega (arith, from, e)) (omega (arith, then, e)) in let after = g.1 in
+            (g.0, omega (arith, after, le, later)));
       }
 
   pub at_slot : (n s : ℕ) → IsSharedSlot (may_by plan c) (need c) pitch blocking p n s → a.change + s < until → IsAt n s
@@ -305,7 +326,9 @@ module _ (a : Accepted) (plan : Plan) (is : a.plan ≡ Some plan) (above : 0 < p
       let u = w.opening in
       let after = w.after in
       let e = w.begins in
-      first_passed u s (omega (arith, after)) e (from_opening u (omega (arith, after)) (may_open u w.opens) (omega (arith, before, e)) (none_across u (omega (arith, after)) w.opens))
+      first_passed u s (omega (arith, after)) e
+      (from_opening u (omega (arith, after)) (may_open u w.opens) (omega (arith, before, e))
+      (none_across u (omega (arith, after)) w.opens))
   at_slot (suc n) s h before = by h.2 (λ less. at_slot n h.0 h.1 less)
     where
       r : ℕ
@@ -315,7 +338,8 @@ module _ (a : Accepted) (plan : Plan) (is : a.plan ≡ Some plan) (above : 0 < p
       by (inl x) ih =
           let e = x.1 in
           let b = ih (omega (arith, before, e)) in
-          next_passed n r (a.change + r + 1) s (r + pitch) b (le_refl (a.change + r + 1)) x.1 (omega arith) (from_slot r b.later x.0 (omega (arith, before, e)) b.held)
+          next_passed n r (a.change + r + 1) s (r + pitch) b (le_refl (a.change + r + 1)) x.1 (omega arith)
+          (from_slot r b.later x.0 (omega (arith, before, e)) b.held)
       by (inr x) ih =
           let w = x.1 in
           let u = w.opening in
@@ -324,4 +348,5 @@ module _ (a : Accepted) (plan : Plan) (is : a.plan ≡ Some plan) (above : 0 < p
           let b = ih (omega (arith, before, e, after)) in
           let later = b.later in
           next_passed n r (a.change + u) s (u + blocking u) b (omega (arith, after)) e (omega (arith, after))
-          (from_opening u (omega (arith, later, after)) (may_open u w.opens) (omega (arith, before, e)) (none_across u (omega (arith, after)) w.opens))
+          (from_opening u (omega (arith, later, after)) (may_open u w.opens) (omega (arith, before, e))
+          (none_across u (omega (arith, after)) w.opens))

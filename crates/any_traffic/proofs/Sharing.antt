@@ -47,7 +47,15 @@ pub record IsTaken (c : ℕ) (all : List Start) (t : ℕ) : Type 0 where
   pub priority : start.at ≡ t → c ≤ start.class
 
 taken_more : (c : ℕ) (all more : List Start) (t : ℕ) → IsTaken c all t → IsTaken c (all ++ more) t
-taken_more c all more t k = record { place = k.place; start = k.start; there = get_more all more k.place k.start k.there; from = k.from; until = k.until; priority = k.priority }
+taken_more c all more t k = record {
+  place = k.place;
+  start = k.start;
+  there = get_more all more k.place k.start k.there;
+  from = k.from;
+  until = k.until;
+  priority =
+      k.priority;
+}
 
 -- each takes a while, and is of a class that there is
 abbrev pub AreLong : List Start → Type 0
@@ -78,7 +86,8 @@ module _ (may : ℕ → ℕ → Bool) (ps c : ℕ) where
 
   abbrev pub IsBlocked : List Start → ℕ → ℕ → List Came → Type 0
   IsBlocked all free now [] = Unit {0}
-  IsBlocked all free now (f ∷ came) = (t : ℕ) → max f.moment free ≤ t → t < now → may t (occupancy_of ps f.frame.len) ≡ true → IsTaken c all t
+  IsBlocked all free now (f ∷ came) = (t : ℕ) → max f.moment free ≤ t → t < now → may t (occupancy_of ps f.frame.len) ≡ true →
+      IsTaken c all t
 
   pub record AreHeldUp (all : List Start) (free now : ℕ) (came : List Came) (wire : ℕ) (waiting : List Frame) : Type 0 where
     pub unused : wire ≡ free
@@ -89,7 +98,8 @@ module _ (may : ℕ → ℕ → Bool) (ps c : ℕ) where
   abbrev pub AreShared : List Start → ℕ → ℕ → List Came → List Start → ℕ → List Frame → Type 0
   AreShared all free now came [] wire waiting = AreHeldUp all free now came wire waiting
   AreShared all free now [] (s ∷ starts) wire waiting = ⊥
-  AreShared all free now (f ∷ came) (s ∷ starts) wire waiting = IsSharedStart all free now f s × AreShared all s.«end» now came starts wire waiting
+  AreShared all free now (f ∷ came) (s ∷ starts) wire waiting = IsSharedStart all free now f s
+      × AreShared all s.«end» now came starts wire waiting
 
   blocked_more : (all more : List Start) (free now : ℕ) (came : List Came) → IsBlocked all free now came
       → IsBlocked (all ++ more) free now came
@@ -99,11 +109,18 @@ module _ (may : ℕ → ℕ → Bool) (ps c : ℕ) where
   -- others start
   grows : (all more : List Start) (free now : ℕ) (came : List Came) (starts : List Start) (wire : ℕ) (waiting : List Frame)
       → AreShared all free now came starts wire waiting → AreShared (all ++ more) free now came starts wire waiting
-  grows all more free now came [] wire waiting h = record { unused = h.unused; frames = h.frames; come = h.come; waits = blocked_more all more free now came h.waits }
+  grows all more free now came [] wire waiting h = record
+      { unused = h.unused; frames = h.frames; come = h.come; waits = blocked_more all more free now came h.waits }
   grows all more free now [] (s ∷ starts) wire waiting h = absurd h
   grows all more free now (f ∷ came) (s ∷ starts) wire waiting h =
       let b = h.0 in (
-        record { from = b.from; before = b.before; is = b.is; blocked = λ t from below fits. taken_more c all more t (b.blocked t from below fits) },
+        record {
+          from = b.from;
+          before = b.before;
+          is = b.is;
+          blocked = λ t from below fits. taken_more c all more t
+              (b.blocked t from below fits);
+        },
         grows all more s.«end» now came starts wire waiting h.1,
       )
 
@@ -132,7 +149,13 @@ module _ (may : ℕ → ℕ → Bool) (ps c : ℕ) where
   passes : (all : List Start) (free now : ℕ) (came : List Came) (starts : List Start) (wire : ℕ) (waiting : List Frame)
       → ((f : Frame) (rest : List Frame) → waiting ≡ f ∷ rest → may now (occupancy_of ps f.len) ≡ true → IsTaken c all now)
       → AreShared all free now came starts wire waiting → AreShared all free (now + 1) came starts wire waiting
-  passes all free now came [] wire waiting busy h = record { unused = h.unused; frames = h.frames; come = have_come_later now (now + 1) came (omega arith) h.come; waits = go came h.frames h.waits }
+  passes all free now came [] wire waiting busy h = record {
+    unused = h.unused;
+    frames = h.frames;
+    come = have_come_later now (now + 1) came
+        (omega arith) h.come;
+    waits = go came h.frames h.waits;
+  }
     where
       go : (came : List Came) → waiting ≡ frames_of came → IsBlocked all free now came → IsBlocked all free (now + 1) came
       go [] e w = tt
@@ -143,7 +166,8 @@ module _ (may : ℕ → ℕ → Bool) (ps c : ℕ) where
             subst (IsTaken c all) same (busy g.frame (frames_of rest) e (ap (λ k. may k (occupancy_of ps (g.frame).len)) same ∙ fits))
       ]
   passes all free now [] (s ∷ starts) wire waiting busy h = absurd h
-  passes all free now (f ∷ came) (s ∷ starts) wire waiting busy h = (start_later all free now f s h.0, passes all s.«end» now came starts wire waiting busy h.1)
+  passes all free now (f ∷ came) (s ∷ starts) wire waiting busy h =
+      (start_later all free now f s h.0, passes all s.«end» now came starts wire waiting busy h.1)
 
   -- one in which the first of those that wait starts
   starts_one : (all : List Start) (free now : ℕ) (came : List Came) (starts : List Start) (wire : ℕ) (f : Frame) (rest : List Frame)
@@ -166,11 +190,18 @@ module _ (may : ℕ → ℕ → Bool) (ps c : ℕ) where
           let others : rest ≡ frames_of more = cc in
           let is = h.unused in
           let come = d.0 in (
-            record { from = omega (arith, is, come, le); before = omega arith; is = ap (λ (x : Frame). start_at ps c now x) same; blocked = w },
+            record {
+              from = omega (arith, is, come, le);
+              before = omega arith;
+              is = ap
+                  (λ (x : Frame). start_at ps c now x) same;
+              blocked = w;
+            },
             record { unused = refl; frames = others; come = have_come_later now (now + 1) more (omega arith) d.1; waits = head_waits more },
           )
   starts_one all free now [] (s ∷ starts) wire f rest pos le h = absurd h
-  starts_one all free now (g ∷ came) (s ∷ starts) wire f rest pos le h = (start_later all free now g s h.0, starts_one all s.«end» now came starts wire f rest pos le h.1)
+  starts_one all free now (g ∷ came) (s ∷ starts) wire f rest pos le h =
+      (start_later all free now g s h.0, starts_one all s.«end» now came starts wire f rest pos le h.1)
 
   pub none_waits : (all : List Start) (free now : ℕ) (starts : List Start) (wire : ℕ) (waiting : List Frame)
       → AreShared all free now [] starts wire waiting → waiting ≡ []
@@ -203,7 +234,14 @@ module _ (c : ℕ) (a : Accepted) (pace : ℕ) (lc : c < 8) (pos : 0 < pace) whe
     pub since : AreSince a.change came
 
   later_on : (all : List Start) (p : AbstractPort) → IsOnWire all p → IsOnWire all (with_moment p (p.now + 1))
-  later_on all p w = record { place = w.place; start = w.start; there = w.there; before = (let b = w.before in omega (arith, b)); until = w.until }
+  later_on all p w = record {
+    place = w.place;
+    start = w.start;
+    there = w.there;
+    before =
+        (let b = w.before in omega (arith, b));
+    until = w.until;
+  }
 
   -- a head that may start, and does not
   head_taken : (p : AbstractPort) (came : List Came) (all more : List Start) (h : SharedHolds p came all) → (f : Frame) (rest : List Frame)
@@ -214,14 +252,24 @@ module _ (c : ℕ) (a : Accepted) (pace : ℕ) (lc : c < 8) (pos : 0 < pace) whe
         let w = h.busy taken in
         let before = w.before in
         let until = w.until in
-        record { place = w.place; start = w.start; there = get_more all more w.place w.start w.there; from = omega (arith, before); until = omega (arith, until, taken); priority = λ same. absurd (omega (arith, before, same)) }
+        record {
+          place = w.place;
+          start = w.start;
+          there = get_more all more w.place w.start w.there;
+          from = omega
+              (arith, before);
+          until = omega (arith, until, taken);
+          priority = λ same. absurd (omega (arith, before, same));
+        }
     | inr free ↦ elim h.phase [
       | inr none ↦ absurd (
-          let empty = none_waits may pace c all 0 p.now (starts_of_class c all) h.wire (queue_of p c) (subst (λ xs. AreShared may pace c all 0 p.now xs (starts_of_class c all) h.wire (queue_of p c)) none.1 h.served) in
+          let empty = none_waits may pace c all 0 p.now (starts_of_class c all) h.wire (queue_of p c)
+          (subst (λ xs. AreShared may pace c all 0 p.now xs (starts_of_class c all) h.wire (queue_of p c)) none.1 h.served) in
           let z : [] ≡ f ∷ rest = sym empty ∙ q in cc)
       | inl forced ↦
           go
-          (ap (λ xs. leb p.free p.now && Rattle.list_config.specs.Choice.may_start p.history p.now c (Rattle.abstract_port.specs.AbstractPort.head_need p.ps xs)) q
+          (ap (λ xs. leb p.free p.now && Rattle.list_config.specs.Choice.may_start p.history p.now c
+          (Rattle.abstract_port.specs.AbstractPort.head_need p.ps xs)) q
           ∙ (ap (λ b. b && open_through p.history c p.now (occupancy_of p.ps f.len)) (le-leb p.free p.now free)
           ∙ (ap (λ x. open_through x c p.now (occupancy_of p.ps f.len)) forced
           ∙ (ap (λ x. open_through (a ∷ []) c p.now (occupancy_of x f.len)) h.rate ∙ fits))))
@@ -242,9 +290,11 @@ module _ (c : ℕ) (a : Accepted) (pace : ℕ) (lc : c < 8) (pos : 0 < pace) whe
             busy = λ less. later_on (all ++ []) p (subst (λ xs. IsOnWire xs p) (sym (append-nil all)) (h.busy (omega (arith, less))));
             listed = h.listed;
             served =
-                subst (λ xs. AreShared may pace c (all ++ []) 0 (p.now + 1) came (starts_of_class c xs) h.wire (queue_of p c)) (sym (append-nil all))
+                subst (λ xs. AreShared may pace c (all ++ []) 0 (p.now + 1) came (starts_of_class c xs) h.wire (queue_of p c))
+                (sym (append-nil all))
                 (passes may pace c (all ++ []) 0 p.now came (starts_of_class c all) h.wire (queue_of p c)
-                (λ f rest q fits. head_taken p came all [] h f rest q fits (λ is. absurd (let k = chosen p c lc p.now is in let z : None ≡ Some k.0 = sym e ∙ k.1 in cc)))
+                (λ f rest q fits. head_taken p came all [] h f rest q fits
+                (λ is. absurd (let k = chosen p c lc p.now is in let z : None ≡ Some k.0 = sym e ∙ k.1 in cc)))
                 (grows may pace c all [] 0 p.now came (starts_of_class c all) h.wire (queue_of p c) h.served));
             phase = h.phase;
             long = long_both all [] h.long tt;
@@ -252,7 +302,8 @@ module _ (c : ℕ) (a : Accepted) (pace : ℕ) (lc : c < 8) (pos : 0 < pace) whe
           })
       go (Some k) e =
           let l = leaves_from p k (choice_passes p p.now k e).0 in
-          subst (λ z. SharedHolds (with_moment z.1 (p.now + 1)) came (all ++ option_to_list z.0)) (sym (tick_start p k l e)) (by l (cases_eq k c))
+          subst (λ z. SharedHolds (with_moment z.1 (p.now + 1)) came (all ++ option_to_list z.0)) (sym (tick_start p k l e))
+          (by l (cases_eq k c))
         where
           by : (l : Leaves p k) → (k ≡ c) ⊎ (k ≡ c → ⊥)
               → SharedHolds (with_moment (with_rest p (started p k l.frame l.behind)) (p.now + 1)) came (all ++ start_of p k l.frame ∷ [])
@@ -273,7 +324,8 @@ module _ (c : ℕ) (a : Accepted) (pace : ℕ) (lc : c < 8) (pos : 0 < pace) whe
                 listed = subst (λ (n : ℕ). c < n) (sym (length-set p.queues k l.behind)) h.listed;
                 served = served which;
                 phase = h.phase;
-                long = long_both all (start_of p k l.frame ∷ []) h.long (let more = some in omega (arith, more), (choice_passes p p.now k e).1, tt);
+                long = long_both all (start_of p k l.frame ∷ []) h.long
+                    (let more = some in omega (arith, more), (choice_passes p p.now k e).1, tt);
                 since = h.since;
               }
             where
@@ -285,32 +337,43 @@ module _ (c : ℕ) (a : Accepted) (pace : ℕ) (lc : c < 8) (pos : 0 < pace) whe
               wire (inr other) = h.wire
 
               own_is : (w : (k ≡ c) ⊎ (k ≡ c → ⊥)) → wire w ≤ p.now + occupancy_of p.ps (l.frame).len
-              own_is (inl same) = subst (λ x. p.now + occupancy_of x (l.frame).len ≤ p.now + occupancy_of p.ps (l.frame).len) h.rate (le_refl (p.now + occupancy_of p.ps (l.frame).len))
+              own_is (inl same) = subst (λ x. p.now + occupancy_of x (l.frame).len ≤ p.now + occupancy_of p.ps (l.frame).len) h.rate
+                  (le_refl (p.now + occupancy_of p.ps (l.frame).len))
               own_is (inr other) = (let a = l.free in let b = h.own in omega (arith, a, b))
 
               served : (w : (k ≡ c) ⊎ (k ≡ c → ⊥))
-                  → AreShared may pace c (all ++ start_of p k l.frame ∷ []) 0 (p.now + 1) came (starts_of_class c (all ++ start_of p k l.frame ∷ [])) (wire w) (get_or (set p.queues k l.behind) c [])
+                  → AreShared may pace c (all ++ start_of p k l.frame ∷ []) 0 (p.now + 1) came
+                  (starts_of_class c (all ++ start_of p k l.frame ∷ [])) (wire w) (get_or (set p.queues k l.behind) c [])
               served (inl same) =
                   let queue : queue_of p c ≡ l.frame ∷ l.behind = ap (queue_of p) (sym same) ∙ l.queue in
                   let own = h.own in
                   let free = l.free in
-                  let one = starts_one may pace c (all ++ start_of p k l.frame ∷ []) 0 p.now came (starts_of_class c all) h.wire l.frame l.behind pos (omega (arith, own, free))
+                  let one = starts_one may pace c (all ++ start_of p k l.frame ∷ []) 0 p.now came
+                  (starts_of_class c all) h.wire l.frame l.behind pos (omega (arith, own, free))
                   (subst (λ q. AreShared may pace c (all ++ start_of p k l.frame ∷ []) 0 p.now came (starts_of_class c all) h.wire q) queue
                   (grows may pace c all (start_of p k l.frame ∷ []) 0 p.now came (starts_of_class c all) h.wire (queue_of p c) h.served)) in
                   let mine : starts_of_class c (start_of p k l.frame ∷ []) ≡ start_at pace c p.now l.frame ∷ [] =
                   ap (λ b. cond b (start_of p k l.frame ∷ []) []) (eq-eqb k c same)
                   ∙ (ap (λ j. start_of p j l.frame ∷ []) same ∙ ap (λ x. start_at x c p.now l.frame ∷ []) h.rate) in
                   let rest : get_or (set p.queues k l.behind) c [] ≡ l.behind =
-                  subst (λ j. get_or (set p.queues j l.behind) c [] ≡ l.behind) (sym same) (get_or-set_same p.queues c l.behind [] h.listed) in
-                  subst (λ q. AreShared may pace c (all ++ start_of p k l.frame ∷ []) 0 (p.now + 1) came (starts_of_class c (all ++ start_of p k l.frame ∷ [])) (p.now + occupancy_of pace (l.frame).len) q) (sym rest)
-                  (subst (λ xs. AreShared may pace c (all ++ start_of p k l.frame ∷ []) 0 (p.now + 1) came xs (p.now + occupancy_of pace (l.frame).len) l.behind)
-                  (sym (filter-append (λ (s : Start). eqb s.class c) all (start_of p k l.frame ∷ []) ∙ ap (λ xs. starts_of_class c all ++ xs) mine)) one)
+                  subst (λ j. get_or (set p.queues j l.behind) c [] ≡ l.behind) (sym same)
+                  (get_or-set_same p.queues c l.behind [] h.listed) in
+                  subst (λ q. AreShared may pace c (all ++ start_of p k l.frame ∷ []) 0 (p.now + 1) came
+                  (starts_of_class c (all ++ start_of p k l.frame ∷ [])) (p.now + occupancy_of pace (l.frame).len) q) (sym rest)
+                  (subst (λ xs. AreShared may pace c (all ++ start_of p k l.frame ∷ []) 0 (p.now + 1) came xs
+                  (p.now + occupancy_of pace (l.frame).len) l.behind)
+                  (sym (filter-append (λ (s : Start). eqb s.class c) all (start_of p k l.frame ∷ []) ∙ ap
+                  (λ xs. starts_of_class c all ++ xs) mine)) one)
               served (inr other) =
-                  let rest : get_or (set p.queues k l.behind) c [] ≡ queue_of p c = get_or-set_other p.queues k c l.behind [] (λ z. other (sym z)) in
-                  let none : starts_of_class c (start_of p k l.frame ∷ []) ≡ [] = ap (λ b. cond b (start_of p k l.frame ∷ []) []) (ne_eqb k c other) in
-                  subst (λ q. AreShared may pace c (all ++ start_of p k l.frame ∷ []) 0 (p.now + 1) came (starts_of_class c (all ++ start_of p k l.frame ∷ [])) h.wire q) (sym rest)
+                  let rest : get_or (set p.queues k l.behind) c [] ≡ queue_of p c = get_or-set_other p.queues k c l.behind []
+                  (λ z. other (sym z)) in
+                  let none : starts_of_class c (start_of p k l.frame ∷ []) ≡ [] = ap (λ b. cond b (start_of p k l.frame ∷ []) [])
+                  (ne_eqb k c other) in
+                  subst (λ q. AreShared may pace c (all ++ start_of p k l.frame ∷ []) 0 (p.now + 1) came
+                  (starts_of_class c (all ++ start_of p k l.frame ∷ [])) h.wire q) (sym rest)
                   (subst (λ xs. AreShared may pace c (all ++ start_of p k l.frame ∷ []) 0 (p.now + 1) came xs h.wire (queue_of p c))
-                  (sym (filter-append (λ (s : Start). eqb s.class c) all (start_of p k l.frame ∷ []) ∙ (ap (λ xs. starts_of_class c all ++ xs) none ∙ append-nil (starts_of_class c all))))
+                  (sym (filter-append (λ (s : Start). eqb s.class c) all (start_of p k l.frame ∷ []) ∙
+                  (ap (λ xs. starts_of_class c all ++ xs) none ∙ append-nil (starts_of_class c all))))
                   (passes may pace c (all ++ start_of p k l.frame ∷ []) 0 p.now came (starts_of_class c all) h.wire (queue_of p c)
                   (λ f rest q fits. head_taken p came all (start_of p k l.frame ∷ []) h f rest q fits (λ is.
                   let best = chosen p c lc p.now is in
@@ -318,7 +381,16 @@ module _ (c : ℕ) (a : Accepted) (pace : ℕ) (lc : c < 8) (pos : 0 < pace) whe
                   let same : k ≡ best.0 = cc in
                   let above = best.2 in
                   let long = some in
-                  record { place = length all; start = start_of p k l.frame; there = get_last all (start_of p k l.frame); from = le_refl p.now; until = omega (arith, long); priority = λ here. omega (arith, same, above) }))
+                  record {
+                    place = length all;
+                    start = start_of p k l.frame;
+                    there = get_last all
+                        (start_of p k l.frame);
+                    from = le_refl p.now;
+                    until = omega (arith, long);
+                    priority = λ here. omega
+                        (arith, same, above);
+                  }))
                   (grows may pace c all (start_of p k l.frame ∷ []) 0 p.now came (starts_of_class c all) h.wire (queue_of p c) h.served)))
 
   live_holds : (n : ℕ) (p : AbstractPort) (came : List Came) (all : List Start) → SharedHolds p came all
@@ -328,7 +400,8 @@ module _ (c : ℕ) (a : Accepted) (pace : ℕ) (lc : c < 8) (pos : 0 < pace) whe
   live_holds (suc n) p came all h =
       let t = tick p in
       let q = with_moment t.1 (p.now + 1) in
-      subst (SharedHolds (live n q).1 came) (append_assoc all (option_to_list t.0) (live n q).0) (live_holds n q came (all ++ option_to_list t.0) (tick_holds p came all h))
+      subst (SharedHolds (live n q).1 came) (append_assoc all (option_to_list t.0) (live n q).0)
+      (live_holds n q came (all ++ option_to_list t.0) (tick_holds p came all h))
 
   -- ---- events
 
@@ -349,26 +422,36 @@ module _ (c : ℕ) (a : Accepted) (pace : ℕ) (lc : c < 8) (pos : 0 < pace) whe
         | inl t ↦
             let same : d ≡ c = eqb-true d c t in
             let forced : is_some (in_force p.history p.now) ≡ true = k (verdict_class p f d large e ∙ ap Some same) in
-            subst (λ b. AreSince a.change (cond b (record { moment = p.now; frame = f } ∷ []) [])) (sym t) (forced_since a p.now (ap (λ h. is_some (in_force h p.now)) (sym full) ∙ forced), tt)
+            subst (λ b. AreSince a.change (cond b (record { moment = p.now; frame = f } ∷ []) [])) (sym t)
+            (forced_since a p.now (ap (λ h. is_some (in_force h p.now)) (sym full) ∙ forced), tt)
       ]
 
   queued_shared : (p : AbstractPort) (f : Frame) (v : Result ℕ Dropped) (came : List Came) (all : List Start) (wire : ℕ)
       → AreShared may pace c all 0 p.now came (starts_of_class c all) wire (queue_of p c)
-      → AreShared may pace c all 0 p.now (came ++ queued_as c p f v) (starts_of_class c all) wire (queue_of p c ++ frames_of (queued_as c p f v))
+      → AreShared may pace c all 0 p.now (came ++ queued_as c p f v) (starts_of_class c all) wire
+      (queue_of p c ++ frames_of (queued_as c p f v))
   queued_shared p f (Err why) came all wire h =
       subst (λ xs. AreShared may pace c all 0 p.now xs (starts_of_class c all) wire (queue_of p c ++ [])) (sym (append-nil came))
       (subst (λ xs. AreShared may pace c all 0 p.now came (starts_of_class c all) wire xs) (sym (append-nil (queue_of p c))) h)
   queued_shared p f (Ok d) came all wire h = go (eqb d c)
     where
       go : (b : Bool)
-          → AreShared may pace c all 0 p.now (came ++ cond b (record { moment = p.now; frame = f } ∷ []) []) (starts_of_class c all) wire (queue_of p c ++ frames_of (cond b (record { moment = p.now; frame = f } ∷ []) []))
+          → AreShared may pace c all 0 p.now (came ++ cond b (record { moment = p.now; frame = f } ∷ []) []) (starts_of_class c all) wire
+          (queue_of p c ++ frames_of (cond b (record { moment = p.now; frame = f } ∷ []) []))
       go true = comes may pace c all 0 p.now came (starts_of_class c all) wire (queue_of p c) f h
       go false =
           subst (λ xs. AreShared may pace c all 0 p.now xs (starts_of_class c all) wire (queue_of p c ++ [])) (sym (append-nil came))
           (subst (λ xs. AreShared may pace c all 0 p.now came (starts_of_class c all) wire xs) (sym (append-nil (queue_of p c))) h)
 
   on_wire_at : (all : List Start) (p q : AbstractPort) → q.now ≡ p.now → q.free ≡ p.free → IsOnWire all p → IsOnWire all q
-  on_wire_at all p q now free w = record { place = w.place; start = w.start; there = w.there; before = (let b = w.before in omega (arith, b, now)); until = (let u = w.until in omega (arith, u, free)) }
+  on_wire_at all p q now free w = record {
+    place = w.place;
+    start = w.start;
+    there = w.there;
+    before = (let b = w.before in omega (arith, b, now));
+    until =
+        (let u = w.until in omega (arith, u, free));
+  }
 
   arrive_holds : (f : Frame) (p : AbstractPort) (came : List Came) (all : List Start) → 68 ≤ p.mtu → SharedHolds p came all
       → IsScheduledAt c (Arrive f) p
@@ -386,8 +469,10 @@ module _ (c : ℕ) (a : Accepted) (pace : ℕ) (lc : c < 8) (pos : 0 < pace) whe
         busy = λ less. (let now = keeps.1 in on_wire_at all p q keeps.1 free (h.busy (omega (arith, less, now, free))));
         listed = subst (λ (n : ℕ). c < n) (sym (arrival_listed p f v)) h.listed;
         served =
-            subst (λ n. AreShared may pace c all 0 n (came ++ queued_as c p f v) (starts_of_class c all) h.wire (queue_of q c)) (sym keeps.1)
-            (subst (λ xs. AreShared may pace c all 0 p.now (came ++ queued_as c p f v) (starts_of_class c all) h.wire xs) (sym (arrival_queue c p f v h.listed)) (queued_shared p f v came all h.wire h.served));
+            subst (λ n. AreShared may pace c all 0 n (came ++ queued_as c p f v) (starts_of_class c all) h.wire (queue_of q c))
+            (sym keeps.1)
+            (subst (λ xs. AreShared may pace c all 0 p.now (came ++ queued_as c p f v) (starts_of_class c all) h.wire xs)
+            (sym (arrival_queue c p f v h.listed)) (queued_shared p f v came all h.wire h.served));
         phase = elim h.phase [
           | inl e ↦ inl (keeps.0 ∙ e)
           | inr e ↦ inr (keeps.0 ∙ e.0, ap (λ xs. xs ++ queued_as c p f v) e.1 ∙ none_queued c p f large e.0 k)
@@ -440,24 +525,30 @@ module _ (c : ℕ) (a : Accepted) (pace : ℕ) (lc : c < 8) (pos : 0 < pace) whe
           let is : answers_to (Install b) p ≡ (Answered.Refused r ∷ [], p) = ap (install_with p b.now) e in
           holds_same p (answers_to (Install b) p).1 came all (answers_to (Install b) p).0 (ap (λ z. z.1) is) (ap (λ z. starts_in z.0) is) h
       go None e =
-          let is : answers_to (Install b) p ≡ (Answered.Installed (new_command p b.now).change ∷ [], after_command p b.now) = ap (install_with p b.now) e in
-          holds_same (after_command p b.now) (answers_to (Install b) p).1 came all (answers_to (Install b) p).0 (ap (λ z. z.1) is) (ap (λ z. starts_in z.0) is)
+          let is : answers_to (Install b) p ≡ (Answered.Installed (new_command p b.now).change ∷ [], after_command p b.now) = ap
+          (install_with p b.now) e in
+          holds_same (after_command p b.now) (answers_to (Install b) p).1 came all (answers_to (Install b) p).0 (ap (λ z. z.1) is)
+          (ap (λ z. starts_in z.0) is)
           (command_holds b.now p came all (only e).0 (only e).1 h)
 
   clock_holds : (m : ℕ) (p : AbstractPort) (came : List Came) (all : List Start) → SharedHolds p came all
       → SharedHolds (answers_to (Clock m) p).1 (came ++ []) (all ++ starts_in (answers_to (Clock m) p).0)
   clock_holds m p came all h =
       elim (cases_Bool (ltb m p.now || ltb greatest_moment m)) [
-        | inl t ↦ (let is = clock_back m p t in holds_same p (answers_to (Clock m) p).1 came all (answers_to (Clock m) p).0 (ap (λ z. z.1) is) (ap (λ z. starts_in z.0) is) h)
+        | inl t ↦ (let is = clock_back m p t in holds_same p (answers_to (Clock m) p).1 came all (answers_to (Clock m) p).0
+            (ap (λ z. z.1) is) (ap (λ z. starts_in z.0) is) h)
         | inr f ↦
             let le = ltb-false m p.now (or_parts _ _ f).0 in
             let rate = h.rate in
             let x = starts_until_live p m (subst (λ (n : ℕ). 0 < n) (sym h.rate) pos) le in
-            let is : answers_to (Clock m) p ≡ (map Answered.Start (live (m - p.now) p).0, (live (m - p.now) p).1) = clock_on m p f ∙ ap (λ z. (map Answered.Start z.0, z.1)) x in
-            let told : starts_in (answers_to (Clock m) p).0 ≡ (live (m - p.now) p).0 = ap (λ z. starts_in z.0) is ∙ starts_in-starts (live (m - p.now) p).0 in
+            let is : answers_to (Clock m) p ≡ (map Answered.Start (live (m - p.now) p).0, (live (m - p.now) p).1) = clock_on m p f ∙ ap
+            (λ z. (map Answered.Start z.0, z.1)) x in
+            let told : starts_in (answers_to (Clock m) p).0 ≡ (live (m - p.now) p).0 = ap (λ z. starts_in z.0) is ∙ starts_in-starts
+            (live (m - p.now) p).0 in
             subst (λ xs. SharedHolds (answers_to (Clock m) p).1 xs (all ++ starts_in (answers_to (Clock m) p).0)) (sym (append-nil came))
             (subst (λ xs. SharedHolds (answers_to (Clock m) p).1 came (all ++ xs)) (sym told)
-            (subst (λ q. SharedHolds q came (all ++ (live (m - p.now) p).0)) (sym (ap (λ z. z.1) is)) (live_holds (m - p.now) p came all h)))
+            (subst (λ q. SharedHolds q came (all ++ (live (m - p.now) p).0)) (sym (ap (λ z. z.1) is))
+            (live_holds (m - p.now) p came all h)))
       ]
 
   pub event_holds : (event : Event) (p : AbstractPort) (came : List Came) (all : List Start) → 68 ≤ p.mtu → SharedHolds p came all
@@ -467,7 +558,8 @@ module _ (c : ℕ) (a : Accepted) (pace : ℕ) (lc : c < 8) (pos : 0 < pace) whe
   event_holds (Install b) p came all large h k only = install_holds b p came all h only
   event_holds (Clock m) p came all large h k only = clock_holds m p came all h
   event_holds Query p came all large h k only = holds_same p p came all (answers_to Query p).0 refl refl h
-  event_holds (Count n) p came all large h k only = holds_same p p came all (answers_to (Count n) p).0 refl (count_starts c a pace lc (ltb n 8) n p) h
+  event_holds (Count n) p came all large h k only = holds_same p p came all (answers_to (Count n) p).0 refl
+      (count_starts c a pace lc (ltb n 8) n p) h
 
   run_holds : (events : List Event) (p : AbstractPort) (came : List Came) (all : List Start) → 68 ≤ p.mtu → SharedHolds p came all
       → AreScheduled c events p → IsOnly a events p
@@ -477,10 +569,13 @@ module _ (c : ℕ) (a : Accepted) (pace : ℕ) (lc : c < 8) (pos : 0 < pace) whe
   run_holds (event ∷ rest) p came all large h k only =
       let q = (answers_to event p).1 in
       let given = (answers_to event p).0 in
-      let later = run_holds rest q (came ++ queued_by c event p) (all ++ starts_in given) (still_large event p large) (event_holds event p came all large h k.0 only.0) k.1 only.1 in
-      subst (λ xs. SharedHolds (port_after rest q) xs (all ++ starts_in (given ++ answers_of rest q))) (append_assoc came (queued_by c event p) (queued_in c rest q))
+      let later = run_holds rest q (came ++ queued_by c event p) (all ++ starts_in given) (still_large event p large)
+      (event_holds event p came all large h k.0 only.0) k.1 only.1 in
+      subst (λ xs. SharedHolds (port_after rest q) xs (all ++ starts_in (given ++ answers_of rest q)))
+      (append_assoc came (queued_by c event p) (queued_in c rest q))
       (subst (λ xs. SharedHolds (port_after rest q) ((came ++ queued_by c event p) ++ queued_in c rest q) xs)
-      (append_assoc all (starts_in given) (starts_in (answers_of rest q)) ∙ ap (λ xs. all ++ xs) (sym (starts_in-append given (answers_of rest q)))) later)
+      (append_assoc all (starts_in given) (starts_in (answers_of rest q)) ∙ ap (λ xs. all ++ xs)
+      (sym (starts_in-append given (answers_of rest q)))) later)
 
   pub new_shared : (mtu room : ℕ) → SharedHolds (new_port pace mtu room) [] []
   new_shared mtu room = record {
@@ -498,5 +593,6 @@ module _ (c : ℕ) (a : Accepted) (pace : ℕ) (lc : c < 8) (pos : 0 < pace) whe
   -- in a run
   pub shared_run : (mtu room : ℕ) (events : List Event) → 68 ≤ mtu → AreScheduled c events (new_port pace mtu room)
       → IsOnly a events (new_port pace mtu room)
-      → SharedHolds (port_after events (new_port pace mtu room)) (queued_in c events (new_port pace mtu room)) (starts_in (answers_of events (new_port pace mtu room)))
+      → SharedHolds (port_after events (new_port pace mtu room)) (queued_in c events (new_port pace mtu room))
+      (starts_in (answers_of events (new_port pace mtu room)))
   shared_run mtu room events large k only = run_holds events (new_port pace mtu room) [] [] large (new_shared mtu room) k only

@@ -61,8 +61,10 @@ count_last i (suc m) (p ∷ places) [] c same e = absurd (omega (arith, same))
 count_last i (suc m) (p ∷ places) (g ∷ came) c same e = by (eqb p i) c e (λ c e. count_last i m places came c (omega (arith, same)) e)
   where
     by : (b : Bool) (c : ℕ) → one_if b + count i m places ≡ suc c
-        → ((c : ℕ) → count i m places ≡ suc c → (j : ℕ) × (f : Came) × (slice_get (frames_at i places came) c ≡ Some f) × (slice_get came j ≡ Some f) × (j < m))
-        → (j : ℕ) × (f : Came) × (slice_get (cond b (g ∷ frames_at i places came) (frames_at i places came)) c ≡ Some f) × (slice_get (g ∷ came) j ≡ Some f) × (j < suc m)
+        → ((c : ℕ) → count i m places ≡ suc c → (j : ℕ) × (f : Came) × (slice_get (frames_at i places came) c ≡ Some f) ×
+        (slice_get came j ≡ Some f) × (j < m))
+        → (j : ℕ) × (f : Came) × (slice_get (cond b (g ∷ frames_at i places came) (frames_at i places came)) c ≡ Some f) ×
+        (slice_get (g ∷ came) j ≡ Some f) × (j < suc m)
     by true zero e ih = (0, g, refl, refl, omega arith)
     by true (suc c) e ih = (let r = ih c (omega (arith, e)) in let less = r.4 in (suc r.0, r.1, r.2, r.3, omega (arith, less)))
     by false c e ih = (let r = ih c (omega (arith, e)) in let less = r.4 in (suc r.0, r.1, r.2, r.3, omega (arith, less)))
@@ -113,7 +115,8 @@ total_most x b [] h each = omega arith
 total_most x b (flow ∷ flows) h each =
     let here : b ≡ b + 0 = omega arith in
     let one : h b ≤ curve_of x flow = subst (λ k. h k ≤ curve_of x flow) (sym here) (each 0 flow refl) in
-    let rest = total_most x (suc b) flows h (λ i other e. (let at : b + suc i ≡ suc b + i = omega arith in subst (λ k. h k ≤ curve_of x other) at (each (suc i) other e))) in
+    let rest = total_most x (suc b) flows h
+    (λ i other e. (let at : b + suc i ≡ suc b + i = omega arith in subst (λ k. h k ≤ curve_of x other) at (each (suc i) other e))) in
     let both = sum_by-cons (curve_of x) flow flows in
     omega (arith, one, rest, both)
 
@@ -139,7 +142,8 @@ module _ (ps d : ℕ) (flows : List Sporadic) (these : AreFlows d flows) where
       → AreFramesOf ps flow came
   behind_one flow true f came are = record {
     short = λ k g e. are.short (suc k) g e;
-    spaced = λ k n x y e h. (let at : suc k + n ≡ suc (k + n) = omega arith in are.spaced (suc k) n x y e (ap (slice_get (f ∷ came)) at ∙ h));
+    spaced = λ k n x y e h. (let at : suc k + n ≡ suc (k + n) = omega arith in are.spaced (suc k) n x y e
+        (ap (slice_get (f ∷ came)) at ∙ h));
   }
   behind_one flow false f came are = are
 
@@ -154,7 +158,8 @@ module _ (ps d : ℕ) (flows : List Sporadic) (these : AreFlows d flows) where
   from_any : (t k n : ℕ) (places : List ℕ) (came : List Came) (f g : Came) → AreRising t came → AreSplit ps flows places came
       → slice_get came k ≡ Some f → slice_get came (k + n) ≡ Some g
       → n + 1 ≤ curve_of_all flows (g.moment - f.moment)
-  from_any t zero n places came f g rising s first last = (let at : n ≡ 0 + n = omega arith in from_first t n places came f g rising s first (ap (slice_get came) at ∙ last))
+  from_any t zero n places came f g rising s first last =
+      (let at : n ≡ 0 + n = omega arith in from_first t n places came f g rising s first (ap (slice_get came) at ∙ last))
   from_any t (suc k) n places [] f g rising s first last = absurd (none_here (suc k) f first)
   from_any t (suc k) n [] (x ∷ came) f g rising s first last = (let all = s.all in absurd (omega (arith, all)))
   from_any t (suc k) n (p ∷ places) (x ∷ came) f g rising s first last =
@@ -178,8 +183,10 @@ module _ (ps d : ℕ) (flows : List Sporadic) (these : AreFlows d flows) where
 
 pub sporadic_law : SporadicLaw
 sporadic_law ps mtu room class d flows places events large these s =
-    keep_to_all ps d flows these 0 places (offered_in class events (new_port ps mtu room)) (are_rising class events (new_port ps mtu room) large) s
+    keep_to_all ps d flows these 0 places (offered_in class events (new_port ps mtu room))
+    (are_rising class events (new_port ps mtu room) large) s
 
 pub sporadic_bounds_law : SporadicBoundsLaw
 sporadic_bounds_law ps mtu room class d wait most a plan flows places events r these s b =
-    any_traffic_law ps mtu room class d wait most (curve_of_all flows) a plan events r (sporadic_law ps mtu room class d flows places events r.large these s) b
+    any_traffic_law ps mtu room class d wait most (curve_of_all flows) a plan events r
+    (sporadic_law ps mtu room class d flows places events r.large these s) b

@@ -16,7 +16,8 @@ use Rattle.any_traffic.proofs.PartLaws.{AreLawful, part_at, part_lawful, rising_
 use Rattle.any_traffic.proofs.Offered.{all_since, all_taken, are_part, are_rising}
 use Rattle.any_traffic.proofs.SlotLaws.{slot_back, slot_since}
 
-module _ (a : Accepted) (plan : Plan) (class d : ℕ) (curve : ℕ → ℕ) (wait most : ℕ) (is : a.plan ≡ Some plan) (above : 0 < plan.cycle) (b : AreCurveBounds plan class d curve wait most) where
+module _ (a : Accepted) (plan : Plan) (class d : ℕ) (curve : ℕ → ℕ) (wait most : ℕ) (is : a.plan ≡ Some plan) (above : 0 < plan.cycle)
+    (b : AreCurveBounds plan class d curve wait most) where
   pub within : (t x : ℕ) → a.change ≤ t → (s : ℕ) × IsSlot (open_through (a ∷ []) class) d t (curve x - 1) s × (s ≤ t + x + wait)
   within t x later =
       let at : a.change + (t - a.change) ≡ t = omega (arith, later) in
@@ -24,17 +25,21 @@ module _ (a : Accepted) (plan : Plan) (class d : ℕ) (curve : ℕ → ℕ) (wai
       let bound = w.2 in
       let mine = subst (λ may. IsSlot may d (t - a.change) (curve x - 1) w.0) (sym (same_gates a plan is above class)) w.1 in (
         a.change + w.0,
-        subst (λ k. IsSlot (open_through (a ∷ []) class) d k (curve x - 1) (a.change + w.0)) at (slot_since a class d (t - a.change) (curve x - 1) w.0 mine),
+        subst (λ k. IsSlot (open_through (a ∷ []) class) d k (curve x - 1) (a.change + w.0)) at
+            (slot_since a class d (t - a.change) (curve x - 1) w.0 mine),
         omega (arith, bound, later),
       )
 
   pub behind : (t x n s : ℕ) → a.change ≤ t → IsSlot (open_through (a ∷ []) class) d t n s → t + x ≤ s → curve x ≤ n + most
   behind t x n s later slot after =
-      b.few (t - a.change) x n (s - a.change) (subst (λ may. IsSlot may d (t - a.change) n (s - a.change)) (same_gates a plan is above class) (slot_back a class d t n s later slot)) (omega (arith, later, after))
+      b.few (t - a.change) x n (s - a.change)
+      (subst (λ may. IsSlot may d (t - a.change) n (s - a.change)) (same_gates a plan is above class)
+      (slot_back a class d t n s later slot)) (omega (arith, later, after))
 
 -- ---- by slots
 
-module _ (ps class d : ℕ) (a : Accepted) (plan : Plan) (is : a.plan ≡ Some plan) (above : 0 < plan.cycle) (came : List Came) (short : (k : ℕ) (f : Came) → slice_get came k ≡ Some f → occupancy_of ps f.frame.len ≤ d)
+module _ (ps class d : ℕ) (a : Accepted) (plan : Plan) (is : a.plan ≡ Some plan) (above : 0 < plan.cycle) (came : List Came)
+    (short : (k : ℕ) (f : Came) → slice_get came k ≡ Some f → occupancy_of ps f.frame.len ≤ d)
     (since : (k : ℕ) (f : Came) → slice_get came k ≡ Some f → a.change ≤ f.moment) where
   by_plan : (k m : ℕ) → IsBy (a ∷ []) ps class d came short k m → IsBySlot plan class d a.change came k m
   by_plan k m b =
@@ -62,10 +67,13 @@ slot_law ps mtu room class d a plan events r short =
     let came : List Came = queued_in class events p in
     let since : (k : ℕ) (f : Came) → slice_get came k ≡ Some f → a.change ≤ f.moment =
     λ k f e.
-    (let q = part_at came (offered_in class events p) k f (are_part class events p r.large) e in all_since ps class a r.listed events p [] [] new r.apart r.only q.0 f q.1) in
+    (let q = part_at came (offered_in class events p) k f
+    (are_part class events p r.large) e in all_since ps class a r.listed events p [] [] new r.apart r.only q.0 f q.1) in
     record {
-      starts = λ k f x e y. by_plan ps class d a plan r.is r.above came short since k x.at (started_by (a ∷ []) ps class d came short _ _ _ _ served.served k f x e y);
-      waits = λ f e. by_plan ps class d a plan r.is r.above came short since _ _ (waiting_by (a ∷ []) ps class d came short _ _ _ _ served.served f e);
+      starts = λ k f x e y. by_plan ps class d a plan r.is r.above came short since k x.at
+          (started_by (a ∷ []) ps class d came short _ _ _ _ served.served k f x e y);
+      waits = λ f e. by_plan ps class d a plan r.is r.above came short since _ _
+          (waiting_by (a ∷ []) ps class d came short _ _ _ _ served.served f e);
     }
 
 pub any_traffic_law : AnyTrafficLaw
@@ -75,8 +83,14 @@ any_traffic_law ps mtu room class d wait most curve a plan events r keep b =
     let served = served_law ps mtu room class a events r.rate r.large r.listed r.apart r.only in
     let rising = are_rising class events p r.large in
     let offered : AreLawful ps d a.change curve (offered_in class events p) =
-    record { keep = keep; since = all_since ps class a r.listed events p [] [] new r.apart r.only; order = λ k n f g e h. rising_pair 0 (offered_in class events p) k n f g rising e h } in
-    let queued = part_lawful ps d a.change curve (queued_in class events p) (offered_in class events p) (are_part class events p r.large) offered in
+    record {
+      keep = keep;
+      since = all_since ps class a r.listed events p [] [] new r.apart r.only;
+      order = λ k n f g e h. rising_pair 0
+          (offered_in class events p) k n f g rising e h;
+    } in
+    let queued = part_lawful ps d a.change curve (queued_in class events p) (offered_in class events p)
+    (are_part class events p r.large) offered in
     let w = within a plan class d curve wait most r.is r.above b in
     let n = behind a plan class d curve wait most r.is r.above b in
     let gates : List Accepted = a ∷ [] in
@@ -85,9 +99,11 @@ any_traffic_law ps mtu room class d wait most curve a plan events r keep b =
       soon = soon gates ps class d a.change wait most curve w n _ queued _ _ _ _ served.served;
       starts = λ k f e past. elim (cases_lt k _) [
         | inl less ↦ less
-        | inr more ↦ (let not_yet = late gates ps class d a.change wait most curve w n _ queued _ _ _ _ served.served k f e more in absurd (omega (arith, not_yet, past)))
+        | inr more ↦ (let not_yet = late gates ps class d a.change wait most curve w n _ queued _ _ _ _ served.served k f e more in absurd
+            (omega (arith, not_yet, past)))
       ];
       few = few_wait gates ps class d a.change wait most curve w n _ queued _ _ _ _ served.served;
-      all = λ enough. all_taken ps class a r.listed room d most curve enough (λ now came starts wire waits l s. few_wait gates ps class d a.change wait most curve w n came l now starts wire waits s)
+      all = λ enough. all_taken ps class a r.listed room d most curve enough
+          (λ now came starts wire waits l s. few_wait gates ps class d a.change wait most curve w n came l now starts wire waits s)
           events p [] [] refl new r.apart r.only offered;
     }

@@ -14,43 +14,16 @@ use Rattle.any_traffic.proofs.Counting.{no_more, one_if, total, total_next}
 use Rattle.any_traffic.proofs.ListLaws.{none_here, one_before}
 use Rattle.any_traffic.proofs.PartLaws.{part_pair, rising_pair}
 use Rattle.any_traffic.proofs.Offered.{are_part, are_rising}
-use Rattle.any_traffic.proofs.SlotLaws.{slot_before}
+use Rattle.any_traffic.proofs.SlotLaws.{slot_before, sooner}
 use Rattle.any_traffic.proofs.TrafficLaws.{slot_law}
 
 module _ (may : ℕ → ℕ → Bool) (d : ℕ) where
-  -- there is a first moment where there is one
-  search : (n p s : ℕ) → p + n ≡ s → may s d ≡ true → (r : ℕ) × IsFirst may d p r × (r ≤ s)
-  search zero p s e fits =
-      let same : p ≡ s = omega (arith, e) in
-      (s, record { from = omega (arith, same); fits = fits; least = λ m from below. absurd (omega (arith, from, below, same)) }, le_refl s)
-  search (suc n) p s e fits = by (may p d) refl (search n (p + 1) s (omega (arith, e)) fits)
-    where
-      by : (b : Bool) → may p d ≡ b → (r : ℕ) × IsFirst may d (p + 1) r × (r ≤ s) → (r : ℕ) × IsFirst may d p r × (r ≤ s)
-      by true t ih = (p, record { from = le_refl p; fits = t; least = λ m from below. absurd (omega (arith, from, below)) }, omega (arith, e))
-      by false f ih =
-          let first = ih.1 in
-          let after = first.from in (
-            ih.0,
-            record {
-              from = omega (arith, after);
-              fits = first.fits;
-              least = λ m from below. elim (cases_lt p m) [
-                | inl later ↦ first.least m (omega (arith, later)) below
-                | inr here ↦ (let same : p ≡ m = omega (arith, here, from) in subst (λ k. may k d ≡ false) same f)
-              ];
-            },
-            ih.2,
-          )
-
-  pub sooner : (p t s : ℕ) → p ≤ t → IsFirst may d t s → (r : ℕ) × IsFirst may d p r × (r ≤ s)
-  sooner p t s le h = (let from = h.from in search (s - p) p s (omega (arith, from, le)) h.fits)
-
   -- frames that come from t on take as many slots at least
   all_from : (free t m : ℕ) (moments : List ℕ) (s : ℕ) → IsLastStart may d free (m ∷ moments) s → t ≤ max m free
       → (r : ℕ) × IsSlot may d t (length moments) r × (r ≤ s)
-  all_from free t m [] s h le = sooner t (max m free) s le h
+  all_from free t m [] s h le = sooner may d t (max m free) s le h
   all_from free t m (n ∷ moments) s h le =
-      let a = sooner t (max m free) h.0 le h.1 in
+      let a = sooner may d t (max m free) h.0 le h.1 in
       let before = a.2 in
       let b = all_from (h.0 + d) (a.0 + d) n moments s h.2 (omega (arith, before)) in
       (b.0, (a.0, a.1, b.1), b.2)
@@ -119,13 +92,15 @@ module _ (may : ℕ → ℕ → Bool) (d : ℕ) where
       omega (arith, next, here)
     where
       by : (b : Bool) → total 0 (length windows) (λ i. one_if (pass_at p last windows i)) ≤ count_from may d p (latest_by last windows)
-          → one_if (b && leb p (min w.latest last)) + total 0 (length windows) (λ i. one_if (pass_at p last windows i)) ≤ count_from may d p (cond b (min w.latest last ∷ latest_by last windows) (latest_by last windows))
+          → one_if (b && leb p (min w.latest last)) + total 0 (length windows) (λ i. one_if (pass_at p last windows i)) ≤ count_from may d p
+          (cond b (min w.latest last ∷ latest_by last windows) (latest_by last windows))
       by true ih = omega (arith, ih)
       by false ih = omega (arith, ih)
 
 -- ---- frames in windows
 
-module _ (ps d change : ℕ) (plan : Plan) (class : ℕ) (windows : List ArrivalWindow) (places : List ℕ) (came : List Came) (c : ComeInWindows ps d change windows places came)
+module _ (ps d change : ℕ) (plan : Plan) (class : ℕ) (windows : List ArrivalWindow) (places : List ℕ) (came : List Came)
+    (c : ComeInWindows ps d change windows places came)
     (order : (k n : ℕ) (f g : Came) → slice_get came k ≡ Some f → slice_get came (k + n) ≡ Some g → f.moment ≤ g.moment) where
   -- so many may have come from when the first of them came
   as_many : (j n last : ℕ) (g f : Came) → slice_get came j ≡ Some g → slice_get came (j + n) ≡ Some f → change ≤ g.moment
@@ -159,8 +134,14 @@ module _ (ps d change : ℕ) (plan : Plan) (class : ℕ) (windows : List Arrival
           let parts : j + n ≡ j + k + (n - k) = omega (arith, less) in
           let to = order (j + k) (n - k) h.0 f h.1 (sym (ap (slice_get came) parts) ∙ at) in
           let one = le-leb w.earliest last (omega (arith, early, to, by)) in
-          let two = le-leb (g.moment - change) (min w.latest last) (omega (arith, from, late, to, by, since)) in
-          (e.0, w, get_or_from_slice_get places (j + k) e.0 0 e.2, e.3, ap (λ b. b && leb (g.moment - change) (min w.latest last)) one ∙ two)
+          let two = le-leb (g.moment - change) (min w.latest last) (omega (arith, from, late, to, by, since)) in (
+            e.0,
+            w,
+            get_or_from_slice_get places (j + k) e.0 0 e.2,
+            e.3,
+            ap (λ b. b && leb (g.moment - change) (min w.latest last)) one
+                ∙ two,
+          )
 
       apart : (x y : ℕ) → x < suc n → y < suc n → place x ≡ place y → x ≡ y
       apart x y lx ly same =
@@ -168,7 +149,8 @@ module _ (ps d change : ℕ) (plan : Plan) (class : ℕ) (windows : List Arrival
           let i = frame y ly in
           let a = c.each (j + x) h.0 h.1 in
           let b = c.each (j + y) i.0 i.1 in
-          let equal : b.0 ≡ a.0 = sym (get_or_from_slice_get places (j + y) b.0 0 b.2) ∙ (sym same ∙ get_or_from_slice_get places (j + x) a.0 0 a.2) in
+          let equal : b.0 ≡ a.0 = sym (get_or_from_slice_get places (j + y) b.0 0 b.2) ∙
+          (sym same ∙ get_or_from_slice_get places (j + x) a.0 0 a.2) in
           let one = c.own (j + x) (j + y) a.0 a.2 (b.2 ∙ ap Some equal) in
           omega (arith, one)
 
@@ -204,14 +186,16 @@ window_law ps mtu room class d a plan events windows places r c k i s f w e plac
     let late = own.4.1 in
     let latest = ap (λ (v : ArrivalWindow). v.latest) same_window in
     let by : f.moment ≤ a.change + w.latest = omega (arith, late, latest) in (
-      λ x y. by_last ps d a.change plan class windows places came c order k k 0 x.at w.latest s f (let z : k + 0 ≡ k = omega arith in z) (slots.starts k f x e y) e by last,
+      λ x y. by_last ps d a.change plan class windows places came c order k k 0 x.at w.latest s f (let z : k + 0 ≡ k = omega arith in z)
+          (slots.starts k f x e y) e by last,
       λ past. elim (cases_lt k (length (started ps mtu room class events))) [
         | inl less ↦ less
         | inr more ↦
             let n : ℕ = length (started ps mtu room class events) in
             let g = one_before came n k f more e in
             let parts : n + (k - n) ≡ k = omega (arith, more) in
-            let not_yet = by_last ps d a.change plan class windows places came c order k n (k - n) (end_of_run ps mtu room events) w.latest s f parts (slots.waits g.0 g.1) e by last in
+            let not_yet = by_last ps d a.change plan class windows places came c order k n (k - n)
+            (end_of_run ps mtu room events) w.latest s f parts (slots.waits g.0 g.1) e by last in
             absurd (omega (arith, not_yet, past))
       ],
     )

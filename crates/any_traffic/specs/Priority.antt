@@ -15,4 +15,6 @@ pub record StartsBy (p : AbstractPort) (upto m class : ℕ) : Type 0 where
 -- The law of priority: at a moment at which the wire is free, and a frame of the class waits and fits, a frame of this class or a higher
 -- one starts, unless one has started before.
 abbrev pub PriorityLaw : Type 0
-PriorityLaw = (p : AbstractPort) (upto m class : ℕ) → class < 8 → p.now ≤ m → m < upto → is_available p m class ≡ true → StartsBy p upto m class
+PriorityLaw =
+    (p : AbstractPort) (upto m class : ℕ) → class < 8 → p.now ≤ m → m < upto → is_available p m class ≡ true
+    → StartsBy p upto m class

@@ -45,7 +45,8 @@ module _ (ps mtu room : ℕ) (events : List Event) where
 
   -- One command is accepted, which has this plan. The frames of the class and of the higher ones conform to their curves. Of lower classes
   -- no more is asked than that a frame that starts needs the wire for `need` of its class at most.
-  pub record IsSharedRun (class : ℕ) (need : ℕ → ℕ) (curve : ℕ → ℕ → ℕ) (most : ℕ → ℕ) (higher : List ℕ) (a : Accepted) (plan : Plan) : Type 0 where
+  pub record IsSharedRun (class : ℕ) (need : ℕ → ℕ) (curve : ℕ → ℕ → ℕ) (most : ℕ → ℕ) (higher : List ℕ)
+      (a : Accepted) (plan : Plan) : Type 0 where
     pub rate : MIN_PS_PER_OCTET ≤ ps
     pub large : MIN_MTU ≤ mtu
     pub listed : class < 8

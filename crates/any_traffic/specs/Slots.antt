@@ -37,7 +37,8 @@ pub record AreBySlots (ps mtu room class : ℕ) (events : List Event) (plan : Pl
       → slice_get (started ps mtu room class events) k ≡ Some x
       → IsBySlot plan class d change (queued ps mtu room class events) k x.at
   pub waits : (f : Came) → slice_get (queued ps mtu room class events) (length (started ps mtu room class events)) ≡ Some f
-      → IsBySlot plan class d change (queued ps mtu room class events) (length (started ps mtu room class events)) (end_of_run ps mtu room events)
+      → IsBySlot plan class d change (queued ps mtu room class events) (length (started ps mtu room class events))
+      (end_of_run ps mtu room events)
 
 -- The law of slots: in every run in which the class is kept apart, and each of its frames needs the wire for d at most, they start by slots
 -- of the plan alone. Nothing is asked of when they come.
