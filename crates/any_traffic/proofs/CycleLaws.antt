@@ -1,12 +1,11 @@
 -- Bounds of a plan by one of its cycles.
-use Rattle.std.proofs.Common.{◌≡◌, ◌<◌, ◌≤◌, ℕ, zero, suc, ◌+◌, ◌-◌, ◌*◌, ◌/◌, ◌%◌, Bool, inl, inr, [], ◌∷◌, refl, sym, ap, ◌∙◌, subst, arith, le_refl, div-lt_iff_lt-mul, mod-lt, div-add-mod', mul_comm, add-mul}
+use Rattle.std.proofs.Common.{◌≡◌, ◌<◌, ◌≤◌, ℕ, zero, suc, ◌+◌, ◌-◌, ◌*◌, ◌/◌, ◌%◌, Bool, inl, inr, [], ◌∷◌, refl, subst, arith, le_refl, div-lt_iff_lt-mul, mod-lt, div-add-mod', mul_comm, add-mul}
 use Rattle.std.proofs.Math.Nat.{div-mul-le_self, le-div_iff_mul-le}
 use Rattle.std.proofs.lemmas.Bool.{cases_lt}
 use Rattle.std.proofs.lemmas.List.Sums.{sum_by-cons}
 use Rattle.gate_list.specs.Gate.{Plan, in_ps}
 use Rattle.separation.specs.Served.{IsFirst}
 use Rattle.delay_bounds.proofs.GateLaws.{by_repeats}
-use Rattle.delay_bounds.proofs.WaitLaws.{one_first}
 use Rattle.delay_bounds.specs.ForEver.{Repeats}
 use Rattle.delay_bounds.specs.Walk.{may_by}
 use Rattle.any_traffic.specs.BusyPeriod.{SubadditiveLaw, IsSubadditive, CycleLaw, IsBusyPeriod, RisingLaw}

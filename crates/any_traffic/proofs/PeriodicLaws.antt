@@ -1,5 +1,5 @@
 -- Periodic frames are those of a sporadic flow.
-use Rattle.std.proofs.Common.{◌≡◌, ◌<◌, ℕ, zero, suc, ◌+◌, ◌*◌, List, [], ◌∷◌, length, replicate, set, slice_get, Some, None, refl, sym, ap, ◌∙◌, subst, arith, mul-add, mul-suc}
+use Rattle.std.proofs.Common.{◌≡◌, ◌<◌, ℕ, zero, suc, ◌+◌, ◌*◌, List, [], ◌∷◌, length, replicate, set, slice_get, Some, refl, sym, ap, ◌∙◌, subst, arith, mul-add, mul-suc}
 use Rattle.std.proofs.lemmas.Option.{same_Some}
 use Rattle.wire_time.specs.Wire.{occupancy_of}
 use Rattle.abstract_port.specs.AbstractPort.{new_port}

@@ -18,7 +18,6 @@ use Rattle.abstract_port.specs.Answers.{answers_of, answers_to, arrival_answer, 
 use Rattle.abstract_port.specs.Laws.{starts_in}
 use Rattle.abstract_port.proofs.RunLaws.{clock_back, clock_on}
 use Rattle.abstract_port.proofs.RunTurns.{starts_in-append, starts_in-starts}
-use Rattle.separation.specs.Served.{frames_of}
 use Rattle.separation.specs.Traffic.{Came, IsOnly, offered_by, offered_in, queued_by, queued_in, starts_of_class}
 use Rattle.separation.proofs.Lives.{starts_until_live}
 use Rattle.separation.proofs.Lockstep.{choice_passes, leaves_from, live, start_with, tick, tick_start, with_moment}

@@ -1,6 +1,6 @@
 -- Two classes that are always open together: of each a frame comes each hundred microseconds at most, and takes three; the bounds hold of
 -- the lower one.
-use Rattle.std.proofs.Common.{◌≡◌, ◌<◌, ◌≤◌, ℕ, zero, suc, ◌+◌, ◌-◌, ◌*◌, ◌/◌, true, ◌⊎◌, inl, inr, [], ◌∷◌, Some, refl, ap, arith, le_refl}
+use Rattle.std.proofs.Common.{◌≡◌, ◌<◌, ℕ, zero, suc, ◌+◌, ◌*◌, ◌/◌, true, ◌⊎◌, inl, inr, [], ◌∷◌, Some, refl, ap, arith, le_refl}
 use Rattle.gate_list.specs.Gate.{Plan}
 use Rattle.gate_list.proofs.OpenLaws.{open_from}
 use Rattle.delay_bounds.specs.Walk.{may_by}

@@ -1,7 +1,6 @@
 -- The law of shared windows.
-use Rattle.std.proofs.Common.{◌≡◌, ◌<◌, ◌≤◌, ℕ, zero, suc, ◌+◌, ◌-◌, max, Bool, true, false, cond, ◌&&◌, leb, ltb, eqb, ◌⊎◌, inl, inr, List, [], ◌∷◌, length, slice_get, sum_by, Some, refl, sym, ap, ◌∙◌, subst, arith, le_refl}
-use Rattle.std.specs.Prelude.{slice_index_or}
-use Rattle.std.proofs.lemmas.Bool.{eqb-true, cases_lt, eq-eqb, leb-true, ltb-true, and_parts}
+use Rattle.std.proofs.Common.{◌≡◌, ◌<◌, ◌≤◌, ℕ, zero, suc, ◌+◌, ◌-◌, max, Bool, true, ◌⊎◌, inl, inr, List, [], ◌∷◌, length, slice_get, sum_by, Some, refl, sym, ap, ◌∙◌, subst, arith, le_refl}
+use Rattle.std.proofs.lemmas.Bool.{cases_lt}
 use Rattle.std.proofs.lemmas.List.Sums.{sum_by-cons}
 use Rattle.std.proofs.lemmas.Option.{same_Some, slice_get_within}
 use Rattle.wire_time.specs.Wire.{occupancy_of}
@@ -10,13 +9,11 @@ use Rattle.wire_time.specs.declared.Frame.{Frame}
 use Rattle.gate_list.specs.Gate.{Plan}
 use Rattle.gate_list.proofs.OpenLaws.{open_within}
 use Rattle.list_config.specs.History.{Accepted, gates, open_through}
-use Rattle.abstract_port.specs.declared.Answer.{Answer}
-use Rattle.abstract_port.specs.declared.Answer.TheVariants as Answered
 use Rattle.abstract_port.specs.declared.Event.{Event}
 use Rattle.abstract_port.specs.declared.Start.{Start}
 use Rattle.abstract_port.specs.AbstractPort.{new_port, queue_of}
 use Rattle.abstract_port.specs.Answers.{answers_of, port_after}
-use Rattle.abstract_port.specs.Laws.{AreApart, starts_in}
+use Rattle.abstract_port.specs.Laws.{starts_in}
 use Rattle.separation.specs.Hindsight.{IsOpenBy}
 use Rattle.separation.specs.Served.{start_at}
 use Rattle.separation.specs.Traffic.{Came, IsOnly, offered_in, queued_in, starts_of_class}
@@ -26,13 +23,12 @@ use Rattle.any_traffic.specs.ArrivalCurve.{ConformTo}
 use Rattle.any_traffic.specs.SharedBounds.{AreFew, IsSharedBusyPeriod, IsSoon, SharedBusyLaw, SharedLaw, most_above}
 use Rattle.any_traffic.specs.SharedRuns.{AreScheduled, AtMostWait, IsHigherTraffic, IsSharedInTime, IsSharedRun}
 use Rattle.any_traffic.specs.SharedSlots.{AreAbove, IsBlocking, IsPitch, IsSharedSlot}
-use Rattle.any_traffic.proofs.Counting.{one_if}
 use Rattle.any_traffic.proofs.ListLaws.{none_here, one_at, one_before}
 use Rattle.any_traffic.proofs.PartLaws.{come_by, part_at, part_pair}
 use Rattle.any_traffic.proofs.Offered.{are_part, queued_order}
-use Rattle.any_traffic.proofs.SharedSlots.{AreSound, at_slot, count_all, count_of, is_counted}
+use Rattle.any_traffic.proofs.SharedSlots.{AreSound, at_slot, count_all, count_of}
 use Rattle.any_traffic.proofs.StartLaws.{apart_at, class_at, class_of, class_one, class_pair, class_within, count_own, long_at, since_at, span, start_holds}
-use Rattle.any_traffic.proofs.Sharing.{AreLong, AreShared, AreSince, IsSharedStart, IsTaken, SharedHolds, shared_run}
+use Rattle.any_traffic.proofs.Sharing.{AreShared, IsSharedStart, IsTaken, SharedHolds, shared_run}
 
 -- ---- since when the class has been waiting
 

@@ -1,7 +1,7 @@
 -- What a class is served that shares its windows: while one of its frames waits and fits, the wire is taken, and by no lower class from
 -- then on.
 use Rattle.std.proofs.Common.{◌≡◌, ◌<◌, ◌≤◌, ℕ, zero, suc, ◌+◌, ◌-◌, max, Bool, true, false, cond, ◌&&◌, ◌||◌, leb, ltb, eqb, ◌⊎◌, inl, inr, List, [], ◌∷◌, ◌++◌, length, map, get_or, set, slice_get, option_to_list, Option, Some, None, is_some, Result, Ok, Err, Bor, refl, sym, ap, ◌∙◌, subst, arith, le_refl, append-nil, append_assoc, length-set, get_or-set_same, get_or-set_other}
-use Rattle.std.proofs.lemmas.Bool.{cases_Bool, cases_eq, cases_lt, false≢true, eqb-true, eq-eqb, ne_eqb, le-leb, ltb-false, or_parts}
+use Rattle.std.proofs.lemmas.Bool.{cases_Bool, cases_eq, cases_lt, eqb-true, eq-eqb, ne_eqb, le-leb, ltb-false, or_parts}
 use Rattle.std.proofs.lemmas.List.Elements.{filter-append}
 use Rattle.wire_time.specs.Moment.{greatest_moment}
 use Rattle.wire_time.specs.Wire.{occupancy_of}
@@ -18,7 +18,7 @@ use Rattle.abstract_port.specs.declared.Event.TheVariants.{Arrive, Install, Cloc
 use Rattle.abstract_port.specs.declared.Refused.{Refused}
 use Rattle.abstract_port.specs.declared.Start.{Start}
 use Rattle.abstract_port.specs.AbstractPort.{AbstractPort, new_port, choice, queue_of, class_for, verdict, after_arrival, drop_in, is_available, refusal, new_command, after_command, counters_of}
-use Rattle.abstract_port.specs.Answers.{answers_to, answers_of, arrival_answer, port_after}
+use Rattle.abstract_port.specs.Answers.{answers_to, answers_of, port_after}
 use Rattle.abstract_port.specs.Laws.{starts_in}
 use Rattle.abstract_port.proofs.RunLaws.{arrival-keeps, clock_back, clock_on}
 use Rattle.abstract_port.proofs.RunTurns.{starts_in-append, starts_in-starts}

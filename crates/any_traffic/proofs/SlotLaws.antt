@@ -1,6 +1,6 @@
 -- Slots: they rise, they come earlier from an earlier moment on, they repeat with the plan, and those of a plan are those of the port
 -- since the change moment.
-use Rattle.std.proofs.Common.{◌≡◌, ◌<◌, ◌≤◌, ℕ, zero, suc, ◌+◌, ◌-◌, Bool, true, false, inl, inr, [], ◌∷◌, refl, sym, ap, ◌∙◌, subst, arith, le_refl}
+use Rattle.std.proofs.Common.{◌≡◌, ◌≤◌, ℕ, zero, suc, ◌+◌, ◌-◌, Bool, true, false, inl, inr, [], ◌∷◌, refl, sym, ap, ◌∙◌, subst, arith, le_refl}
 use Rattle.std.proofs.lemmas.Bool.{cases_lt}
 use Rattle.list_config.specs.History.{Accepted, open_through}
 use Rattle.separation.specs.Served.{IsFirst}

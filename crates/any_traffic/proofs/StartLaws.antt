@@ -1,37 +1,17 @@
 -- The starts of a run: one after another, and those of a class among them.
-use Rattle.std.proofs.Common.{◌≡◌, ◌<◌, ◌≤◌, ℕ, zero, suc, ◌+◌, ◌-◌, max, Bool, true, false, cond, ◌&&◌, leb, ltb, eqb, ◌⊎◌, inl, inr, List, [], ◌∷◌, length, slice_get, sum_by, Some, refl, sym, ap, ◌∙◌, subst, arith, le_refl}
+use Rattle.std.proofs.Common.{◌≡◌, ◌<◌, ◌≤◌, ℕ, zero, suc, ◌+◌, Bool, true, false, cond, ◌&&◌, leb, ltb, eqb, List, [], ◌∷◌, length, slice_get, Some, refl, sym, ap, ◌∙◌, subst, arith}
 use Rattle.std.specs.Prelude.{slice_index_or}
-use Rattle.std.proofs.lemmas.Bool.{eqb-true, cases_lt, eq-eqb, leb-true, ltb-true, and_parts}
-use Rattle.std.proofs.lemmas.List.Sums.{sum_by-cons}
-use Rattle.std.proofs.lemmas.Option.{same_Some, slice_get_within}
-use Rattle.wire_time.specs.Wire.{occupancy_of}
-use Rattle.wire_time.proofs.WireLaws.{occupancy_pos}
-use Rattle.wire_time.specs.declared.Frame.{Frame}
-use Rattle.gate_list.specs.Gate.{Plan}
-use Rattle.gate_list.proofs.OpenLaws.{open_within}
-use Rattle.list_config.specs.History.{Accepted, gates, open_through}
+use Rattle.std.proofs.lemmas.Bool.{eqb-true, eq-eqb, leb-true, ltb-true, and_parts}
+use Rattle.std.proofs.lemmas.Option.{same_Some}
 use Rattle.abstract_port.specs.declared.Answer.{Answer}
 use Rattle.abstract_port.specs.declared.Answer.TheVariants as Answered
-use Rattle.abstract_port.specs.declared.Event.{Event}
 use Rattle.abstract_port.specs.declared.Start.{Start}
-use Rattle.abstract_port.specs.AbstractPort.{new_port, queue_of}
-use Rattle.abstract_port.specs.Answers.{answers_of, port_after}
 use Rattle.abstract_port.specs.Laws.{AreApart, starts_in}
-use Rattle.separation.specs.Hindsight.{IsOpenBy}
-use Rattle.separation.specs.Served.{start_at}
-use Rattle.separation.specs.Traffic.{Came, IsOnly, offered_in, queued_in, starts_of_class}
-use Rattle.separation.proofs.RunLaws.{keeping}
-use Rattle.delay_bounds.specs.Walk.{may_by}
-use Rattle.any_traffic.specs.ArrivalCurve.{ConformTo}
-use Rattle.any_traffic.specs.SharedBounds.{AreFew, IsSharedBusyPeriod, IsSoon, SharedBusyLaw, SharedLaw, most_above}
-use Rattle.any_traffic.specs.SharedRuns.{AreScheduled, AtMostWait, IsHigherTraffic, IsSharedInTime, IsSharedRun}
-use Rattle.any_traffic.specs.SharedSlots.{AreAbove, IsBlocking, IsPitch, IsSharedSlot}
+use Rattle.separation.specs.Traffic.{Came, starts_of_class}
 use Rattle.any_traffic.proofs.Counting.{one_if}
-use Rattle.any_traffic.proofs.ListLaws.{none_here, one_at, one_before}
-use Rattle.any_traffic.proofs.PartLaws.{come_by, part_at, part_pair}
-use Rattle.any_traffic.proofs.Offered.{are_part, queued_order}
-use Rattle.any_traffic.proofs.SharedSlots.{AreSound, at_slot, count_all, count_of, is_counted}
-use Rattle.any_traffic.proofs.Sharing.{AreLong, AreShared, AreSince, IsSharedStart, IsTaken, SharedHolds, shared_run}
+use Rattle.any_traffic.proofs.ListLaws.{none_here, one_before}
+use Rattle.any_traffic.proofs.SharedSlots.{count_of, is_counted}
+use Rattle.any_traffic.proofs.Sharing.{AreLong, AreSince}
 
 -- ---- all starts of a run
 

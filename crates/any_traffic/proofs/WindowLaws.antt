@@ -1,10 +1,9 @@
 -- Frames that come in windows start no later than if each came as late as it may.
-use Rattle.std.proofs.Common.{◌≡◌, ◌<◌, ◌≤◌, ℕ, zero, suc, ◌+◌, ◌-◌, max, min, Bool, true, false, cond, ◌&&◌, leb, inl, inr, List, [], ◌∷◌, length, get_or, slice_get, Some, None, refl, sym, ap, ◌∙◌, subst, arith, le_refl}
+use Rattle.std.proofs.Common.{◌≡◌, ◌<◌, ◌≤◌, ℕ, zero, suc, ◌+◌, ◌-◌, max, min, Bool, true, false, cond, ◌&&◌, leb, inl, inr, List, [], ◌∷◌, length, get_or, slice_get, Some, refl, sym, ap, ◌∙◌, arith}
 use Rattle.std.proofs.lemmas.Bool.{cases_lt, leb-true, le-leb}
 use Rattle.std.proofs.lemmas.Option.{get_or_from_slice_get, same_Some, slice_get_within}
 use Rattle.abstract_port.specs.AbstractPort.{AbstractPort, new_port}
 use Rattle.gate_list.specs.Gate.{Plan}
-use Rattle.separation.specs.Served.{IsFirst}
 use Rattle.separation.specs.Traffic.{Came, offered_in}
 use Rattle.delay_bounds.specs.Walk.{may_by}
 use Rattle.any_traffic.specs.Runs.{end_of_run, queued, started}
