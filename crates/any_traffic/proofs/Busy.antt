@@ -7,7 +7,7 @@ use Rattle.wire_time.specs.declared.Frame.{Frame}
 use Rattle.gate_list.proofs.OpenLaws.{open_within}
 use Rattle.list_config.specs.History.{Accepted, gates, open_through}
 use Rattle.abstract_port.specs.declared.Start.{Start}
-use Rattle.separation.specs.Served.{IsFirst, IsStart, AreServed, Waits, start_at}
+use Rattle.separation.specs.Served.{IsFirst, IsStart, AreServed, Waits}
 use Rattle.separation.specs.Traffic.{Came}
 use Rattle.delay_bounds.proofs.LessLaws.{first_rises}
 use Rattle.any_traffic.specs.Slots.{IsSlot}
@@ -177,15 +177,3 @@ module _ (may : ℕ → ℕ → Bool) (ps class : ℕ) where
       let same = ap (λ (y : Came). y.moment) (same_Some g f e) in
       omega (arith, from, before, same)
   all_come free now (g ∷ came) (x ∷ starts) wire waiting served (suc k) f e = all_come x.«end» now came starts wire waiting served.1 k f e
-
-  -- each start is that of the frame at its place
-  pub own_start : (free now : ℕ) (came : List Came) (starts : List Start) (wire : ℕ) (waiting : List Frame)
-      → AreServed may ps class free now came starts wire waiting
-      → (k : ℕ) (f : Came) (x : Start) → slice_get came k ≡ Some f → slice_get starts k ≡ Some x → x ≡ start_at ps class x.at f.frame
-  own_start free now came [] wire waiting served k f x e y = absurd (none_here k x y)
-  own_start free now [] (s ∷ starts) wire waiting served k f x e y = absurd served
-  own_start free now (g ∷ came) (s ∷ starts) wire waiting served zero f x e y =
-      subst (λ (z : Came). x ≡ start_at ps class x.at z.frame) (same_Some g f e)
-      (subst (λ (z : Start). z ≡ start_at ps class z.at g.frame) (same_Some s x y) (served.0).is)
-  own_start free now (g ∷ came) (s ∷ starts) wire waiting served
-      (suc k) f x e y = own_start s.«end» now came starts wire waiting served.1 k f x e y

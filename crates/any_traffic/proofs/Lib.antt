@@ -8,6 +8,9 @@ pub mod TrafficLaws
 pub mod Counting
 pub mod SporadicLaws
 pub mod WindowLaws
+pub mod PeriodicWindowLaws
+pub mod LateForEverLaws
+pub mod PeriodicBounds
 pub mod CycleLaws
 pub mod PeriodicLaws
 mod Example
@@ -15,6 +18,7 @@ pub mod PriorityLaws
 pub mod Sharing
 pub mod SharedSlots
 pub mod StartLaws
+pub mod OwnStarts
 pub mod SharedLaws
 pub mod SharedCycleLaws
 mod SharedExample

@@ -22,12 +22,12 @@ use Rattle.separation.specs.Traffic.{Came, IsOnly, offered_by, offered_in, queue
 use Rattle.separation.proofs.Lives.{starts_until_live}
 use Rattle.separation.proofs.Lockstep.{choice_passes, leaves_from, live, start_with, tick, tick_start, with_moment}
 use Rattle.delay_bounds.proofs.QueueLaws.{Taken, none_offered, one_queued, one_full, now_came, room_kept, taken}
-use Rattle.any_traffic.specs.Runs.{queued, started}
-use Rattle.any_traffic.specs.SharedRuns.{AreScheduled, AtMostWait, SharedDropsLaw}
+use Rattle.any_traffic.specs.Runs.{AreScheduled, queued, started}
+use Rattle.any_traffic.specs.SharedRuns.{AtMostWait, SharedDropsLaw}
 use Rattle.any_traffic.proofs.ListLaws.{get_more, none_here, one_at}
 use Rattle.any_traffic.proofs.PartLaws.{count_frames}
 use Rattle.any_traffic.proofs.Offered.{onward, still_large}
-use Rattle.any_traffic.proofs.SharedLaws.{shared_come}
+use Rattle.any_traffic.proofs.StartLaws.{shared_come}
 use Rattle.any_traffic.proofs.Sharing.{AreShared, SharedHolds, event_holds, new_shared}
 
 -- ---- starts from a moment on
@@ -181,8 +181,8 @@ module _ (c : ℕ) (a : Accepted) (pace : ℕ) (lc : c < 8) (pos : 0 < pace) whe
             absurd (omega (arith, many, most, less, size))
 
 pub shared_drops_law : SharedDropsLaw
-shared_drops_law ps mtu room c waiting a events rate large lc only k few less =
+shared_drops_law ps mtu room c waiting a plan events r few less =
+    let rate = r.rate in
     let some : 0 < ps = omega (arith, rate) in
     let p = new_port ps mtu room in
-    all_queued c a ps lc some waiting room (queued ps mtu room c events) (started ps mtu room c events) few less events p [] [] large refl
-    (new_shared c a ps lc some mtu room) k only refl refl
+    all_queued c a ps r.listed some waiting room (queued ps mtu room c events) (started ps mtu room c events) few less events p [] [] r.large refl (new_shared c a ps r.listed some mtu room) r.scheduled r.only refl refl

@@ -21,13 +21,14 @@ use Rattle.separation.proofs.RunLaws.{keeping}
 use Rattle.delay_bounds.specs.Walk.{may_by}
 use Rattle.any_traffic.specs.ArrivalCurve.{ConformTo}
 use Rattle.any_traffic.specs.SharedBounds.{AreFew, IsSharedBusyPeriod, IsSoon, SharedBusyLaw, SharedLaw, most_above}
-use Rattle.any_traffic.specs.SharedRuns.{AreScheduled, AtMostWait, IsHigherTraffic, IsSharedInTime, IsSharedRun}
+use Rattle.any_traffic.specs.Runs.{AreScheduled}
+use Rattle.any_traffic.specs.SharedRuns.{AtMostWait, IsHigherTraffic, IsSharedInTime, IsSharedRun}
 use Rattle.any_traffic.specs.SharedSlots.{AreAbove, IsBlocking, IsPitch, IsSharedSlot}
 use Rattle.any_traffic.proofs.ListLaws.{none_here, one_at, one_before}
 use Rattle.any_traffic.proofs.PartLaws.{come_by, part_at, part_pair}
 use Rattle.any_traffic.proofs.Offered.{are_part, queued_order}
 use Rattle.any_traffic.proofs.SharedSlots.{AreSound, at_slot, count_all, count_of}
-use Rattle.any_traffic.proofs.StartLaws.{apart_at, class_at, class_of, class_one, class_pair, class_within, count_own, long_at, since_at, span, start_holds}
+use Rattle.any_traffic.proofs.StartLaws.{apart_at, shared_come, start_before, start_frame, class_at, class_of, class_one, class_pair, class_within, count_own, long_at, since_at, span, start_holds}
 use Rattle.any_traffic.proofs.Sharing.{AreShared, IsSharedStart, IsTaken, SharedHolds, shared_run}
 
 -- ---- since when the class has been waiting
@@ -225,54 +226,6 @@ module _ (h : List Accepted) (ps c d : ℕ) (all : List Start) (whole : List Cam
               (let started = slice_get_within mine i y own in b.joined i z y from (omega (arith, started)) there own);
         }
 
--- ---- frames and their starts
-
-module _ (may : ℕ → ℕ → Bool) (ps c : ℕ) (all : List Start) where
-  pub start_frame : (free now : ℕ) (came : List Came) (starts : List Start) (wire : ℕ) (waiting : List Frame)
-      → AreShared may ps c all free now came starts wire waiting
-      → (k : ℕ) (x : Start) → slice_get starts k ≡ Some x → (f : Came) × (slice_get came k ≡ Some f) × (f.moment ≤ x.at)
-  start_frame free now came [] wire waiting s k x e = absurd (none_here k x e)
-  start_frame free now [] (y ∷ starts) wire waiting s k x e = absurd s
-  start_frame free now (f ∷ came) (y ∷ starts) wire waiting s zero x e =
-      let from = (s.0).from in
-      let at = ap (λ (z : Start). z.at) (same_Some y x e) in
-      (f, refl, omega (arith, from, at))
-  start_frame free now (f ∷ came) (y ∷ starts) wire waiting s (suc k) x e = start_frame y.«end» now came starts wire waiting s.1 k x e
-
-  -- each start is that of the frame at its place
-  pub own_shared : (free now : ℕ) (came : List Came) (starts : List Start) (wire : ℕ) (waiting : List Frame)
-      → AreShared may ps c all free now came starts wire waiting
-      → (k : ℕ) (f : Came) (x : Start) → slice_get came k ≡ Some f → slice_get starts k ≡ Some x → x ≡ start_at ps c x.at f.frame
-  own_shared free now came [] wire waiting s k f x e y = absurd (none_here k x y)
-  own_shared free now [] (z ∷ starts) wire waiting s k f x e y = absurd s
-  own_shared free now (g ∷ came) (z ∷ starts) wire waiting s zero f x e y =
-      subst (λ (v : Came). x ≡ start_at ps c x.at v.frame) (same_Some g f e)
-      (subst (λ (v : Start). v ≡ start_at ps c v.at g.frame) (same_Some z x y) (s.0).is)
-  own_shared free now (g ∷ came) (z ∷ starts) wire waiting s (suc k) f x e y = own_shared z.«end» now came starts wire waiting s.1 k f x e y
-
-  pub start_before : (free now : ℕ) (came : List Came) (starts : List Start) (wire : ℕ) (waiting : List Frame)
-      → AreShared may ps c all free now came starts wire waiting
-      → (k : ℕ) (x : Start) → slice_get starts k ≡ Some x → x.at ≤ now
-  start_before free now came [] wire waiting s k x e = absurd (none_here k x e)
-  start_before free now [] (y ∷ starts) wire waiting s k x e = absurd s
-  start_before free now (f ∷ came) (y ∷ starts) wire waiting s zero x e =
-      let before = (s.0).before in
-      let at = ap (λ (z : Start). z.at) (same_Some y x e) in
-      omega (arith, before, at)
-  start_before free now (f ∷ came) (y ∷ starts) wire waiting s (suc k) x e = start_before y.«end» now came starts wire waiting s.1 k x e
-
-  pub shared_come : (free now : ℕ) (came : List Came) (starts : List Start) (wire : ℕ) (waiting : List Frame)
-      → AreShared may ps c all free now came starts wire waiting
-      → (k : ℕ) (f : Came) → slice_get came k ≡ Some f → f.moment ≤ now
-  shared_come free now came [] wire waiting s k f e = come_by now came k f s.come e
-  shared_come free now [] (y ∷ starts) wire waiting s k f e = absurd s
-  shared_come free now (g ∷ came) (y ∷ starts) wire waiting s zero f e =
-      let from = (s.0).from in
-      let before = (s.0).before in
-      let same = ap (λ (z : Came). z.moment) (same_Some g f e) in
-      omega (arith, from, before, same)
-  shared_come free now (g ∷ came) (y ∷ starts) wire waiting s (suc k) f e = shared_come y.«end» now came starts wire waiting s.1 k f e
-
 -- ---- how many frames of a higher class may start in a time
 
 module _ (came : List Came) (starts : List Start) (curve : ℕ → ℕ) (most : ℕ)
@@ -399,9 +352,9 @@ module _ (ps mtu room : ℕ) (events : List Event) (a : Accepted) (rate : 80 ≤
       by : (n : ℕ) → count_of j p (s + 1) all_starts ≡ n → count_of j p (s + 1) all_starts ≤ most + curve (s - p)
       by zero e = omega (arith, e)
       by (suc m) e =
-          let k = (w.traffic).scheduled in
+          let k = w.scheduled in
           let r = span j p (s + 1) (starts_of_class j all_starts) m (rising j lj k) (sym (count_own j p (s + 1) all_starts) ∙ e) in
-          let keep = queued_keep j lj k need curve (w.traffic).conform in
+          let keep = queued_keep j lj k need curve w.conform in
           let last = frames j lj k (r.place + m) r.last r.other in
           let come = last.2 in
           let before = r.before in
@@ -412,7 +365,7 @@ module _ (ps mtu room : ℕ) (events : List Event) (a : Accepted) (rate : 80 ≤
 
   module _ (c : ℕ) (lc : c < 8) (plan : Plan) (is : a.plan ≡ Some plan) (above : 0 < plan.cycle) (need blocking : ℕ → ℕ) (pitch : ℕ)
       (curve : ℕ → ℕ → ℕ) (most : ℕ → ℕ) (higher : List ℕ)
-      (few : (i j : ℕ) → slice_get higher i ≡ Some j → j < 8) (blocked : IsBlocking plan c need blocking)
+      (blocked : IsBlocking plan c need blocking)
       (pitched : IsPitch c higher need pitch) (those : AreAbove plan c higher)
       (run : IsSharedRun ps mtu room events c need curve most higher a plan)
       (full : (port_after events (new_port ps mtu room)).history ≡ a ∷ []) where
@@ -423,10 +376,10 @@ module _ (ps mtu room : ℕ) (events : List Event) (a : Accepted) (rate : 80 ≤
     begun = starts_of_class c all_starts
 
     k : AreScheduled c events (new_port ps mtu room)
-    k = (run.own).scheduled
+    k = (run.run).scheduled
 
     keep : ConformTo ps (need c) (curve c) came
-    keep = queued_keep c lc k (need c) (curve c) (run.own).conform
+    keep = queued_keep c lc k (need c) (curve c) run.conform
 
     sound : AreSound (a ∷ []) need all_starts
     sound = record {
@@ -457,7 +410,7 @@ module _ (ps mtu room : ℕ) (events : List Event) (a : Accepted) (rate : 80 ≤
           let own = own_few less in
           let others = sum_le (λ j. count_of j (b.frame).moment (a.change + s + 1) all_starts) (λ j. most j + curve j (s - p)) higher
           (λ i j e.
-          let one = above_few j (few i j e) (need j) (curve j) (most j) (run.above i j e) (b.frame).moment (a.change + s) in
+          let one = above_few j (run.above i j e).0 (need j) (curve j) (most j) (run.above i j e).1 (b.frame).moment (a.change + s) in
           let same : a.change + s - (b.frame).moment ≡ s - p = omega (arith, at) in
           subst (λ t. count_of j (b.frame).moment (a.change + s + 1) all_starts ≤ most j + curve j t) same one) in
           absurd (omega (arith, count, own, others, enough))
@@ -605,8 +558,6 @@ module _ (ps mtu room : ℕ) (events : List Event) (a : Accepted) (rate : 80 ≤
 
       in_time : IsSharedInTime ps mtu room events c wait waiting
       in_time = record {
-        own = λ i f x e y. own_shared (open_through (a ∷ []) c) ps c all_starts 0 now came begun (held c lc k).wire
-            (queue_of (port_after events (new_port ps mtu room)) c) (held c lc k).served i f x e y;
         soon = λ i f x e y. bound i x.at f e
             (begun_from (a ∷ []) ps c (need c) all_starts came keep.short now (held c lc k).wire
             (queue_of (port_after events (new_port ps mtu room)) c) (held c lc k).served i f x e y) (at_start i x y);
@@ -776,7 +727,6 @@ module _ (ps mtu room : ℕ) (events : List Event) (a : Accepted) (rate : 80 ≤
 nothing_late : (ps mtu room c wait waiting : ℕ) (events : List Event) → queued_in c events (new_port ps mtu room) ≡ []
     → IsSharedInTime ps mtu room events c wait waiting
 nothing_late ps mtu room c wait waiting events none = record {
-  own = λ i f x e y. absurd (none_here i f (sym (ap (λ xs. slice_get xs i) none) ∙ e));
   soon = λ i f x e y. absurd (none_here i f (sym (ap (λ xs. slice_get xs i) none) ∙ e));
   starts = λ i f e past. absurd (none_here i f (sym (ap (λ xs. slice_get xs i) none) ∙ e));
   few = λ i n t f g e h come first. absurd (none_here i f (sym (ap (λ xs. slice_get xs i) none) ∙ e));
@@ -784,25 +734,25 @@ nothing_late ps mtu room c wait waiting events none = record {
 
 pub shared_law : SharedLaw
 shared_law ps mtu room c pitch wait waiting need blocking curve most higher a plan events sharing run bounds =
-    by (held ps mtu room events a run.rate run.large run.only c run.listed (run.own).scheduled).phase
+    by (held ps mtu room events a (run.run).rate (run.run).large (run.run).only c (run.run).listed (run.run).scheduled).phase
   where
     by : ((port_after events (new_port ps mtu room)).history ≡ a ∷ []) ⊎
         (((port_after events (new_port ps mtu room)).history ≡ []) × (queued_in c events (new_port ps mtu room) ≡ []))
         → IsSharedInTime ps mtu room events c wait waiting
     by (inl full) =
-        in_time ps mtu room events a run.rate run.large run.only c run.listed plan run.is run.cycle need blocking pitch curve most higher
-        run.all_listed sharing.blocked sharing.apart sharing.among run full wait waiting (λ t x. Unit {0})
+        in_time ps mtu room events a (run.run).rate (run.run).large (run.run).only c (run.run).listed plan (run.run).is (run.run).above need blocking pitch curve most higher
+        sharing.blocked sharing.apart sharing.among run full wait waiting (λ t x. Unit {0})
         (λ t x in_it. bounds.soon t x) (λ t x in_it. bounds.few t x) (λ i m j f g b at e le h come. tt)
     by (inr none) = nothing_late ps mtu room c wait waiting events none.1
 
 pub shared_busy_law : SharedBusyLaw
 shared_busy_law ps mtu room c pitch wait waiting need blocking curve most higher a plan events sharing run rises times =
-    by (held ps mtu room events a run.rate run.large run.only c run.listed (run.own).scheduled).phase
+    by (held ps mtu room events a (run.run).rate (run.run).large (run.run).only c (run.run).listed (run.run).scheduled).phase
   where
     by : ((port_after events (new_port ps mtu room)).history ≡ a ∷ []) ⊎
         (((port_after events (new_port ps mtu room)).history ≡ []) × (queued_in c events (new_port ps mtu room) ≡ []))
         → IsSharedInTime ps mtu room events c wait waiting
     by (inl full) =
-        in_busy_time ps mtu room events a run.rate run.large run.only c run.listed plan run.is run.cycle need blocking pitch curve most
-        higher run.all_listed sharing.blocked sharing.apart sharing.among run full wait waiting rises times
+        in_busy_time ps mtu room events a (run.run).rate (run.run).large (run.run).only c (run.run).listed plan (run.run).is (run.run).above need blocking pitch curve most
+        higher sharing.blocked sharing.apart sharing.among run full wait waiting rises times
     by (inr none) = nothing_late ps mtu room c wait waiting events none.1

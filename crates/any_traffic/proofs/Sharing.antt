@@ -30,7 +30,7 @@ use Rattle.separation.proofs.Separates.{no_queue}
 use Rattle.separation.proofs.Chains.{frames_more, have_come_later, have_come_more}
 use Rattle.separation.proofs.ServiceLaws.{arrival_free, arrival_queue, arrival_starts, count_starts, drop_queues, none_queued, verdict_class}
 use Rattle.separation.proofs.Steps.{install_with}
-use Rattle.any_traffic.specs.SharedRuns.{AreScheduled, IsScheduledAt}
+use Rattle.any_traffic.specs.Runs.{AreScheduled, IsScheduledAt}
 use Rattle.any_traffic.proofs.ListLaws.{get_last, get_more}
 use Rattle.any_traffic.proofs.Offered.{forced_since, still_large}
 use Rattle.any_traffic.proofs.PriorityLaws.{chosen}

@@ -4,12 +4,15 @@ use Rattle.std.proofs.Math.Nat.{le-div_iff_mul-le}
 use Rattle.std.proofs.lemmas.Bool.{eq-eqb}
 use Rattle.std.proofs.lemmas.List.Sums.{sum_by-cons}
 use Rattle.std.proofs.lemmas.Option.{same_Some, slice_get_within}
+use Rattle.wire_time.specs.Wire.{occupancy_of}
+use Rattle.abstract_port.specs.declared.Start.{Start}
 use Rattle.abstract_port.specs.AbstractPort.{new_port}
 use Rattle.separation.specs.Traffic.{Came, offered_in}
 use Rattle.any_traffic.specs.ArrivalCurve.{ConformTo}
-use Rattle.any_traffic.specs.Sporadic.{Sporadic, AreFramesOf, AreSplit, AreFlows, SporadicLaw, SporadicBoundsLaw, frames_at, curve_of, curve_of_all}
+use Rattle.any_traffic.specs.Sporadic.{Sporadic, AreFramesOf, AreSplit, AreFlows, SporadicLaw, SporadicBoundsLaw, SporadicEndsLaw, frames_at, curve_of, curve_of_all}
 use Rattle.any_traffic.proofs.Counting.{one_if, total, total_more, total_one}
 use Rattle.any_traffic.proofs.ListLaws.{none_here, one_at, one_before}
+use Rattle.any_traffic.proofs.OwnStarts.{apart_run_law, own_starts_law}
 use Rattle.any_traffic.proofs.PartLaws.{AreRising, rising_pair}
 use Rattle.any_traffic.proofs.Offered.{are_rising}
 use Rattle.any_traffic.proofs.TrafficLaws.{any_traffic_law}
@@ -190,3 +193,15 @@ pub sporadic_bounds_law : SporadicBoundsLaw
 sporadic_bounds_law ps mtu room class d wait most a plan flows places events r these s b =
     any_traffic_law ps mtu room class d wait most (curve_of_all flows) a plan events r
     (sporadic_law ps mtu room class d flows places events r.large these s) b
+
+pub sporadic_ends_law : SporadicEndsLaw
+sporadic_ends_law ps mtu room class d wait most a plan flows places events r these s b enough k i f flow x e place is y =
+    let t = sporadic_bounds_law ps mtu room class d wait most a plan flows places events r these s b in
+    let there = ap (λ xs. slice_get xs k) (t.all enough) ∙ e in
+    let soon = t.soon k f x there y in
+    let own = own_starts_law ps mtu room class a plan events (apart_run_law ps mtu room class a plan events r) k x y in
+    let same : own.0 ≡ f = same_Some own.0 f (sym own.1 ∙ there) in
+    let ends : x.«end» ≡ x.at + occupancy_of ps f.frame.len = ap (λ (z : Start). z.«end») own.2 ∙ ap (λ (g : Came). x.at + occupancy_of ps g.frame.len) same in
+    let mine = came_of i places (offered_in class events (new_port ps mtu room)) k f place e in
+    let need = (s.are i flow is).short mine.0 f mine.1 in
+    omega (arith, soon, ends, need)

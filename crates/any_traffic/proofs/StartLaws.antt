@@ -1,17 +1,20 @@
 -- The starts of a run: one after another, and those of a class among them.
-use Rattle.std.proofs.Common.{◌≡◌, ◌<◌, ◌≤◌, ℕ, zero, suc, ◌+◌, Bool, true, false, cond, ◌&&◌, leb, ltb, eqb, List, [], ◌∷◌, length, slice_get, Some, refl, sym, ap, ◌∙◌, subst, arith}
+use Rattle.std.proofs.Common.{◌≡◌, ◌<◌, ◌≤◌, ℕ, zero, suc, ◌+◌, max, Bool, true, false, cond, ◌&&◌, leb, ltb, eqb, List, [], ◌∷◌, length, slice_get, Some, refl, sym, ap, ◌∙◌, subst, arith, le_refl}
 use Rattle.std.specs.Prelude.{slice_index_or}
 use Rattle.std.proofs.lemmas.Bool.{eqb-true, eq-eqb, leb-true, ltb-true, and_parts}
 use Rattle.std.proofs.lemmas.Option.{same_Some}
+use Rattle.wire_time.specs.declared.Frame.{Frame}
 use Rattle.abstract_port.specs.declared.Answer.{Answer}
 use Rattle.abstract_port.specs.declared.Answer.TheVariants as Answered
 use Rattle.abstract_port.specs.declared.Start.{Start}
 use Rattle.abstract_port.specs.Laws.{AreApart, starts_in}
+use Rattle.separation.specs.Served.{start_at}
 use Rattle.separation.specs.Traffic.{Came, starts_of_class}
 use Rattle.any_traffic.proofs.Counting.{one_if}
 use Rattle.any_traffic.proofs.ListLaws.{none_here, one_before}
+use Rattle.any_traffic.proofs.PartLaws.{come_by}
 use Rattle.any_traffic.proofs.SharedSlots.{count_of, is_counted}
-use Rattle.any_traffic.proofs.Sharing.{AreLong, AreSince}
+use Rattle.any_traffic.proofs.Sharing.{AreLong, AreShared, AreSince}
 
 -- ---- all starts of a run
 
@@ -174,3 +177,51 @@ span j p s (x ∷ xs) m rising e = by (is_counted j p s x) refl m e
           from = leb-true p x.at test.0;
           before = omega (arith, le, before);
         }
+
+-- ---- frames and their starts
+
+module _ (may : ℕ → ℕ → Bool) (ps c : ℕ) (all : List Start) where
+  pub start_frame : (free now : ℕ) (came : List Came) (starts : List Start) (wire : ℕ) (waiting : List Frame)
+      → AreShared may ps c all free now came starts wire waiting
+      → (k : ℕ) (x : Start) → slice_get starts k ≡ Some x → (f : Came) × (slice_get came k ≡ Some f) × (f.moment ≤ x.at)
+  start_frame free now came [] wire waiting s k x e = absurd (none_here k x e)
+  start_frame free now [] (y ∷ starts) wire waiting s k x e = absurd s
+  start_frame free now (f ∷ came) (y ∷ starts) wire waiting s zero x e =
+      let from = (s.0).from in
+      let at = ap (λ (z : Start). z.at) (same_Some y x e) in
+      (f, refl, omega (arith, from, at))
+  start_frame free now (f ∷ came) (y ∷ starts) wire waiting s (suc k) x e = start_frame y.«end» now came starts wire waiting s.1 k x e
+
+  -- each start is that of the frame at its place
+  pub own_shared : (free now : ℕ) (came : List Came) (starts : List Start) (wire : ℕ) (waiting : List Frame)
+      → AreShared may ps c all free now came starts wire waiting
+      → (k : ℕ) (f : Came) (x : Start) → slice_get came k ≡ Some f → slice_get starts k ≡ Some x → x ≡ start_at ps c x.at f.frame
+  own_shared free now came [] wire waiting s k f x e y = absurd (none_here k x y)
+  own_shared free now [] (z ∷ starts) wire waiting s k f x e y = absurd s
+  own_shared free now (g ∷ came) (z ∷ starts) wire waiting s zero f x e y =
+      subst (λ (v : Came). x ≡ start_at ps c x.at v.frame) (same_Some g f e)
+      (subst (λ (v : Start). v ≡ start_at ps c v.at g.frame) (same_Some z x y) (s.0).is)
+  own_shared free now (g ∷ came) (z ∷ starts) wire waiting s (suc k) f x e y = own_shared z.«end» now came starts wire waiting s.1 k f x e y
+
+  pub start_before : (free now : ℕ) (came : List Came) (starts : List Start) (wire : ℕ) (waiting : List Frame)
+      → AreShared may ps c all free now came starts wire waiting
+      → (k : ℕ) (x : Start) → slice_get starts k ≡ Some x → x.at ≤ now
+  start_before free now came [] wire waiting s k x e = absurd (none_here k x e)
+  start_before free now [] (y ∷ starts) wire waiting s k x e = absurd s
+  start_before free now (f ∷ came) (y ∷ starts) wire waiting s zero x e =
+      let before = (s.0).before in
+      let at = ap (λ (z : Start). z.at) (same_Some y x e) in
+      omega (arith, before, at)
+  start_before free now (f ∷ came) (y ∷ starts) wire waiting s (suc k) x e = start_before y.«end» now came starts wire waiting s.1 k x e
+
+  pub shared_come : (free now : ℕ) (came : List Came) (starts : List Start) (wire : ℕ) (waiting : List Frame)
+      → AreShared may ps c all free now came starts wire waiting
+      → (k : ℕ) (f : Came) → slice_get came k ≡ Some f → f.moment ≤ now
+  shared_come free now came [] wire waiting s k f e = come_by now came k f s.come e
+  shared_come free now [] (y ∷ starts) wire waiting s k f e = absurd s
+  shared_come free now (g ∷ came) (y ∷ starts) wire waiting s zero f e =
+      let from = (s.0).from in
+      let before = (s.0).before in
+      let same = ap (λ (z : Came). z.moment) (same_Some g f e) in
+      omega (arith, from, before, same)
+  shared_come free now (g ∷ came) (y ∷ starts) wire waiting s (suc k) f e = shared_come y.«end» now came starts wire waiting s.1 k f e

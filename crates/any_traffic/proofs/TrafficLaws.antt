@@ -10,7 +10,7 @@ use Rattle.separation.proofs.ServiceLaws.{new_holds, served_law}
 use Rattle.delay_bounds.proofs.GateLaws.{same_gates}
 use Rattle.any_traffic.specs.AnyTraffic.{AnyTrafficLaw, AreCurveBounds}
 use Rattle.any_traffic.specs.Slots.{IsBySlot, IsSlot, SlotLaw}
-use Rattle.any_traffic.proofs.Busy.{IsBy, own_start, started_by, waiting_by}
+use Rattle.any_traffic.proofs.Busy.{IsBy, started_by, waiting_by}
 use Rattle.any_traffic.proofs.Bounded.{few_wait, late, soon}
 use Rattle.any_traffic.proofs.PartLaws.{AreLawful, part_at, part_lawful, rising_pair}
 use Rattle.any_traffic.proofs.Offered.{all_since, all_taken, are_part, are_rising}
@@ -95,7 +95,6 @@ any_traffic_law ps mtu room class d wait most curve a plan events r keep b =
     let n = behind a plan class d curve wait most r.is r.above b in
     let gates : List Accepted = a ∷ [] in
     record {
-      own = λ k f x e y. own_start (open_through gates class) ps class 0 _ _ _ _ _ served.served k f x e y;
       soon = soon gates ps class d a.change wait most curve w n _ queued _ _ _ _ served.served;
       starts = λ k f e past. elim (cases_lt k _) [
         | inl less ↦ less

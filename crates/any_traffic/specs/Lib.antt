@@ -1,10 +1,13 @@
 pub mod Runs
+pub mod Starts
 pub mod ArrivalCurve
 pub mod Slots
 pub mod AnyTraffic
 pub mod Sporadic
 pub mod BusyPeriod
 pub mod ArrivalWindows
+pub mod PeriodicWindows
+pub mod LateForEver
 pub mod Priority
 pub mod SharedSlots
 pub mod SharedRuns

@@ -1,28 +1,15 @@
 -- A class that shares its windows, in a run: what is asked of the frames of the classes, and what bounds say of this one.
-use Rattle.std.specs.Prelude.{◌≡◌, ◌<◌, ◌≤◌, ℕ, ◌+◌, List, [], ◌∷◌, Some, length, slice_get}
-use Rattle.wire_time.specs.declared.TheConstants.{MIN_PS_PER_OCTET, MIN_MTU}
+use Rattle.std.specs.Prelude.{◌≡◌, ◌<◌, ◌≤◌, ℕ, ◌+◌, List, Some, length, slice_get}
 use Rattle.gate_list.specs.Gate.{Plan}
 use Rattle.list_config.specs.History.{Accepted}
 use Rattle.abstract_port.specs.declared.Start.{Start}
 use Rattle.abstract_port.specs.declared.Event.{Event}
-use Rattle.abstract_port.specs.declared.Event.TheVariants.{Arrive}
-use Rattle.abstract_port.specs.AbstractPort.{AbstractPort, class_for, new_port}
-use Rattle.abstract_port.specs.Answers.{answers_of, answers_to}
+use Rattle.abstract_port.specs.AbstractPort.{new_port}
+use Rattle.abstract_port.specs.Answers.{answers_of}
 use Rattle.abstract_port.specs.Laws.{starts_in}
-use Rattle.separation.specs.Separation.{IsScheduled}
-use Rattle.separation.specs.Served.{start_at}
-use Rattle.separation.specs.Traffic.{Came, IsOnly}
+use Rattle.separation.specs.Traffic.{Came}
 use Rattle.any_traffic.specs.ArrivalCurve.{ConformTo}
-use Rattle.any_traffic.specs.Runs.{end_of_run, offered, queued, started}
-
--- a frame of the class that comes does so while a schedule is in force
-abbrev pub IsScheduledAt : ℕ → Event → AbstractPort → Type 0
-IsScheduledAt class (Arrive f) p = class_for p f.priority ≡ Some class → IsScheduled p
-IsScheduledAt class _ p = Unit {0}
-
-abbrev pub AreScheduled : ℕ → List Event → AbstractPort → Type 0
-AreScheduled class [] p = Unit {0}
-AreScheduled class (event ∷ rest) p = IsScheduledAt class event p × AreScheduled class rest (answers_to event p).1
+use Rattle.any_traffic.specs.Runs.{AreScheduled, IsScheduledRun, end_of_run, offered, queued, started}
 
 -- At no time wait more than `most`: where the n + 1 frames from one place on have come by a moment, and the first of them has not started
 -- before it, they are no more.
@@ -32,53 +19,36 @@ AtMostWait most came starts =
     → ((x : Start) → slice_get starts k ≡ Some x → t ≤ x.at) → n + 1 ≤ most
 
 module _ (ps mtu room : ℕ) (events : List Event) where
-  -- the frames of a class come while a schedule is in force, and conform to an arrival curve
-  pub record IsClassTraffic (class need : ℕ) (curve : ℕ → ℕ) : Type 0 where
+  -- What is asked of the frames of a higher class: they come while a schedule is in force, conform to an arrival curve, which rises, and no more wait
+  -- than `most`.
+  pub record IsHigherTraffic (class need : ℕ) (curve : ℕ → ℕ) (most : ℕ) : Type 0 where
     pub scheduled : AreScheduled class events (new_port ps mtu room)
     pub conform : ConformTo ps need curve (offered ps mtu room class events)
-
-  -- and of a higher class no more wait than `most`; its curve rises
-  pub record IsHigherTraffic (class need : ℕ) (curve : ℕ → ℕ) (most : ℕ) : Type 0 where
-    pub traffic : IsClassTraffic class need curve
     pub rises : (x y : ℕ) → x ≤ y → curve x ≤ curve y
     pub waits : AtMostWait most (queued ps mtu room class events) (started ps mtu room class events)
 
-  -- One command is accepted, which has this plan. The frames of the class and of the higher ones conform to their curves. Of lower classes
-  -- no more is asked than that a frame that starts needs the wire for `need` of its class at most.
-  pub record IsSharedRun (class : ℕ) (need : ℕ → ℕ) (curve : ℕ → ℕ → ℕ) (most : ℕ → ℕ) (higher : List ℕ)
-      (a : Accepted) (plan : Plan) : Type 0 where
-    pub rate : MIN_PS_PER_OCTET ≤ ps
-    pub large : MIN_MTU ≤ mtu
-    pub listed : class < 8
-    pub all_listed : (i j : ℕ) → slice_get higher i ≡ Some j → j < 8
-    pub is : a.plan ≡ Some plan
-    pub cycle : 0 < plan.cycle
-    pub only : IsOnly a events (new_port ps mtu room)
+  -- One command is accepted, which has this plan. The frames of the class and of the higher ones conform to their curves. Of lower classes no more is
+  -- asked than that a frame that starts needs the wire for `need` of its class at most.
+  pub record IsSharedRun (class : ℕ) (need : ℕ → ℕ) (curve : ℕ → ℕ → ℕ) (most : ℕ → ℕ) (higher : List ℕ) (a : Accepted) (plan : Plan)
+      : Type 0 where
+    pub run : IsScheduledRun ps mtu room class events a plan
     pub short : (k : ℕ) (x : Start) → slice_get (starts_in (answers_of events (new_port ps mtu room))) k ≡ Some x
         → x.«end» ≤ x.at + need x.class
-    pub own : IsClassTraffic class (need class) (curve class)
-    pub above : (i j : ℕ) → slice_get higher i ≡ Some j → IsHigherTraffic j (need j) (curve j) (most j)
+    pub conform : ConformTo ps (need class) (curve class) (offered ps mtu room class events)
+    pub above : (i j : ℕ) → slice_get higher i ≡ Some j → (j < 8) × IsHigherTraffic j (need j) (curve j) (most j)
 
-  -- Each start is that of a frame that the queue of the class takes, and comes no later than so long after it came; as soon as that has
-  -- passed the frame has started; and at no time wait more than `waiting`.
+  -- Each frame starts no later than so long after it came; as soon as that has passed it has started; and at no time wait more than `waiting`.
   pub record IsSharedInTime (class wait waiting : ℕ) : Type 0 where
-    pub own : (k : ℕ) (f : Came) (x : Start) → slice_get (queued ps mtu room class events) k ≡ Some f
-        → slice_get (started ps mtu room class events) k ≡ Some x
-        → x ≡ start_at ps class x.at f.frame
     pub soon : (k : ℕ) (f : Came) (x : Start) → slice_get (queued ps mtu room class events) k ≡ Some f
-        → slice_get (started ps mtu room class events) k ≡ Some x
-        → x.at ≤ f.moment + wait
+        → slice_get (started ps mtu room class events) k ≡ Some x → x.at ≤ f.moment + wait
     pub starts : (k : ℕ) (f : Came) → slice_get (queued ps mtu room class events) k ≡ Some f
-        → f.moment + wait < end_of_run ps mtu room events
-        → k < length (started ps mtu room class events)
+        → f.moment + wait < end_of_run ps mtu room events → k < length (started ps mtu room class events)
     pub few : AtMostWait waiting (queued ps mtu room class events) (started ps mtu room class events)
 
--- The law of room: where no more frames of a class wait at any time than so many, and there is room for more, its queue takes all that it
--- is offered.
+-- The law of room: where no more frames of a class wait at any time than so many, and there is room for more, its queue takes all that it is
+-- offered.
 abbrev pub SharedDropsLaw : Type 0
 SharedDropsLaw =
-    (ps mtu room class waiting : ℕ) (a : Accepted) (events : List Event)
-    → MIN_PS_PER_OCTET ≤ ps → MIN_MTU ≤ mtu → class < 8 → IsOnly a events (new_port ps mtu room)
-    → AreScheduled class events (new_port ps mtu room)
+    (ps mtu room class waiting : ℕ) (a : Accepted) (plan : Plan) (events : List Event) → IsScheduledRun ps mtu room class events a plan
     → AtMostWait waiting (queued ps mtu room class events) (started ps mtu room class events) → waiting < room
     → queued ps mtu room class events ≡ offered ps mtu room class events

@@ -5,12 +5,13 @@ use Rattle.wire_time.specs.Wire.{occupancy_of}
 use Rattle.gate_list.specs.Gate.{Plan}
 use Rattle.list_config.specs.History.{Accepted}
 use Rattle.abstract_port.specs.declared.Event.{Event}
+use Rattle.abstract_port.specs.declared.Start.{Start}
 use Rattle.separation.specs.Traffic.{Came}
 use Rattle.delay_bounds.specs.Claim.{IsRun}
 use Rattle.delay_bounds.specs.declared.Flow.{Flow}
 use Rattle.any_traffic.specs.AnyTraffic.{AreCurveBounds}
 use Rattle.any_traffic.specs.ArrivalCurve.{ConformTo}
-use Rattle.any_traffic.specs.Runs.{IsApartRun, IsInTime, offered}
+use Rattle.any_traffic.specs.Runs.{IsApartRun, IsInTime, offered, started}
 
 -- A flow whose sender gives a frame each period at the earliest, and whose frames are late by up to the jitter when they come. Each needs
 -- the wire for so long at most. Times are in picoseconds.
@@ -61,6 +62,16 @@ SporadicBoundsLaw =
     (ps mtu room class d wait most : ℕ) (a : Accepted) (plan : Plan) (flows : List Sporadic) (places : List ℕ) (events : List Event)
     → IsApartRun ps mtu room class events a plan → AreFlows d flows → AreSplit ps flows places (offered ps mtu room class events)
     → AreCurveBounds plan class d (curve_of_all flows) wait most → IsInTime ps mtu room class events wait most
+
+-- The law of ends, for each flow its own: where there is room for all that wait, a frame of a flow has left the wire when the wait and its flow's
+-- own time on the wire have passed since it came.
+abbrev pub SporadicEndsLaw : Type 0
+SporadicEndsLaw =
+    (ps mtu room class d wait most : ℕ) (a : Accepted) (plan : Plan) (flows : List Sporadic) (places : List ℕ) (events : List Event)
+    → IsApartRun ps mtu room class events a plan → AreFlows d flows → AreSplit ps flows places (offered ps mtu room class events)
+    → AreCurveBounds plan class d (curve_of_all flows) wait most → most ≤ room
+    → (k i : ℕ) (f : Came) (flow : Sporadic) (x : Start) → slice_get (offered ps mtu room class events) k ≡ Some f → slice_get places k ≡ Some i
+    → slice_get flows i ≡ Some flow → slice_get (started ps mtu room class events) k ≡ Some x → x.«end» ≤ f.moment + wait + flow.need
 
 -- a flow whose frames come one each period, as a sporadic one
 abbrev pub as_sporadic : Flow → Sporadic

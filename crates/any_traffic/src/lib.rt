@@ -6,11 +6,21 @@
 ghost use Rattle.any_traffic.specs.AnyTraffic.{AnyTrafficLaw};
 ghost use Rattle.any_traffic.specs.ArrivalWindows.{WindowLaw};
 ghost use Rattle.any_traffic.specs.BusyPeriod.{CycleLaw, RisingLaw, SubadditiveLaw};
+ghost use Rattle.any_traffic.specs.LateForEver.{LateEnoughLaw, LateForEverLaw, PeriodicBoundsLaw};
+ghost use Rattle.any_traffic.specs.PeriodicWindows.{PeriodicWindowLaw};
 ghost use Rattle.any_traffic.specs.Priority.{PriorityLaw};
 ghost use Rattle.any_traffic.specs.SharedBounds.{SharedBusyLaw, SharedCycleLaw, SharedLaw};
 ghost use Rattle.any_traffic.specs.SharedRuns.{SharedDropsLaw};
 ghost use Rattle.any_traffic.specs.Slots.{SlotLaw};
-ghost use Rattle.any_traffic.specs.Sporadic.{PeriodicLaw, SporadicBoundsLaw, SporadicLaw};
+ghost use Rattle.any_traffic.specs.Sporadic.{PeriodicLaw, SporadicBoundsLaw, SporadicEndsLaw, SporadicLaw};
+ghost use Rattle.any_traffic.specs.Starts.{ApartRunLaw, LeastStartLaw, OwnStartsLaw};
+
+/// In every run each start of a class is that of its frame, and no sooner than the class may have the wire for it.
+pub fn starts()
+    ensures own { OwnStartsLaw }
+    ensures least { LeastStartLaw }
+    ensures apart { ApartRunLaw }
+{}
 
 /// In every run each frame of a class that is kept apart starts by a slot of the plan alone, whenever its frames come.
 pub fn slots()
@@ -27,6 +37,7 @@ pub fn any_traffic()
 pub fn sporadic()
     ensures curve { SporadicLaw }
     ensures bounds { SporadicBoundsLaw }
+    ensures ends { SporadicEndsLaw }
     ensures some { PeriodicLaw }
 {}
 
@@ -41,6 +52,15 @@ pub fn cycle()
 /// Frames that come in windows of time start no later than if each came as late as it may.
 pub fn windows()
     ensures { WindowLaw }
+{}
+
+/// Frames of periodic flows with jitter start no later than in the late run, in which each comes as late as it may; and
+/// once that has come to where it was, what holds of finitely many frames holds of all for ever.
+pub fn periodic_windows()
+    ensures starts { PeriodicWindowLaw }
+    ensures again { LateForEverLaw }
+    ensures enough { LateEnoughLaw }
+    ensures bounds { PeriodicBoundsLaw }
 {}
 
 /// At a moment at which the wire is free, and a frame of a class waits and fits, a frame of this class or a higher one
