@@ -6,6 +6,7 @@
 ghost use Rattle.any_traffic.specs.AnyTraffic.{AnyTrafficLaw};
 ghost use Rattle.any_traffic.specs.ArrivalWindows.{WindowLaw};
 ghost use Rattle.any_traffic.specs.BusyPeriod.{CycleLaw, RisingLaw, SubadditiveLaw};
+ghost use Rattle.any_traffic.specs.ExactWindows.{ExactLaw};
 ghost use Rattle.any_traffic.specs.LateForEver.{LateEnoughLaw, LateForEverLaw, PeriodicBoundsLaw};
 ghost use Rattle.any_traffic.specs.PeriodicWindows.{PeriodicWindowLaw};
 ghost use Rattle.any_traffic.specs.Priority.{PriorityLaw};
@@ -61,6 +62,7 @@ pub fn periodic_windows()
     ensures again { LateForEverLaw }
     ensures enough { LateEnoughLaw }
     ensures bounds { PeriodicBoundsLaw }
+    ensures exact { ExactLaw }
 {}
 
 /// At a moment at which the wire is free, and a frame of a class waits and fits, a frame of this class or a higher one

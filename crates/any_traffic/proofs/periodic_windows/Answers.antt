@@ -1,3 +1,4 @@
+use Rattle.any_traffic.proofs.ExactLaws as ExactLaws
 use Rattle.any_traffic.proofs.LateForEverLaws as LateForEverLaws
 use Rattle.any_traffic.proofs.PeriodicBounds as PeriodicBounds
 use Rattle.any_traffic.proofs.PeriodicWindowLaws as PeriodicWindowLaws
@@ -14,3 +15,6 @@ returns-clause-enough c = LateForEverLaws.late_enough_law
 
 pub returns-clause-bounds : goal.returns-clause-bounds
 returns-clause-bounds c = PeriodicBounds.periodic_bounds_law
+
+pub returns-clause-exact : goal.returns-clause-exact
+returns-clause-exact c = ExactLaws.exact_law
