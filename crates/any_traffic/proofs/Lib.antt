@@ -20,7 +20,8 @@ pub mod Sharing
 pub mod SharedSlots
 pub mod StartLaws
 pub mod OwnStarts
+pub mod SharedWaits
+pub mod RunParts
 pub mod SharedLaws
 pub mod SharedCycleLaws
 mod SharedExample
-pub mod SharedDrops

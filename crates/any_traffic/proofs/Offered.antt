@@ -24,6 +24,7 @@ use Rattle.separation.specs.Traffic.{Came, IsOnly, queued_by, queued_in, offered
 use Rattle.separation.proofs.Chains.{comes}
 use Rattle.separation.proofs.ServiceLaws.{Holds, takes, verdict_class}
 use Rattle.delay_bounds.proofs.QueueLaws.{Taken, none_offered, one_queued, one_full, now_came, room_kept, taken}
+use Rattle.any_traffic.specs.Runs.{IsScheduledAt}
 use Rattle.any_traffic.proofs.ListLaws.{none_here}
 use Rattle.any_traffic.proofs.PartLaws.{AreLawful, ArePart, AreRising, part_front, part_lawful, part_pair, rising_from, rising_pair}
 
@@ -160,8 +161,16 @@ offered_class class p f large = go (verdict p f) refl
     go (Err TooLong) e = inl refl
     go (Err OverSdu) e = inl refl
 
+-- a class that is kept apart at an event is scheduled there
+pub scheduled_at : (class : ℕ) (event : Event) (p : AbstractPort) → IsApartAt class event p → IsScheduledAt class event p
+scheduled_at class (Arrive f) p k = k
+scheduled_at class (Install c) p k = tt
+scheduled_at class (Clock m) p k = tt
+scheduled_at class Query p k = tt
+scheduled_at class (Count n) p k = tt
+
 -- nothing is offered at an event, or a schedule is in force
-offered_forced : (class : ℕ) (event : Event) (p : AbstractPort) → 68 ≤ p.mtu → IsApartAt class event p
+pub offered_forced : (class : ℕ) (event : Event) (p : AbstractPort) → 68 ≤ p.mtu → IsScheduledAt class event p
     → (offered_by class event p ≡ []) ⊎ (is_some (in_force p.history p.now) ≡ true)
 offered_forced class (Arrive f) p large k = elim (offered_class class p f large) [ inl none ↦ inl none | inr is ↦ inr (k is) ]
 offered_forced class (Install b) p large k = inl refl
@@ -189,7 +198,7 @@ module _ (ps class : ℕ) (a : Accepted) (lc : class < 8) where
       → (k : ℕ) (g : Came) → slice_get (offered_in class events p) k ≡ Some g → a.change ≤ g.moment
   all_since [] p came starts h apart only k g e = absurd (none_here k g e)
   all_since (event ∷ rest) p came starts h apart only k g e =
-      go (taken class event p (h.lawful).mtu) (offered_forced class event p (h.lawful).mtu apart.0)
+      go (taken class event p (h.lawful).mtu) (offered_forced class event p (h.lawful).mtu (scheduled_at class event p apart.0))
       (all_since rest (answers_to event p).1 (came ++ queued_by class event p)
       (starts ++ starts_of_class class (starts_in (answers_to event p).0))
       (takes class a ps lc event p came starts h apart.0 only.0) apart.1 only.1) k g e

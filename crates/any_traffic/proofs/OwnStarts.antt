@@ -18,18 +18,12 @@ use Rattle.separation.specs.Traffic.{Came, queued_in}
 use Rattle.separation.proofs.RunLaws.{keeping}
 use Rattle.delay_bounds.proofs.GateLaws.{same_gates}
 use Rattle.delay_bounds.specs.Walk.{may_by}
-use Rattle.any_traffic.specs.Runs.{AreScheduled, IsScheduledAt, started}
+use Rattle.any_traffic.specs.Runs.{AreScheduled, started}
 use Rattle.any_traffic.specs.Starts.{ApartRunLaw, LeastStartLaw, OwnStartsLaw}
 use Rattle.any_traffic.proofs.ListLaws.{none_here}
+use Rattle.any_traffic.proofs.Offered.{scheduled_at}
 use Rattle.any_traffic.proofs.Sharing.{SharedHolds, shared_run}
 use Rattle.any_traffic.proofs.StartLaws.{class_of, class_one, own_shared, start_frame, start_holds}
-
-scheduled_at : (class : ℕ) (event : Event) (p : AbstractPort) → IsApartAt class event p → IsScheduledAt class event p
-scheduled_at class (Arrive f) p k = k
-scheduled_at class (Install c) p k = tt
-scheduled_at class (Clock m) p k = tt
-scheduled_at class Query p k = tt
-scheduled_at class (Count n) p k = tt
 
 apart_scheduled : (class : ℕ) (events : List Event) (p : AbstractPort) → IsKeptApart class events p → AreScheduled class events p
 apart_scheduled class [] p k = tt

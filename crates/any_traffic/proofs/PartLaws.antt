@@ -62,17 +62,20 @@ part_pair (x ∷ xs) (y ∷ ys) (suc k) n f g (inl p) e h =
     let there : suc (r.place + r.more) ≡ suc r.place + r.more = omega arith in
     record { place = suc r.place; more = r.more; first = r.first; second = ap (slice_get (y ∷ ys)) (sym there) ∙ r.second; apart = r.apart }
 
+pub part_conform : (ps d : ℕ) (curve : ℕ → ℕ) (xs ys : List Came) → ArePart xs ys → ConformTo ps d curve ys → ConformTo ps d curve xs
+part_conform ps d curve xs ys p c = record {
+  short = λ k f e. (let r = part_at xs ys k f p e in c.short r.0 f r.1);
+  few = λ k n f g e h.
+      let r = part_pair xs ys k n f g p e h in
+      let apart = r.apart in
+      let few = c.few r.place r.more f g r.first r.second in
+      omega (arith, apart, few);
+}
+
 pub part_lawful : (ps d change : ℕ) (curve : ℕ → ℕ) (xs ys : List Came) → ArePart xs ys → AreLawful ps d change curve ys
     → AreLawful ps d change curve xs
 part_lawful ps d change curve xs ys p l = record {
-  keep = record {
-    short = λ k f e. (let r = part_at xs ys k f p e in (l.keep).short r.0 f r.1);
-    few = λ k n f g e h.
-        let r = part_pair xs ys k n f g p e h in
-        let apart = r.apart in
-        let few = (l.keep).few r.place r.more f g r.first r.second in
-        omega (arith, apart, few);
-  };
+  keep = part_conform ps d curve xs ys p l.keep;
   since = λ k f e. (let r = part_at xs ys k f p e in l.since r.0 f r.1);
   order = λ k n f g e h. (let r = part_pair xs ys k n f g p e h in l.order r.place r.more f g r.first r.second);
 }
@@ -92,6 +95,19 @@ part_self (x ∷ xs) = inl (refl, part_self xs)
 pub part_behind : (x : Came) (xs : List Came) → ArePart xs (x ∷ xs)
 part_behind x [] = tt
 part_behind x (y ∷ ys) = inr (part_self (y ∷ ys))
+
+-- those behind others
+pub part_skip : (xs ys zs : List Came) → ArePart xs zs → ArePart xs (ys ++ zs)
+part_skip xs [] zs p = p
+part_skip [] (y ∷ ys) zs p = tt
+part_skip (x ∷ xs) (y ∷ ys) zs p = inr (part_skip (x ∷ xs) ys zs p)
+
+-- in two parts
+pub part_both : (xs ys us vs : List Came) → ArePart xs ys → ArePart us vs → ArePart (xs ++ us) (ys ++ vs)
+part_both [] ys us vs p q = part_skip us ys vs q
+part_both (x ∷ xs) [] us vs p q = absurd p
+part_both (x ∷ xs) (y ∷ ys) us vs (inl p) q = inl (p.0, part_both xs ys us vs p.1 q)
+part_both (x ∷ xs) (y ∷ ys) us vs (inr p) q = inr (part_both (x ∷ xs) ys us vs p q)
 
 -- in their order, from a moment on
 abbrev pub AreRising : ℕ → List Came → Type 0

@@ -1,296 +1,33 @@
--- The law of shared windows.
-use Rattle.std.proofs.Common.{◌≡◌, ◌<◌, ◌≤◌, ℕ, zero, suc, ◌+◌, ◌-◌, max, Bool, true, ◌⊎◌, inl, inr, List, [], ◌∷◌, length, slice_get, sum_by, Some, refl, sym, ap, ◌∙◌, subst, arith, le_refl}
-use Rattle.std.proofs.lemmas.Bool.{cases_lt}
-use Rattle.std.proofs.lemmas.List.Sums.{sum_by-cons}
+-- The laws of shared windows.
+use Rattle.std.proofs.Common.{◌≡◌, ◌<◌, ◌≤◌, ℕ, zero, suc, ◌+◌, ◌-◌, min, true, false, eqb, ◌⊎◌, inl, inr, List, [], ◌∷◌, ◌++◌, length, slice_get, Some, is_some, refl, sym, ap, ◌∙◌, subst, arith, le_refl, append-nil, append_assoc}
+use Rattle.std.proofs.lemmas.Bool.{cases_lt, false≢true}
+use Rattle.std.proofs.lemmas.List.Elements.{filter-append}
 use Rattle.std.proofs.lemmas.Option.{same_Some, slice_get_within}
-use Rattle.wire_time.specs.Wire.{occupancy_of}
-use Rattle.wire_time.proofs.WireLaws.{occupancy_pos}
 use Rattle.wire_time.specs.declared.Frame.{Frame}
 use Rattle.gate_list.specs.Gate.{Plan}
-use Rattle.gate_list.proofs.OpenLaws.{open_within}
-use Rattle.list_config.specs.History.{Accepted, gates, open_through}
+use Rattle.list_config.specs.History.{Accepted, in_force, open_through}
 use Rattle.abstract_port.specs.declared.Event.{Event}
 use Rattle.abstract_port.specs.declared.Start.{Start}
-use Rattle.abstract_port.specs.AbstractPort.{new_port, queue_of}
-use Rattle.abstract_port.specs.Answers.{answers_of, port_after}
+use Rattle.abstract_port.specs.AbstractPort.{AbstractPort, new_port, queue_of}
+use Rattle.abstract_port.specs.Answers.{answers_of, answers_to, port_after}
 use Rattle.abstract_port.specs.Laws.{starts_in}
+use Rattle.abstract_port.proofs.RunLaws.{port_after-append}
 use Rattle.separation.specs.Hindsight.{IsOpenBy}
-use Rattle.separation.specs.Served.{start_at}
-use Rattle.separation.specs.Traffic.{Came, IsOnly, offered_in, queued_in, starts_of_class}
+use Rattle.separation.specs.Traffic.{Came, IsOnly, offered_by, offered_in, queued_by, queued_in, starts_of_class}
 use Rattle.separation.proofs.RunLaws.{keeping}
-use Rattle.delay_bounds.specs.Walk.{may_by}
+use Rattle.delay_bounds.proofs.QueueLaws.{Taken, none_offered, one_queued, one_full, now_came, taken}
 use Rattle.any_traffic.specs.ArrivalCurve.{ConformTo}
-use Rattle.any_traffic.specs.SharedBounds.{AreFew, IsSharedBusyPeriod, IsSoon, SharedBusyLaw, SharedLaw, most_above}
-use Rattle.any_traffic.specs.Runs.{AreScheduled}
-use Rattle.any_traffic.specs.SharedRuns.{AtMostWait, IsHigherTraffic, IsSharedInTime, IsSharedRun}
-use Rattle.any_traffic.specs.SharedSlots.{AreAbove, IsBlocking, IsPitch, IsSharedSlot}
-use Rattle.any_traffic.proofs.ListLaws.{none_here, one_at, one_before}
-use Rattle.any_traffic.proofs.PartLaws.{come_by, part_at, part_pair}
-use Rattle.any_traffic.proofs.Offered.{are_part, queued_order}
-use Rattle.any_traffic.proofs.SharedSlots.{AreSound, at_slot, count_all, count_of}
-use Rattle.any_traffic.proofs.StartLaws.{apart_at, shared_come, start_before, start_frame, class_at, class_of, class_one, class_pair, class_within, count_own, long_at, since_at, span, start_holds}
-use Rattle.any_traffic.proofs.Sharing.{AreShared, IsSharedStart, IsTaken, SharedHolds, shared_run}
-
--- ---- since when the class has been waiting
-
-module _ (h : List Accepted) (ps c d : ℕ) (all : List Start) (whole : List Came)
-    (short : (k : ℕ) (f : Came) → slice_get whole k ≡ Some f → occupancy_of ps f.frame.len ≤ d) where
-  abbrev mine : List Start
-  mine = starts_of_class c all
-
-  -- Up to a moment the frame at a place has not started; since one before it came, or it, the wire has been taken whenever a frame of the
-  -- class could have had it, and was free of the class when that one came; each up to a place came before the one before it had ended.
-  pub record IsFrom (k upto m : ℕ) : Type 0 where
-    pub place : ℕ
-    pub frame : Came
-    pub within : place ≤ k
-    pub first : slice_get whole place ≡ Some frame
-    pub busy : (t : ℕ) → frame.moment ≤ t → t < m → open_through h c t d ≡ true → IsTaken c all t
-    pub clear : (i : ℕ) (y : Start) → slice_get mine i ≡ Some y → i < place → y.«end» ≤ frame.moment
-    pub joined : (i : ℕ) (g : Came) (y : Start) → place ≤ i → i < upto → slice_get whole (suc i) ≡ Some g → slice_get mine i ≡ Some y
-        → g.moment < y.«end»
-
-  -- the next frame is the one at a place, the one before it has ended by a moment
-  record IsGone (k free : ℕ) : Type 0 where
-    ended : (i : ℕ) (y : Start) → slice_get mine i ≡ Some y → i < k → y.«end» ≤ free
-    closes : (i : ℕ) (y : Start) → slice_get mine i ≡ Some y → suc i ≡ k → free ≤ y.«end»
-    before : ((k ≡ 0) × (free ≡ 0)) ⊎ IsFrom k (k - 1) free
-
-  from_here : (k free : ℕ) (f : Came) → slice_get whole k ≡ Some f → IsGone k free → free ≤ f.moment → IsFrom k k (max f.moment free)
-  from_here k free f e g le = record {
-    place = k;
-    frame = f;
-    within = le_refl k;
-    first = e;
-    busy = λ t from below fits. absurd (omega (arith, from, below, le));
-    clear = λ i y there less. (let ended = g.ended i y there less in omega (arith, ended, le));
-    joined = λ i z y from less e y'. absurd (omega (arith, from, less));
-  }
-
-  comes_in : (k free : ℕ) (f : Came) → slice_get whole k ≡ Some f → IsGone k free → IsFrom k k (max f.moment free)
-  comes_in k free f e g = by g.before
-    where
-      by : ((k ≡ 0) × (free ≡ 0)) ⊎ IsFrom k (k - 1) free → IsFrom k k (max f.moment free)
-      by (inl none) = (let zero_free = none.1 in from_here k free f e g (omega (arith, zero_free)))
-      by (inr b) = elim (cases_lt f.moment free) [
-        | inr later ↦ from_here k free f e g later
-        | inl before ↦ record {
-          place = b.place;
-          frame = b.frame;
-          within = b.within;
-          first = b.first;
-          busy = λ t from below fits. b.busy t from (omega (arith, below, before)) fits;
-          clear = b.clear;
-          joined = λ i z y from less there own. elim (cases_lt (suc i) k) [
-            | inl early ↦ b.joined i z y from (omega (arith, early)) there own
-            | inr late ↦
-                let same_place : suc i ≡ k = omega (arith, late, less) in
-                let same = ap (λ (w : Came). w.moment) (same_Some z f (sym there ∙ (ap (slice_get whole) same_place ∙ e))) in
-                let closes = g.closes i y own same_place in
-                omega (arith, same, before, closes)
-          ];
-        }
-      ]
-
-  -- also while nothing of the class could start
-  held_up : (k free m : ℕ) (f : Came) → slice_get whole k ≡ Some f → IsFrom k k (max f.moment free)
-      → ((t : ℕ) → max f.moment free ≤ t → t < m → open_through h c t (occupancy_of ps f.frame.len) ≡ true → IsTaken c all t) → IsFrom k k m
-  held_up k free m f e b blocked = record {
-    place = b.place;
-    frame = b.frame;
-    within = b.within;
-    first = b.first;
-    busy = λ t from below fits. elim (cases_lt t (max f.moment free)) [
-      | inl early ↦ b.busy t from early fits
-      | inr late ↦ (let need = short k f e in blocked t late below
-          (open_within (gates h) c t d t (occupancy_of ps f.frame.len) fits (le_refl t) (omega (arith, need))))
-    ];
-    clear = b.clear;
-    joined = b.joined;
-  }
-
-  goes : (k free now : ℕ) (f : Came) (x : Start) → slice_get whole k ≡ Some f → slice_get mine k ≡ Some x → IsGone k free
-      → IsSharedStart (open_through h c) ps c all free now f x
-      → IsFrom k k x.at × IsGone (suc k) x.«end»
-  goes k free now f x e there g start =
-      let b = held_up k free x.at f e (comes_in k free f e g) start.blocked in
-      let from = start.from in
-      let ends : x.«end» ≡ x.at + occupancy_of ps f.frame.len = ap (λ (y : Start). y.«end») start.is in
-      let class : x.class ≡ c = ap (λ (y : Start). y.class) start.is in
-      let among = class_one c all k x there in (
-        b,
-        record {
-          ended = λ i y at less. elim (cases_lt i k) [
-            | inl early ↦ (let ended = g.ended i y at early in omega (arith, ended, from, ends))
-            | inr late ↦
-                let same_place : i ≡ k = omega (arith, late, less) in
-                let same : y ≡ x = same_Some y x (sym at ∙ (ap (slice_get mine) same_place ∙ there)) in
-                let end = ap (λ (z : Start). z.«end») same in
-                omega (arith, end)
-          ];
-          closes = λ i y at same_place.
-              let same : y ≡ x = same_Some y x (sym at ∙ (ap (slice_get mine) (let z : i ≡ k = omega (arith, same_place) in z) ∙ there)) in
-              let end = ap (λ (z : Start). z.«end») same in
-              omega (arith, end);
-          before = inr (record {
-            place = b.place;
-            frame = b.frame;
-            within = (let within = b.within in omega (arith, within));
-            first = b.first;
-            busy = λ t from below fits. elim (cases_lt t x.at) [
-              | inl early ↦ b.busy t from early fits
-              | inr late ↦ record {
-                place = among.0;
-                start = x;
-                there = among.1;
-                from = late;
-                until = below;
-                priority = λ here. omega
-                    (arith, class);
-              }
-            ];
-            clear = b.clear;
-            joined = λ i z y from less there own. b.joined i z y from (omega (arith, less)) there own;
-          });
-        },
-      )
-
-  pub record AreFrom (i now : ℕ) (came : List Came) (starts : List Start) : Type 0 where
-    pub begun : (k : ℕ) (f : Came) (x : Start) → slice_get came k ≡ Some f → slice_get starts k ≡ Some x → IsFrom (i + k) (i + k) x.at
-    pub waits : (f : Came) → slice_get came (length starts) ≡ Some f → IsFrom (i + length starts) (i + length starts) now
-
-  all_from : (i free now : ℕ) (came : List Came) (starts : List Start) (wire : ℕ) (waiting : List Frame)
-      → ((k : ℕ) (f : Came) → slice_get came k ≡ Some f → slice_get whole (i + k) ≡ Some f)
-      → ((k : ℕ) (x : Start) → slice_get starts k ≡ Some x → slice_get mine (i + k) ≡ Some x) → IsGone i free
-      → AreShared (open_through h c) ps c all free now came starts wire waiting → AreFrom i now came starts
-  all_from i free now [] [] wire waiting here there g s = record
-      { begun = λ k f x e y. absurd (none_here k f e); waits = λ f e. absurd (none_here 0 f e) }
-  all_from i free now (f ∷ came) [] wire waiting here there g s =
-      let at : i + 0 ≡ i = omega arith in
-      let own = sym (ap (slice_get whole) at) ∙ here 0 f refl in
-      let late = held_up i free now f own (comes_in i free f own g) s.waits in
-      record { begun = λ k z x e y. absurd (none_here k x y); waits = λ z e. subst (λ k. IsFrom k k now) (sym at) late }
-  all_from i free now [] (x ∷ starts) wire waiting here there g s = absurd s
-  all_from i free now (f ∷ came) (x ∷ starts) wire waiting here there g s =
-      let at : i + 0 ≡ i = omega arith in
-      let own = sym (ap (slice_get whole) at) ∙ here 0 f refl in
-      let start = goes i free now f x own (sym (ap (slice_get mine) at) ∙ there 0 x refl) g s.0 in
-      let rest = all_from (suc i) x.«end» now came starts wire waiting
-      (λ k z e. (let on : i + suc k ≡ suc i + k = omega arith in sym (ap (slice_get whole) on) ∙ here (suc k) z e))
-      (λ k z e. (let on : i + suc k ≡ suc i + k = omega arith in sym (ap (slice_get mine) on) ∙ there (suc k) z e)) start.1 s.1 in
-      record {
-        begun = begun start.0 rest;
-        waits = λ z e. (let on : suc i + length starts ≡ i + suc (length starts) = omega arith in subst (λ k. IsFrom k k now) on
-            (rest.waits z e));
-      }
-    where
-      begun : IsFrom i i x.at → AreFrom (suc i) now came starts → (k : ℕ) (z : Came) (y : Start) → slice_get (f ∷ came) k ≡ Some z
-          → slice_get (x ∷ starts) k ≡ Some y → IsFrom (i + k) (i + k) y.at
-      begun first rest zero z y e v =
-          let at : i ≡ i + 0 = omega arith in
-          subst (λ k. IsFrom k k y.at) at (subst (λ (w : Start). IsFrom i i w.at) (same_Some x y v) first)
-      begun first rest (suc k) z y e v =
-          (let on : suc i + k ≡ i + suc k = omega arith in subst (λ m. IsFrom m m y.at) on (rest.begun k z y e v))
-
-  module _ (now wire : ℕ) (waiting : List Frame) (s : AreShared (open_through h c) ps c all 0 now whole mine wire waiting) where
-    whole_from : AreFrom 0 now whole mine
-    whole_from =
-        all_from 0 0 now whole mine wire waiting (λ k f e. (let at : k ≡ 0 + k = omega arith in sym (ap (slice_get whole) at) ∙ e))
-        (λ k x e. (let at : k ≡ 0 + k = omega arith in sym (ap (slice_get mine) at) ∙ e))
-        (record {
-          ended = λ i y there less. absurd (omega (arith, less));
-          closes = λ i y there same. absurd
-              (omega (arith, same));
-          before = inl (refl, refl);
-        }) s
-
-    pub begun_from : (k : ℕ) (f : Came) (x : Start) → slice_get whole k ≡ Some f → slice_get mine k ≡ Some x → IsFrom k k x.at
-    begun_from k f x e y = (let at : 0 + k ≡ k = omega arith in subst (λ m. IsFrom m m x.at) at (whole_from.begun k f x e y))
-
-    -- also of one behind the first that waits
-    pub waits_from : (k : ℕ) (f : Came) → slice_get whole k ≡ Some f → length mine ≤ k → IsFrom k k now
-    waits_from k f e le =
-        let at : 0 + length mine ≡ length mine = omega arith in
-        let g = one_before whole (length mine) k f le e in
-        let b = whole_from.waits g.0 g.1 in
-        let within = b.within in
-        record {
-          place = b.place;
-          frame = b.frame;
-          within = omega
-              (arith, within, le);
-          first = b.first;
-          busy = b.busy;
-          clear = b.clear;
-          joined = λ i z y from less there own.
-              (let started = slice_get_within mine i y own in b.joined i z y from (omega (arith, started)) there own);
-        }
-
--- ---- how many frames of a higher class may start in a time
-
-module _ (came : List Came) (starts : List Start) (curve : ℕ → ℕ) (most : ℕ)
-    (frames : (k : ℕ) (x : Start) → slice_get starts k ≡ Some x → (f : Came) × (slice_get came k ≡ Some f) × (f.moment ≤ x.at))
-    (few : (k n : ℕ) (f g : Came) → slice_get came k ≡ Some f → slice_get came (k + n) ≡ Some g → n + 1 ≤ curve (g.moment - f.moment))
-    (order : (k n : ℕ) (f g : Came) → slice_get came k ≡ Some f → slice_get came (k + n) ≡ Some g → f.moment ≤ g.moment)
-    (rises : (x y : ℕ) → x ≤ y → curve x ≤ curve y) (waits : AtMostWait most came starts) (p s i : ℕ) (y : Start)
-    (there : slice_get starts i ≡ Some y) (from : p ≤ y.at) where
-  -- those up to one that has come by the beginning
-  some_wait : (n : ℕ) (f : Came) → slice_get came (i + n) ≡ Some f → f.moment ≤ p → n + 1 ≤ most
-  some_wait n f e le =
-      let g = frames i y there in
-      waits i n p g.0 f g.1 e le (λ x e'. subst (λ (z : Start). p ≤ z.at) (same_Some y x (sym there ∙ e')) from)
-
-  -- those from one on that has not
-  some_come : (n m : ℕ) (f g : Came) → n ≤ m → slice_get came (i + n) ≡ Some f → slice_get came (i + m) ≡ Some g → p < f.moment
-      → g.moment ≤ s → m - n + 1 ≤ curve (s - p)
-  some_come n m f g le e h after by =
-      let at : i + m ≡ i + n + (m - n) = omega (arith, le) in
-      let count = few (i + n) (m - n) f g e (sym (ap (slice_get came) at) ∙ h) in
-      let up = rises (g.moment - f.moment) (s - p) (omega (arith, after, by)) in
-      omega (arith, count, up)
-
-  -- all of them
-  pub all_few : (m : ℕ) (g : Came) → slice_get came (i + m) ≡ Some g → g.moment ≤ s → m + 1 ≤ most + curve (s - p)
-  all_few m g e by = go m (le_refl m) (inl refl)
-    where
-      IsAfter : ℕ → Type 0
-      IsAfter n = (n ≡ m) ⊎ ((f : Came) × (slice_get came (i + suc n) ≡ Some f) × (p < f.moment))
-
-      frame : (n : ℕ) → n ≤ m → (f : Came) × (slice_get came (i + n) ≡ Some f)
-      frame n le = one_before came (i + n) (i + m) g (omega (arith, le)) e
-
-      early : (n : ℕ) → n ≤ m → (f : Came) → slice_get came (i + n) ≡ Some f → f.moment ≤ p → IsAfter n → m + 1 ≤ most + curve (s - p)
-      early n le f at before (inl same) = (let wait = some_wait n f at before in omega (arith, wait, same))
-      early n le f at before (inr next) = elim (cases_lt n m) [
-        | inr last ↦ (let wait = some_wait n f at before in omega (arith, wait, last, le))
-        | inl less ↦
-            let wait = some_wait n f at before in
-            let rest = some_come (suc n) m next.0 g less next.1 e next.2 by in
-            omega (arith, wait, rest, less)
-      ]
-
-      go : (n : ℕ) → n ≤ m → IsAfter n → m + 1 ≤ most + curve (s - p)
-      go zero le after =
-          let f = frame zero le in
-          elim (cases_lt p (f.0).moment) [
-            | inr before ↦ early zero le f.0 f.1 before after
-            | inl later ↦ (let all = some_come 0 m f.0 g le f.1 e later by in omega (arith, all))
-          ]
-      go (suc n) le after =
-          let f = frame (suc n) le in
-          elim (cases_lt p (f.0).moment) [
-            | inr before ↦ early (suc n) le f.0 f.1 before after
-            | inl later ↦ go n (omega (arith, le)) (inr (f.0, f.1, later))
-          ]
-
-sum_le : (g h : ℕ → ℕ) (higher : List ℕ) → ((i j : ℕ) → slice_get higher i ≡ Some j → g j ≤ h j) → sum_by g higher ≤ sum_by h higher
-sum_le g h [] le = omega arith
-sum_le g h (j ∷ higher) le =
-    let here = le 0 j refl in
-    let rest = sum_le g h higher (λ i k e. le (suc i) k e) in
-    let a = sum_by-cons g j higher in
-    let b = sum_by-cons h j higher in
-    omega (arith, here, rest, a, b)
+use Rattle.any_traffic.specs.Runs.{AreScheduled, IsScheduledAt}
+use Rattle.any_traffic.specs.SharedBounds.{SharedBusyLaw, SharedLaw}
+use Rattle.any_traffic.specs.SharedRuns.{IsHigherTraffic, IsSharedInTime, IsSharedRun}
+use Rattle.any_traffic.proofs.ListLaws.{get_last, get_more, none_here, one_before}
+use Rattle.any_traffic.proofs.PartLaws.{ArePart, part_both, part_conform, part_front, part_pair, rising_pair}
+use Rattle.any_traffic.proofs.Offered.{are_part, are_rising, forced_since, offered_forced, queued_order}
+use Rattle.any_traffic.proofs.RunParts.{AreAfter, after_class, either_part, large_on, later_after, offered_append, only_both, queued_append, room_on, run_after, scheduled_both, shared_count, starts_append}
+use Rattle.any_traffic.proofs.SharedSlots.{AreSound, count_of}
+use Rattle.any_traffic.proofs.SharedWaits.{AreInTime, all_few, in_busy_time, in_time}
+use Rattle.any_traffic.proofs.StartLaws.{apart_at, class_one, class_pair, class_within, count_own, long_at, shared_come, span, start_frame, start_holds}
+use Rattle.any_traffic.proofs.Sharing.{AreShared, AreSince, SharedHolds, comes, shared_run, since_both}
 
 -- ---- a run
 
@@ -331,19 +68,6 @@ module _ (ps mtu room : ℕ) (events : List Event) (a : Accepted) (rate : 80 ≤
         → (f : Came) × (slice_get (queued_in c events (new_port ps mtu room)) i ≡ Some f) × (f.moment ≤ x.at)
     frames i x e = start_frame (open_through (a ∷ []) c) ps c all_starts 0 _ _ _ _ _ held.served i x e
 
-    queued_keep : (need : ℕ) (curve : ℕ → ℕ) → ConformTo ps need curve (offered_in c events (new_port ps mtu room))
-        → ConformTo ps need curve (queued_in c events (new_port ps mtu room))
-    queued_keep need curve keep = record {
-      short = λ k f e. (let r = part_at (queued_in c events (new_port ps mtu room)) (offered_in c events (new_port ps mtu room)) k f
-          (are_part c events (new_port ps mtu room) large) e in keep.short r.0 f r.1);
-      few = λ k n f g e h.
-          let r = part_pair (queued_in c events (new_port ps mtu room)) (offered_in c events (new_port ps mtu room)) k n f g
-          (are_part c events (new_port ps mtu room) large) e h in
-          let apart = r.apart in
-          let few = keep.few r.place r.more f g r.first r.second in
-          omega (arith, apart, few);
-    }
-
   -- of a higher class no more start in a time than wait and come
   above_few : (j : ℕ) → j < 8 → (need : ℕ) (curve : ℕ → ℕ) (most : ℕ) → IsHigherTraffic ps mtu room events j need curve most → (p s : ℕ)
       → count_of j p (s + 1) all_starts ≤ most + curve (s - p)
@@ -354,7 +78,8 @@ module _ (ps mtu room : ℕ) (events : List Event) (a : Accepted) (rate : 80 ≤
       by (suc m) e =
           let k = w.scheduled in
           let r = span j p (s + 1) (starts_of_class j all_starts) m (rising j lj k) (sym (count_own j p (s + 1) all_starts) ∙ e) in
-          let keep = queued_keep j lj k need curve w.conform in
+          let keep = part_conform ps need curve (queued_in j events (new_port ps mtu room)) (offered_in j events (new_port ps mtu room))
+          (are_part j events (new_port ps mtu room) large) w.conform in
           let last = frames j lj k (r.place + m) r.last r.other in
           let come = last.2 in
           let before = r.before in
@@ -363,396 +88,220 @@ module _ (ps mtu room : ℕ) (events : List Event) (a : Accepted) (rate : 80 ≤
           p s r.place r.first r.one r.from m last.0 last.1 (omega (arith, come, before)) in
           omega (arith, few, e)
 
-  module _ (c : ℕ) (lc : c < 8) (plan : Plan) (is : a.plan ≡ Some plan) (above : 0 < plan.cycle) (need blocking : ℕ → ℕ) (pitch : ℕ)
-      (curve : ℕ → ℕ → ℕ) (most : ℕ → ℕ) (higher : List ℕ)
-      (blocked : IsBlocking plan c need blocking)
-      (pitched : IsPitch c higher need pitch) (those : AreAbove plan c higher)
-      (run : IsSharedRun ps mtu room events c need curve most higher a plan)
-      (full : (port_after events (new_port ps mtu room)).history ≡ a ∷ []) where
-    abbrev came : List Came
-    came = queued_in c events (new_port ps mtu room)
+-- ---- a beginning of a run
 
-    abbrev begun : List Start
-    begun = starts_of_class c all_starts
+module _ (ps mtu room : ℕ) (a : Accepted) (rate : 80 ≤ ps) (large : 68 ≤ mtu) (events before rest : List Event)
+    (parts : before ++ rest ≡ events) (only : IsOnly a events (new_port ps mtu room)) where
+  abbrev fresh : AbstractPort
+  fresh = new_port ps mtu room
 
-    k : AreScheduled c events (new_port ps mtu room)
-    k = (run.run).scheduled
+  abbrev there : AbstractPort
+  there = port_after before fresh
 
-    keep : ConformTo ps (need c) (curve c) came
-    keep = queued_keep c lc k (need c) (curve c) run.conform
+  only_before : IsOnly a before fresh × IsOnly a rest there
+  only_before = only_both a before rest fresh (subst (λ xs. IsOnly a xs fresh) (sym parts) only)
 
-    sound : AreSound (a ∷ []) need all_starts
-    sound = record {
-      through = λ i y e. subst (λ h. open_through h y.class y.at (y.«end» - y.at) ≡ true) full
-          (start_holds (IsOpenBy (port_after events (new_port ps mtu room)).history) (answers_of events (new_port ps mtu room))
-          (keeping ps mtu room rate large events).open_by_end i y e);
-      apart = λ i j x y e f less. apart_at 0 all_starts i j x y (held c lc k).long (keeping ps mtu room rate large events).apart e f less;
-      some = λ i y e. long_at all_starts i y (held c lc k).long e;
-      short = run.short;
-      few = λ i y e. class_within all_starts i y (held c lc k).long e;
-    }
+  scheduled_before : (c : ℕ) → AreScheduled c events fresh → AreScheduled c before fresh × AreScheduled c rest there
+  scheduled_before c k = scheduled_both c before rest fresh (subst (λ xs. AreScheduled c xs fresh) (sym parts) k)
 
-    -- a moment up to which a frame has not started
-    abbrev IsUp : ℕ → ℕ → Type 0
-    IsUp i m = IsFrom (a ∷ []) ps c (need c) all_starts came keep.short i i m
+  -- what is known of the frames of a higher class up to there
+  higher_before : (c need : ℕ) (curve : ℕ → ℕ) (most : ℕ) → c < 8 → IsHigherTraffic ps mtu room events c need curve most
+      → IsHigherTraffic ps mtu room before c need curve most
+  higher_before c need curve most lc w = record {
+    scheduled = k.0;
+    conform = part_conform ps need curve (offered_in c before fresh) (offered_in c events fresh) part w.conform;
+    rises = w.rises;
+    waits = λ i n t f g e h come first.
+        let by = shared_come (open_through (a ∷ []) c) ps c all 0 there.now (queued_in c before fresh) mine _ _ here.served (i + n) g h in
+        let few = w.waits i n (min t there.now) f g (whole i f e) (whole (i + n) g h) (omega (arith, come, by))
+        (λ x e'. elim (either_part mine later i x (sym (ap (λ xs. slice_get xs i) own) ∙ e')) [
+          | inl early ↦ (let at = first x early in omega (arith, at))
+          | inr late ↦ (let at = later_after there.now later late.0 x (after_class there.now c (starts_in (answers_of rest there)) behind) late.1 in omega (arith, at))
+        ]) in
+        few;
+  }
+    where
+      k : AreScheduled c before fresh × AreScheduled c rest there
+      k = scheduled_before c w.scheduled
 
-    -- by a slot with enough before it
-    main : (i m : ℕ) (f : Came) → slice_get came i ≡ Some f → (b : IsUp i m)
-        → ((j : ℕ) (z : Start) → slice_get begun j ≡ Some z → i ≤ j → m ≤ z.at)
-        → (n s : ℕ) → IsSharedSlot (may_by plan c) (need c) pitch blocking ((b.frame).moment - a.change) n s
-        → i - b.place + 1 + most_above curve most higher (s - ((b.frame).moment - a.change)) ≤ n + 1 → m ≤ a.change + s
-    main i m f e b later n s slot enough = elim (cases_lt (a.change + s) m) [
-      | inr le ↦ le
-      | inl less ↦
-          let x = at_slot a plan is above c higher need blocking pitch all_starts sound blocked pitched those pos p m busy clear n s slot
-          less in
-          let count = subst (λ t. suc n ≤ count_all c higher t (a.change + s + 1) all_starts) at x.count in
-          let own = own_few less in
-          let others = sum_le (λ j. count_of j (b.frame).moment (a.change + s + 1) all_starts) (λ j. most j + curve j (s - p)) higher
-          (λ i j e.
-          let one = above_few j (run.above i j e).0 (need j) (curve j) (most j) (run.above i j e).1 (b.frame).moment (a.change + s) in
-          let same : a.change + s - (b.frame).moment ≡ s - p = omega (arith, at) in
-          subst (λ t. count_of j (b.frame).moment (a.change + s + 1) all_starts ≤ most j + curve j t) same one) in
-          absurd (omega (arith, count, own, others, enough))
-    ]
+      pos : 0 < ps
+      pos = omega (arith, rate)
+
+      all : List Start
+      all = starts_in (answers_of before fresh)
+
+      mine : List Start
+      mine = starts_of_class c all
+
+      later : List Start
+      later = starts_of_class c (starts_in (answers_of rest there))
+
+      here : SharedHolds c a ps lc pos there (queued_in c before fresh) all
+      here = shared_run c a ps lc pos mtu room before large k.0 only_before.0
+
+      part : ArePart (offered_in c before fresh) (offered_in c events fresh)
+      part = subst (λ xs. ArePart (offered_in c before fresh) (offered_in c xs fresh)) parts
+          (subst (ArePart (offered_in c before fresh)) (sym (offered_append c before rest fresh)) (part_front (offered_in c before fresh) (offered_in c rest there)))
+
+      whole : (i : ℕ) (f : Came) → slice_get (queued_in c before fresh) i ≡ Some f → slice_get (queued_in c events fresh) i ≡ Some f
+      whole i f e =
+          ap (λ xs. slice_get (queued_in c xs fresh) i) (sym parts)
+          ∙ (ap (λ xs. slice_get xs i) (queued_append c before rest fresh) ∙ get_more (queued_in c before fresh) (queued_in c rest there) i f e)
+
+      own : starts_of_class c (starts_in (answers_of events fresh)) ≡ mine ++ later
+      own =
+          ap (λ xs. starts_of_class c (starts_in (answers_of xs fresh))) (sym parts)
+          ∙ (ap (starts_of_class c) (starts_append before rest fresh) ∙ filter-append (λ (s : Start). eqb s.class c) all (starts_in (answers_of rest there)))
+
+      behind : AreAfter there.now (starts_in (answers_of rest there))
+      behind = run_after c a ps lc pos rest there (queued_in c before fresh) all (large_on before fresh large) here k.1 only_before.1
+
+-- ---- a run that is judged
+
+module _ (ps mtu room c pitch wait waiting : ℕ) (need blocking : ℕ → ℕ) (curve : ℕ → ℕ → ℕ) (most : ℕ → ℕ) (higher : List ℕ) (a : Accepted) (plan : Plan)
+    (events : List Event) (run : IsSharedRun ps mtu room events c need curve most higher a plan)
+    (judge : (some_time : 0 < ps) (all : List Start) (now : ℕ) → AreSound (a ∷ []) need all
+    → ((i j : ℕ) → slice_get higher i ≡ Some j → (p s : ℕ) → count_of j p (s + 1) all ≤ most j + curve j (s - p))
+    → (came : List Came) (wire : ℕ) (waits : List Frame) → AreShared (open_through (a ∷ []) c) ps c all 0 now came (starts_of_class c all) wire waits
+    → AreSince a.change came → ((k n : ℕ) (f g : Came) → slice_get came k ≡ Some f → slice_get came (k + n) ≡ Some g → f.moment ≤ g.moment)
+    → ConformTo ps (need c) (curve c) came → AreInTime all now c came wait waiting) where
+  abbrev new : AbstractPort
+  new = new_port ps mtu room
+
+  module _ (before rest : List Event) (parts : before ++ rest ≡ events) where
+    abbrev then : AbstractPort
+    then = port_after before new
+
+    abbrev so_far : List Start
+    so_far = starts_in (answers_of before new)
+
+    some : 0 < ps
+    some = (let rate = (run.run).rate in omega (arith, rate))
+
+    first_part : IsOnly a before new
+    first_part = (only_before ps mtu room a (run.run).rate (run.run).large events before rest parts (run.run).only).0
+
+    chain : SharedHolds c a ps (run.run).listed some then (queued_in c before new) so_far
+    chain = shared_run c a ps (run.run).listed some mtu room before (run.run).large
+        (scheduled_before ps mtu room a (run.run).rate (run.run).large events before rest parts (run.run).only c (run.run).scheduled).0 first_part
+
+    -- up to there, with a chain of frames that are some of those offered in the whole run
+    judged : then.history ≡ a ∷ [] → (came : List Came) (wire : ℕ) (waits : List Frame)
+        → AreShared (open_through (a ∷ []) c) ps c so_far 0 then.now came (starts_of_class c so_far) wire waits
+        → ArePart came (offered_in c events new) → AreSince a.change came → AreInTime so_far then.now c came wait waiting
+    judged full came wire waits served part since =
+        judge some so_far then.now sound few came wire waits served since
+        (λ k n f g e h. (let both = part_pair came (offered_in c events new) k n f g part e h in
+        rising_pair new.now (offered_in c events new) both.place both.more f g (are_rising c events new (run.run).large) both.first both.second))
+        (part_conform ps (need c) (curve c) came (offered_in c events new) part run.conform)
       where
-        p : ℕ
-        p = (b.frame).moment - a.change
+        sound : AreSound (a ∷ []) need so_far
+        sound = record {
+          through = λ i y e. subst (λ h. open_through h y.class y.at (y.«end» - y.at) ≡ true) full
+              (start_holds (IsOpenBy then.history) (answers_of before new) (keeping ps mtu room (run.run).rate (run.run).large before).open_by_end i y e);
+          apart = λ i j x y e f less. apart_at 0 so_far i j x y chain.long (keeping ps mtu room (run.run).rate (run.run).large before).apart e f less;
+          some = λ i y e. long_at so_far i y chain.long e;
+          short = λ i y e.
+              run.short i y
+              (ap (λ xs. slice_get (starts_in (answers_of xs new)) i) (sym parts)
+              ∙ (ap (λ xs. slice_get xs i) (starts_append before rest new) ∙ get_more so_far (starts_in (answers_of rest then)) i y e));
+          few = λ i y e. class_within so_far i y chain.long e;
+        }
 
-        since : a.change ≤ (b.frame).moment
-        since = since_at a.change came b.place b.frame (held c lc k).since b.first
+        few : (i j : ℕ) → slice_get higher i ≡ Some j → (p s : ℕ) → count_of j p (s + 1) so_far ≤ most j + curve j (s - p)
+        few i j e p s =
+            let above = run.above i j e in
+            above_few ps mtu room before a (run.run).rate (run.run).large first_part j above.0 (need j) (curve j) (most j)
+            (higher_before ps mtu room a (run.run).rate (run.run).large events before rest parts (run.run).only j (need j) (curve j) (most j) above.0 above.1) p s
 
-        at : a.change + p ≡ (b.frame).moment
-        at = (let from = since in omega (arith, from))
+    -- one that comes then finds room
+    finds_room : waiting ≤ room → (event : Event) (f : Frame) → IsScheduledAt c event then → offered_by c event then ≡ now_came then f ∷ []
+        → ArePart (queued_in c before new ++ now_came then f ∷ []) (offered_in c events new) → length (queue_of then c) < then.room
+    finds_room enough event f k o part = by (offered_forced c event then (large_on before new (run.run).large) k)
+      where
+        found : is_some (in_force then.history then.now) ≡ true → length (queue_of then c) < then.room
+        found forced = elim chain.phase [
+          | inr none ↦ absurd (false≢true (ap (λ h. is_some (in_force h then.now)) (sym none.0) ∙ forced))
+          | inl full ↦
+              let came : List Came = queued_in c before new ++ now_came then f ∷ [] in
+              let mine : List Start = starts_of_class c so_far in
+              let served = comes (open_through (a ∷ []) c) ps c so_far 0 then.now (queued_in c before new) mine chain.wire (queue_of then c) f chain.served in
+              let since = since_both a.change (queued_in c before new) (now_came then f ∷ []) chain.since (forced_since a then.now (ap (λ h. is_some (in_force h then.now)) (sym full) ∙ forced), tt) in
+              let t = judged full came chain.wire (queue_of then c ++ f ∷ []) served part since in
+              let count = shared_count (open_through (a ∷ []) c) ps c so_far 0 then.now (queued_in c before new) mine chain.wire (queue_of then c) chain.served in
+              let last = get_last (queued_in c before new) (now_came then f) in
+              let at : length (queued_in c before new) ≡ length mine + length (queue_of then c) = omega (arith, count) in
+              let here = ap (slice_get came) (sym at) ∙ last in
+              let first = one_before came (length mine) (length mine + length (queue_of then c)) (now_came then f) (omega arith) here in
+              let few = t.few (length mine) (length (queue_of then c)) then.now first.0 (now_came then f) first.1 here (le_refl then.now)
+              (λ x e. (let within = slice_get_within mine (length mine) x e in absurd (omega (arith, within)))) in
+              let size = room_on before new in
+              omega (arith, few, enough, size)
+        ]
 
-        pos : 0 < need c
-        pos =
-            let short = keep.short i f e in
-            let some = occupancy_pos ps (f.frame).len some_time in
-            omega (arith, short, some)
+        by : (offered_by c event then ≡ []) ⊎ (is_some (in_force then.history then.now) ≡ true) → length (queue_of then c) < then.room
+        by (inl none) = absurd (let z : [] ≡ now_came then f ∷ [] = sym none ∙ o in cc)
+        by (inr forced) = found forced
 
-        busy : (t : ℕ) → a.change + p ≤ t → t < m → open_through (a ∷ []) c t (need c) ≡ true → IsTaken c all_starts t
-        busy t from below fits = (let same = at in b.busy t (omega (arith, from, same)) below fits)
+  -- none is dropped
+  all_taken : waiting ≤ room → (before rest : List Event) → before ++ rest ≡ events → queued_in c rest (port_after before new) ≡ offered_in c rest (port_after before new)
+  all_taken enough before [] parts = refl
+  all_taken enough before (event ∷ rest) parts =
+      go (taken c event p (large_on before new (run.run).large)) (subst (λ q. queued_in c rest q ≡ offered_in c rest q) (port_after-append before (event ∷ []) new) (all_taken enough (before ++ event ∷ []) rest (append_assoc before (event ∷ []) rest ∙ parts)))
+    where
+      p : AbstractPort
+      p = port_after before new
 
-        clear : (l : ℕ) (y : Start) → slice_get all_starts l ≡ Some y → y.class ≡ c → y.at < a.change + p → y.«end» ≤ a.change + p
-        clear l y e class early =
-            let same = at in
-            let own = class_at c all_starts l y e class in
-            elim (cases_lt own.0 b.place) [
-              | inl less ↦ (let ended = b.clear own.0 y own.1 less in omega (arith, ended, same))
-              | inr more ↦
-                  let g = frames c lc k own.0 y own.1 in
-                  let parts : own.0 ≡ b.place + (own.0 - b.place) = omega (arith, more) in
-                  let order = queued_order c events (new_port ps mtu room) large b.place (own.0 - b.place) b.frame g.0 b.first
-                  (sym (ap (slice_get came) parts) ∙ g.1) in
-                  let come = g.2 in
-                  absurd (omega (arith, order, come, early, same))
-            ]
+      q : AbstractPort
+      q = (answers_to event p).1
 
-        own_few : a.change + s < m → count_of c (b.frame).moment (a.change + s + 1) all_starts ≤ i - b.place
-        own_few less = by (count_of c (b.frame).moment (a.change + s + 1) all_starts) refl
-          where
-            by : (n : ℕ) → count_of c (b.frame).moment (a.change + s + 1) all_starts ≡ n
-                → count_of c (b.frame).moment (a.change + s + 1) all_starts ≤ i - b.place
-            by zero e = omega (arith, e)
-            by (suc q) e =
-                let r = span c (b.frame).moment (a.change + s + 1) begun q (rising c lc k)
-                (sym (count_own c (b.frame).moment (a.change + s + 1) all_starts) ∙ e) in
-                let from = r.from in
-                let before = r.before in
-                let first : b.place ≤ r.place = elim (cases_lt r.place b.place) [
-                  | inr le ↦ le
-                  | inl early ↦
-                      let ended = b.clear r.place r.first r.one early in
-                      let one = class_one c all_starts r.place r.first r.one in
-                      let long = long_at all_starts one.0 r.first (held c lc k).long one.1 in
-                      absurd (omega (arith, ended, long, from))
-                ] in
-                let last : r.place + q < i = elim (cases_lt (r.place + q) i) [
-                  | inl le ↦ le
-                  | inr late ↦ (let after = later (r.place + q) r.last r.other late in absurd (omega (arith, after, before, less)))
-                ] in
-                omega (arith, first, last, e)
+      -- what is taken before, and it, are some of those offered
+      part : (f : Frame) → offered_by c event p ≡ now_came p f ∷ [] → ArePart (queued_in c before new ++ now_came p f ∷ []) (offered_in c events new)
+      part f o =
+          subst (λ xs. ArePart (queued_in c before new ++ now_came p f ∷ []) (offered_in c xs new)) parts
+          (subst (ArePart (queued_in c before new ++ now_came p f ∷ [])) (sym (offered_append c before (event ∷ rest) new))
+          (subst (λ xs. ArePart (queued_in c before new ++ now_came p f ∷ []) (offered_in c before new ++ (xs ++ offered_in c rest q))) (sym o)
+          (part_both (queued_in c before new) (offered_in c before new) (now_came p f ∷ []) (now_came p f ∷ offered_in c rest q) (are_part c before new (run.run).large)
+          (part_front (now_came p f ∷ []) (offered_in c rest q)))))
 
-    abbrev now : ℕ
-    now = (port_after events (new_port ps mtu room)).now
+      go : Taken c p (offered_by c event p) (queued_by c event p) → queued_in c rest q ≡ offered_in c rest q
+          → queued_by c event p ++ queued_in c rest q ≡ offered_by c event p ++ offered_in c rest q
+      go (none_offered o n) same = ap (λ xs. xs ++ queued_in c rest q) n ∙ (same ∙ sym (ap (λ xs. xs ++ offered_in c rest q) o))
+      go (one_queued f o n some) same = ap (λ xs. xs ++ queued_in c rest q) n ∙ (ap (λ xs. now_came p f ∷ xs) same ∙ sym (ap (λ xs. xs ++ offered_in c rest q) o))
+      go (one_full f o n many) same =
+          let k = (scheduled_before ps mtu room a (run.run).rate (run.run).large events before (event ∷ rest) parts (run.run).only c (run.run).scheduled).1.0 in
+          let less = finds_room before (event ∷ rest) parts enough event f k o (part f o) in
+          absurd (omega (arith, many, less))
 
-    started_by : (i : ℕ) (x : Start) → slice_get begun i ≡ Some x → x.at ≤ now
-    started_by i x e = start_before (open_through (a ∷ []) c) ps c all_starts 0 now came begun (held c lc k).wire
-        (queue_of (port_after events (new_port ps mtu room)) c) (held c lc k).served i x e
-
-    come_by_now : (i : ℕ) (f : Came) → slice_get came i ≡ Some f → f.moment ≤ now
-    come_by_now i f e = shared_come (open_through (a ∷ []) c) ps c all_starts 0 now came begun (held c lc k).wire
-        (queue_of (port_after events (new_port ps mtu room)) c) (held c lc k).served i f e
-
-    -- a moment at which the frame at a place starts, or the last moment where it has not
-    record IsMoment (i m : ℕ) : Type 0 where
-      later : (j : ℕ) (z : Start) → slice_get begun j ≡ Some z → i ≤ j → m ≤ z.at
-      earlier : (j : ℕ) (z : Start) → slice_get begun j ≡ Some z → j < i → z.at ≤ m
-      by_now : m ≤ now
-      waits : length begun ≤ i → now ≤ m
-
-    at_start : (i : ℕ) (x : Start) → slice_get begun i ≡ Some x → IsMoment i x.at
-    at_start i x e = record {
-      later = λ j z e' le. rising c lc k i j x z e e' le;
-      earlier = λ j z e' less. rising c lc k j i z x e' e (omega (arith, less));
-      by_now = started_by i x e;
-      waits = λ le. (let within = slice_get_within begun i x e in absurd (omega (arith, within, le)));
+  pub by_judge : IsSharedInTime ps mtu room events c wait waiting
+  by_judge = elim (chain events [] whole).phase [
+    | inl full ↦
+        let h = chain events [] whole in
+        let t = judged events [] whole full (queued_in c events new) h.wire (queue_of (port_after events new) c) h.served (are_part c events new (run.run).large) h.since in
+        record { soon = t.soon; starts = t.starts; few = t.few; all = λ enough. all_taken enough [] events refl }
+    | inr none ↦ record {
+      soon = λ i f x e y. absurd (none_here i f (sym (ap (λ xs. slice_get xs i) none.1) ∙ e));
+      starts = λ i f e past. absurd (none_here i f (sym (ap (λ xs. slice_get xs i) none.1) ∙ e));
+      few = λ i n t f g e h come first. absurd (none_here i f (sym (ap (λ xs. slice_get xs i) none.1) ∙ e));
+      all = λ enough. all_taken enough [] events refl;
     }
-
-    at_now : (i : ℕ) → length begun ≤ i → IsMoment i now
-    at_now i le = record {
-      later = λ j z e' on. (let within = slice_get_within begun j z e' in absurd (omega (arith, within, le, on)));
-      earlier = λ j z e' less. started_by j z e';
-      by_now = le_refl now;
-      waits = λ on. le_refl now;
-    }
-
-    -- where the bounds hold of the times from one on up to which the class may have been waiting
-    module _ (wait waiting : ℕ) (Within : ℕ → ℕ → Type 0)
-        (soon : (t x : ℕ) → Within t x → IsSoon plan c need blocking pitch curve most higher wait t x)
-        (scarce : (t x : ℕ) → Within t x → AreFew plan c need blocking pitch curve most higher waiting t x)
-        (holds : (i m j : ℕ) (f g : Came) (b : IsUp i m) → IsMoment i m → slice_get came i ≡ Some f → i ≤ j → slice_get came j ≡ Some g →
-        (j ≡ i) ⊎ (g.moment ≤ m) → Within ((b.frame).moment - a.change) (g.moment - (b.frame).moment)) where
-      bound : (i m : ℕ) (f : Came) → slice_get came i ≡ Some f → IsUp i m → IsMoment i m → m ≤ f.moment + wait
-      bound i m f e b at =
-          let g = b.frame in
-          let p : ℕ = g.moment - a.change in
-          let from = since_at a.change came b.place g (held c lc k).since b.first in
-          let within = b.within in
-          let parts : i ≡ b.place + (i - b.place) = omega (arith, within) in
-          let there = sym (ap (slice_get came) parts) ∙ e in
-          let order = queued_order c events (new_port ps mtu room) large b.place (i - b.place) g f b.first there in
-          let count = keep.few b.place (i - b.place) g f b.first there in
-          let w = soon p (f.moment - g.moment) (holds i m i f f b at e (le_refl i) e (inl refl)) in
-          let room = (w.1).enough in
-          let early = w.2 in
-          let by = main i m f e b at.later (w.1).behind w.0 (w.1).is (omega (arith, room, count)) in
-          omega (arith, by, early, from, order)
-
-      few_wait : (i n m : ℕ) (f g : Came) → slice_get came i ≡ Some f → slice_get came (i + n) ≡ Some g → IsUp i m → IsMoment i m
-          → g.moment ≤ m → n + 1 ≤ waiting
-      few_wait i n m f g e h b at come =
-          let o = b.frame in
-          let p : ℕ = o.moment - a.change in
-          let from = since_at a.change came b.place o (held c lc k).since b.first in
-          let within = b.within in
-          let parts : i + n ≡ b.place + (i - b.place + n) = omega (arith, within) in
-          let there = sym (ap (slice_get came) parts) ∙ h in
-          let order = queued_order c events (new_port ps mtu room) large b.place (i - b.place + n) o g b.first there in
-          let count = keep.few b.place (i - b.place + n) o g b.first there in
-          let w = scarce p (g.moment - o.moment) (holds i m (i + n) f g b at e (omega arith) h (inr come)) in
-          let all = w.1 in
-          elim w.2 [
-            | inl none ↦ omega (arith, count, all, none)
-            | inr x ↦
-                let room = (x.1).enough in
-                let before = x.2 in
-                elim (cases_lt (i - b.place) w.0) [
-                  | inr more ↦ omega (arith, count, all, more)
-                  | inl less ↦
-                      let by = main i m f e b at.later (x.1).behind x.0 (x.1).is (omega (arith, room, less)) in
-                      absurd (omega (arith, by, before, come, from, order))
-                ]
-          ]
-
-      in_time : IsSharedInTime ps mtu room events c wait waiting
-      in_time = record {
-        soon = λ i f x e y. bound i x.at f e
-            (begun_from (a ∷ []) ps c (need c) all_starts came keep.short now (held c lc k).wire
-            (queue_of (port_after events (new_port ps mtu room)) c) (held c lc k).served i f x e y) (at_start i x y);
-        starts = λ i f e past. elim (cases_lt i (length begun)) [
-          | inl less ↦ less
-          | inr le ↦
-              let late = bound i now f e (waits_from (a ∷ []) ps c (need c) all_starts came keep.short now (held c lc k).wire
-              (queue_of (port_after events (new_port ps mtu room)) c) (held c lc k).served i f e le) (at_now i le) in
-              absurd (omega (arith, late, past))
-        ];
-        few = λ i n t f g e h come first. elim (cases_lt i (length begun)) [
-          | inl less ↦
-              let x = one_at begun i less in
-              let after = first x.0 x.1 in
-              few_wait i n x.0.at f g e h (begun_from (a ∷ []) ps c (need c) all_starts came keep.short now (held c lc k).wire
-              (queue_of (port_after events (new_port ps mtu room)) c) (held c lc k).served i f x.0 e x.1) (at_start i x.0 x.1)
-              (omega (arith, after, come))
-          | inr le ↦
-              few_wait i n now f g e h (waits_from (a ∷ []) ps c (need c) all_starts came keep.short now (held c lc k).wire
-              (queue_of (port_after events (new_port ps mtu room)) c) (held c lc k).served i f e le) (at_now i le)
-              (come_by_now (i + n) g h)
-        ];
-      }
-
-    -- ---- up to when the class may have been waiting
-
-    module _ (wait waiting : ℕ) (rises : (x y : ℕ) → x ≤ y → curve c x ≤ curve c y)
-        (times : (t : ℕ) → IsSharedBusyPeriod plan c need blocking pitch curve most higher wait waiting t) where
-      -- the last frame by a moment, and the one behind it
-      record IsLastBy (place until j : ℕ) : Type 0 where
-        at : ℕ
-        from : place ≤ at
-        before : at < j
-        frame : Came
-        next : Came
-        one : slice_get came at ≡ Some frame
-        two : slice_get came (suc at) ≡ Some next
-        by : frame.moment ≤ until
-        over : until < next.moment
-
-      last_by : (place until n j : ℕ) (o g : Came) → slice_get came place ≡ Some o → o.moment ≤ until → j ≡ place + n
-          → slice_get came j ≡ Some g → until < g.moment → IsLastBy place until j
-      last_by place until zero j o g e le is h over =
-          let same = ap (λ (z : Came). z.moment)
-          (same_Some o g (sym e ∙ (ap (slice_get came) (let z : place ≡ j = omega (arith, is) in z) ∙ h))) in
-          absurd (omega (arith, le, over, same))
-      last_by place until (suc n) j o g e le is h over =
-          let f = one_before came (place + n) j g (omega (arith, is)) h in
-          let at : j ≡ suc (place + n) = omega (arith, is) in
-          elim (cases_lt until (f.0).moment) [
-            | inr by ↦ record {
-              at = place + n;
-              from = omega arith;
-              before = omega (arith, is);
-              frame = f.0;
-              next = g;
-              one = f.1;
-              two = sym
-                  (ap (slice_get came) at) ∙ h;
-              by = by;
-              over = over;
-            }
-            | inl later ↦ (let r = last_by place until n
-                (place + n) o f.0 e le refl f.1 later in let before = r.before in record {
-                  at = r.at;
-                  from = r.from;
-                  before = omega
-                      (arith, before, is);
-                  frame = r.frame;
-                  next = r.next;
-                  one = r.one;
-                  two = r.two;
-                  by = r.by;
-                  over = r.over;
-                })
-          ]
-
-      within_busy : (i m j : ℕ) (f g : Came) (b : IsUp i m) → IsMoment i m → slice_get came i ≡ Some f → i ≤ j → slice_get came j ≡ Some g
-          → (j ≡ i) ⊎ (g.moment ≤ m)
-          → g.moment - (b.frame).moment ≤ (times ((b.frame).moment - a.change)).last
-      within_busy i m j f g b at e le h come = elim (cases_lt last (g.moment - (b.frame).moment)) [
-        | inr within ↦ within
-        | inl over ↦ absurd (goes_over (last_by b.place ((b.frame).moment + last) (j - b.place) j b.frame g b.first (omega arith)
-            (let w = b.within in omega (arith, w, le)) h (omega (arith, over))))
-      ]
-        where
-          p : ℕ
-          p = (b.frame).moment - a.change
-
-          last : ℕ
-          last = (times ((b.frame).moment - a.change)).last
-
-          goes_over : IsLastBy b.place ((b.frame).moment + last) j → ⊥
-          goes_over r =
-              let q = times ((b.frame).moment - a.change) in
-              let since = since_at a.change came b.place b.frame (held c lc k).since b.first in
-              let from = r.from in
-              let parts : r.at ≡ b.place + (r.at - b.place) = omega (arith, from) in
-              let there = sym (ap (slice_get came) parts) ∙ r.one in
-              let count = keep.few b.place (r.at - b.place) b.frame r.frame b.first there in
-              let by = r.by in
-              let up = rises ((r.frame).moment - (b.frame).moment) last (omega (arith, by)) in
-              let space = (q.is).enough in
-              let ends = q.ends in
-              let short = keep.short r.at r.frame r.one in
-              let some = occupancy_pos ps ((r.frame).frame).len some_time in
-              let over = r.over in
-              let next = r.before in
-              let enough : r.at - b.place + 1 + most_above curve most higher (q.slot - p) ≤ (q.is).behind + 1 = omega
-              (arith, space, up, count) in
-              elim (cases_lt r.at i) [
-                | inr behind ↦
-                    let late = main i m f e b at.later (q.is).behind q.slot (q.is).is (omega (arith, enough, behind)) in
-                    let more : suc r.at ≤ j = next in
-                    let to : j ≡ suc r.at + (j - suc r.at) = omega (arith, more) in
-                    let order = queued_order c events (new_port ps mtu room) large (suc r.at) (j - suc r.at) r.next g r.two
-                    (sym (ap (slice_get came) to) ∙ h) in
-                    elim come [
-                      | inl same ↦ omega (arith, same, behind, next)
-                      | inr in_it ↦ omega (arith, late, order, in_it, over, ends, short, some, since)
-                    ]
-                | inl early ↦ elim (cases_lt r.at (length begun)) [
-                  | inl started ↦
-                      let y = one_at begun r.at started in
-                      let sooner = at.earlier r.at y.0 y.1 early in
-                      let own : IsUp r.at y.0.at = record {
-                        place = b.place;
-                        frame = b.frame;
-                        within = from;
-                        first = b.first;
-                        busy = λ t after below fits. b.busy t after (omega (arith, below, sooner)) fits;
-                        clear = b.clear;
-                        joined = λ l z x on less there' own'. b.joined l z x on (omega (arith, less, early)) there' own';
-                      } in
-                      let late = main r.at y.0.at r.frame r.one own (at_start r.at y.0 y.1).later (q.is).behind q.slot (q.is).is enough in
-                      let one = class_one c all_starts r.at y.0 y.1 in
-                      let need_of = run.short one.0 y.0 one.1 in
-                      let class = class_of c all_starts r.at y.0 y.1 in
-                      let needs = ap need class in
-                      let joined = b.joined r.at r.next y.0 from early r.two y.1 in
-                      omega (arith, late, need_of, needs, joined, over, ends, since)
-                  | inr unstarted ↦
-                      let own : IsUp r.at m = record {
-                        place = b.place;
-                        frame = b.frame;
-                        within = from;
-                        first = b.first;
-                        busy = b.busy;
-                        clear = b.clear;
-                        joined = λ l z x on less there' own'. b.joined l z x on (omega (arith, less, early)) there' own';
-                      } in
-                      let late = main r.at m r.frame r.one own
-                      (λ l z there' on. (let within = slice_get_within begun l z there' in absurd
-                      (omega (arith, within, on, unstarted)))) (q.is).behind q.slot (q.is).is enough in
-                      let end = at.waits (omega (arith, unstarted, early)) in
-                      let come_now = come_by_now (suc r.at) r.next r.two in
-                      omega (arith, late, end, come_now, over, ends, short, some, since)
-                ]
-              ]
-
-      in_busy_time : IsSharedInTime ps mtu room events c wait waiting
-      in_busy_time =
-          in_time wait waiting (λ t x. x ≤ (times t).last) (λ t x le. (times t).soon x le) (λ t x le. (times t).few x le) within_busy
+  ]
+    where
+      whole : events ++ [] ≡ events
+      whole = append-nil events
 
 -- ---- the laws
 
-nothing_late : (ps mtu room c wait waiting : ℕ) (events : List Event) → queued_in c events (new_port ps mtu room) ≡ []
-    → IsSharedInTime ps mtu room events c wait waiting
-nothing_late ps mtu room c wait waiting events none = record {
-  soon = λ i f x e y. absurd (none_here i f (sym (ap (λ xs. slice_get xs i) none) ∙ e));
-  starts = λ i f e past. absurd (none_here i f (sym (ap (λ xs. slice_get xs i) none) ∙ e));
-  few = λ i n t f g e h come first. absurd (none_here i f (sym (ap (λ xs. slice_get xs i) none) ∙ e));
-}
-
 pub shared_law : SharedLaw
 shared_law ps mtu room c pitch wait waiting need blocking curve most higher a plan events sharing run bounds =
-    by (held ps mtu room events a (run.run).rate (run.run).large (run.run).only c (run.run).listed (run.run).scheduled).phase
-  where
-    by : ((port_after events (new_port ps mtu room)).history ≡ a ∷ []) ⊎
-        (((port_after events (new_port ps mtu room)).history ≡ []) × (queued_in c events (new_port ps mtu room) ≡ []))
-        → IsSharedInTime ps mtu room events c wait waiting
-    by (inl full) =
-        in_time ps mtu room events a (run.run).rate (run.run).large (run.run).only c (run.run).listed plan (run.run).is (run.run).above need blocking pitch curve most higher
-        sharing.blocked sharing.apart sharing.among run full wait waiting (λ t x. Unit {0})
-        (λ t x in_it. bounds.soon t x) (λ t x in_it. bounds.few t x) (λ i m j f g b at e le h come. tt)
-    by (inr none) = nothing_late ps mtu room c wait waiting events none.1
+    by_judge ps mtu room c pitch wait waiting need blocking curve most higher a plan events run
+    (λ some all now sound few came wire waits served since order conform.
+    in_time ps a some all now c plan (run.run).is (run.run).above need blocking pitch curve most higher sharing.blocked sharing.apart sharing.among sound few came wire waits served since order conform
+    wait waiting (λ t x. Unit {0}) (λ t x in_it. bounds.soon t x) (λ t x in_it. bounds.few t x) (λ i m j f g b at e le h come. tt))
 
 pub shared_busy_law : SharedBusyLaw
 shared_busy_law ps mtu room c pitch wait waiting need blocking curve most higher a plan events sharing run rises times =
-    by (held ps mtu room events a (run.run).rate (run.run).large (run.run).only c (run.run).listed (run.run).scheduled).phase
-  where
-    by : ((port_after events (new_port ps mtu room)).history ≡ a ∷ []) ⊎
-        (((port_after events (new_port ps mtu room)).history ≡ []) × (queued_in c events (new_port ps mtu room) ≡ []))
-        → IsSharedInTime ps mtu room events c wait waiting
-    by (inl full) =
-        in_busy_time ps mtu room events a (run.run).rate (run.run).large (run.run).only c (run.run).listed plan (run.run).is (run.run).above need blocking pitch curve most
-        higher sharing.blocked sharing.apart sharing.among run full wait waiting rises times
-    by (inr none) = nothing_late ps mtu room c wait waiting events none.1
+    by_judge ps mtu room c pitch wait waiting need blocking curve most higher a plan events run
+    (λ some all now sound few came wire waits served since order conform.
+    in_busy_time ps a some all now c plan (run.run).is (run.run).above need blocking pitch curve most higher sharing.blocked sharing.apart sharing.among sound few came wire waits served since order conform
+    wait waiting rises times)

@@ -71,7 +71,7 @@ abbrev pub AreSince : ℕ → List Came → Type 0
 AreSince t [] = Unit {0}
 AreSince t (f ∷ came) = (t ≤ f.moment) × AreSince t came
 
-since_both : (t : ℕ) (xs ys : List Came) → AreSince t xs → AreSince t ys → AreSince t (xs ++ ys)
+pub since_both : (t : ℕ) (xs ys : List Came) → AreSince t xs → AreSince t ys → AreSince t (xs ++ ys)
 since_both t [] ys a b = b
 since_both t (x ∷ xs) ys a b = (a.0, since_both t xs ys a.1 b)
 
@@ -125,7 +125,7 @@ module _ (may : ℕ → ℕ → Bool) (ps c : ℕ) where
       )
 
   -- one more comes now
-  comes : (all : List Start) (free now : ℕ) (came : List Came) (starts : List Start) (wire : ℕ) (waiting : List Frame) (f : Frame)
+  pub comes : (all : List Start) (free now : ℕ) (came : List Came) (starts : List Start) (wire : ℕ) (waiting : List Frame) (f : Frame)
       → AreShared all free now came starts wire waiting
       → AreShared all free now (came ++ record { moment = now; frame = f } ∷ []) starts wire (waiting ++ f ∷ [])
   comes all free now came [] wire waiting f h = record {

