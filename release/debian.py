@@ -20,7 +20,8 @@ Description: transmit port of IEEE 802.1Qbv, exact to the picosecond
  happens, and tells bounds of waits that hold for ever.
  .
  The package has the program, the library for C with its header, the manual
- page, completions, a page for browsers, and the documents. {said}
+ page, completions, a page for browsers, and the documents.
+ {said}
 """
 COPYRIGHT = """Format: https://www.debian.org/doc/packaging-manuals/copyright-format/1.0/
 Upstream-Name: taprio
