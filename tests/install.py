@@ -23,7 +23,7 @@ class Checkout:
     def __init__(self, folder, program, *places):
         self.top = pathlib.Path(folder, "a clone")
         self.top.mkdir()
-        for name in ("install", "taprio_port", "crates.txt", "bench/place", "bench/unproved", *PLACES.values()):
+        for name in ("install", "taprio_port", "crates.txt", "build/place", "build/unproved", *PLACES.values()):
             self.put(name, TOP / name)
         (self.top / "crates" / "port" / "src").mkdir(parents=True)
         for place in places:
