@@ -1,5 +1,5 @@
 #!/usr/bin/env python3
-"""What crates.txt says: bench/crates.py NAME.. prints the libraries of the repository that these crates stand on, and the crates, a line each,
+"""What crates.txt says: build/crates.py NAME.. prints the libraries of the repository that these crates stand on, and the crates, a line each,
 each behind all that it stands on."""
 import pathlib
 import sys
