@@ -212,6 +212,9 @@ fn answer_watched<
     if name == JobName::Check && ended.status == 0 && !writer.is_written() {
         onlooker.warn_of_no_command();
     }
+    if name == JobName::Frames && ended.status == 0 {
+        onlooker.warn_of_none_judged();
+    }
     if ended.status != 4 || !writer.is_closed() {
         let capture = first_octets(files, matches, &text);
         onlooker.report(&text, capture.as_slice());

@@ -7,7 +7,7 @@ use abstract_port::Dropped;
 use arrayvec::ArrayVec;
 use hints::{
     put_busy_class, put_comment, put_failure, put_fault_hint, put_frame_dropped, put_frames_left,
-    put_missed, put_no_command, put_shared_ids,
+    put_missed, put_no_command, put_none_judged, put_shared_ids,
 };
 use job::{CaptureKind, Ended, Errors, FaultKind};
 use octet_writer::put;
@@ -124,6 +124,8 @@ pub(crate) struct Onlooker<'a, 'b, C: Clock, P: Write + Drop, E: Write> {
     comments: u32,
     frames: u32,
     warned: bool,
+    has_deadlines: bool,
+    judged: bool,
     missed: bool,
     ids: StreamIds,
     line: ArrayVec<u8, LINE>,
@@ -145,6 +147,8 @@ impl<'a, 'b, C: Clock, P: Write + Drop, E: Write> Onlooker<'a, 'b, C, P, E> {
             comments: 0,
             frames: 0,
             warned: false,
+            has_deadlines: false,
+            judged: false,
             missed: false,
             ids: StreamIds::new(alloc),
             line: ArrayVec::new(),
@@ -173,6 +177,16 @@ impl<'a, 'b, C: Clock, P: Write + Drop, E: Write> Onlooker<'a, 'b, C, P, E> {
         }
         self.warned = true;
         let _ = put_no_command(self.errors);
+        let _ = self.errors.flush();
+    }
+
+    /// Warns where streams that were read have deadlines, and no frame was judged by one, where that is wanted.
+    pub fn warn_of_none_judged(&mut self) {
+        if !self.looks.warns() || !self.has_deadlines || self.judged {
+            return;
+        }
+        self.warned = true;
+        let _ = put_none_judged(self.errors);
         let _ = self.errors.flush();
     }
 
@@ -268,10 +282,11 @@ impl<C: Clock, P: Write + Drop, E: Write> Watch for Onlooker<'_, '_, C, P, E> {
         }
     }
 
-    fn stream_read(&mut self, number: u32, first_id: u64, count: u32) {
+    fn stream_read(&mut self, number: u32, first_id: u64, count: u32, has_deadline: bool) {
         if !self.looks.warns() {
             return;
         }
+        self.has_deadlines |= has_deadline;
         let Some(later) = ids_of(number, first_id, count) else {
             return;
         };
@@ -282,7 +297,11 @@ impl<C: Clock, P: Write + Drop, E: Write> Watch for Onlooker<'_, '_, C, P, E> {
         }
     }
 
-    fn deadline_failed(&mut self, id: u64, stream: u64, why: Missed) {
+    fn deadline_judged(&mut self, id: u64, stream: u64, missed: Option<Missed>) {
+        self.judged = true;
+        let Some(why) = missed else {
+            return;
+        };
         let told = self.looks.strict && !self.missed;
         self.missed = true;
         if told {

@@ -55,11 +55,13 @@ pub trait Watch {
     /// as short as its shortest one, would be too many.
     fn class_is_busy(&mut self, _number: u32, _class: u8, _every: u128) {}
 
-    /// The line of this number of a table is a stream of so many frames, whose ids count from this one.
-    fn stream_read(&mut self, _number: u32, _first_id: u64, _count: u32) {}
+    /// The line of this number of a table is a stream of so many frames, whose ids count from this one. It may have a
+    /// deadline.
+    fn stream_read(&mut self, _number: u32, _first_id: u64, _count: u32, _has_deadline: bool) {}
 
-    /// The frame of this id is of the stream with this first id, which has a deadline, and isn't in time.
-    fn deadline_failed(&mut self, _id: u64, _stream: u64, _why: Missed) {}
+    /// The frame of this id is of the stream with this first id, which has a deadline. It is in time, or this is why it
+    /// isn't.
+    fn deadline_judged(&mut self, _id: u64, _stream: u64, _missed: Option<Missed>) {}
 }
 
 /// Nobody watches.
