@@ -67,6 +67,11 @@ pub fn put_no_command<W: Write>(writer: &mut W) -> Result<(), WriteFault> {
     )
 }
 
+/// Writes that no frame came in a run.
+pub fn put_no_frame<W: Write>(writer: &mut W) -> Result<(), WriteFault> {
+    put(writer, b"taprio_port: warning: no frame came\n")
+}
+
 /// Writes that no frame of a run was judged by the deadlines of a table.
 pub fn put_none_judged<W: Write>(writer: &mut W) -> Result<(), WriteFault> {
     put(

@@ -37,6 +37,9 @@ pub trait Watch {
     /// This frame, which comes at this moment, in picoseconds, is dropped for this reason.
     fn frame_dropped(&mut self, _moment: u128, _frame: &Frame, _why: Dropped) {}
 
+    /// The run has ended, and frames of this class were queued in it.
+    fn class_used(&mut self, _class: u8) {}
+
     /// The run has ended, and the class still has so many frames, one at least.
     fn frames_left(&mut self, _class: u8, _count: u64) {}
 
