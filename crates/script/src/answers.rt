@@ -229,7 +229,7 @@ pub fn put_tc<A: Allocator, W: PutLine, H: Watch>(
     put_command(port, summary, number, line, &place.answer, writer, watch)
 }
 
-/// Writes how many frames a class still has, where it has some, and calls who watches there.
+/// Writes how many frames a class still has, where it has some, and calls who watches there, and where any were queued.
 fn put_left_in<A: Allocator, W: Write, H: Watch>(
     port: &RunningPort<A>,
     class: u8,
@@ -239,7 +239,11 @@ fn put_left_in<A: Allocator, W: Write, H: Watch>(
     requires { class < CLASSES }
     ensures { Writes result (W.contents writer.old) (W.contents writer.new) (left_text class (length (queue_of port.now.port class))) }
 {
-    let waiting = port.counters(class).waiting;
+    let counters = port.counters(class);
+    if counters.accepted > 0 {
+        watch.class_used(class);
+    }
+    let waiting = counters.waiting;
     if waiting == 0 {
         Ok(())
     } else {

@@ -37,6 +37,9 @@ pub trait Watch {
     /// This frame, which comes at this moment, in picoseconds, is dropped for this reason.
     fn frame_dropped(&mut self, _moment: u128, _frame: &Frame, _why: Dropped) {}
 
+    /// The run has ended, and frames of this class were queued in it.
+    fn class_used(&mut self, _class: u8) {}
+
     /// The run has ended, and the class still has so many frames, one at least.
     fn frames_left(&mut self, _class: u8, _count: u64) {}
 
@@ -55,11 +58,13 @@ pub trait Watch {
     /// as short as its shortest one, would be too many.
     fn class_is_busy(&mut self, _number: u32, _class: u8, _every: u128) {}
 
-    /// The line of this number of a table is a stream of so many frames, whose ids count from this one.
-    fn stream_read(&mut self, _number: u32, _first_id: u64, _count: u32) {}
+    /// The line of this number of a table is a stream of so many frames, whose ids count from this one. It may have a
+    /// deadline.
+    fn stream_read(&mut self, _number: u32, _first_id: u64, _count: u32, _has_deadline: bool) {}
 
-    /// The frame of this id is of the stream with this first id, which has a deadline, and isn't in time.
-    fn deadline_failed(&mut self, _id: u64, _stream: u64, _why: Missed) {}
+    /// The frame of this id is of the stream with this first id, which has a deadline. It is in time, or this is why it
+    /// isn't.
+    fn deadline_judged(&mut self, _id: u64, _stream: u64, _missed: Option<Missed>) {}
 }
 
 /// Nobody watches.
