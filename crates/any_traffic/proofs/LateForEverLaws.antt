@@ -43,7 +43,9 @@ before_later o t k u above begun = same_below (before o t (u + t * k)) (before o
           let more : t * (n + (k - n)) ≡ t * n + t * (k - n) = mul-add t n (k - n) in
           let at : n + (k - n) ≡ k = omega (arith, few) in
           let whole : t * (n + (k - n)) ≡ t * k = ap (λ m. t * m) at in
-          let some : 1 ≤ t * (k - n) = (let left : k - n ≡ suc (k - n - 1) = omega (arith, few) in let parts : t * suc (k - n - 1) ≡ t * (k - n - 1) + t = mul-suc t (k - n - 1) in let same : t * (k - n) ≡ t * suc (k - n - 1) = ap (λ m. t * m) left in omega (arith, parts, same, above)) in
+          let some : 1 ≤ t * (k - n) = (let left : k - n ≡ suc (k - n - 1) = omega (arith, few) in let parts : t * suc (k - n - 1) ≡ t *
+          (k - n - 1) + t = mul-suc t (k - n - 1) in let same : t * (k - n) ≡ t * suc (k - n - 1) = ap (λ m. t * m) left in omega
+          (arith, parts, same, above)) in
           before_of o t n (u + t * k) above (omega (arith, more, whole, some, begun))
       | inr more ↦
           let at : n ≡ k + (n - k) = omega (arith, more) in
@@ -56,7 +58,8 @@ before_later o t k u above begun = same_below (before o t (u + t * k)) (before o
 -- ---- of all flows
 
 abbrev IsWhole : List PeriodicFlow → (from every : ℕ) → Type 0
-IsWhole flows from every = (i : ℕ) (flow : PeriodicFlow) → slice_get flows i ≡ Some flow → (flow.offset + flow.jitter ≤ from) × ((n : ℕ) × (every ≡ flow.period * n))
+IsWhole flows from every = (i : ℕ) (flow : PeriodicFlow) → slice_get flows i ≡ Some flow → (flow.offset + flow.jitter ≤ from) ×
+    ((n : ℕ) × (every ≡ flow.period * n))
 
 -- so many more come in that time
 record Again (flows : List PeriodicFlow) (from every : ℕ) : Type 0 where
@@ -76,14 +79,17 @@ again (flow ∷ flows) from every above whole =
     record {
       more = n + rest.more;
       must = λ t le.
-          let same = ap (λ e. before (flow.offset + flow.jitter) flow.period (t + e)) is ∙ before_later (flow.offset + flow.jitter) flow.period n t period (omega (arith, begun, le)) in
+          let same = ap (λ e. before (flow.offset + flow.jitter) flow.period (t + e)) is ∙ before_later
+          (flow.offset + flow.jitter) flow.period n t period (omega (arith, begun, le)) in
           let others = rest.must t le in
           let a = sum_by-cons (λ (f : PeriodicFlow). before (f.offset + f.jitter) f.period (t + every)) flow flows in
           let b = sum_by-cons (λ (f : PeriodicFlow). before (f.offset + f.jitter) f.period t) flow flows in
           omega (arith, same, others, a, b);
       can = λ t le.
           let at : t + every + 1 ≡ t + 1 + every = omega arith in
-          let same = ap (before flow.offset flow.period) at ∙ (ap (λ e. before flow.offset flow.period (t + 1 + e)) is ∙ before_later flow.offset flow.period n (t + 1) period (omega (arith, begun, le))) in
+          let same = ap (before flow.offset flow.period) at ∙
+          (ap (λ e. before flow.offset flow.period (t + 1 + e)) is ∙ before_later flow.offset flow.period n (t + 1) period
+          (omega (arith, begun, le))) in
           let others = rest.can t le in
           let a = sum_by-cons (λ (f : PeriodicFlow). before f.offset f.period (t + every + 1)) flow flows in
           let b = sum_by-cons (λ (f : PeriodicFlow). before f.offset f.period (t + 1)) flow flows in
@@ -104,7 +110,8 @@ module _ (may : ℕ → ℕ → Bool) (d : ℕ) where
   one_free flows zero x y a b = a ∙ sym b
   one_free flows (suc t) x y a b =
       let same = one_free flows t a.0 b.0 a.1 b.1 in
-      one_sent t (must_before flows (suc t) - must_before flows t) b.0 x y (subst (λ w. AreSent may d t (must_before flows (suc t) - must_before flows t) w x) same a.2) b.2
+      one_sent t (must_before flows (suc t) - must_before flows t) b.0 x y
+      (subst (λ w. AreSent may d t (must_before flows (suc t) - must_before flows t) w x) same a.2) b.2
 
   module _ (e : ℕ) (repeats : Repeats may e) where
     -- so much later
@@ -119,7 +126,8 @@ module _ (may : ℕ → ℕ → Bool) (d : ℕ) where
         )
 
     -- where the wire is taken for as long
-    sent_again : (t n free x other : ℕ) → max (t + e) other ≡ max t free + e → AreSent may d t n free x → (y : ℕ) × AreSent may d (t + e) n other y × (max (t + e) y ≡ max t x + e)
+    sent_again : (t n free x other : ℕ) → max (t + e) other ≡ max t free + e → AreSent may d t n free x
+        → (y : ℕ) × AreSent may d (t + e) n other y × (max (t + e) y ≡ max t x + e)
     sent_again t zero free x other alike same = (other, refl, (let is = same in omega (arith, alike, is)))
     sent_again t (suc n) free x other alike sent =
         let on : sent.0 + d + e ≡ sent.0 + e + d = omega arith in (
@@ -136,7 +144,8 @@ module _ (may : ℕ → ℕ → Bool) (d : ℕ) where
     more : Again flows from every
     more = again flows from every above r.whole
 
-    free_again : (j x : ℕ) → IsFreeFrom may d flows (from + j) x → (y : ℕ) × IsFreeFrom may d flows (from + j + every) y × (max (from + j + every) y ≡ max (from + j) x + every)
+    free_again : (j x : ℕ) → IsFreeFrom may d flows (from + j) x
+        → (y : ℕ) × IsFreeFrom may d flows (from + j + every) y × (max (from + j + every) y ≡ max (from + j) x + every)
     free_again zero x f =
         let at : from + 0 ≡ from = omega arith in
         let same = one_free flows from x r.old (subst (λ t. IsFreeFrom may d flows t x) at f) r.was in
@@ -154,11 +163,13 @@ module _ (may : ℕ → ℕ → Bool) (d : ℕ) where
         let next = more.must (suc u) (omega arith) in
         let on : suc u + every ≡ suc (u + every) = omega arith in
         let then = ap (must_before flows) on in
-        let count : must_before flows (suc u) - must_before flows u ≡ must_before flows (suc (u + every)) - must_before flows (u + every) = omega (arith, here, next, then) in
+        let count : must_before flows (suc u) - must_before flows u ≡ must_before flows (suc (u + every)) - must_before flows
+        (u + every) = omega (arith, here, next, then) in
         let w = sent_again every r.gates u (must_before flows (suc u) - must_before flows u) g.0 x was.0 was.2 g.2 in
         let alike = w.2 in (
           w.0,
-          subst (λ t. IsFreeFrom may d flows t w.0) (sym (ap (λ t. t + every) at ∙ on)) (was.0, was.1, subst (λ c. AreSent may d (u + every) c was.0 w.0) count w.1),
+          subst (λ t. IsFreeFrom may d flows t w.0) (sym (ap (λ t. t + every) at ∙ on))
+              (was.0, was.1, subst (λ c. AreSent may d (u + every) c was.0 w.0) count w.1),
           omega (arith, alike),
         )
 
@@ -170,18 +181,21 @@ module _ (may : ℕ → ℕ → Bool) (d : ℕ) where
         let alike : max (t + every) w.0 ≡ max t h.0 + every = subst (λ u. max (u + every) w.0 ≡ max u h.0 + every) at w.2 in
         let must = more.must t le in
         let can = more.can t le in
-        let count : can_by flows t - must_before flows t - 1 ≡ can_by flows (t + every) - must_before flows (t + every) - 1 = omega (arith, must, can) in (
+        let count : can_by flows t - must_before flows t - 1 ≡ can_by flows (t + every) - must_before flows (t + every) - 1 = omega
+        (arith, must, can) in (
           w.0,
           free,
           subst (λ k. IsSlot may d (max (t + every) w.0) k (s + every)) count
-          (subst (λ k. IsSlot may d k (can_by flows t - must_before flows t - 1) (s + every)) (sym alike) (slot_later may d every (max t h.0) (can_by flows t - must_before flows t - 1) s r.gates h.2)),
+              (subst (λ k. IsSlot may d k (can_by flows t - must_before flows t - 1) (s + every)) (sym alike)
+              (slot_later may d every (max t h.0) (can_by flows t - must_before flows t - 1) s r.gates h.2)),
         )
 
 pub late_for_ever_law : LateForEverLaw
 late_for_ever_law may d flows from every these r t s le h = late_again may d flows from every (λ i f e. (these i f e).0) r t s le h
 
 pub late_enough_law : LateEnoughLaw
-late_enough_law may d flows from every waits these r upto_then upto i n wait flow place time less = all (suc n) n (let z : n < suc n = omega arith in z)
+late_enough_law may d flows from every waits these r upto_then upto i n wait flow place time less = all (suc n) n
+    (let z : n < suc n = omega arith in z)
   where
     all : (fuel n : ℕ) → n < fuel → (s : ℕ) × IsLateStart may d flows (window_of flow n).latest s × (s ≤ (window_of flow n).earliest + wait)
     all zero n less = absurd (omega (arith, less))
@@ -210,7 +224,8 @@ late_enough_law may d flows from every waits these r upto_then upto i n wait flo
           | inr ok ↦ ok
           | inl less ↦
               let at : k ≡ n + suc (k - n - 1) = omega (arith, less) in
-              let parts : flow.period * (n + suc (k - n - 1)) ≡ flow.period * n + flow.period * suc (k - n - 1) = mul-add flow.period n (suc (k - n - 1)) in
+              let parts : flow.period * (n + suc (k - n - 1)) ≡ flow.period * n + flow.period * suc (k - n - 1) = mul-add flow.period n
+              (suc (k - n - 1)) in
               let whole : flow.period * k ≡ flow.period * (n + suc (k - n - 1)) = ap (λ m. flow.period * m) at in
               let more : flow.period * suc (k - n - 1) ≡ flow.period * (k - n - 1) + flow.period = mul-suc flow.period (k - n - 1) in
               let above = (these i flow place).0 in

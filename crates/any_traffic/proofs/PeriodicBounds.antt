@@ -12,9 +12,11 @@ use Rattle.any_traffic.proofs.OwnStarts.{apart_run_law, least_start_law, own_sta
 use Rattle.any_traffic.proofs.PeriodicWindowLaws.{periodic_window_law, the_frame}
 
 pub periodic_bounds_law : PeriodicBoundsLaw
-periodic_bounds_law ps mtu room class d a plan events flows numbers waits from every r these c recurs bounded k i n wait f flow e number place time =
+periodic_bounds_law ps mtu room class d a plan events flows numbers waits from every r these c recurs bounded k i n wait f flow e number
+    place time =
     let latest : ℕ = (window_of flow n).latest in
-    let late = late_enough_law (may_by plan class) d flows from every waits these recurs bounded (suc latest) i n wait flow place time (let z : latest < suc latest = omega arith in z) in
+    let late = late_enough_law (may_by plan class) d flows from every waits these recurs bounded (suc latest) i n wait flow place time
+    (let z : latest < suc latest = omega arith in z) in
     let within = late.2 in
     let starts = periodic_window_law ps mtu room class d a plan events flows numbers r these c k i n late.0 f flow e number place late.1 in
     let run = apart_run_law ps mtu room class a plan events r in
@@ -22,13 +24,15 @@ periodic_bounds_law ps mtu room class d a plan events flows numbers waits from e
     let early = mine.0.0 in
     let short = mine.2 in
     record {
-      least = λ x s y first. least_start_law ps mtu room class flow.shortest (window_of flow n).earliest s k a plan events f x run e y early mine.1 first;
+      least = λ x s y first. least_start_law ps mtu room class flow.shortest
+          (window_of flow n).earliest s k a plan events f x run e y early mine.1 first;
       soon = λ x y. (let by = starts.0 x y in omega (arith, by, within));
       ends = λ x y.
           let by = starts.0 x y in
           let own = own_starts_law ps mtu room class a plan events run k x y in
           let same : own.0 ≡ f = same_Some own.0 f (sym own.1 ∙ e) in
-          let end : x.«end» ≡ x.at + occupancy_of ps f.frame.len = ap (λ (z : Start). z.«end») own.2 ∙ ap (λ (g : Came). x.at + occupancy_of ps g.frame.len) same in
+          let end : x.«end» ≡ x.at + occupancy_of ps f.frame.len = ap (λ (z : Start). z.«end») own.2 ∙ ap
+          (λ (g : Came). x.at + occupancy_of ps g.frame.len) same in
           omega (arith, by, within, end, short);
       starts = λ past. starts.1 (omega (arith, past, within));
     }

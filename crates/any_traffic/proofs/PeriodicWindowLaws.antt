@@ -34,7 +34,8 @@ pub before_of : (o t n u : ℕ) → 0 < t → o + t * n < u → n < before o t u
 before_of o t n u above less =
     let parts : (n + 1) * t ≡ n * t + 1 * t = add-mul n 1 t in
     let turned = mul_comm n t in
-    let all : n + 1 ≤ before o t u = (le-div_iff_mul-le above).1 (let z : (n + 1) * t ≤ u - o + (t - 1) = omega (arith, less, parts, turned, above) in z) in
+    let all : n + 1 ≤ before o t u = (le-div_iff_mul-le above).1
+    (let z : (n + 1) * t ≤ u - o + (t - 1) = omega (arith, less, parts, turned, above) in z) in
     omega (arith, all)
 
 -- no fewer where they come no later, by a later moment
@@ -55,7 +56,8 @@ HavePeriod flows = (i : ℕ) (flow : PeriodicFlow) → slice_get flows i ≡ Som
 pub must_more : (flows : List PeriodicFlow) (u v : ℕ) → HavePeriod flows → u ≤ v → must_before flows u ≤ must_before flows v
 must_more [] u v above le = omega arith
 must_more (flow ∷ flows) u v above le =
-    let here = before_more (flow.offset + flow.jitter) (flow.offset + flow.jitter) flow.period u v (above 0 flow refl) (le_refl (flow.offset + flow.jitter)) le in
+    let here = before_more (flow.offset + flow.jitter) (flow.offset + flow.jitter) flow.period u v (above 0 flow refl)
+    (le_refl (flow.offset + flow.jitter)) le in
     let rest = must_more flows u v (λ i f e. above (suc i) f e) le in
     let a = sum_by-cons (λ (f : PeriodicFlow). before (f.offset + f.jitter) f.period u) flow flows in
     let b = sum_by-cons (λ (f : PeriodicFlow). before (f.offset + f.jitter) f.period v) flow flows in
@@ -65,10 +67,12 @@ must_more (flow ∷ flows) u v above le =
 abbrev pub wide_of : (p t : ℕ) → PeriodicFlow → ℕ
 wide_of p t flow = before flow.offset flow.period (t + 1) - before (flow.offset + flow.jitter) flow.period p
 
-pub all_wide : (flows : List PeriodicFlow) (p t : ℕ) → HavePeriod flows → p ≤ t → sum_by (wide_of p t) flows + must_before flows p ≡ can_by flows t
+pub all_wide : (flows : List PeriodicFlow) (p t : ℕ) → HavePeriod flows → p ≤ t
+    → sum_by (wide_of p t) flows + must_before flows p ≡ can_by flows t
 all_wide [] p t above le = refl
 all_wide (flow ∷ flows) p t above le =
-    let here = before_more (flow.offset + flow.jitter) flow.offset flow.period p (t + 1) (above 0 flow refl) (let z : flow.offset ≤ flow.offset + flow.jitter = omega arith in z) (let z : p ≤ t + 1 = omega (arith, le) in z) in
+    let here = before_more (flow.offset + flow.jitter) flow.offset flow.period p (t + 1) (above 0 flow refl)
+    (let z : flow.offset ≤ flow.offset + flow.jitter = omega arith in z) (let z : p ≤ t + 1 = omega (arith, le) in z) in
     let rest = all_wide flows p t (λ i f e. above (suc i) f e) le in
     let a = sum_by-cons (wide_of p t) flow flows in
     let b = sum_by-cons (λ (f : PeriodicFlow). before (f.offset + f.jitter) f.period p) flow flows in
@@ -93,7 +97,14 @@ module _ (may : ℕ → ℕ → Bool) (d : ℕ) where
       let a = sooner may d (w.1 + d) (max t free) s (omega (arith, from)) h in
       let before = a.2 in
       let at : suc (w.0 + 0) ≡ suc w.0 = omega arith in
-      inr (suc w.0, a.0, omega (arith, count), subst (λ k. IsSlot may d p k a.0) at (both_slots may d p w.0 0 w.1 a.0 w.3 a.1), omega (arith, before))
+      inr (
+        suc w.0,
+        a.0,
+        omega (arith, count),
+        subst (λ k. IsSlot may d p k a.0) at (both_slots may d p w.0 0 w.1 a.0 w.3 a.1),
+        omega
+            (arith, before),
+      )
 
   sent_past : (p t n c free later : ℕ) → p ≤ t → IsPast p c free → AreSent may d t n free later → IsPast p (c + n) later
   sent_past p t zero c free later le past same =
@@ -112,15 +123,21 @@ module _ (may : ℕ → ℕ → Bool) (d : ℕ) where
         let was = free_past p j g.0 g.1 in
         let first = must_more flows p (p + j) above (omega arith) in
         let last = must_more flows (p + j) (suc (p + j)) above (omega arith) in
-        let count : must_before flows (p + j) - must_before flows p + (must_before flows (suc (p + j)) - must_before flows (p + j)) ≡ must_before flows (suc (p + j)) - must_before flows p = omega (arith, first, last) in
+        let count : must_before flows (p + j) - must_before flows p +
+        (must_before flows (suc (p + j)) - must_before flows (p + j)) ≡ must_before flows (suc (p + j)) - must_before flows p = omega
+        (arith, first, last) in
         subst (λ t. IsPast p (must_before flows t - must_before flows p) free) (sym at)
-        (subst (λ c. IsPast p c free) count (sent_past p (p + j) (must_before flows (suc (p + j)) - must_before flows (p + j)) (must_before flows (p + j) - must_before flows p) g.0 free (omega arith) was g.2))
+        (subst (λ c. IsPast p c free) count
+        (sent_past p (p + j) (must_before flows (suc (p + j)) - must_before flows (p + j))
+        (must_before flows (p + j) - must_before flows p) g.0 free (omega arith) was g.2))
 
     -- where so many may have come from p on the late start is no sooner than the slot behind the others
-    pub late_past : (p t s c : ℕ) → p ≤ t → IsLateStart may d flows t s → suc c ≤ can_by flows t - must_before flows p → (r : ℕ) × IsSlot may d p c r × (r ≤ s)
+    pub late_past : (p t s c : ℕ) → p ≤ t → IsLateStart may d flows t s → suc c ≤ can_by flows t - must_before flows p
+        → (r : ℕ) × IsSlot may d p c r × (r ≤ s)
     late_past p t s c le h some =
         let at : p + (t - p) ≡ t = omega (arith, le) in
-        let past = subst (λ u. IsPast p (must_before flows u - must_before flows p) h.0) at (free_past p (t - p) h.0 (subst (λ u. IsFreeFrom may d flows u h.0) (sym at) h.1)) in
+        let past = subst (λ u. IsPast p (must_before flows u - must_before flows p) h.0) at
+        (free_past p (t - p) h.0 (subst (λ u. IsFreeFrom may d flows u h.0) (sym at) h.1)) in
         by past
       where
         m : ℕ
@@ -154,7 +171,8 @@ module _ (may : ℕ → ℕ → Bool) (d : ℕ) where
 no_flow : PeriodicFlow
 no_flow = record { offset = 0; period = 0; jitter = 0; shortest = 0; longest = 0 }
 
-module _ (ps d change : ℕ) (plan : Plan) (class : ℕ) (flows : List PeriodicFlow) (numbers : List (ℕ × ℕ)) (came : List Came) (above : HavePeriod flows) (c : ComeByFlows ps change flows numbers came)
+module _ (ps d change : ℕ) (plan : Plan) (class : ℕ) (flows : List PeriodicFlow) (numbers : List (ℕ × ℕ)) (came : List Came)
+    (above : HavePeriod flows) (c : ComeByFlows ps change flows numbers came)
     (order : (k n : ℕ) (f g : Came) → slice_get came k ≡ Some f → slice_get came (k + n) ≡ Some g → f.moment ≤ g.moment) where
   abbrev low : ℕ → ℕ → ℕ
   low p i = (λ (flow : PeriodicFlow). before (flow.offset + flow.jitter) flow.period p) (get_or flows i no_flow)
@@ -163,7 +181,8 @@ module _ (ps d change : ℕ) (plan : Plan) (class : ℕ) (flows : List PeriodicF
   wide p t i = wide_of p t (get_or flows i no_flow)
 
   -- so many may have come from when the first of them came
-  as_many : (j n t : ℕ) (g f : Came) → slice_get came j ≡ Some g → slice_get came (j + n) ≡ Some f → change ≤ g.moment → f.moment ≤ change + t
+  as_many : (j n t : ℕ) (g f : Came) → slice_get came j ≡ Some g → slice_get came (j + n) ≡ Some f → change ≤ g.moment
+      → f.moment ≤ change + t
       → suc n ≤ can_by flows t - must_before flows (g.moment - change)
   as_many j n t g f first at since by =
       let to = order j n g f first at in
@@ -191,7 +210,8 @@ module _ (ps d change : ℕ) (plan : Plan) (class : ℕ) (flows : List PeriodicF
       is_pair : (k : ℕ) (x : ℕ × ℕ) → slice_get numbers (j + k) ≡ Some x → pair k ≡ x
       is_pair k x e = get_or_from_slice_get numbers (j + k) x (0, 0) e
 
-      within : (k : ℕ) → k < suc n → (place k < length flows) × (low p (place k) ≤ number k) × (number k < low p (place k) + wide p t (place k))
+      within : (k : ℕ) → k < suc n
+          → (place k < length flows) × (low p (place k) ≤ number k) × (number k < low p (place k) + wide p t (place k))
       within k less =
           let h = frame k less in
           let e = c.each (j + k) h.0 h.1 in
@@ -207,13 +227,17 @@ module _ (ps d change : ℕ) (plan : Plan) (class : ℕ) (flows : List PeriodicF
           let parts : j + n ≡ j + k + (n - k) = omega (arith, less) in
           let to = order (j + k) (n - k) h.0 f h.1 (sym (ap (slice_get came) parts) ∙ at) in
           let period = above i flow e.4 in
-          let can : m < before flow.offset flow.period (t + 1) = before_of flow.offset flow.period m (t + 1) period (omega (arith, early, to, by)) in
-          let must : before (flow.offset + flow.jitter) flow.period p ≤ m = elim (cases_lt m (before (flow.offset + flow.jitter) flow.period p)) [
+          let can : m < before flow.offset flow.period (t + 1) = before_of flow.offset flow.period m (t + 1) period
+          (omega (arith, early, to, by)) in
+          let must : before (flow.offset + flow.jitter) flow.period p ≤ m = elim
+          (cases_lt m (before (flow.offset + flow.jitter) flow.period p)) [
             | inr fits ↦ fits
-            | inl gone ↦ (let was = before_is (flow.offset + flow.jitter) flow.period m p period gone in absurd (omega (arith, was, late, from, since)))
+            | inl gone ↦ (let was = before_is (flow.offset + flow.jitter) flow.period m p period gone in absurd
+                (omega (arith, was, late, from, since)))
           ] in
           subst (λ (x : ℕ × ℕ). (x.0 < length flows) × (low p x.0 ≤ x.1) × (x.1 < low p x.0 + wide p t x.0)) (sym is)
-          (subst (λ (y : PeriodicFlow). (i < length flows) × (before (y.offset + y.jitter) y.period p ≤ m) × (m < before (y.offset + y.jitter) y.period p + wide_of p t y)) (sym here)
+          (subst (λ (y : PeriodicFlow). (i < length flows) × (before (y.offset + y.jitter) y.period p ≤ m) ×
+          (m < before (y.offset + y.jitter) y.period p + wide_of p t y)) (sym here)
           (in_it, must, omega (arith, can, must)))
 
       apart : (x y : ℕ) → x < suc n → y < suc n → place x ≡ place y → number x ≡ number y → x ≡ y
@@ -231,7 +255,8 @@ module _ (ps d change : ℕ) (plan : Plan) (class : ℕ) (flows : List PeriodicF
           omega (arith, one)
 
   -- what is by a slot of the frame or of one before it is by the late start
-  pub by_late : (k m n moment t s : ℕ) (f : Came) → m + n ≡ k → IsBySlot plan class d change came m moment → slice_get came k ≡ Some f → f.moment ≤ change + t
+  pub by_late : (k m n moment t s : ℕ) (f : Came) → m + n ≡ k → IsBySlot plan class d change came m moment → slice_get came k ≡ Some f
+      → f.moment ≤ change + t
       → IsLateStart (may_by plan class) d flows t s → moment ≤ change + s
   by_late k m n moment t s f is b e by h =
       let g = b.frame in
@@ -249,8 +274,10 @@ module _ (ps d change : ℕ) (plan : Plan) (class : ℕ) (flows : List PeriodicF
       omega (arith, late, first, second)
 
 -- a frame of a number is in its window
-pub the_frame : (ps change : ℕ) (flows : List PeriodicFlow) (numbers : List (ℕ × ℕ)) (came : List Came) → ComeByFlows ps change flows numbers came
-    → (k i n : ℕ) (f : Came) (flow : PeriodicFlow) → slice_get came k ≡ Some f → slice_get numbers k ≡ Some (i, n) → slice_get flows i ≡ Some flow
+pub the_frame : (ps change : ℕ) (flows : List PeriodicFlow) (numbers : List (ℕ × ℕ)) (came : List Came)
+    → ComeByFlows ps change flows numbers came
+    → (k i n : ℕ) (f : Came) (flow : PeriodicFlow) → slice_get came k ≡ Some f → slice_get numbers k ≡ Some (i, n)
+    → slice_get flows i ≡ Some flow
     → IsIn change (window_of flow n) f.moment × (flow.shortest ≤ occupancy_of ps f.frame.len) × (occupancy_of ps f.frame.len ≤ flow.longest)
 the_frame ps change flows numbers came c k i n f flow e number place =
     let own = c.each k f e in
@@ -258,7 +285,8 @@ the_frame ps change flows numbers came c k i n f flow e number place =
     let same_place : own.0 ≡ i = ap (λ (x : ℕ × ℕ). x.0) same in
     let same_number : own.1 ≡ n = ap (λ (x : ℕ × ℕ). x.1) same in
     let same_flow : own.2 ≡ flow = same_Some own.2 flow (sym own.4 ∙ (ap (slice_get flows) same_place ∙ place)) in
-    subst (λ (x : PeriodicFlow). IsIn change (window_of x n) f.moment × (x.shortest ≤ occupancy_of ps f.frame.len) × (occupancy_of ps f.frame.len ≤ x.longest)) same_flow
+    subst (λ (x : PeriodicFlow). IsIn change (window_of x n) f.moment × (x.shortest ≤ occupancy_of ps f.frame.len) ×
+    (occupancy_of ps f.frame.len ≤ x.longest)) same_flow
     (subst (λ m. IsIn change (window_of own.2 m) f.moment) same_number own.5, own.6, own.7)
 
 pub periodic_window_law : PeriodicWindowLaw
@@ -275,14 +303,16 @@ periodic_window_law ps mtu room class d a plan events flows numbers r these c k 
     let order = queued_order class events p r.large in
     let late = (the_frame ps a.change flows numbers came c k i n f flow e number place).0.1 in
     let t : ℕ = (window_of flow n).latest in (
-      λ x y. by_late ps d a.change plan class flows numbers came above c order k k 0 x.at t s f (let z : k + 0 ≡ k = omega arith in z) (slots.starts k f x e y) e late last,
+      λ x y. by_late ps d a.change plan class flows numbers came above c order k k 0 x.at t s f (let z : k + 0 ≡ k = omega arith in z)
+          (slots.starts k f x e y) e late last,
       λ past. elim (cases_lt k (length (started ps mtu room class events))) [
         | inl less ↦ less
         | inr more ↦
             let m : ℕ = length (started ps mtu room class events) in
             let g = one_before came m k f more e in
             let parts : m + (k - m) ≡ k = omega (arith, more) in
-            let not_yet = by_late ps d a.change plan class flows numbers came above c order k m (k - m) (end_of_run ps mtu room events) t s f parts (slots.waits g.0 g.1) e late last in
+            let not_yet = by_late ps d a.change plan class flows numbers came above c order k m (k - m)
+            (end_of_run ps mtu room events) t s f parts (slots.waits g.0 g.1) e late last in
             absurd (omega (arith, not_yet, past))
       ],
     )

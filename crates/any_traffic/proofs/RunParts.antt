@@ -100,7 +100,8 @@ later_after t (y ∷ xs) zero x h e = subst (λ (z : Start). t ≤ z.at) (same_S
 later_after t (y ∷ xs) (suc k) x h e = later_after t xs k x h.1 e
 
 -- one of two parts
-pub either_part : {X : Type 0} (xs ys : List X) (k : ℕ) (x : X) → slice_get (xs ++ ys) k ≡ Some x → (slice_get xs k ≡ Some x) ⊎ ((j : ℕ) × (slice_get ys j ≡ Some x))
+pub either_part : {X : Type 0} (xs ys : List X) (k : ℕ) (x : X) → slice_get (xs ++ ys) k ≡ Some x
+    → (slice_get xs k ≡ Some x) ⊎ ((j : ℕ) × (slice_get ys j ≡ Some x))
 either_part [] ys k x e = inr (k, e)
 either_part (y ∷ xs) ys zero x e = inl e
 either_part (y ∷ xs) ys (suc k) x e = either_part xs ys k x e
@@ -131,26 +132,31 @@ module _ (c : ℕ) (a : Accepted) (pace : ℕ) (lc : c < 8) (pos : 0 < pace) whe
 
 -- ---- two parts of a run
 
-pub queued_append : (c : ℕ) (xs ys : List Event) (p : AbstractPort) → queued_in c (xs ++ ys) p ≡ queued_in c xs p ++ queued_in c ys (port_after xs p)
+pub queued_append : (c : ℕ) (xs ys : List Event) (p : AbstractPort)
+    → queued_in c (xs ++ ys) p ≡ queued_in c xs p ++ queued_in c ys (port_after xs p)
 queued_append c [] ys p = refl
 queued_append c (x ∷ xs) ys p =
     ap (λ r. queued_by c x p ++ r) (queued_append c xs ys (answers_to x p).1)
     ∙ sym (append_assoc (queued_by c x p) (queued_in c xs (answers_to x p).1) (queued_in c ys (port_after xs (answers_to x p).1)))
 
-pub offered_append : (c : ℕ) (xs ys : List Event) (p : AbstractPort) → offered_in c (xs ++ ys) p ≡ offered_in c xs p ++ offered_in c ys (port_after xs p)
+pub offered_append : (c : ℕ) (xs ys : List Event) (p : AbstractPort)
+    → offered_in c (xs ++ ys) p ≡ offered_in c xs p ++ offered_in c ys (port_after xs p)
 offered_append c [] ys p = refl
 offered_append c (x ∷ xs) ys p =
     ap (λ r. offered_by c x p ++ r) (offered_append c xs ys (answers_to x p).1)
     ∙ sym (append_assoc (offered_by c x p) (offered_in c xs (answers_to x p).1) (offered_in c ys (port_after xs (answers_to x p).1)))
 
-pub starts_append : (xs ys : List Event) (p : AbstractPort) → starts_in (answers_of (xs ++ ys) p) ≡ starts_in (answers_of xs p) ++ starts_in (answers_of ys (port_after xs p))
+pub starts_append : (xs ys : List Event) (p : AbstractPort)
+    → starts_in (answers_of (xs ++ ys) p) ≡ starts_in (answers_of xs p) ++ starts_in (answers_of ys (port_after xs p))
 starts_append xs ys p = ap starts_in (answers_of-append xs ys p) ∙ starts_in-append (answers_of xs p) (answers_of ys (port_after xs p))
 
-pub scheduled_both : (c : ℕ) (xs ys : List Event) (p : AbstractPort) → AreScheduled c (xs ++ ys) p → AreScheduled c xs p × AreScheduled c ys (port_after xs p)
+pub scheduled_both : (c : ℕ) (xs ys : List Event) (p : AbstractPort) → AreScheduled c (xs ++ ys) p
+    → AreScheduled c xs p × AreScheduled c ys (port_after xs p)
 scheduled_both c [] ys p k = (tt, k)
 scheduled_both c (x ∷ xs) ys p k = (let rest = scheduled_both c xs ys (answers_to x p).1 k.1 in ((k.0, rest.0), rest.1))
 
-pub only_both : (a : Accepted) (xs ys : List Event) (p : AbstractPort) → IsOnly a (xs ++ ys) p → IsOnly a xs p × IsOnly a ys (port_after xs p)
+pub only_both : (a : Accepted) (xs ys : List Event) (p : AbstractPort) → IsOnly a (xs ++ ys) p
+    → IsOnly a xs p × IsOnly a ys (port_after xs p)
 only_both a [] ys p k = (tt, k)
 only_both a (x ∷ xs) ys p k = (let rest = only_both a xs ys (answers_to x p).1 k.1 in ((k.0, rest.0), rest.1))
 

@@ -116,7 +116,8 @@ module _ (ps mtu room : ℕ) (a : Accepted) (rate : 80 ≤ ps) (large : 68 ≤ m
         let few = w.waits i n (min t there.now) f g (whole i f e) (whole (i + n) g h) (omega (arith, come, by))
         (λ x e'. elim (either_part mine later i x (sym (ap (λ xs. slice_get xs i) own) ∙ e')) [
           | inl early ↦ (let at = first x early in omega (arith, at))
-          | inr late ↦ (let at = later_after there.now later late.0 x (after_class there.now c (starts_in (answers_of rest there)) behind) late.1 in omega (arith, at))
+          | inr late ↦ (let at = later_after there.now later late.0 x
+              (after_class there.now c (starts_in (answers_of rest there)) behind) late.1 in omega (arith, at))
         ]) in
         few;
   }
@@ -141,28 +142,33 @@ module _ (ps mtu room : ℕ) (a : Accepted) (rate : 80 ≤ ps) (large : 68 ≤ m
 
       part : ArePart (offered_in c before fresh) (offered_in c events fresh)
       part = subst (λ xs. ArePart (offered_in c before fresh) (offered_in c xs fresh)) parts
-          (subst (ArePart (offered_in c before fresh)) (sym (offered_append c before rest fresh)) (part_front (offered_in c before fresh) (offered_in c rest there)))
+          (subst (ArePart (offered_in c before fresh)) (sym (offered_append c before rest fresh))
+          (part_front (offered_in c before fresh) (offered_in c rest there)))
 
       whole : (i : ℕ) (f : Came) → slice_get (queued_in c before fresh) i ≡ Some f → slice_get (queued_in c events fresh) i ≡ Some f
       whole i f e =
           ap (λ xs. slice_get (queued_in c xs fresh) i) (sym parts)
-          ∙ (ap (λ xs. slice_get xs i) (queued_append c before rest fresh) ∙ get_more (queued_in c before fresh) (queued_in c rest there) i f e)
+          ∙ (ap (λ xs. slice_get xs i) (queued_append c before rest fresh) ∙ get_more (queued_in c before fresh)
+          (queued_in c rest there) i f e)
 
       own : starts_of_class c (starts_in (answers_of events fresh)) ≡ mine ++ later
       own =
           ap (λ xs. starts_of_class c (starts_in (answers_of xs fresh))) (sym parts)
-          ∙ (ap (starts_of_class c) (starts_append before rest fresh) ∙ filter-append (λ (s : Start). eqb s.class c) all (starts_in (answers_of rest there)))
+          ∙ (ap (starts_of_class c) (starts_append before rest fresh) ∙ filter-append (λ (s : Start). eqb s.class c) all
+          (starts_in (answers_of rest there)))
 
       behind : AreAfter there.now (starts_in (answers_of rest there))
       behind = run_after c a ps lc pos rest there (queued_in c before fresh) all (large_on before fresh large) here k.1 only_before.1
 
 -- ---- a run that is judged
 
-module _ (ps mtu room c pitch wait waiting : ℕ) (need blocking : ℕ → ℕ) (curve : ℕ → ℕ → ℕ) (most : ℕ → ℕ) (higher : List ℕ) (a : Accepted) (plan : Plan)
+module _ (ps mtu room c pitch wait waiting : ℕ) (need blocking : ℕ → ℕ) (curve : ℕ → ℕ → ℕ) (most : ℕ → ℕ) (higher : List ℕ) (a : Accepted)
+    (plan : Plan)
     (events : List Event) (run : IsSharedRun ps mtu room events c need curve most higher a plan)
     (judge : (some_time : 0 < ps) (all : List Start) (now : ℕ) → AreSound (a ∷ []) need all
     → ((i j : ℕ) → slice_get higher i ≡ Some j → (p s : ℕ) → count_of j p (s + 1) all ≤ most j + curve j (s - p))
-    → (came : List Came) (wire : ℕ) (waits : List Frame) → AreShared (open_through (a ∷ []) c) ps c all 0 now came (starts_of_class c all) wire waits
+    → (came : List Came) (wire : ℕ) (waits : List Frame)
+    → AreShared (open_through (a ∷ []) c) ps c all 0 now came (starts_of_class c all) wire waits
     → AreSince a.change came → ((k n : ℕ) (f g : Came) → slice_get came k ≡ Some f → slice_get came (k + n) ≡ Some g → f.moment ≤ g.moment)
     → ConformTo ps (need c) (curve c) came → AreInTime all now c came wait waiting) where
   abbrev new : AbstractPort
@@ -183,7 +189,8 @@ module _ (ps mtu room c pitch wait waiting : ℕ) (need blocking : ℕ → ℕ) 
 
     chain : SharedHolds c a ps (run.run).listed some then (queued_in c before new) so_far
     chain = shared_run c a ps (run.run).listed some mtu room before (run.run).large
-        (scheduled_before ps mtu room a (run.run).rate (run.run).large events before rest parts (run.run).only c (run.run).scheduled).0 first_part
+        (scheduled_before ps mtu room a (run.run).rate (run.run).large events before rest parts (run.run).only c (run.run).scheduled).0
+        first_part
 
     -- up to there, with a chain of frames that are some of those offered in the whole run
     judged : then.history ≡ a ∷ [] → (came : List Came) (wire : ℕ) (waits : List Frame)
@@ -192,14 +199,17 @@ module _ (ps mtu room c pitch wait waiting : ℕ) (need blocking : ℕ → ℕ) 
     judged full came wire waits served part since =
         judge some so_far then.now sound few came wire waits served since
         (λ k n f g e h. (let both = part_pair came (offered_in c events new) k n f g part e h in
-        rising_pair new.now (offered_in c events new) both.place both.more f g (are_rising c events new (run.run).large) both.first both.second))
+        rising_pair new.now (offered_in c events new) both.place both.more f g
+        (are_rising c events new (run.run).large) both.first both.second))
         (part_conform ps (need c) (curve c) came (offered_in c events new) part run.conform)
       where
         sound : AreSound (a ∷ []) need so_far
         sound = record {
           through = λ i y e. subst (λ h. open_through h y.class y.at (y.«end» - y.at) ≡ true) full
-              (start_holds (IsOpenBy then.history) (answers_of before new) (keeping ps mtu room (run.run).rate (run.run).large before).open_by_end i y e);
-          apart = λ i j x y e f less. apart_at 0 so_far i j x y chain.long (keeping ps mtu room (run.run).rate (run.run).large before).apart e f less;
+              (start_holds (IsOpenBy then.history) (answers_of before new)
+              (keeping ps mtu room (run.run).rate (run.run).large before).open_by_end i y e);
+          apart = λ i j x y e f less. apart_at 0 so_far i j x y chain.long
+              (keeping ps mtu room (run.run).rate (run.run).large before).apart e f less;
           some = λ i y e. long_at so_far i y chain.long e;
           short = λ i y e.
               run.short i y
@@ -212,7 +222,8 @@ module _ (ps mtu room c pitch wait waiting : ℕ) (need blocking : ℕ → ℕ) 
         few i j e p s =
             let above = run.above i j e in
             above_few ps mtu room before a (run.run).rate (run.run).large first_part j above.0 (need j) (curve j) (most j)
-            (higher_before ps mtu room a (run.run).rate (run.run).large events before rest parts (run.run).only j (need j) (curve j) (most j) above.0 above.1) p s
+            (higher_before ps mtu room a (run.run).rate (run.run).large events before rest parts (run.run).only j (need j) (curve j)
+            (most j) above.0 above.1) p s
 
     -- one that comes then finds room
     finds_room : waiting ≤ room → (event : Event) (f : Frame) → IsScheduledAt c event then → offered_by c event then ≡ now_came then f ∷ []
@@ -225,10 +236,13 @@ module _ (ps mtu room c pitch wait waiting : ℕ) (need blocking : ℕ → ℕ) 
           | inl full ↦
               let came : List Came = queued_in c before new ++ now_came then f ∷ [] in
               let mine : List Start = starts_of_class c so_far in
-              let served = comes (open_through (a ∷ []) c) ps c so_far 0 then.now (queued_in c before new) mine chain.wire (queue_of then c) f chain.served in
-              let since = since_both a.change (queued_in c before new) (now_came then f ∷ []) chain.since (forced_since a then.now (ap (λ h. is_some (in_force h then.now)) (sym full) ∙ forced), tt) in
+              let served = comes (open_through (a ∷ []) c) ps c so_far 0 then.now (queued_in c before new) mine chain.wire
+              (queue_of then c) f chain.served in
+              let since = since_both a.change (queued_in c before new) (now_came then f ∷ []) chain.since
+              (forced_since a then.now (ap (λ h. is_some (in_force h then.now)) (sym full) ∙ forced), tt) in
               let t = judged full came chain.wire (queue_of then c ++ f ∷ []) served part since in
-              let count = shared_count (open_through (a ∷ []) c) ps c so_far 0 then.now (queued_in c before new) mine chain.wire (queue_of then c) chain.served in
+              let count = shared_count (open_through (a ∷ []) c) ps c so_far 0 then.now (queued_in c before new) mine chain.wire
+              (queue_of then c) chain.served in
               let last = get_last (queued_in c before new) (now_came then f) in
               let at : length (queued_in c before new) ≡ length mine + length (queue_of then c) = omega (arith, count) in
               let here = ap (slice_get came) (sym at) ∙ last in
@@ -244,10 +258,13 @@ module _ (ps mtu room c pitch wait waiting : ℕ) (need blocking : ℕ → ℕ) 
         by (inr forced) = found forced
 
   -- none is dropped
-  all_taken : waiting ≤ room → (before rest : List Event) → before ++ rest ≡ events → queued_in c rest (port_after before new) ≡ offered_in c rest (port_after before new)
+  all_taken : waiting ≤ room → (before rest : List Event) → before ++ rest ≡ events
+      → queued_in c rest (port_after before new) ≡ offered_in c rest (port_after before new)
   all_taken enough before [] parts = refl
   all_taken enough before (event ∷ rest) parts =
-      go (taken c event p (large_on before new (run.run).large)) (subst (λ q. queued_in c rest q ≡ offered_in c rest q) (port_after-append before (event ∷ []) new) (all_taken enough (before ++ event ∷ []) rest (append_assoc before (event ∷ []) rest ∙ parts)))
+      go (taken c event p (large_on before new (run.run).large))
+      (subst (λ q. queued_in c rest q ≡ offered_in c rest q) (port_after-append before (event ∷ []) new)
+      (all_taken enough (before ++ event ∷ []) rest (append_assoc before (event ∷ []) rest ∙ parts)))
     where
       p : AbstractPort
       p = port_after before new
@@ -256,20 +273,25 @@ module _ (ps mtu room c pitch wait waiting : ℕ) (need blocking : ℕ → ℕ) 
       q = (answers_to event p).1
 
       -- what is taken before, and it, are some of those offered
-      part : (f : Frame) → offered_by c event p ≡ now_came p f ∷ [] → ArePart (queued_in c before new ++ now_came p f ∷ []) (offered_in c events new)
+      part : (f : Frame) → offered_by c event p ≡ now_came p f ∷ []
+          → ArePart (queued_in c before new ++ now_came p f ∷ []) (offered_in c events new)
       part f o =
           subst (λ xs. ArePart (queued_in c before new ++ now_came p f ∷ []) (offered_in c xs new)) parts
           (subst (ArePart (queued_in c before new ++ now_came p f ∷ [])) (sym (offered_append c before (event ∷ rest) new))
-          (subst (λ xs. ArePart (queued_in c before new ++ now_came p f ∷ []) (offered_in c before new ++ (xs ++ offered_in c rest q))) (sym o)
-          (part_both (queued_in c before new) (offered_in c before new) (now_came p f ∷ []) (now_came p f ∷ offered_in c rest q) (are_part c before new (run.run).large)
+          (subst (λ xs. ArePart (queued_in c before new ++ now_came p f ∷ []) (offered_in c before new ++ (xs ++ offered_in c rest q)))
+          (sym o)
+          (part_both (queued_in c before new) (offered_in c before new) (now_came p f ∷ []) (now_came p f ∷ offered_in c rest q)
+          (are_part c before new (run.run).large)
           (part_front (now_came p f ∷ []) (offered_in c rest q)))))
 
       go : Taken c p (offered_by c event p) (queued_by c event p) → queued_in c rest q ≡ offered_in c rest q
           → queued_by c event p ++ queued_in c rest q ≡ offered_by c event p ++ offered_in c rest q
       go (none_offered o n) same = ap (λ xs. xs ++ queued_in c rest q) n ∙ (same ∙ sym (ap (λ xs. xs ++ offered_in c rest q) o))
-      go (one_queued f o n some) same = ap (λ xs. xs ++ queued_in c rest q) n ∙ (ap (λ xs. now_came p f ∷ xs) same ∙ sym (ap (λ xs. xs ++ offered_in c rest q) o))
+      go (one_queued f o n some) same = ap (λ xs. xs ++ queued_in c rest q) n ∙
+          (ap (λ xs. now_came p f ∷ xs) same ∙ sym (ap (λ xs. xs ++ offered_in c rest q) o))
       go (one_full f o n many) same =
-          let k = (scheduled_before ps mtu room a (run.run).rate (run.run).large events before (event ∷ rest) parts (run.run).only c (run.run).scheduled).1.0 in
+          let k = (scheduled_before ps mtu room a (run.run).rate (run.run).large events before (event ∷ rest) parts (run.run).only c
+          (run.run).scheduled).1.0 in
           let less = finds_room before (event ∷ rest) parts enough event f k o (part f o) in
           absurd (omega (arith, many, less))
 
@@ -277,7 +299,8 @@ module _ (ps mtu room c pitch wait waiting : ℕ) (need blocking : ℕ → ℕ) 
   by_judge = elim (chain events [] whole).phase [
     | inl full ↦
         let h = chain events [] whole in
-        let t = judged events [] whole full (queued_in c events new) h.wire (queue_of (port_after events new) c) h.served (are_part c events new (run.run).large) h.since in
+        let t = judged events [] whole full (queued_in c events new) h.wire (queue_of (port_after events new) c) h.served
+        (are_part c events new (run.run).large) h.since in
         record { soon = t.soon; starts = t.starts; few = t.few; all = λ enough. all_taken enough [] events refl }
     | inr none ↦ record {
       soon = λ i f x e y. absurd (none_here i f (sym (ap (λ xs. slice_get xs i) none.1) ∙ e));
@@ -296,12 +319,16 @@ pub shared_law : SharedLaw
 shared_law ps mtu room c pitch wait waiting need blocking curve most higher a plan events sharing run bounds =
     by_judge ps mtu room c pitch wait waiting need blocking curve most higher a plan events run
     (λ some all now sound few came wire waits served since order conform.
-    in_time ps a some all now c plan (run.run).is (run.run).above need blocking pitch curve most higher sharing.blocked sharing.apart sharing.among sound few came wire waits served since order conform
+    in_time ps a some all now c plan (run.run).is
+    (run.run).above need blocking pitch curve most higher sharing.blocked sharing.apart sharing.among sound few came wire waits served
+    since order conform
     wait waiting (λ t x. Unit {0}) (λ t x in_it. bounds.soon t x) (λ t x in_it. bounds.few t x) (λ i m j f g b at e le h come. tt))
 
 pub shared_busy_law : SharedBusyLaw
 shared_busy_law ps mtu room c pitch wait waiting need blocking curve most higher a plan events sharing run rises times =
     by_judge ps mtu room c pitch wait waiting need blocking curve most higher a plan events run
     (λ some all now sound few came wire waits served since order conform.
-    in_busy_time ps a some all now c plan (run.run).is (run.run).above need blocking pitch curve most higher sharing.blocked sharing.apart sharing.among sound few came wire waits served since order conform
+    in_busy_time ps a some all now c plan (run.run).is
+    (run.run).above need blocking pitch curve most higher sharing.blocked sharing.apart sharing.among sound few came wire waits served
+    since order conform
     wait waiting rises times)

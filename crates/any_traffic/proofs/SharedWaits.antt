@@ -296,7 +296,8 @@ sum_le g h (j ∷ higher) le =
 
 -- the frames that came start in time by the last moment, and few wait
 pub record AreInTime (all : List Start) (now c : ℕ) (came : List Came) (wait waiting : ℕ) : Type 0 where
-  pub soon : (i : ℕ) (f : Came) (x : Start) → slice_get came i ≡ Some f → slice_get (starts_of_class c all) i ≡ Some x → x.at ≤ f.moment + wait
+  pub soon : (i : ℕ) (f : Came) (x : Start) → slice_get came i ≡ Some f → slice_get (starts_of_class c all) i ≡ Some x
+      → x.at ≤ f.moment + wait
   pub starts : (i : ℕ) (f : Came) → slice_get came i ≡ Some f → f.moment + wait < now → i < length (starts_of_class c all)
   pub few : AtMostWait waiting came (starts_of_class c all)
 
@@ -496,17 +497,20 @@ module _ (ps : ℕ) (a : Accepted) (some_time : 0 < ps) (all : List Start) (now 
       starts = λ i f e past. elim (cases_lt i (length begun)) [
         | inl less ↦ less
         | inr le ↦
-            let late = bound i now f e (waits_from (a ∷ []) ps c (need c) all came keep.short now wire waiting_now served i f e le) (at_now i le) in
+            let late = bound i now f e (waits_from (a ∷ []) ps c (need c) all came keep.short now wire waiting_now served i f e le)
+            (at_now i le) in
             absurd (omega (arith, late, past))
       ];
       few = λ i n t f g e h come first. elim (cases_lt i (length begun)) [
         | inl less ↦
             let x = one_at begun i less in
             let after = first x.0 x.1 in
-            few_wait i n x.0.at f g e h (begun_from (a ∷ []) ps c (need c) all came keep.short now wire waiting_now served i f x.0 e x.1) (at_start i x.0 x.1)
+            few_wait i n x.0.at f g e h (begun_from (a ∷ []) ps c (need c) all came keep.short now wire waiting_now served i f x.0 e x.1)
+            (at_start i x.0 x.1)
             (omega (arith, after, come))
         | inr le ↦
-            few_wait i n now f g e h (waits_from (a ∷ []) ps c (need c) all came keep.short now wire waiting_now served i f e le) (at_now i le)
+            few_wait i n now f g e h (waits_from (a ∷ []) ps c (need c) all came keep.short now wire waiting_now served i f e le)
+            (at_now i le)
             (come_by_now (i + n) g h)
       ];
     }

@@ -201,7 +201,8 @@ sporadic_ends_law ps mtu room class d wait most a plan flows places events r the
     let soon = t.soon k f x there y in
     let own = own_starts_law ps mtu room class a plan events (apart_run_law ps mtu room class a plan events r) k x y in
     let same : own.0 ≡ f = same_Some own.0 f (sym own.1 ∙ there) in
-    let ends : x.«end» ≡ x.at + occupancy_of ps f.frame.len = ap (λ (z : Start). z.«end») own.2 ∙ ap (λ (g : Came). x.at + occupancy_of ps g.frame.len) same in
+    let ends : x.«end» ≡ x.at + occupancy_of ps f.frame.len = ap (λ (z : Start). z.«end») own.2 ∙ ap
+    (λ (g : Came). x.at + occupancy_of ps g.frame.len) same in
     let mine = came_of i places (offered_in class events (new_port ps mtu room)) k f place e in
     let need = (s.are i flow is).short mine.0 f mine.1 in
     omega (arith, soon, ends, need)

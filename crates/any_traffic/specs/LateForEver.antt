@@ -1,7 +1,7 @@
 -- The late run of periodic flows, once it comes to where it was: finitely many of their frames are enough for ever.
 --
--- From when all flows have begun, and the jitter of each has passed, their windows repeat after any time that is whole periods of each. Where the gates
--- repeat after it, too, and the wire is then taken for as long as it was, so does the late run.
+-- From when all flows have begun, and the jitter of each has passed, their windows repeat after any time that is whole periods of each.
+-- Where the gates repeat after it, too, and the wire is then taken for as long as it was, so does the late run.
 use Rattle.std.specs.Prelude.{◌≡◌, ◌<◌, ◌≤◌, ℕ, ◌+◌, ◌*◌, max, Bool, List, Some, length, slice_get}
 use Rattle.gate_list.specs.Gate.{Plan}
 use Rattle.list_config.specs.History.{Accepted}
@@ -19,14 +19,16 @@ module _ (may : ℕ → ℕ → Bool) (d : ℕ) (flows : List PeriodicFlow) wher
   pub record LateRecurs (from every : ℕ) : Type 0 where
     pub above : 0 < every
     pub gates : Repeats may every
-    pub whole : (i : ℕ) (flow : PeriodicFlow) → slice_get flows i ≡ Some flow → (flow.offset + flow.jitter ≤ from) × ((n : ℕ) × (every ≡ flow.period * n))
+    pub whole : (i : ℕ) (flow : PeriodicFlow) → slice_get flows i ≡ Some flow
+        → (flow.offset + flow.jitter ≤ from) × ((n : ℕ) × (every ≡ flow.period * n))
     pub old : ℕ
     pub new : ℕ
     pub was : IsFreeFrom may d flows from old
     pub is : IsFreeFrom may d flows (from + every) new
     pub alike : max (from + every) new ≡ max from old + every
 
-  -- each frame of the flows whose latest moment is before a moment starts in the late run within a time of its earliest, its flow's of `waits`
+  -- each frame of the flows whose latest moment is before a moment starts in the late run within a time of its earliest, its flow's of
+  -- `waits`
   abbrev pub AreLateWithin : (waits : List ℕ) → (upto : ℕ) → Type 0
   AreLateWithin waits upto =
       (i n wait : ℕ) (flow : PeriodicFlow) → slice_get flows i ≡ Some flow → slice_get waits i ≡ Some wait → (window_of flow n).latest < upto
@@ -44,21 +46,26 @@ LateEnoughLaw =
     (may : ℕ → ℕ → Bool) (d : ℕ) (flows : List PeriodicFlow) (from every : ℕ) (waits : List ℕ) → ArePeriodic d flows → LateRecurs may d flows from every
     → AreLateWithin may d flows waits (from + every) → (upto : ℕ) → AreLateWithin may d flows waits upto
 
--- What is known of the frame at place k among those taken, which is frame n of a flow: by its earliest moment, in picoseconds since the change moment. It
--- starts no sooner than the class may have the wire for the flow's shortest frame; it starts within a time, and has ended once its longest has passed too.
+-- What is known of the frame at place k among those taken, which is frame n of a flow: by its earliest moment, in picoseconds since the
+-- change moment. It starts no sooner than the class may have the wire for the flow's shortest frame; it starts within a time, and has ended
+-- once its longest has passed too.
 pub record IsStreamFrame (ps mtu room class : ℕ) (events : List Event) (plan : Plan) (change k : ℕ) (flow : PeriodicFlow) (n wait : ℕ) : Type 0 where
-  pub least : (x : Start) (s : ℕ) → slice_get (started ps mtu room class events) k ≡ Some x → IsFirst (may_by plan class) flow.shortest (window_of flow n).earliest s → change + s ≤ x.at
+  pub least : (x : Start) (s : ℕ) → slice_get (started ps mtu room class events) k ≡ Some x
+      → IsFirst (may_by plan class) flow.shortest (window_of flow n).earliest s → change + s ≤ x.at
   pub soon : (x : Start) → slice_get (started ps mtu room class events) k ≡ Some x → x.at ≤ change + (window_of flow n).earliest + wait
-  pub ends : (x : Start) → slice_get (started ps mtu room class events) k ≡ Some x → x.«end» ≤ change + (window_of flow n).earliest + wait + flow.longest
+  pub ends : (x : Start) → slice_get (started ps mtu room class events) k ≡ Some x
+      → x.«end» ≤ change + (window_of flow n).earliest + wait + flow.longest
   pub starts : change + (window_of flow n).earliest + wait < end_of_run ps mtu room events → k < length (started ps mtu room class events)
 
--- The law of streams with windows: in every run in which the class is kept apart, and each frame that its queue takes came in its window of a flow, each
--- frame keeps the bounds of its own flow that the late run has for finitely many frames.
+-- The law of streams with windows: in every run in which the class is kept apart, and each frame that its queue takes came in its window of
+-- a flow, each frame keeps the bounds of its own flow that the late run has for finitely many frames.
 abbrev pub PeriodicBoundsLaw : Type 0
 PeriodicBoundsLaw =
     (ps mtu room class d : ℕ) (a : Accepted) (plan : Plan) (events : List Event) (flows : List PeriodicFlow) (numbers : List (ℕ × ℕ)) (waits : List ℕ) (from every : ℕ)
-    → IsApartRun ps mtu room class events a plan → ArePeriodic d flows → ComeByFlows ps a.change flows numbers (queued ps mtu room class events)
+    → IsApartRun ps mtu room class events a plan → ArePeriodic d flows
+    → ComeByFlows ps a.change flows numbers (queued ps mtu room class events)
     → LateRecurs (may_by plan class) d flows from every → AreLateWithin (may_by plan class) d flows waits (from + every)
     → (k i n wait : ℕ) (f : Came) (flow : PeriodicFlow)
-    → slice_get (queued ps mtu room class events) k ≡ Some f → slice_get numbers k ≡ Some (i, n) → slice_get flows i ≡ Some flow → slice_get waits i ≡ Some wait
+    → slice_get (queued ps mtu room class events) k ≡ Some f → slice_get numbers k ≡ Some (i, n) → slice_get flows i ≡ Some flow
+    → slice_get waits i ≡ Some wait
     → IsStreamFrame ps mtu room class events plan a.change k flow n wait

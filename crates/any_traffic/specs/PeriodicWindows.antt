@@ -1,7 +1,7 @@
 -- Periodic flows with jitter: frame n of a flow comes at its offset and n periods, or up to its jitter later, for ever.
 --
--- The late run of the flows is that in which each frame comes at its latest moment, and all need the wire for as long as the longest. Moments
--- count from the change moment of the schedule (IEEE Std 802.1Q-2018, 8.6.9), and times are in picoseconds.
+-- The late run of the flows is that in which each frame comes at its latest moment, and all need the wire for as long as the longest.
+-- Moments count from the change moment of the schedule (IEEE Std 802.1Q-2018, 8.6.9), and times are in picoseconds.
 use Rattle.std.specs.Prelude.{◌≡◌, ◌<◌, ◌≤◌, ℕ, zero, suc, ◌+◌, ◌-◌, ◌*◌, ◌/◌, max, Bool, List, Some, length, slice_get, sum_by}
 use Rattle.wire_time.specs.Wire.{occupancy_of}
 use Rattle.gate_list.specs.Gate.{Plan}
@@ -71,12 +71,13 @@ module _ (may : ℕ → ℕ → Bool) (d : ℕ) where
   abbrev pub IsLateStart : List PeriodicFlow → (t s : ℕ) → Type 0
   IsLateStart flows t s = (free : ℕ) × IsFreeFrom flows t free × IsSlot may d (max t free) (can_by flows t - must_before flows t - 1) s
 
--- The law of periodic windows: in every run in which the class is kept apart, and each frame that its queue takes came in its window of a flow, each
--- frame starts no later than the late start at its latest moment.
+-- The law of periodic windows: in every run in which the class is kept apart, and each frame that its queue takes came in its window of a
+-- flow, each frame starts no later than the late start at its latest moment.
 abbrev pub PeriodicWindowLaw : Type 0
 PeriodicWindowLaw =
     (ps mtu room class d : ℕ) (a : Accepted) (plan : Plan) (events : List Event) (flows : List PeriodicFlow) (numbers : List (ℕ × ℕ))
-    → IsApartRun ps mtu room class events a plan → ArePeriodic d flows → ComeByFlows ps a.change flows numbers (queued ps mtu room class events)
+    → IsApartRun ps mtu room class events a plan → ArePeriodic d flows
+    → ComeByFlows ps a.change flows numbers (queued ps mtu room class events)
     → (k i n s : ℕ) (f : Came) (flow : PeriodicFlow)
     → slice_get (queued ps mtu room class events) k ≡ Some f → slice_get numbers k ≡ Some (i, n) → slice_get flows i ≡ Some flow
     → IsLateStart (may_by plan class) d flows (window_of flow n).latest s → StartsWithin ps mtu room class events a.change k s

@@ -65,8 +65,9 @@ module _ (ps mtu room class : ℕ) (events : List Event) where
     pub apart : IsKeptApart class events (new_port ps mtu room)
     pub only : IsOnly a events (new_port ps mtu room)
 
-  -- Each frame starts no later than so long after it came; as soon as that has passed it has started; no more than `most` wait at the end, and so
-  -- at any time, since each beginning of a run is a run; and where there is room for these the queue takes every frame that it is offered.
+  -- Each frame starts no later than so long after it came; as soon as that has passed it has started; no more than `most` wait at the end,
+  -- and so at any time, since each beginning of a run is a run; and where there is room for these the queue takes every frame that it is
+  -- offered.
   pub record IsInTime (wait most : ℕ) : Type 0 where
     pub soon : (k : ℕ) (f : Came) (x : Start) → slice_get queued k ≡ Some f → slice_get started k ≡ Some x → x.at ≤ f.moment + wait
     pub starts : (k : ℕ) (f : Came) → slice_get queued k ≡ Some f → f.moment + wait < end_of_run ps mtu room events → k < length started

@@ -19,16 +19,16 @@ AtMostWait most came starts =
     → ((x : Start) → slice_get starts k ≡ Some x → t ≤ x.at) → n + 1 ≤ most
 
 module _ (ps mtu room : ℕ) (events : List Event) where
-  -- What is asked of the frames of a higher class: they come while a schedule is in force, conform to an arrival curve, which rises, and no more wait
-  -- than `most`.
+  -- What is asked of the frames of a higher class: they come while a schedule is in force, conform to an arrival curve, which rises, and no
+  -- more wait than `most`.
   pub record IsHigherTraffic (class need : ℕ) (curve : ℕ → ℕ) (most : ℕ) : Type 0 where
     pub scheduled : AreScheduled class events (new_port ps mtu room)
     pub conform : ConformTo ps need curve (offered ps mtu room class events)
     pub rises : (x y : ℕ) → x ≤ y → curve x ≤ curve y
     pub waits : AtMostWait most (queued ps mtu room class events) (started ps mtu room class events)
 
-  -- One command is accepted, which has this plan. The frames of the class and of the higher ones conform to their curves. Of lower classes no more is
-  -- asked than that a frame that starts needs the wire for `need` of its class at most.
+  -- One command is accepted, which has this plan. The frames of the class and of the higher ones conform to their curves. Of lower classes
+  -- no more is asked than that a frame that starts needs the wire for `need` of its class at most.
   pub record IsSharedRun (class : ℕ) (need : ℕ → ℕ) (curve : ℕ → ℕ → ℕ) (most : ℕ → ℕ) (higher : List ℕ) (a : Accepted) (plan : Plan)
       : Type 0 where
     pub run : IsScheduledRun ps mtu room class events a plan
@@ -37,8 +37,8 @@ module _ (ps mtu room : ℕ) (events : List Event) where
     pub conform : ConformTo ps (need class) (curve class) (offered ps mtu room class events)
     pub above : (i j : ℕ) → slice_get higher i ≡ Some j → (j < 8) × IsHigherTraffic j (need j) (curve j) (most j)
 
-  -- Each frame starts no later than so long after it came; as soon as that has passed it has started; at no time wait more than `waiting`; and
-  -- where there is room for these the queue takes every frame that it is offered.
+  -- Each frame starts no later than so long after it came; as soon as that has passed it has started; at no time wait more than `waiting`;
+  -- and where there is room for these the queue takes every frame that it is offered.
   pub record IsSharedInTime (class wait waiting : ℕ) : Type 0 where
     pub soon : (k : ℕ) (f : Came) (x : Start) → slice_get (queued ps mtu room class events) k ≡ Some f
         → slice_get (started ps mtu room class events) k ≡ Some x → x.at ≤ f.moment + wait

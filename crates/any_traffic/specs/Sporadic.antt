@@ -63,14 +63,15 @@ SporadicBoundsLaw =
     → IsApartRun ps mtu room class events a plan → AreFlows d flows → AreSplit ps flows places (offered ps mtu room class events)
     → AreCurveBounds plan class d (curve_of_all flows) wait most → IsInTime ps mtu room class events wait most
 
--- The law of ends, for each flow its own: where there is room for all that wait, a frame of a flow has left the wire when the wait and its flow's
--- own time on the wire have passed since it came.
+-- The law of ends, for each flow its own: where there is room for all that wait, a frame of a flow has left the wire when the wait and its
+-- flow's own time on the wire have passed since it came.
 abbrev pub SporadicEndsLaw : Type 0
 SporadicEndsLaw =
     (ps mtu room class d wait most : ℕ) (a : Accepted) (plan : Plan) (flows : List Sporadic) (places : List ℕ) (events : List Event)
     → IsApartRun ps mtu room class events a plan → AreFlows d flows → AreSplit ps flows places (offered ps mtu room class events)
     → AreCurveBounds plan class d (curve_of_all flows) wait most → most ≤ room
-    → (k i : ℕ) (f : Came) (flow : Sporadic) (x : Start) → slice_get (offered ps mtu room class events) k ≡ Some f → slice_get places k ≡ Some i
+    → (k i : ℕ) (f : Came) (flow : Sporadic) (x : Start) → slice_get (offered ps mtu room class events) k ≡ Some f
+    → slice_get places k ≡ Some i
     → slice_get flows i ≡ Some flow → slice_get (started ps mtu room class events) k ≡ Some x → x.«end» ≤ f.moment + wait + flow.need
 
 -- a flow whose frames come one each period, as a sporadic one

@@ -22,8 +22,8 @@ OwnStartsLaw =
     (ps mtu room class : ℕ) (a : Accepted) (plan : Plan) (events : List Event) → IsScheduledRun ps mtu room class events a plan
     → AreOwnStarts ps mtu room class events
 
--- The law of the least start: a frame that comes m after the change moment or later, and needs the wire for d at least, starts no sooner than the class
--- may have the wire for d from m on.
+-- The law of the least start: a frame that comes m after the change moment or later, and needs the wire for d at least, starts no sooner
+-- than the class may have the wire for d from m on.
 abbrev pub LeastStartLaw : Type 0
 LeastStartLaw =
     (ps mtu room class d m s k : ℕ) (a : Accepted) (plan : Plan) (events : List Event) (f : Came) (x : Start) → IsScheduledRun ps mtu room class events a plan
