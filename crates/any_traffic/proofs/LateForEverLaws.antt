@@ -6,7 +6,7 @@ use Rattle.std.proofs.lemmas.List.Sums.{sum_by-cons}
 use Rattle.separation.specs.Served.{IsFirst}
 use Rattle.delay_bounds.proofs.WaitLaws.{one_first}
 use Rattle.delay_bounds.specs.ForEver.{Repeats}
-use Rattle.any_traffic.specs.LateForEver.{AreLateWithin, LateEnoughLaw, LateForEverLaw, LateRecurs}
+use Rattle.any_traffic.specs.LateForEver.{AreLateWithin, AreWhole, LateEnoughLaw, LateForEverLaw, LateRecurs}
 use Rattle.any_traffic.specs.PeriodicWindows.{AreSent, ArePeriodic, IsFreeFrom, IsLateStart, PeriodicFlow, before, can_by, must_before, window_of}
 use Rattle.any_traffic.proofs.PeriodicWindowLaws.{HavePeriod, before_is, before_of}
 use Rattle.any_traffic.specs.Slots.{IsSlot}
@@ -57,17 +57,13 @@ before_later o t k u above begun = same_below (before o t (u + t * k)) (before o
 
 -- ---- of all flows
 
-abbrev IsWhole : List PeriodicFlow → (from every : ℕ) → Type 0
-IsWhole flows from every = (i : ℕ) (flow : PeriodicFlow) → slice_get flows i ≡ Some flow → (flow.offset + flow.jitter ≤ from) ×
-    ((n : ℕ) × (every ≡ flow.period * n))
-
 -- so many more come in that time
 record Again (flows : List PeriodicFlow) (from every : ℕ) : Type 0 where
   more : ℕ
   must : (t : ℕ) → from ≤ t → must_before flows (t + every) ≡ must_before flows t + more
   can : (t : ℕ) → from ≤ t → can_by flows (t + every) ≡ can_by flows t + more
 
-again : (flows : List PeriodicFlow) (from every : ℕ) → HavePeriod flows → IsWhole flows from every → Again flows from every
+again : (flows : List PeriodicFlow) (from every : ℕ) → HavePeriod flows → AreWhole flows from every → Again flows from every
 again [] from every above whole = record { more = 0; must = λ t le. refl; can = λ t le. refl }
 again (flow ∷ flows) from every above whole =
     let rest = again flows from every (λ i f e. above (suc i) f e) (λ i f e. whole (suc i) f e) in

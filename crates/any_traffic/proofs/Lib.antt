@@ -20,6 +20,7 @@ pub mod Sharing
 pub mod SharedSlots
 pub mod StartLaws
 pub mod OwnStarts
+pub mod StartCurveLaws
 pub mod SharedWaits
 pub mod RunParts
 pub mod SharedLaws

@@ -12,4 +12,5 @@ pub mod ExactWindows
 pub mod Priority
 pub mod SharedSlots
 pub mod SharedRuns
+pub mod StartCurve
 pub mod SharedBounds

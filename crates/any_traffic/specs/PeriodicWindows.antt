@@ -33,7 +33,8 @@ window_of flow n = record { earliest = flow.offset + flow.period * n; latest = f
 -- each frame that came is one of a flow, in its window, and no other is the same one; `numbers` has its flow's place and its number
 pub record ComeByFlows (ps change : ℕ) (flows : List PeriodicFlow) (numbers : List (ℕ × ℕ)) (came : List Came) : Type 0 where
   pub each : (k : ℕ) (f : Came) → slice_get came k ≡ Some f
-      → (i n : ℕ) × (flow : PeriodicFlow) × (slice_get numbers k ≡ Some (i, n)) × (slice_get flows i ≡ Some flow) × IsIn change (window_of flow n) f.moment
+      → (i n : ℕ) × (flow : PeriodicFlow) × (slice_get numbers k ≡ Some (i, n)) × (slice_get flows i ≡ Some flow)
+      × IsIn change (window_of flow n) f.moment
       × (flow.shortest ≤ occupancy_of ps f.frame.len) × (occupancy_of ps f.frame.len ≤ flow.longest)
   pub own : (j k : ℕ) (x : ℕ × ℕ) → slice_get numbers j ≡ Some x → slice_get numbers k ≡ Some x → j ≡ k
 
