@@ -1,13 +1,12 @@
 -- The late run of periodic flows repeats.
-use Rattle.std.proofs.Common.{◌≡◌, ◌<◌, ◌≤◌, ℕ, zero, suc, ◌+◌, ◌-◌, ◌*◌, ◌/◌, max, Bool, inl, inr, List, [], ◌∷◌, slice_get, Some, refl, sym, ap, ◌∙◌, subst, arith, le_refl, mul-add, mul-suc}
-use Rattle.std.specs.Prelude.{sum_by}
+use Rattle.std.proofs.Common.{◌≡◌, ◌<◌, ◌≤◌, ℕ, zero, suc, ◌+◌, ◌-◌, ◌*◌, max, Bool, inl, inr, List, [], ◌∷◌, refl, sym, ap, ◌∙◌, subst, arith, mul-add, mul-suc}
 use Rattle.std.proofs.lemmas.Bool.{cases_lt}
 use Rattle.std.proofs.lemmas.List.Sums.{sum_by-cons}
 use Rattle.separation.specs.Served.{IsFirst}
 use Rattle.delay_bounds.proofs.WaitLaws.{one_first}
 use Rattle.delay_bounds.specs.ForEver.{Repeats}
-use Rattle.any_traffic.specs.LateForEver.{AreLateWithin, AreWhole, LateEnoughLaw, LateForEverLaw, LateRecurs}
-use Rattle.any_traffic.specs.PeriodicWindows.{AreSent, ArePeriodic, IsFreeFrom, IsLateStart, PeriodicFlow, before, can_by, must_before, window_of}
+use Rattle.any_traffic.specs.LateForEver.{AreWhole, LateEnoughLaw, LateForEverLaw, LateRecurs}
+use Rattle.any_traffic.specs.PeriodicWindows.{AreSent, IsFreeFrom, IsLateStart, PeriodicFlow, before, can_by, must_before, window_of}
 use Rattle.any_traffic.proofs.PeriodicWindowLaws.{HavePeriod, before_is, before_of}
 use Rattle.any_traffic.specs.Slots.{IsSlot}
 use Rattle.any_traffic.proofs.SlotLaws.{first_later, slot_later}

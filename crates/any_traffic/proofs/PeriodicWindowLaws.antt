@@ -1,5 +1,5 @@
 -- Frames of periodic flows with jitter start no later than in the late run.
-use Rattle.std.proofs.Common.{◌≡◌, ◌<◌, ◌≤◌, ℕ, zero, suc, ◌+◌, ◌-◌, ◌*◌, ◌/◌, max, Bool, ◌⊎◌, inl, inr, List, [], ◌∷◌, length, get_or, slice_get, Some, refl, sym, ap, ◌∙◌, subst, arith, le_refl, mul_comm, add-mul}
+use Rattle.std.proofs.Common.{◌≡◌, ◌<◌, ◌≤◌, ℕ, zero, suc, ◌+◌, ◌-◌, ◌*◌, max, Bool, ◌⊎◌, inl, inr, List, [], ◌∷◌, length, get_or, slice_get, Some, refl, sym, ap, ◌∙◌, subst, arith, le_refl, mul_comm, add-mul}
 use Rattle.std.specs.Prelude.{sum_by}
 use Rattle.std.proofs.Math.Nat.{le-div_iff_mul-le}
 use Rattle.std.proofs.lemmas.Bool.{cases_lt}
@@ -14,9 +14,9 @@ use Rattle.delay_bounds.specs.Walk.{may_by}
 use Rattle.any_traffic.specs.ArrivalWindows.{IsIn}
 use Rattle.any_traffic.specs.Runs.{end_of_run, started}
 use Rattle.any_traffic.specs.Slots.{IsSlot, IsBySlot}
-use Rattle.any_traffic.specs.PeriodicWindows.{AreSent, ComeByFlows, IsFreeFrom, IsLateStart, ArePeriodic, PeriodicFlow, PeriodicWindowLaw, before, can_by, must_before, window_of}
-use Rattle.any_traffic.proofs.Counting.{no_more_pairs, total, total_list, total_rises}
-use Rattle.any_traffic.proofs.ListLaws.{none_here, one_before}
+use Rattle.any_traffic.specs.PeriodicWindows.{AreSent, ComeByFlows, IsFreeFrom, IsLateStart, PeriodicFlow, PeriodicWindowLaw, before, can_by, must_before, window_of}
+use Rattle.any_traffic.proofs.Counting.{no_more_pairs, total_list}
+use Rattle.any_traffic.proofs.ListLaws.{one_before}
 use Rattle.any_traffic.proofs.Offered.{queued_order}
 use Rattle.any_traffic.proofs.SlotLaws.{both_slots, slot_before, slot_sooner, sooner}
 use Rattle.any_traffic.proofs.TrafficLaws.{slot_law}

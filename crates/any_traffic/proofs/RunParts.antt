@@ -1,33 +1,20 @@
 -- Beginnings of a run: what comes behind them, and what holds of them.
-use Rattle.std.proofs.Common.{◌≡◌, ◌<◌, ◌≤◌, ℕ, zero, suc, ◌+◌, ◌-◌, Bool, true, false, cond, ◌||◌, ltb, eqb, ◌⊎◌, inl, inr, List, [], ◌∷◌, ◌++◌, length, map, slice_get, option_to_list, Option, Some, None, Result, Ok, Err, refl, sym, ap, ◌∙◌, subst, arith, le_refl, append_assoc}
-use Rattle.std.proofs.lemmas.Bool.{cases_Bool, ltb-false, or_parts}
-use Rattle.std.proofs.lemmas.List.Elements.{filter-append}
-use Rattle.std.proofs.lemmas.Option.{same_Some}
-use Rattle.wire_time.specs.Moment.{greatest_moment}
+use Rattle.std.proofs.Common.{◌≡◌, ◌≤◌, ℕ, ◌+◌, Bool, List, [], ◌∷◌, ◌++◌, length, refl, sym, ap, ◌∙◌, arith, append_assoc}
 use Rattle.wire_time.specs.declared.Frame.{Frame}
-use Rattle.list_config.specs.History.{Accepted, open_through}
-use Rattle.abstract_port.specs.declared.Answer.{Answer}
-use Rattle.abstract_port.specs.declared.Answer.TheVariants as Answered
-use Rattle.abstract_port.specs.declared.Dropped.{Dropped}
+use Rattle.list_config.specs.History.{Accepted}
 use Rattle.abstract_port.specs.declared.Event.{Event}
-use Rattle.abstract_port.specs.declared.Event.TheVariants.{Arrive, Install, Clock, Query, Count}
-use Rattle.abstract_port.specs.declared.Refused.{Refused}
 use Rattle.abstract_port.specs.declared.Start.{Start}
-use Rattle.abstract_port.specs.AbstractPort.{AbstractPort, choice, counters_of, installs, new_port, queue_of, verdict}
-use Rattle.abstract_port.specs.Answers.{answers_of, answers_to, port_after, arrival_answer, command_answer}
+use Rattle.abstract_port.specs.AbstractPort.{AbstractPort}
+use Rattle.abstract_port.specs.Answers.{answers_of, answers_to, port_after}
 use Rattle.abstract_port.specs.Laws.{starts_in}
-use Rattle.abstract_port.proofs.RunLaws.{answers_of-append, clock_back, clock_on}
-use Rattle.abstract_port.proofs.RunTurns.{starts_in-append, starts_in-starts}
-use Rattle.separation.specs.Traffic.{Came, IsOnly, offered_by, offered_in, queued_by, queued_in, starts_of_class}
-use Rattle.separation.proofs.Lives.{starts_until_live}
-use Rattle.separation.proofs.Lockstep.{choice_passes, leaves_from, live, start_with, tick, tick_start, with_moment}
-use Rattle.delay_bounds.proofs.QueueLaws.{Taken, none_offered, one_queued, one_full, now_came, room_kept, taken}
-use Rattle.any_traffic.specs.Runs.{AreScheduled, queued, started}
-use Rattle.any_traffic.proofs.ListLaws.{get_more, none_here, one_at}
+use Rattle.abstract_port.proofs.RunLaws.{answers_of-append}
+use Rattle.abstract_port.proofs.RunTurns.{starts_in-append}
+use Rattle.separation.specs.Traffic.{Came, IsOnly, offered_by, offered_in, queued_by, queued_in}
+use Rattle.delay_bounds.proofs.QueueLaws.{room_kept}
+use Rattle.any_traffic.specs.Runs.{AreScheduled}
 use Rattle.any_traffic.proofs.PartLaws.{count_frames}
-use Rattle.any_traffic.proofs.Offered.{onward, still_large}
-use Rattle.any_traffic.proofs.StartLaws.{shared_come}
-use Rattle.any_traffic.proofs.Sharing.{AreShared, SharedHolds, event_holds, new_shared}
+use Rattle.any_traffic.proofs.Offered.{still_large}
+use Rattle.any_traffic.proofs.Sharing.{AreShared}
 
 module _ (may : ℕ → ℕ → Bool) (ps c : ℕ) where
   pub shared_count : (all : List Start) (free now : ℕ) (came : List Came) (starts : List Start) (wire : ℕ) (waiting : List Frame)

@@ -1,8 +1,8 @@
 -- The laws of shared windows.
-use Rattle.std.proofs.Common.{◌≡◌, ◌<◌, ◌≤◌, ℕ, zero, suc, ◌+◌, ◌-◌, min, true, false, eqb, ◌⊎◌, inl, inr, List, [], ◌∷◌, ◌++◌, length, slice_get, Some, is_some, refl, sym, ap, ◌∙◌, subst, arith, le_refl, append-nil, append_assoc}
-use Rattle.std.proofs.lemmas.Bool.{cases_lt, false≢true}
+use Rattle.std.proofs.Common.{◌≡◌, ◌<◌, ◌≤◌, ℕ, zero, suc, ◌+◌, ◌-◌, true, eqb, ◌⊎◌, inl, inr, List, [], ◌∷◌, ◌++◌, length, slice_get, Some, is_some, refl, sym, ap, ◌∙◌, subst, arith, le_refl, append-nil, append_assoc}
+use Rattle.std.proofs.lemmas.Bool.{false≢true}
 use Rattle.std.proofs.lemmas.List.Elements.{filter-append}
-use Rattle.std.proofs.lemmas.Option.{same_Some, slice_get_within}
+use Rattle.std.proofs.lemmas.Option.{slice_get_within}
 use Rattle.wire_time.specs.declared.Frame.{Frame}
 use Rattle.gate_list.specs.Gate.{Plan}
 use Rattle.list_config.specs.History.{Accepted, in_force, open_through}
@@ -22,7 +22,7 @@ use Rattle.any_traffic.specs.SharedBounds.{SharedBusyLaw, SharedLaw}
 use Rattle.any_traffic.specs.SharedRuns.{IsSharedInTime, IsSharedRun, KeepStartCurve}
 use Rattle.any_traffic.proofs.ListLaws.{get_last, get_more, none_here, one_before}
 use Rattle.any_traffic.proofs.PartLaws.{ArePart, part_both, part_conform, part_front, part_pair, rising_pair}
-use Rattle.any_traffic.proofs.Offered.{are_part, are_rising, forced_since, offered_forced, queued_order}
+use Rattle.any_traffic.proofs.Offered.{are_part, are_rising, forced_since, offered_forced}
 use Rattle.any_traffic.proofs.RunParts.{large_on, offered_append, only_both, room_on, scheduled_both, shared_count, starts_append}
 use Rattle.any_traffic.proofs.SharedSlots.{AreSound, count_of}
 use Rattle.any_traffic.proofs.SharedWaits.{AreInTime, in_busy_time, in_time}

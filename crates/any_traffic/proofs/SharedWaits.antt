@@ -1,5 +1,5 @@
 -- What bounds a class that shares its windows, by the chain of its starts.
-use Rattle.std.proofs.Common.{◌≡◌, ◌<◌, ◌≤◌, ℕ, zero, suc, ◌+◌, ◌-◌, max, Bool, true, ◌⊎◌, inl, inr, List, [], ◌∷◌, length, slice_get, sum_by, Some, refl, sym, ap, ◌∙◌, subst, arith, le_refl}
+use Rattle.std.proofs.Common.{◌≡◌, ◌<◌, ◌≤◌, ℕ, zero, suc, ◌+◌, ◌-◌, max, true, ◌⊎◌, inl, inr, List, [], ◌∷◌, length, slice_get, sum_by, Some, refl, sym, ap, ◌∙◌, subst, arith, le_refl}
 use Rattle.std.proofs.lemmas.Bool.{cases_lt}
 use Rattle.std.proofs.lemmas.List.Sums.{sum_by-cons}
 use Rattle.std.proofs.lemmas.Option.{same_Some, slice_get_within}
@@ -9,26 +9,16 @@ use Rattle.wire_time.specs.declared.Frame.{Frame}
 use Rattle.gate_list.specs.Gate.{Plan}
 use Rattle.gate_list.proofs.OpenLaws.{open_within}
 use Rattle.list_config.specs.History.{Accepted, gates, open_through}
-use Rattle.abstract_port.specs.declared.Event.{Event}
 use Rattle.abstract_port.specs.declared.Start.{Start}
-use Rattle.abstract_port.specs.AbstractPort.{new_port, queue_of}
-use Rattle.abstract_port.specs.Answers.{answers_of, port_after}
-use Rattle.abstract_port.specs.Laws.{starts_in}
-use Rattle.separation.specs.Hindsight.{IsOpenBy}
-use Rattle.separation.specs.Served.{start_at}
-use Rattle.separation.specs.Traffic.{Came, IsOnly, offered_in, queued_in, starts_of_class}
-use Rattle.separation.proofs.RunLaws.{keeping}
+use Rattle.separation.specs.Traffic.{Came, starts_of_class}
 use Rattle.delay_bounds.specs.Walk.{may_by}
 use Rattle.any_traffic.specs.ArrivalCurve.{ConformTo}
-use Rattle.any_traffic.specs.SharedBounds.{AreFew, IsSharedBusyPeriod, IsSoon, SharedBusyLaw, SharedLaw, most_above}
-use Rattle.any_traffic.specs.Runs.{AreScheduled}
-use Rattle.any_traffic.specs.SharedRuns.{AtMostWait, IsSharedInTime, IsSharedRun}
+use Rattle.any_traffic.specs.SharedBounds.{AreFew, IsSharedBusyPeriod, IsSoon, most_above}
+use Rattle.any_traffic.specs.SharedRuns.{AtMostWait}
 use Rattle.any_traffic.specs.SharedSlots.{AreAbove, IsBlocking, IsPitch, IsSharedSlot}
 use Rattle.any_traffic.proofs.ListLaws.{none_here, one_at, one_before}
-use Rattle.any_traffic.proofs.PartLaws.{come_by, part_at, part_pair}
-use Rattle.any_traffic.proofs.Offered.{are_part, queued_order}
 use Rattle.any_traffic.proofs.SharedSlots.{AreSound, at_slot, count_all, count_of}
-use Rattle.any_traffic.proofs.StartLaws.{class_rises, apart_at, shared_come, start_before, start_frame, class_at, class_of, class_one, class_pair, class_within, count_own, long_at, since_at, span, start_holds}
+use Rattle.any_traffic.proofs.StartLaws.{class_rises, shared_come, start_before, start_frame, class_at, class_of, class_one, count_own, since_at, span}
 use Rattle.any_traffic.proofs.Sharing.{AreShared, AreSince, IsSharedStart, IsTaken}
 
 -- ---- since when the class has been waiting

@@ -1,8 +1,7 @@
 -- Start curves: how many frames of a class start at most within a time, whenever it begins. Classes below it ask for no more than that.
-use Rattle.std.specs.Prelude.{◌≡◌, ◌≤◌, ℕ, ◌+◌, ◌-◌, min, List, Some, slice_get}
+use Rattle.std.specs.Prelude.{◌≤◌, ℕ, ◌+◌, min, List}
 use Rattle.gate_list.specs.Gate.{Plan}
 use Rattle.list_config.specs.History.{Accepted}
-use Rattle.abstract_port.specs.declared.Start.{Start}
 use Rattle.abstract_port.specs.declared.Event.{Event}
 use Rattle.any_traffic.specs.ArrivalCurve.{ConformTo}
 use Rattle.any_traffic.specs.Runs.{IsScheduledRun, offered, started}
