@@ -57,12 +57,12 @@ before_later o t k u above begun = same_below (before o t (u + t * k)) (before o
 -- ---- of all flows
 
 -- so many more come in that time
-record Again (flows : List PeriodicFlow) (from every : ℕ) : Type 0 where
-  more : ℕ
-  must : (t : ℕ) → from ≤ t → must_before flows (t + every) ≡ must_before flows t + more
-  can : (t : ℕ) → from ≤ t → can_by flows (t + every) ≡ can_by flows t + more
+pub record Again (flows : List PeriodicFlow) (from every : ℕ) : Type 0 where
+  pub more : ℕ
+  pub must : (t : ℕ) → from ≤ t → must_before flows (t + every) ≡ must_before flows t + more
+  pub can : (t : ℕ) → from ≤ t → can_by flows (t + every) ≡ can_by flows t + more
 
-again : (flows : List PeriodicFlow) (from every : ℕ) → HavePeriod flows → AreWhole flows from every → Again flows from every
+pub again : (flows : List PeriodicFlow) (from every : ℕ) → HavePeriod flows → AreWhole flows from every → Again flows from every
 again [] from every above whole = record { more = 0; must = λ t le. refl; can = λ t le. refl }
 again (flow ∷ flows) from every above whole =
     let rest = again flows from every (λ i f e. above (suc i) f e) (λ i f e. whole (suc i) f e) in
@@ -168,20 +168,24 @@ module _ (may : ℕ → ℕ → Bool) (d : ℕ) where
           omega (arith, alike),
         )
 
+    pub free_on : (t x : ℕ) → from ≤ t → IsFreeFrom may d flows t x → (y : ℕ) × IsFreeFrom may d flows (t + every) y
+        × (max (t + every) y ≡ max t x + every)
+    free_on t x le f =
+        let at : from + (t - from) ≡ t = omega (arith, le) in
+        let w = free_again (t - from) x (subst (λ u. IsFreeFrom may d flows u x) (sym at) f) in
+        (w.0, subst (λ u. IsFreeFrom may d flows (u + every) w.0) at w.1, subst (λ u. max (u + every) w.0 ≡ max u x + every) at w.2)
+
     pub late_again : (t s : ℕ) → from ≤ t → IsLateStart may d flows t s → IsLateStart may d flows (t + every) (s + every)
     late_again t s le h =
-        let at : from + (t - from) ≡ t = omega (arith, le) in
-        let w = free_again (t - from) h.0 (subst (λ u. IsFreeFrom may d flows u h.0) (sym at) h.1) in
-        let free = subst (λ u. IsFreeFrom may d flows (u + every) w.0) at w.1 in
-        let alike : max (t + every) w.0 ≡ max t h.0 + every = subst (λ u. max (u + every) w.0 ≡ max u h.0 + every) at w.2 in
+        let w = free_on t h.0 le h.1 in
         let must = more.must t le in
         let can = more.can t le in
         let count : can_by flows t - must_before flows t - 1 ≡ can_by flows (t + every) - must_before flows (t + every) - 1 = omega
         (arith, must, can) in (
           w.0,
-          free,
+          w.1,
           subst (λ k. IsSlot may d (max (t + every) w.0) k (s + every)) count
-              (subst (λ k. IsSlot may d k (can_by flows t - must_before flows t - 1) (s + every)) (sym alike)
+              (subst (λ k. IsSlot may d k (can_by flows t - must_before flows t - 1) (s + every)) (sym w.2)
               (slot_later may d every (max t h.0) (can_by flows t - must_before flows t - 1) s r.gates h.2)),
         )
 

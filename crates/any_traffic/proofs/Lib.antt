@@ -11,6 +11,7 @@ pub mod WindowLaws
 pub mod PeriodicWindowLaws
 pub mod LateForEverLaws
 pub mod PeriodicBounds
+pub mod PeriodicRoomLaws
 pub mod ExactLaws
 pub mod CycleLaws
 pub mod PeriodicLaws

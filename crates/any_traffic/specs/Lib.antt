@@ -8,6 +8,7 @@ pub mod BusyPeriod
 pub mod ArrivalWindows
 pub mod PeriodicWindows
 pub mod LateForEver
+pub mod PeriodicRoom
 pub mod ExactWindows
 pub mod Priority
 pub mod SharedSlots

@@ -8,6 +8,7 @@ ghost use Rattle.any_traffic.specs.ArrivalWindows.{WindowLaw};
 ghost use Rattle.any_traffic.specs.BusyPeriod.{CycleLaw, RisingLaw, SubadditiveLaw};
 ghost use Rattle.any_traffic.specs.ExactWindows.{ExactLaw};
 ghost use Rattle.any_traffic.specs.LateForEver.{LateEnoughLaw, LateForEverLaw, PeriodicBoundsLaw};
+ghost use Rattle.any_traffic.specs.PeriodicRoom.{PeriodicRoomLaw, RoomEnoughLaw};
 ghost use Rattle.any_traffic.specs.PeriodicWindows.{PeriodicWindowLaw};
 ghost use Rattle.any_traffic.specs.Priority.{PriorityLaw};
 ghost use Rattle.any_traffic.specs.SharedBounds.{SharedBusyLaw, SharedCycleLaw, SharedLaw};
@@ -63,6 +64,8 @@ pub fn periodic_windows()
     ensures enough { LateEnoughLaw }
     ensures bounds { PeriodicBoundsLaw }
     ensures exact { ExactLaw }
+    ensures room { PeriodicRoomLaw }
+    ensures room_again { RoomEnoughLaw }
 {}
 
 /// At a moment at which the wire is free, and a frame of a class waits and fits, a frame of this class or a higher one
