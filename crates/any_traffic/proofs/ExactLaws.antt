@@ -1,6 +1,5 @@
 -- With no jitter and one length the late run is the exact walk.
-use Rattle.std.proofs.Common.{◌≡◌, ◌<◌, ◌≤◌, ℕ, zero, suc, ◌+◌, ◌-◌, ◌*◌, ◌/◌, max, Bool, inl, inr, List, [], ◌∷◌, length, map, get_or, set, slice_get, Option, Some, refl, sym, ap, ◌∙◌, subst, arith, le_refl, mul-suc}
-use Rattle.std.specs.Prelude.{sum_by}
+use Rattle.std.proofs.Common.{◌≡◌, ◌<◌, ◌≤◌, ℕ, zero, suc, ◌+◌, ◌-◌, ◌*◌, max, Bool, inl, inr, List, [], ◌∷◌, length, map, get_or, set, slice_get, Some, refl, sym, ap, ◌∙◌, subst, arith, le_refl, mul-suc}
 use Rattle.std.proofs.lemmas.Bool.{cases_lt}
 use Rattle.std.proofs.lemmas.List.Sums.{sum_by-cons}
 use Rattle.std.proofs.lemmas.Option.{same_Some}
@@ -13,7 +12,7 @@ use Rattle.delay_bounds.specs.Walk.{after, begun, may_by}
 use Rattle.delay_bounds.specs.declared.Flow.{Flow}
 use Rattle.delay_bounds.specs.declared.Told.{Told}
 use Rattle.delay_bounds.proofs.CourseLaws.{told_more}
-use Rattle.delay_bounds.proofs.StepLaws.{after_fewer, after_nexts, after_none, after_step, coming_at, first_of, first_told, goes_ever, has_next, least_of, next_behind, rises_once}
+use Rattle.delay_bounds.proofs.StepLaws.{after_nexts, after_none, after_step, coming_at, first_of, goes_ever, has_next, least_of, rises_once}
 use Rattle.delay_bounds.proofs.Words.{after_on}
 use Rattle.delay_bounds.proofs.WaitLaws.{IsStep, first_is, step_is}
 use Rattle.any_traffic.specs.ExactWindows.{ExactLaw, as_periodic}

@@ -1,13 +1,12 @@
 -- The late run of periodic flows repeats.
-use Rattle.std.proofs.Common.{◌≡◌, ◌<◌, ◌≤◌, ℕ, zero, suc, ◌+◌, ◌-◌, ◌*◌, ◌/◌, max, Bool, inl, inr, List, [], ◌∷◌, slice_get, Some, refl, sym, ap, ◌∙◌, subst, arith, le_refl, mul-add, mul-suc}
-use Rattle.std.specs.Prelude.{sum_by}
+use Rattle.std.proofs.Common.{◌≡◌, ◌<◌, ◌≤◌, ℕ, zero, suc, ◌+◌, ◌-◌, ◌*◌, max, Bool, inl, inr, List, [], ◌∷◌, refl, sym, ap, ◌∙◌, subst, arith, mul-add, mul-suc}
 use Rattle.std.proofs.lemmas.Bool.{cases_lt}
 use Rattle.std.proofs.lemmas.List.Sums.{sum_by-cons}
 use Rattle.separation.specs.Served.{IsFirst}
 use Rattle.delay_bounds.proofs.WaitLaws.{one_first}
 use Rattle.delay_bounds.specs.ForEver.{Repeats}
-use Rattle.any_traffic.specs.LateForEver.{AreLateWithin, LateEnoughLaw, LateForEverLaw, LateRecurs}
-use Rattle.any_traffic.specs.PeriodicWindows.{AreSent, ArePeriodic, IsFreeFrom, IsLateStart, PeriodicFlow, before, can_by, must_before, window_of}
+use Rattle.any_traffic.specs.LateForEver.{AreWhole, LateEnoughLaw, LateForEverLaw, LateRecurs}
+use Rattle.any_traffic.specs.PeriodicWindows.{AreSent, IsFreeFrom, IsLateStart, PeriodicFlow, before, can_by, must_before, window_of}
 use Rattle.any_traffic.proofs.PeriodicWindowLaws.{HavePeriod, before_is, before_of}
 use Rattle.any_traffic.specs.Slots.{IsSlot}
 use Rattle.any_traffic.proofs.SlotLaws.{first_later, slot_later}
@@ -57,17 +56,13 @@ before_later o t k u above begun = same_below (before o t (u + t * k)) (before o
 
 -- ---- of all flows
 
-abbrev IsWhole : List PeriodicFlow → (from every : ℕ) → Type 0
-IsWhole flows from every = (i : ℕ) (flow : PeriodicFlow) → slice_get flows i ≡ Some flow → (flow.offset + flow.jitter ≤ from) ×
-    ((n : ℕ) × (every ≡ flow.period * n))
-
 -- so many more come in that time
-record Again (flows : List PeriodicFlow) (from every : ℕ) : Type 0 where
-  more : ℕ
-  must : (t : ℕ) → from ≤ t → must_before flows (t + every) ≡ must_before flows t + more
-  can : (t : ℕ) → from ≤ t → can_by flows (t + every) ≡ can_by flows t + more
+pub record Again (flows : List PeriodicFlow) (from every : ℕ) : Type 0 where
+  pub more : ℕ
+  pub must : (t : ℕ) → from ≤ t → must_before flows (t + every) ≡ must_before flows t + more
+  pub can : (t : ℕ) → from ≤ t → can_by flows (t + every) ≡ can_by flows t + more
 
-again : (flows : List PeriodicFlow) (from every : ℕ) → HavePeriod flows → IsWhole flows from every → Again flows from every
+pub again : (flows : List PeriodicFlow) (from every : ℕ) → HavePeriod flows → AreWhole flows from every → Again flows from every
 again [] from every above whole = record { more = 0; must = λ t le. refl; can = λ t le. refl }
 again (flow ∷ flows) from every above whole =
     let rest = again flows from every (λ i f e. above (suc i) f e) (λ i f e. whole (suc i) f e) in
@@ -173,20 +168,24 @@ module _ (may : ℕ → ℕ → Bool) (d : ℕ) where
           omega (arith, alike),
         )
 
+    pub free_on : (t x : ℕ) → from ≤ t → IsFreeFrom may d flows t x → (y : ℕ) × IsFreeFrom may d flows (t + every) y
+        × (max (t + every) y ≡ max t x + every)
+    free_on t x le f =
+        let at : from + (t - from) ≡ t = omega (arith, le) in
+        let w = free_again (t - from) x (subst (λ u. IsFreeFrom may d flows u x) (sym at) f) in
+        (w.0, subst (λ u. IsFreeFrom may d flows (u + every) w.0) at w.1, subst (λ u. max (u + every) w.0 ≡ max u x + every) at w.2)
+
     pub late_again : (t s : ℕ) → from ≤ t → IsLateStart may d flows t s → IsLateStart may d flows (t + every) (s + every)
     late_again t s le h =
-        let at : from + (t - from) ≡ t = omega (arith, le) in
-        let w = free_again (t - from) h.0 (subst (λ u. IsFreeFrom may d flows u h.0) (sym at) h.1) in
-        let free = subst (λ u. IsFreeFrom may d flows (u + every) w.0) at w.1 in
-        let alike : max (t + every) w.0 ≡ max t h.0 + every = subst (λ u. max (u + every) w.0 ≡ max u h.0 + every) at w.2 in
+        let w = free_on t h.0 le h.1 in
         let must = more.must t le in
         let can = more.can t le in
         let count : can_by flows t - must_before flows t - 1 ≡ can_by flows (t + every) - must_before flows (t + every) - 1 = omega
         (arith, must, can) in (
           w.0,
-          free,
+          w.1,
           subst (λ k. IsSlot may d (max (t + every) w.0) k (s + every)) count
-              (subst (λ k. IsSlot may d k (can_by flows t - must_before flows t - 1) (s + every)) (sym alike)
+              (subst (λ k. IsSlot may d k (can_by flows t - must_before flows t - 1) (s + every)) (sym w.2)
               (slot_later may d every (max t h.0) (can_by flows t - must_before flows t - 1) s r.gates h.2)),
         )
 

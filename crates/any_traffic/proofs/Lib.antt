@@ -11,6 +11,7 @@ pub mod WindowLaws
 pub mod PeriodicWindowLaws
 pub mod LateForEverLaws
 pub mod PeriodicBounds
+pub mod PeriodicRoomLaws
 pub mod ExactLaws
 pub mod CycleLaws
 pub mod PeriodicLaws
@@ -20,6 +21,7 @@ pub mod Sharing
 pub mod SharedSlots
 pub mod StartLaws
 pub mod OwnStarts
+pub mod StartCurveLaws
 pub mod SharedWaits
 pub mod RunParts
 pub mod SharedLaws

@@ -228,12 +228,13 @@ module _ (ps class : ℕ) (a : Accepted) (lc : class < 8) where
 
   -- ---- none is dropped
 
-  module _ (room d most : ℕ) (curve : ℕ → ℕ) (enough : most ≤ room)
-      (few : (now : ℕ) (came : List Came) (starts : List Start) (wire : ℕ) (waits : List Frame) → AreLawful ps d a.change curve came
+  module _ (room most : ℕ) (Lawful : List Came → Type 0) (part : (xs ys : List Came) → ArePart xs ys → Lawful ys → Lawful xs)
+      (enough : most ≤ room)
+      (few : (now : ℕ) (came : List Came) (starts : List Start) (wire : ℕ) (waits : List Frame) → Lawful came
       → AreServed (open_through (a ∷ []) class) ps class 0 now came starts wire waits → length waits ≤ most) where
     pub all_taken : (events : List Event) (p : AbstractPort) (came : List Came) (starts : List Start) → p.room ≡ room
         → Holds class a ps p came starts → IsKeptApart class events p → IsOnly a events p
-        → AreLawful ps d a.change curve (came ++ offered_in class events p)
+        → Lawful (came ++ offered_in class events p)
         → queued_in class events p ≡ offered_in class events p
     all_taken [] p came starts size h apart only l = refl
     all_taken (event ∷ rest) p came starts size h apart only l =
@@ -250,14 +251,14 @@ module _ (ps class : ℕ) (a : Accepted) (lc : class < 8) where
         os = offered_in class rest (answers_to event p).1
 
         IsSo : Type 0
-        IsSo = (come : List Came) → came ++ queued_by class event p ≡ come → AreLawful ps d a.change curve (come ++ os) → qs ≡ os
+        IsSo = (come : List Came) → came ++ queued_by class event p ≡ come → Lawful (come ++ os) → qs ≡ os
 
         -- one that comes finds room
-        has_room : (f : Frame) → AreLawful ps d a.change curve (came ++ (now_came p f ∷ os)) → length (queue_of p class) < p.room
+        has_room : (f : Frame) → Lawful (came ++ (now_came p f ∷ os)) → length (queue_of p class) < p.room
         has_room f l' =
-            let lawful = part_lawful ps d a.change curve (came ++ now_came p f ∷ []) ((came ++ now_came p f ∷ []) ++ os)
+            let lawful = part (came ++ now_came p f ∷ []) ((came ++ now_came p f ∷ []) ++ os)
             (part_front (came ++ now_came p f ∷ []) os)
-            (subst (AreLawful ps d a.change curve) (sym (append_assoc came (now_came p f ∷ []) os)) l') in
+            (subst (Lawful) (sym (append_assoc came (now_came p f ∷ []) os)) l') in
             let served = subst (λ y. AreServed (open_through (a ∷ []) class) y class 0 p.now came starts h.free (queue_of p class)) h.rate
             h.served in
             let more = few p.now (came ++ now_came p f ∷ []) starts h.free (queue_of p class ++ f ∷ []) lawful
@@ -269,14 +270,14 @@ module _ (ps class : ℕ) (a : Accepted) (lc : class < 8) where
             → queued_by class event p ++ qs ≡ offered_by class event p ++ os
         go (none_offered o q) on =
             ap (λ xs. xs ++ qs) q
-            ∙ (on came (ap (λ xs. came ++ xs) q ∙ append-nil came) (subst (λ xs. AreLawful ps d a.change curve (came ++ (xs ++ os))) o l)
+            ∙ (on came (ap (λ xs. came ++ xs) q ∙ append-nil came) (subst (λ xs. Lawful (came ++ (xs ++ os))) o l)
             ∙ sym (ap (λ xs. xs ++ os) o))
         go (one_queued f o q some) on =
-            let l' = subst (λ xs. AreLawful ps d a.change curve (came ++ (xs ++ os))) o l in
+            let l' = subst (λ xs. Lawful (came ++ (xs ++ os))) o l in
             let same = on (came ++ now_came p f ∷ []) (ap (λ xs. came ++ xs) q)
-            (subst (AreLawful ps d a.change curve) (sym (append_assoc came (now_came p f ∷ []) os)) l') in
+            (subst (Lawful) (sym (append_assoc came (now_came p f ∷ []) os)) l') in
             ap (λ xs. xs ++ qs) q ∙ (ap (λ xs. now_came p f ∷ xs) same ∙ sym (ap (λ xs. xs ++ os) o))
         go (one_full f o q many) on =
-            let l' = subst (λ xs. AreLawful ps d a.change curve (came ++ (xs ++ os))) o l in
+            let l' = subst (λ xs. Lawful (came ++ (xs ++ os))) o l in
             let less = has_room f l' in
             absurd (omega (arith, many, less))

@@ -1,24 +1,23 @@
 -- Each start of a class is that of its frame, and no sooner than its gate lets it.
-use Rattle.std.proofs.Common.{◌≡◌, ◌<◌, ◌≤◌, ℕ, ◌+◌, ◌-◌, true, false, ◌⊎◌, inl, inr, List, [], ◌∷◌, slice_get, Some, refl, sym, ap, ◌∙◌, subst, arith, le_refl}
+use Rattle.std.proofs.Common.{◌≡◌, ◌<◌, ◌≤◌, ℕ, ◌+◌, ◌-◌, true, ◌⊎◌, inl, inr, List, [], ◌∷◌, slice_get, sym, ap, ◌∙◌, subst, arith, le_refl}
 use Rattle.std.proofs.lemmas.Bool.{both_ways, cases_lt}
 use Rattle.std.proofs.lemmas.Option.{same_Some}
 use Rattle.wire_time.specs.Wire.{occupancy_of}
 use Rattle.gate_list.proofs.OpenLaws.{open_within}
 use Rattle.list_config.specs.History.{gates, open_through}
 use Rattle.abstract_port.specs.declared.Event.{Event}
-use Rattle.abstract_port.specs.declared.Event.TheVariants.{Arrive, Install, Clock, Query, Count}
 use Rattle.abstract_port.specs.declared.Start.{Start}
 use Rattle.abstract_port.specs.AbstractPort.{AbstractPort, new_port}
 use Rattle.abstract_port.specs.Answers.{answers_of, answers_to, port_after}
 use Rattle.abstract_port.specs.Laws.{starts_in}
 use Rattle.separation.specs.Hindsight.{IsOpenBy}
-use Rattle.separation.specs.Separation.{IsApartAt, IsKeptApart}
+use Rattle.separation.specs.Separation.{IsKeptApart}
 use Rattle.separation.specs.Served.{start_at}
 use Rattle.separation.specs.Traffic.{Came, queued_in}
 use Rattle.separation.proofs.RunLaws.{keeping}
 use Rattle.delay_bounds.proofs.GateLaws.{same_gates}
 use Rattle.delay_bounds.specs.Walk.{may_by}
-use Rattle.any_traffic.specs.Runs.{AreScheduled, started}
+use Rattle.any_traffic.specs.Runs.{AreScheduled}
 use Rattle.any_traffic.specs.Starts.{ApartRunLaw, LeastStartLaw, OwnStartsLaw}
 use Rattle.any_traffic.proofs.ListLaws.{none_here}
 use Rattle.any_traffic.proofs.Offered.{scheduled_at}

@@ -1,12 +1,12 @@
 -- Each frame of a periodic flow keeps the bounds of its flow.
-use Rattle.std.proofs.Common.{◌≡◌, ◌<◌, ◌≤◌, ℕ, suc, ◌+◌, ◌-◌, ◌*◌, Some, slice_get, refl, sym, ap, ◌∙◌, subst, arith}
+use Rattle.std.proofs.Common.{◌≡◌, ◌<◌, ℕ, suc, ◌+◌, sym, ap, ◌∙◌, arith}
 use Rattle.std.proofs.lemmas.Option.{same_Some}
 use Rattle.wire_time.specs.Wire.{occupancy_of}
 use Rattle.abstract_port.specs.declared.Start.{Start}
 use Rattle.separation.specs.Traffic.{Came}
 use Rattle.delay_bounds.specs.Walk.{may_by}
 use Rattle.any_traffic.specs.LateForEver.{PeriodicBoundsLaw}
-use Rattle.any_traffic.specs.PeriodicWindows.{PeriodicFlow, window_of}
+use Rattle.any_traffic.specs.PeriodicWindows.{window_of}
 use Rattle.any_traffic.proofs.LateForEverLaws.{late_enough_law}
 use Rattle.any_traffic.proofs.OwnStarts.{apart_run_law, least_start_law, own_starts_law}
 use Rattle.any_traffic.proofs.PeriodicWindowLaws.{periodic_window_law, the_frame}

@@ -1,5 +1,5 @@
 -- Frames of periodic flows with jitter start no later than in the late run.
-use Rattle.std.proofs.Common.{◌≡◌, ◌<◌, ◌≤◌, ℕ, zero, suc, ◌+◌, ◌-◌, ◌*◌, ◌/◌, max, Bool, ◌⊎◌, inl, inr, List, [], ◌∷◌, length, get_or, slice_get, Some, refl, sym, ap, ◌∙◌, subst, arith, le_refl, mul_comm, add-mul}
+use Rattle.std.proofs.Common.{◌≡◌, ◌<◌, ◌≤◌, ℕ, zero, suc, ◌+◌, ◌-◌, ◌*◌, max, Bool, ◌⊎◌, inl, inr, List, [], ◌∷◌, length, get_or, slice_get, Some, refl, sym, ap, ◌∙◌, subst, arith, le_refl, mul_comm, add-mul}
 use Rattle.std.specs.Prelude.{sum_by}
 use Rattle.std.proofs.Math.Nat.{le-div_iff_mul-le}
 use Rattle.std.proofs.lemmas.Bool.{cases_lt}
@@ -14,9 +14,9 @@ use Rattle.delay_bounds.specs.Walk.{may_by}
 use Rattle.any_traffic.specs.ArrivalWindows.{IsIn}
 use Rattle.any_traffic.specs.Runs.{end_of_run, started}
 use Rattle.any_traffic.specs.Slots.{IsSlot, IsBySlot}
-use Rattle.any_traffic.specs.PeriodicWindows.{AreSent, ComeByFlows, IsFreeFrom, IsLateStart, ArePeriodic, PeriodicFlow, PeriodicWindowLaw, before, can_by, must_before, window_of}
-use Rattle.any_traffic.proofs.Counting.{no_more_pairs, total, total_list, total_rises}
-use Rattle.any_traffic.proofs.ListLaws.{none_here, one_before}
+use Rattle.any_traffic.specs.PeriodicWindows.{AreSent, ComeByFlows, IsFreeFrom, IsLateStart, PeriodicFlow, PeriodicWindowLaw, before, can_by, must_before, window_of}
+use Rattle.any_traffic.proofs.Counting.{no_more_pairs, total_list}
+use Rattle.any_traffic.proofs.ListLaws.{one_before}
 use Rattle.any_traffic.proofs.Offered.{queued_order}
 use Rattle.any_traffic.proofs.SlotLaws.{both_slots, slot_before, slot_sooner, sooner}
 use Rattle.any_traffic.proofs.TrafficLaws.{slot_law}
@@ -131,40 +131,40 @@ module _ (may : ℕ → ℕ → Bool) (d : ℕ) where
         (sent_past p (p + j) (must_before flows (suc (p + j)) - must_before flows (p + j))
         (must_before flows (p + j) - must_before flows p) g.0 free (omega arith) was g.2))
 
+    -- what starts behind so many others at t is no sooner than the slot behind them and those that come from p on before t
+    pub slots_past : (p t j free s : ℕ) → p ≤ t → IsFreeFrom may d flows t free → IsSlot may d (max t free) j s
+        → (r : ℕ) × IsSlot may d p (must_before flows t - must_before flows p + j) r × (r ≤ s)
+    slots_past p t j free s le f slot =
+        let at : p + (t - p) ≡ t = omega (arith, le) in
+        by (subst (λ u. IsPast p (must_before flows u - must_before flows p) free) at
+        (free_past p (t - p) free (subst (λ u. IsFreeFrom may d flows u free) (sym at) f)))
+      where
+        by : IsPast p (must_before flows t - must_before flows p) free
+            → (r : ℕ) × IsSlot may d p (must_before flows t - must_before flows p + j) r × (r ≤ s)
+        by (inl none) =
+            let b = slot_sooner may d p (max t free) j s (omega (arith, le)) slot in
+            let count : j ≡ must_before flows t - must_before flows p + j = omega (arith, none) in
+            (b.0, subst (λ n. IsSlot may d p n b.0) count b.1, b.2)
+        by (inr w) =
+            let is = w.2 in
+            let from = w.4 in
+            let b = slot_sooner may d (w.1 + d) (max t free) j s (omega (arith, from)) slot in
+            let count : suc (w.0 + j) ≡ must_before flows t - must_before flows p + j = omega (arith, is) in
+            (b.0, subst (λ n. IsSlot may d p n b.0) count (both_slots may d p w.0 j w.1 b.0 w.3 b.1), b.2)
+
     -- where so many may have come from p on the late start is no sooner than the slot behind the others
     pub late_past : (p t s c : ℕ) → p ≤ t → IsLateStart may d flows t s → suc c ≤ can_by flows t - must_before flows p
         → (r : ℕ) × IsSlot may d p c r × (r ≤ s)
     late_past p t s c le h some =
-        let at : p + (t - p) ≡ t = omega (arith, le) in
-        let past = subst (λ u. IsPast p (must_before flows u - must_before flows p) h.0) at
-        (free_past p (t - p) h.0 (subst (λ u. IsFreeFrom may d flows u h.0) (sym at) h.1)) in
-        by past
-      where
-        m : ℕ
-        m = can_by flows t - must_before flows t
-
-        free : ℕ
-        free = h.0
-
-        -- slots, so many in all
-        fewer : (e q : ℕ) → c ≤ e → IsSlot may d p e q → q ≤ s → (r : ℕ) × IsSlot may d p c r × (r ≤ s)
-        fewer e q enough slot by =
-            let parts : e ≡ c + (e - c) = omega (arith, enough) in
-            let b = slot_before may d p c (e - c) e q parts slot in
-            let first = b.2 in
-            (b.0, b.1, omega (arith, first, by))
-
-        by : IsPast p (must_before flows t - must_before flows p) free → (r : ℕ) × IsSlot may d p c r × (r ≤ s)
-        by (inl none) =
-            let more = must_more flows p t above le in
-            let b = slot_sooner may d p (max t free) (m - 1) s (omega (arith, le)) h.2 in
-            fewer (m - 1) b.0 (omega (arith, none, more, some)) b.1 b.2
-        by (inr w) =
-            let count = w.2 in
-            let from = w.4 in
-            let more = must_more flows p t above le in
-            let b = slot_sooner may d (w.1 + d) (max t free) (m - 1) s (omega (arith, from)) h.2 in
-            fewer (suc (w.0 + (m - 1))) b.0 (omega (arith, count, more, some)) (both_slots may d p w.0 (m - 1) w.1 b.0 w.3 b.1) b.2
+        let m : ℕ = can_by flows t - must_before flows t - 1 in
+        let a = slots_past p t m h.0 s le h.1 h.2 in
+        let more = must_more flows p t above le in
+        let n : ℕ = must_before flows t - must_before flows p + m in
+        let parts : n ≡ c + (n - c) = omega (arith, some, more) in
+        let b = slot_before may d p c (n - c) n a.0 parts a.1 in
+        let first = b.2 in
+        let second = a.2 in
+        (b.0, b.1, omega (arith, first, second))
 
 -- ---- the frames of a run
 
@@ -181,7 +181,7 @@ module _ (ps d change : ℕ) (plan : Plan) (class : ℕ) (flows : List PeriodicF
   wide p t i = wide_of p t (get_or flows i no_flow)
 
   -- so many may have come from when the first of them came
-  as_many : (j n t : ℕ) (g f : Came) → slice_get came j ≡ Some g → slice_get came (j + n) ≡ Some f → change ≤ g.moment
+  pub as_many : (j n t : ℕ) (g f : Came) → slice_get came j ≡ Some g → slice_get came (j + n) ≡ Some f → change ≤ g.moment
       → f.moment ≤ change + t
       → suc n ≤ can_by flows t - must_before flows (g.moment - change)
   as_many j n t g f first at since by =

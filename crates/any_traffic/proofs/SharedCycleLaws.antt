@@ -55,8 +55,8 @@ blocking_repeats blocking c again (suc k) u =
     ap blocking at ∙ (again (u + c * k) ∙ blocking_repeats blocking c again k u)
 
 pub shared_cycle_law : SharedCycleLaw
-shared_cycle_law plan class pitch wait waiting need blocking curve most higher above blocked cycle t = subst
-    (IsSharedBusyPeriod plan class need blocking pitch curve most higher wait waiting) whole moved
+shared_cycle_law plan class pitch wait waiting need blocking curve curves higher above blocked cycle t = subst
+    (IsSharedBusyPeriod plan class need blocking pitch curve curves higher wait waiting) whole moved
   where
     c : ℕ
     c = in_ps plan.cycle
@@ -81,29 +81,29 @@ shared_cycle_law plan class pitch wait waiting need blocking curve most higher a
     same_time : (s : ℕ) → s - p ≡ s + e - (p + e)
     same_time s = omega arith
 
-    slot_moves : (k s : ℕ) → IsSlotFor plan class need blocking pitch curve most higher p k s
-        → IsSlotFor plan class need blocking pitch curve most higher (p + e) k (s + e)
+    slot_moves : (k s : ℕ) → IsSlotFor plan class need blocking pitch curve curves higher p k s
+        → IsSlotFor plan class need blocking pitch curve curves higher (p + e) k (s + e)
     slot_moves k s w = record {
       behind = w.behind;
       is = moves w.behind s w.is;
       enough = subst
-          (λ y. k + most_above curve most higher y ≤ w.behind + 1) (same_time s) w.enough;
+          (λ y. k + most_above curves higher y ≤ w.behind + 1) (same_time s) w.enough;
     }
 
-    moved : IsSharedBusyPeriod plan class need blocking pitch curve most higher wait waiting (p + e)
+    moved : IsSharedBusyPeriod plan class need blocking pitch curve curves higher wait waiting (p + e)
     moved =
         let b = cycle p (mod-lt t some) in
         let ends = b.ends in
         record {
           last = b.last;
           slot = b.slot + e;
-          is = slot_moves (curve class b.last) b.slot b.is;
+          is = slot_moves (curve b.last) b.slot b.is;
           ends = omega (arith, ends);
-          soon = λ x le. (let w = b.soon x le in let by = w.2 in (w.0 + e, slot_moves (curve class x) w.0 w.1, omega (arith, by)));
+          soon = λ x le. (let w = b.soon x le in let by = w.2 in (w.0 + e, slot_moves (curve x) w.0 w.1, omega (arith, by)));
           few = λ x le. (let w = b.few x le in (w.0, w.1, later x w.0 w.2));
         }
       where
-        later : (x k : ℕ) → (k ≡ 0) ⊎ ((s : ℕ) × IsSlotFor plan class need blocking pitch curve most higher p k s × (s < p + x))
-            → (k ≡ 0) ⊎ ((s : ℕ) × IsSlotFor plan class need blocking pitch curve most higher (p + e) k s × (s < p + e + x))
+        later : (x k : ℕ) → (k ≡ 0) ⊎ ((s : ℕ) × IsSlotFor plan class need blocking pitch curve curves higher p k s × (s < p + x))
+            → (k ≡ 0) ⊎ ((s : ℕ) × IsSlotFor plan class need blocking pitch curve curves higher (p + e) k s × (s < p + e + x))
         later x k (inl none) = inl none
         later x k (inr w) = (let before = w.2 in inr (w.0 + e, slot_moves k w.0 w.1, omega (arith, before)))

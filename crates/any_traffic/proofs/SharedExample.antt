@@ -5,6 +5,7 @@ use Rattle.gate_list.specs.Gate.{Plan}
 use Rattle.gate_list.proofs.OpenLaws.{open_from}
 use Rattle.delay_bounds.specs.Walk.{may_by}
 use Rattle.any_traffic.specs.SharedBounds.{AreSharedBounds, IsSlotFor}
+use Rattle.any_traffic.specs.StartCurve.{start_curve}
 use Rattle.any_traffic.specs.SharedSlots.{AreAbove, IsBlocking, IsPitch, IsSharedSlot, IsSharing}
 
 abbrev both_open : Plan
@@ -16,11 +17,12 @@ needs j = 3000000
 abbrev blocked : ℕ → ℕ
 blocked u = 2999999
 
-abbrev rare : ℕ → ℕ → ℕ
-rare j x = x / 100000000 + 1
+abbrev rare : ℕ → ℕ
+rare x = x / 100000000 + 1
 
-abbrev one_waits : ℕ → ℕ
-one_waits j = 1
+-- of the higher class one waits at most, and for one of the lower one at most
+abbrev rare_above : ℕ → ℕ → ℕ
+rare_above j y = start_curve rare 1 2999999 y
 
 always : (m d : ℕ) → may_by both_open 6 m d ≡ true
 always m d = open_from _ 6 m d (λ n from below. refl)
@@ -43,14 +45,14 @@ is_sharing : IsSharing both_open 6 (7 ∷ []) needs blocked 3000000
 is_sharing = record { among = are_above; blocked = is_blocking; apart = is_pitch }
 
 abbrev IsFor : ℕ → ℕ → ℕ → Type 0
-IsFor t k s = IsSlotFor both_open 6 needs blocked 3000000 rare one_waits (7 ∷ []) t k s
+IsFor t k s = IsSlotFor both_open 6 needs blocked 3000000 rare rare_above (7 ∷ []) t k s
 
--- it waits for one of a lower class, and for two of the higher one
-are_bounds : AreSharedBounds both_open 6 needs blocked 3000000 rare one_waits (7 ∷ []) 8999999 1
+-- it waits for one of a lower class, and for one of the higher one
+are_bounds : AreSharedBounds both_open 6 needs blocked 3000000 rare rare_above (7 ∷ []) 5999999 1
 are_bounds = record {
   soon = λ t x. (
-    t + 2999999 + (2 * (x / 100000000) + 2) * 3000000,
-    record { behind = 2 * (x / 100000000) + 2; is = shared_at (2 * (x / 100000000) + 2) t; enough = omega arith },
+    t + 2999999 + (2 * (x / 100000000) + 1) * 3000000,
+    record { behind = 2 * (x / 100000000) + 1; is = shared_at (2 * (x / 100000000) + 1) t; enough = omega arith },
     omega arith,
   );
   few = λ t x. (x / 100000000, omega arith, by t x (x / 100000000) refl);
@@ -60,7 +62,7 @@ are_bounds = record {
     by t x zero e = inl refl
     by t x (suc q) e = inr (
       t + 2999999 +
-          (2 * q + 4) * 3000000,
-      record { behind = 2 * q + 4; is = shared_at (2 * q + 4) t; enough = omega arith },
+          (2 * suc q) * 3000000,
+      record { behind = 2 * suc q; is = shared_at (2 * suc q) t; enough = omega arith },
       omega (arith, e),
     )

@@ -1,8 +1,8 @@
 -- The laws of shared windows.
-use Rattle.std.proofs.Common.{◌≡◌, ◌<◌, ◌≤◌, ℕ, zero, suc, ◌+◌, ◌-◌, min, true, false, eqb, ◌⊎◌, inl, inr, List, [], ◌∷◌, ◌++◌, length, slice_get, Some, is_some, refl, sym, ap, ◌∙◌, subst, arith, le_refl, append-nil, append_assoc}
-use Rattle.std.proofs.lemmas.Bool.{cases_lt, false≢true}
+use Rattle.std.proofs.Common.{◌≡◌, ◌<◌, ◌≤◌, ℕ, zero, suc, ◌+◌, ◌-◌, true, eqb, ◌⊎◌, inl, inr, List, [], ◌∷◌, ◌++◌, length, slice_get, Some, is_some, refl, sym, ap, ◌∙◌, subst, arith, le_refl, append-nil, append_assoc}
+use Rattle.std.proofs.lemmas.Bool.{false≢true}
 use Rattle.std.proofs.lemmas.List.Elements.{filter-append}
-use Rattle.std.proofs.lemmas.Option.{same_Some, slice_get_within}
+use Rattle.std.proofs.lemmas.Option.{slice_get_within}
 use Rattle.wire_time.specs.declared.Frame.{Frame}
 use Rattle.gate_list.specs.Gate.{Plan}
 use Rattle.list_config.specs.History.{Accepted, in_force, open_through}
@@ -19,74 +19,31 @@ use Rattle.delay_bounds.proofs.QueueLaws.{Taken, none_offered, one_queued, one_f
 use Rattle.any_traffic.specs.ArrivalCurve.{ConformTo}
 use Rattle.any_traffic.specs.Runs.{AreScheduled, IsScheduledAt}
 use Rattle.any_traffic.specs.SharedBounds.{SharedBusyLaw, SharedLaw}
-use Rattle.any_traffic.specs.SharedRuns.{IsHigherTraffic, IsSharedInTime, IsSharedRun}
+use Rattle.any_traffic.specs.SharedRuns.{IsSharedInTime, IsSharedRun, KeepStartCurve}
 use Rattle.any_traffic.proofs.ListLaws.{get_last, get_more, none_here, one_before}
 use Rattle.any_traffic.proofs.PartLaws.{ArePart, part_both, part_conform, part_front, part_pair, rising_pair}
-use Rattle.any_traffic.proofs.Offered.{are_part, are_rising, forced_since, offered_forced, queued_order}
-use Rattle.any_traffic.proofs.RunParts.{AreAfter, after_class, either_part, large_on, later_after, offered_append, only_both, queued_append, room_on, run_after, scheduled_both, shared_count, starts_append}
+use Rattle.any_traffic.proofs.Offered.{are_part, are_rising, forced_since, offered_forced}
+use Rattle.any_traffic.proofs.RunParts.{large_on, offered_append, only_both, room_on, scheduled_both, shared_count, starts_append}
 use Rattle.any_traffic.proofs.SharedSlots.{AreSound, count_of}
-use Rattle.any_traffic.proofs.SharedWaits.{AreInTime, all_few, in_busy_time, in_time}
-use Rattle.any_traffic.proofs.StartLaws.{apart_at, class_one, class_pair, class_within, count_own, long_at, shared_come, span, start_frame, start_holds}
+use Rattle.any_traffic.proofs.SharedWaits.{AreInTime, in_busy_time, in_time}
+use Rattle.any_traffic.proofs.StartLaws.{apart_at, class_rises, class_within, count_own, long_at, span, start_holds}
 use Rattle.any_traffic.proofs.Sharing.{AreShared, AreSince, SharedHolds, comes, shared_run, since_both}
 
--- ---- a run
+-- ---- how many frames of a higher class start in a time
 
-module _ (ps mtu room : ℕ) (events : List Event) (a : Accepted) (rate : 80 ≤ ps) (large : 68 ≤ mtu)
-    (only : IsOnly a events (new_port ps mtu room)) where
-  abbrev all_starts : List Start
-  all_starts = starts_in (answers_of events (new_port ps mtu room))
-
-  some_time : 0 < ps
-  some_time = omega (arith, rate)
-
-  module _ (c : ℕ) (lc : c < 8) (k : AreScheduled c events (new_port ps mtu room)) where
-    held : SharedHolds c a ps lc some_time (port_after events (new_port ps mtu room)) (queued_in c events (new_port ps mtu room)) all_starts
-    held = shared_run c a ps lc some_time mtu room events large k only
-
-    -- the starts of the class come one after another
-    in_turn : (i j : ℕ) (x y : Start) → slice_get (starts_of_class c all_starts) i ≡ Some x
-        → slice_get (starts_of_class c all_starts) j ≡ Some y → i < j → x.«end» ≤ y.at
-    in_turn i j x y e f less =
-        let both = class_pair c all_starts i j x y e f less in
-        apart_at 0 all_starts both.0 both.1 x y held.long (keeping ps mtu room rate large events).apart both.2 both.3 both.4
-
-    rising : (i j : ℕ) (x y : Start) → slice_get (starts_of_class c all_starts) i ≡ Some x
-        → slice_get (starts_of_class c all_starts) j ≡ Some y → i ≤ j → x.at ≤ y.at
-    rising i j x y e f le = elim (cases_lt i j) [
-      | inl less ↦
-          let after = in_turn i j x y e f less in
-          let one = class_one c all_starts i x e in
-          let long = long_at all_starts one.0 x held.long one.1 in
-          omega (arith, after, long)
-      | inr more ↦
-          let place : i ≡ j = omega (arith, le, more) in
-          let same = ap (λ (z : Start). z.at) (same_Some x y (sym e ∙ (ap (slice_get (starts_of_class c all_starts)) place ∙ f))) in
-          omega (arith, same)
-    ]
-
-    frames : (i : ℕ) (x : Start) → slice_get (starts_of_class c all_starts) i ≡ Some x
-        → (f : Came) × (slice_get (queued_in c events (new_port ps mtu room)) i ≡ Some f) × (f.moment ≤ x.at)
-    frames i x e = start_frame (open_through (a ∷ []) c) ps c all_starts 0 _ _ _ _ _ held.served i x e
-
-  -- of a higher class no more start in a time than wait and come
-  above_few : (j : ℕ) → j < 8 → (need : ℕ) (curve : ℕ → ℕ) (most : ℕ) → IsHigherTraffic ps mtu room events j need curve most → (p s : ℕ)
-      → count_of j p (s + 1) all_starts ≤ most + curve (s - p)
-  above_few j lj need curve most w p s = by (count_of j p (s + 1) all_starts) refl
-    where
-      by : (n : ℕ) → count_of j p (s + 1) all_starts ≡ n → count_of j p (s + 1) all_starts ≤ most + curve (s - p)
-      by zero e = omega (arith, e)
-      by (suc m) e =
-          let k = w.scheduled in
-          let r = span j p (s + 1) (starts_of_class j all_starts) m (rising j lj k) (sym (count_own j p (s + 1) all_starts) ∙ e) in
-          let keep = part_conform ps need curve (queued_in j events (new_port ps mtu room)) (offered_in j events (new_port ps mtu room))
-          (are_part j events (new_port ps mtu room) large) w.conform in
-          let last = frames j lj k (r.place + m) r.last r.other in
-          let come = last.2 in
-          let before = r.before in
-          let few = all_few (queued_in j events (new_port ps mtu room)) (starts_of_class j all_starts) curve most (frames j lj k) keep.few
-          (queued_order j events (new_port ps mtu room) large) w.rises w.waits
-          p s r.place r.first r.one r.from m last.0 last.1 (omega (arith, come, before)) in
-          omega (arith, few, e)
+above_few : (h : List Accepted) (need : ℕ → ℕ) (all : List Start) (j : ℕ) (curves : ℕ → ℕ) → AreSound h need all
+    → KeepStartCurve curves (starts_of_class j all) → (p s : ℕ) → count_of j p (s + 1) all ≤ curves (s - p)
+above_few h need all j curves sound kept p s = by (count_of j p (s + 1) all) refl
+  where
+    by : (n : ℕ) → count_of j p (s + 1) all ≡ n → count_of j p (s + 1) all ≤ curves (s - p)
+    by zero e = omega (arith, e)
+    by (suc m) e =
+        let r = span j p (s + 1) (starts_of_class j all) m (class_rises h need all sound j) (sym (count_own j p (s + 1) all) ∙ e) in
+        let from = r.from in
+        let before = r.before in
+        let few = kept.few r.place m r.first r.last r.one r.other in
+        let up = kept.rises ((r.last).at - (r.first).at) (s - p) (omega (arith, from, before)) in
+        omega (arith, few, up, e)
 
 -- ---- a beginning of a run
 
@@ -104,73 +61,39 @@ module _ (ps mtu room : ℕ) (a : Accepted) (rate : 80 ≤ ps) (large : 68 ≤ m
   scheduled_before : (c : ℕ) → AreScheduled c events fresh → AreScheduled c before fresh × AreScheduled c rest there
   scheduled_before c k = scheduled_both c before rest fresh (subst (λ xs. AreScheduled c xs fresh) (sym parts) k)
 
-  -- what is known of the frames of a higher class up to there
-  higher_before : (c need : ℕ) (curve : ℕ → ℕ) (most : ℕ) → c < 8 → IsHigherTraffic ps mtu room events c need curve most
-      → IsHigherTraffic ps mtu room before c need curve most
-  higher_before c need curve most lc w = record {
-    scheduled = k.0;
-    conform = part_conform ps need curve (offered_in c before fresh) (offered_in c events fresh) part w.conform;
-    rises = w.rises;
-    waits = λ i n t f g e h come first.
-        let by = shared_come (open_through (a ∷ []) c) ps c all 0 there.now (queued_in c before fresh) mine _ _ here.served (i + n) g h in
-        let few = w.waits i n (min t there.now) f g (whole i f e) (whole (i + n) g h) (omega (arith, come, by))
-        (λ x e'. elim (either_part mine later i x (sym (ap (λ xs. slice_get xs i) own) ∙ e')) [
-          | inl early ↦ (let at = first x early in omega (arith, at))
-          | inr late ↦ (let at = later_after there.now later late.0 x
-              (after_class there.now c (starts_in (answers_of rest there)) behind) late.1 in omega (arith, at))
-        ]) in
-        few;
-  }
+  -- the starts of a higher class up to there keep its curve
+  higher_before : (c : ℕ) (curve : ℕ → ℕ) → KeepStartCurve curve (starts_of_class c (starts_in (answers_of events fresh)))
+      → KeepStartCurve curve (starts_of_class c (starts_in (answers_of before fresh)))
+  higher_before c curve w = record { rises = w.rises; few = λ k n x y e h. w.few k n x y (whole k x e) (whole (k + n) y h) }
     where
-      k : AreScheduled c before fresh × AreScheduled c rest there
-      k = scheduled_before c w.scheduled
-
-      pos : 0 < ps
-      pos = omega (arith, rate)
-
-      all : List Start
-      all = starts_in (answers_of before fresh)
-
       mine : List Start
-      mine = starts_of_class c all
+      mine = starts_of_class c (starts_in (answers_of before fresh))
 
       later : List Start
       later = starts_of_class c (starts_in (answers_of rest there))
 
-      here : SharedHolds c a ps lc pos there (queued_in c before fresh) all
-      here = shared_run c a ps lc pos mtu room before large k.0 only_before.0
-
-      part : ArePart (offered_in c before fresh) (offered_in c events fresh)
-      part = subst (λ xs. ArePart (offered_in c before fresh) (offered_in c xs fresh)) parts
-          (subst (ArePart (offered_in c before fresh)) (sym (offered_append c before rest fresh))
-          (part_front (offered_in c before fresh) (offered_in c rest there)))
-
-      whole : (i : ℕ) (f : Came) → slice_get (queued_in c before fresh) i ≡ Some f → slice_get (queued_in c events fresh) i ≡ Some f
-      whole i f e =
-          ap (λ xs. slice_get (queued_in c xs fresh) i) (sym parts)
-          ∙ (ap (λ xs. slice_get xs i) (queued_append c before rest fresh) ∙ get_more (queued_in c before fresh)
-          (queued_in c rest there) i f e)
-
       own : starts_of_class c (starts_in (answers_of events fresh)) ≡ mine ++ later
       own =
           ap (λ xs. starts_of_class c (starts_in (answers_of xs fresh))) (sym parts)
-          ∙ (ap (starts_of_class c) (starts_append before rest fresh) ∙ filter-append (λ (s : Start). eqb s.class c) all
-          (starts_in (answers_of rest there)))
+          ∙ (ap (starts_of_class c) (starts_append before rest fresh)
+          ∙ filter-append (λ (s : Start). eqb s.class c) (starts_in (answers_of before fresh)) (starts_in (answers_of rest there)))
 
-      behind : AreAfter there.now (starts_in (answers_of rest there))
-      behind = run_after c a ps lc pos rest there (queued_in c before fresh) all (large_on before fresh large) here k.1 only_before.1
+      whole : (i : ℕ) (x : Start) → slice_get mine i ≡ Some x
+          → slice_get (starts_of_class c (starts_in (answers_of events fresh))) i ≡ Some x
+      whole i x e = ap (λ xs. slice_get xs i) own ∙ get_more mine later i x e
 
 -- ---- a run that is judged
 
-module _ (ps mtu room c pitch wait waiting : ℕ) (need blocking : ℕ → ℕ) (curve : ℕ → ℕ → ℕ) (most : ℕ → ℕ) (higher : List ℕ) (a : Accepted)
+module _ (ps mtu room c pitch wait waiting : ℕ) (need blocking : ℕ → ℕ) (curve : ℕ → ℕ) (curves : ℕ → ℕ → ℕ) (higher : List ℕ)
+    (a : Accepted)
     (plan : Plan)
-    (events : List Event) (run : IsSharedRun ps mtu room events c need curve most higher a plan)
+    (events : List Event) (run : IsSharedRun ps mtu room events c need curve curves higher a plan)
     (judge : (some_time : 0 < ps) (all : List Start) (now : ℕ) → AreSound (a ∷ []) need all
-    → ((i j : ℕ) → slice_get higher i ≡ Some j → (p s : ℕ) → count_of j p (s + 1) all ≤ most j + curve j (s - p))
+    → ((i j : ℕ) → slice_get higher i ≡ Some j → (p s : ℕ) → count_of j p (s + 1) all ≤ curves j (s - p))
     → (came : List Came) (wire : ℕ) (waits : List Frame)
     → AreShared (open_through (a ∷ []) c) ps c all 0 now came (starts_of_class c all) wire waits
     → AreSince a.change came → ((k n : ℕ) (f g : Came) → slice_get came k ≡ Some f → slice_get came (k + n) ≡ Some g → f.moment ≤ g.moment)
-    → ConformTo ps (need c) (curve c) came → AreInTime all now c came wait waiting) where
+    → ConformTo ps (need c) curve came → AreInTime all now c came wait waiting) where
   abbrev new : AbstractPort
   new = new_port ps mtu room
 
@@ -201,7 +124,7 @@ module _ (ps mtu room c pitch wait waiting : ℕ) (need blocking : ℕ → ℕ) 
         (λ k n f g e h. (let both = part_pair came (offered_in c events new) k n f g part e h in
         rising_pair new.now (offered_in c events new) both.place both.more f g
         (are_rising c events new (run.run).large) both.first both.second))
-        (part_conform ps (need c) (curve c) came (offered_in c events new) part run.conform)
+        (part_conform ps (need c) curve came (offered_in c events new) part run.conform)
       where
         sound : AreSound (a ∷ []) need so_far
         sound = record {
@@ -218,12 +141,11 @@ module _ (ps mtu room c pitch wait waiting : ℕ) (need blocking : ℕ → ℕ) 
           few = λ i y e. class_within so_far i y chain.long e;
         }
 
-        few : (i j : ℕ) → slice_get higher i ≡ Some j → (p s : ℕ) → count_of j p (s + 1) so_far ≤ most j + curve j (s - p)
+        few : (i j : ℕ) → slice_get higher i ≡ Some j → (p s : ℕ) → count_of j p (s + 1) so_far ≤ curves j (s - p)
         few i j e p s =
-            let above = run.above i j e in
-            above_few ps mtu room before a (run.run).rate (run.run).large first_part j above.0 (need j) (curve j) (most j)
-            (higher_before ps mtu room a (run.run).rate (run.run).large events before rest parts (run.run).only j (need j) (curve j)
-            (most j) above.0 above.1) p s
+            above_few (a ∷ []) need so_far j (curves j) sound
+            (higher_before ps mtu room a (run.run).rate (run.run).large events before rest parts (run.run).only j (curves j)
+            (run.above i j e)) p s
 
     -- one that comes then finds room
     finds_room : waiting ≤ room → (event : Event) (f : Frame) → IsScheduledAt c event then → offered_by c event then ≡ now_came then f ∷ []
@@ -316,19 +238,19 @@ module _ (ps mtu room c pitch wait waiting : ℕ) (need blocking : ℕ → ℕ) 
 -- ---- the laws
 
 pub shared_law : SharedLaw
-shared_law ps mtu room c pitch wait waiting need blocking curve most higher a plan events sharing run bounds =
-    by_judge ps mtu room c pitch wait waiting need blocking curve most higher a plan events run
+shared_law ps mtu room c pitch wait waiting need blocking curve curves higher a plan events sharing run bounds =
+    by_judge ps mtu room c pitch wait waiting need blocking curve curves higher a plan events run
     (λ some all now sound few came wire waits served since order conform.
     in_time ps a some all now c plan (run.run).is
-    (run.run).above need blocking pitch curve most higher sharing.blocked sharing.apart sharing.among sound few came wire waits served
+    (run.run).above need blocking pitch curve curves higher sharing.blocked sharing.apart sharing.among sound few came wire waits served
     since order conform
     wait waiting (λ t x. Unit {0}) (λ t x in_it. bounds.soon t x) (λ t x in_it. bounds.few t x) (λ i m j f g b at e le h come. tt))
 
 pub shared_busy_law : SharedBusyLaw
-shared_busy_law ps mtu room c pitch wait waiting need blocking curve most higher a plan events sharing run rises times =
-    by_judge ps mtu room c pitch wait waiting need blocking curve most higher a plan events run
+shared_busy_law ps mtu room c pitch wait waiting need blocking curve curves higher a plan events sharing run rises times =
+    by_judge ps mtu room c pitch wait waiting need blocking curve curves higher a plan events run
     (λ some all now sound few came wire waits served since order conform.
     in_busy_time ps a some all now c plan (run.run).is
-    (run.run).above need blocking pitch curve most higher sharing.blocked sharing.apart sharing.among sound few came wire waits served
+    (run.run).above need blocking pitch curve curves higher sharing.blocked sharing.apart sharing.among sound few came wire waits served
     since order conform
     wait waiting rises times)

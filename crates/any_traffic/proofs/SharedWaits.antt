@@ -1,5 +1,5 @@
 -- What bounds a class that shares its windows, by the chain of its starts.
-use Rattle.std.proofs.Common.{◌≡◌, ◌<◌, ◌≤◌, ℕ, zero, suc, ◌+◌, ◌-◌, max, Bool, true, ◌⊎◌, inl, inr, List, [], ◌∷◌, length, slice_get, sum_by, Some, refl, sym, ap, ◌∙◌, subst, arith, le_refl}
+use Rattle.std.proofs.Common.{◌≡◌, ◌<◌, ◌≤◌, ℕ, zero, suc, ◌+◌, ◌-◌, max, true, ◌⊎◌, inl, inr, List, [], ◌∷◌, length, slice_get, sum_by, Some, refl, sym, ap, ◌∙◌, subst, arith, le_refl}
 use Rattle.std.proofs.lemmas.Bool.{cases_lt}
 use Rattle.std.proofs.lemmas.List.Sums.{sum_by-cons}
 use Rattle.std.proofs.lemmas.Option.{same_Some, slice_get_within}
@@ -9,26 +9,16 @@ use Rattle.wire_time.specs.declared.Frame.{Frame}
 use Rattle.gate_list.specs.Gate.{Plan}
 use Rattle.gate_list.proofs.OpenLaws.{open_within}
 use Rattle.list_config.specs.History.{Accepted, gates, open_through}
-use Rattle.abstract_port.specs.declared.Event.{Event}
 use Rattle.abstract_port.specs.declared.Start.{Start}
-use Rattle.abstract_port.specs.AbstractPort.{new_port, queue_of}
-use Rattle.abstract_port.specs.Answers.{answers_of, port_after}
-use Rattle.abstract_port.specs.Laws.{starts_in}
-use Rattle.separation.specs.Hindsight.{IsOpenBy}
-use Rattle.separation.specs.Served.{start_at}
-use Rattle.separation.specs.Traffic.{Came, IsOnly, offered_in, queued_in, starts_of_class}
-use Rattle.separation.proofs.RunLaws.{keeping}
+use Rattle.separation.specs.Traffic.{Came, starts_of_class}
 use Rattle.delay_bounds.specs.Walk.{may_by}
 use Rattle.any_traffic.specs.ArrivalCurve.{ConformTo}
-use Rattle.any_traffic.specs.SharedBounds.{AreFew, IsSharedBusyPeriod, IsSoon, SharedBusyLaw, SharedLaw, most_above}
-use Rattle.any_traffic.specs.Runs.{AreScheduled}
-use Rattle.any_traffic.specs.SharedRuns.{AtMostWait, IsHigherTraffic, IsSharedInTime, IsSharedRun}
+use Rattle.any_traffic.specs.SharedBounds.{AreFew, IsSharedBusyPeriod, IsSoon, most_above}
+use Rattle.any_traffic.specs.SharedRuns.{AtMostWait}
 use Rattle.any_traffic.specs.SharedSlots.{AreAbove, IsBlocking, IsPitch, IsSharedSlot}
 use Rattle.any_traffic.proofs.ListLaws.{none_here, one_at, one_before}
-use Rattle.any_traffic.proofs.PartLaws.{come_by, part_at, part_pair}
-use Rattle.any_traffic.proofs.Offered.{are_part, queued_order}
 use Rattle.any_traffic.proofs.SharedSlots.{AreSound, at_slot, count_all, count_of}
-use Rattle.any_traffic.proofs.StartLaws.{apart_at, shared_come, start_before, start_frame, class_at, class_of, class_one, class_pair, class_within, count_own, long_at, since_at, span, start_holds}
+use Rattle.any_traffic.proofs.StartLaws.{class_rises, shared_come, start_before, start_frame, class_at, class_of, class_one, count_own, since_at, span}
 use Rattle.any_traffic.proofs.Sharing.{AreShared, AreSince, IsSharedStart, IsTaken}
 
 -- ---- since when the class has been waiting
@@ -226,63 +216,6 @@ module _ (h : List Accepted) (ps c d : ℕ) (all : List Start) (whole : List Cam
               (let started = slice_get_within mine i y own in b.joined i z y from (omega (arith, started)) there own);
         }
 
--- ---- how many frames of a higher class may start in a time
-
-module _ (came : List Came) (starts : List Start) (curve : ℕ → ℕ) (most : ℕ)
-    (frames : (k : ℕ) (x : Start) → slice_get starts k ≡ Some x → (f : Came) × (slice_get came k ≡ Some f) × (f.moment ≤ x.at))
-    (few : (k n : ℕ) (f g : Came) → slice_get came k ≡ Some f → slice_get came (k + n) ≡ Some g → n + 1 ≤ curve (g.moment - f.moment))
-    (order : (k n : ℕ) (f g : Came) → slice_get came k ≡ Some f → slice_get came (k + n) ≡ Some g → f.moment ≤ g.moment)
-    (rises : (x y : ℕ) → x ≤ y → curve x ≤ curve y) (waits : AtMostWait most came starts) (p s i : ℕ) (y : Start)
-    (there : slice_get starts i ≡ Some y) (from : p ≤ y.at) where
-  -- those up to one that has come by the beginning
-  some_wait : (n : ℕ) (f : Came) → slice_get came (i + n) ≡ Some f → f.moment ≤ p → n + 1 ≤ most
-  some_wait n f e le =
-      let g = frames i y there in
-      waits i n p g.0 f g.1 e le (λ x e'. subst (λ (z : Start). p ≤ z.at) (same_Some y x (sym there ∙ e')) from)
-
-  -- those from one on that has not
-  some_come : (n m : ℕ) (f g : Came) → n ≤ m → slice_get came (i + n) ≡ Some f → slice_get came (i + m) ≡ Some g → p < f.moment
-      → g.moment ≤ s → m - n + 1 ≤ curve (s - p)
-  some_come n m f g le e h after by =
-      let at : i + m ≡ i + n + (m - n) = omega (arith, le) in
-      let count = few (i + n) (m - n) f g e (sym (ap (slice_get came) at) ∙ h) in
-      let up = rises (g.moment - f.moment) (s - p) (omega (arith, after, by)) in
-      omega (arith, count, up)
-
-  -- all of them
-  pub all_few : (m : ℕ) (g : Came) → slice_get came (i + m) ≡ Some g → g.moment ≤ s → m + 1 ≤ most + curve (s - p)
-  all_few m g e by = go m (le_refl m) (inl refl)
-    where
-      IsAfter : ℕ → Type 0
-      IsAfter n = (n ≡ m) ⊎ ((f : Came) × (slice_get came (i + suc n) ≡ Some f) × (p < f.moment))
-
-      frame : (n : ℕ) → n ≤ m → (f : Came) × (slice_get came (i + n) ≡ Some f)
-      frame n le = one_before came (i + n) (i + m) g (omega (arith, le)) e
-
-      early : (n : ℕ) → n ≤ m → (f : Came) → slice_get came (i + n) ≡ Some f → f.moment ≤ p → IsAfter n → m + 1 ≤ most + curve (s - p)
-      early n le f at before (inl same) = (let wait = some_wait n f at before in omega (arith, wait, same))
-      early n le f at before (inr next) = elim (cases_lt n m) [
-        | inr last ↦ (let wait = some_wait n f at before in omega (arith, wait, last, le))
-        | inl less ↦
-            let wait = some_wait n f at before in
-            let rest = some_come (suc n) m next.0 g less next.1 e next.2 by in
-            omega (arith, wait, rest, less)
-      ]
-
-      go : (n : ℕ) → n ≤ m → IsAfter n → m + 1 ≤ most + curve (s - p)
-      go zero le after =
-          let f = frame zero le in
-          elim (cases_lt p (f.0).moment) [
-            | inr before ↦ early zero le f.0 f.1 before after
-            | inl later ↦ (let all = some_come 0 m f.0 g le f.1 e later by in omega (arith, all))
-          ]
-      go (suc n) le after =
-          let f = frame (suc n) le in
-          elim (cases_lt p (f.0).moment) [
-            | inr before ↦ early (suc n) le f.0 f.1 before after
-            | inl later ↦ go n (omega (arith, le)) (inr (f.0, f.1, later))
-          ]
-
 sum_le : (g h : ℕ → ℕ) (higher : List ℕ) → ((i j : ℕ) → slice_get higher i ≡ Some j → g j ≤ h j) → sum_by g higher ≤ sum_by h higher
 sum_le g h [] le = omega arith
 sum_le g h (j ∷ higher) le =
@@ -302,31 +235,20 @@ pub record AreInTime (all : List Start) (now c : ℕ) (came : List Came) (wait w
   pub few : AtMostWait waiting came (starts_of_class c all)
 
 module _ (ps : ℕ) (a : Accepted) (some_time : 0 < ps) (all : List Start) (now : ℕ) (c : ℕ) (plan : Plan) (is : a.plan ≡ Some plan)
-    (above : 0 < plan.cycle) (need blocking : ℕ → ℕ) (pitch : ℕ) (curve : ℕ → ℕ → ℕ) (most : ℕ → ℕ) (higher : List ℕ)
+    (above : 0 < plan.cycle) (need blocking : ℕ → ℕ) (pitch : ℕ) (curve : ℕ → ℕ) (curves : ℕ → ℕ → ℕ) (higher : List ℕ)
     (blocked : IsBlocking plan c need blocking) (pitched : IsPitch c higher need pitch) (those : AreAbove plan c higher)
     (sound : AreSound (a ∷ []) need all)
-    (above_few : (i j : ℕ) → slice_get higher i ≡ Some j → (p s : ℕ) → count_of j p (s + 1) all ≤ most j + curve j (s - p))
+    (above_few : (i j : ℕ) → slice_get higher i ≡ Some j → (p s : ℕ) → count_of j p (s + 1) all ≤ curves j (s - p))
     (came : List Came) (wire : ℕ) (waiting_now : List Frame)
     (served : AreShared (open_through (a ∷ []) c) ps c all 0 now came (starts_of_class c all) wire waiting_now)
     (come_since : AreSince a.change came)
     (order : (k n : ℕ) (f g : Came) → slice_get came k ≡ Some f → slice_get came (k + n) ≡ Some g → f.moment ≤ g.moment)
-    (keep : ConformTo ps (need c) (curve c) came) where
+    (keep : ConformTo ps (need c) curve came) where
   abbrev begun : List Start
   begun = starts_of_class c all
 
-  -- the starts of the class come one after another
   rising : (i j : ℕ) (x y : Start) → slice_get begun i ≡ Some x → slice_get begun j ≡ Some y → i ≤ j → x.at ≤ y.at
-  rising i j x y e f le = elim (cases_lt i j) [
-    | inl less ↦
-        let both = class_pair c all i j x y e f less in
-        let after = sound.apart both.0 both.1 x y both.2 both.3 both.4 in
-        let long = sound.some both.0 x both.2 in
-        omega (arith, after, long)
-    | inr more ↦
-        let place : i ≡ j = omega (arith, le, more) in
-        let same = ap (λ (z : Start). z.at) (same_Some x y (sym e ∙ (ap (slice_get begun) place ∙ f))) in
-        omega (arith, same)
-  ]
+  rising = class_rises (a ∷ []) need all sound c
 
   frames : (i : ℕ) (x : Start) → slice_get begun i ≡ Some x → (f : Came) × (slice_get came i ≡ Some f) × (f.moment ≤ x.at)
   frames i x e = start_frame (open_through (a ∷ []) c) ps c all 0 now came begun wire waiting_now served i x e
@@ -339,7 +261,7 @@ module _ (ps : ℕ) (a : Accepted) (some_time : 0 < ps) (all : List Start) (now 
   main : (i m : ℕ) (f : Came) → slice_get came i ≡ Some f → (b : IsUp i m)
       → ((j : ℕ) (z : Start) → slice_get begun j ≡ Some z → i ≤ j → m ≤ z.at)
       → (n s : ℕ) → IsSharedSlot (may_by plan c) (need c) pitch blocking ((b.frame).moment - a.change) n s
-      → i - b.place + 1 + most_above curve most higher (s - ((b.frame).moment - a.change)) ≤ n + 1 → m ≤ a.change + s
+      → i - b.place + 1 + most_above curves higher (s - ((b.frame).moment - a.change)) ≤ n + 1 → m ≤ a.change + s
   main i m f e b later n s slot enough = elim (cases_lt (a.change + s) m) [
     | inr le ↦ le
     | inl less ↦
@@ -347,11 +269,11 @@ module _ (ps : ℕ) (a : Accepted) (some_time : 0 < ps) (all : List Start) (now 
         less in
         let count = subst (λ t. suc n ≤ count_all c higher t (a.change + s + 1) all) at x.count in
         let own = own_few less in
-        let others = sum_le (λ j. count_of j (b.frame).moment (a.change + s + 1) all) (λ j. most j + curve j (s - p)) higher
+        let others = sum_le (λ j. count_of j (b.frame).moment (a.change + s + 1) all) (λ j. curves j (s - p)) higher
         (λ i j e.
         let one = above_few i j e (b.frame).moment (a.change + s) in
         let same : a.change + s - (b.frame).moment ≡ s - p = omega (arith, at) in
-        subst (λ t. count_of j (b.frame).moment (a.change + s + 1) all ≤ most j + curve j t) same one) in
+        subst (λ t. count_of j (b.frame).moment (a.change + s + 1) all ≤ curves j t) same one) in
         absurd (omega (arith, count, own, others, enough))
   ]
     where
@@ -444,8 +366,8 @@ module _ (ps : ℕ) (a : Accepted) (some_time : 0 < ps) (all : List Start) (now 
 
   -- where the bounds hold of the times from one on up to which the class may have been waiting
   module _ (wait waiting : ℕ) (Within : ℕ → ℕ → Type 0)
-      (soon : (t x : ℕ) → Within t x → IsSoon plan c need blocking pitch curve most higher wait t x)
-      (scarce : (t x : ℕ) → Within t x → AreFew plan c need blocking pitch curve most higher waiting t x)
+      (soon : (t x : ℕ) → Within t x → IsSoon plan c need blocking pitch curve curves higher wait t x)
+      (scarce : (t x : ℕ) → Within t x → AreFew plan c need blocking pitch curve curves higher waiting t x)
       (holds : (i m j : ℕ) (f g : Came) (b : IsUp i m) → IsMoment i m → slice_get came i ≡ Some f → i ≤ j → slice_get came j ≡ Some g →
       (j ≡ i) ⊎ (g.moment ≤ m) → Within ((b.frame).moment - a.change) (g.moment - (b.frame).moment)) where
     bound : (i m : ℕ) (f : Came) → slice_get came i ≡ Some f → IsUp i m → IsMoment i m → m ≤ f.moment + wait
@@ -517,8 +439,8 @@ module _ (ps : ℕ) (a : Accepted) (some_time : 0 < ps) (all : List Start) (now 
 
   -- ---- up to when the class may have been waiting
 
-  module _ (wait waiting : ℕ) (rises : (x y : ℕ) → x ≤ y → curve c x ≤ curve c y)
-      (times : (t : ℕ) → IsSharedBusyPeriod plan c need blocking pitch curve most higher wait waiting t) where
+  module _ (wait waiting : ℕ) (rises : (x y : ℕ) → x ≤ y → curve x ≤ curve y)
+      (times : (t : ℕ) → IsSharedBusyPeriod plan c need blocking pitch curve curves higher wait waiting t) where
     -- the last frame by a moment, and the one behind it
     record IsLastBy (place until j : ℕ) : Type 0 where
       at : ℕ
@@ -599,7 +521,7 @@ module _ (ps : ℕ) (a : Accepted) (some_time : 0 < ps) (all : List Start) (now 
             let some = occupancy_pos ps ((r.frame).frame).len some_time in
             let over = r.over in
             let next = r.before in
-            let enough : r.at - b.place + 1 + most_above curve most higher (q.slot - p) ≤ (q.is).behind + 1 = omega
+            let enough : r.at - b.place + 1 + most_above curves higher (q.slot - p) ≤ (q.is).behind + 1 = omega
             (arith, space, up, count) in
             elim (cases_lt r.at i) [
               | inr behind ↦

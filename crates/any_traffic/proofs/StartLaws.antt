@@ -1,9 +1,10 @@
 -- The starts of a run: one after another, and those of a class among them.
-use Rattle.std.proofs.Common.{◌≡◌, ◌<◌, ◌≤◌, ℕ, zero, suc, ◌+◌, max, Bool, true, false, cond, ◌&&◌, leb, ltb, eqb, List, [], ◌∷◌, length, slice_get, Some, refl, sym, ap, ◌∙◌, subst, arith, le_refl}
+use Rattle.std.proofs.Common.{◌≡◌, ◌<◌, ◌≤◌, ℕ, zero, suc, ◌+◌, Bool, true, false, cond, ◌&&◌, leb, ltb, eqb, inl, inr, List, [], ◌∷◌, length, slice_get, Some, refl, sym, ap, ◌∙◌, subst, arith}
 use Rattle.std.specs.Prelude.{slice_index_or}
-use Rattle.std.proofs.lemmas.Bool.{eqb-true, eq-eqb, leb-true, ltb-true, and_parts}
+use Rattle.std.proofs.lemmas.Bool.{cases_lt, eqb-true, eq-eqb, leb-true, ltb-true, and_parts}
 use Rattle.std.proofs.lemmas.Option.{same_Some}
 use Rattle.wire_time.specs.declared.Frame.{Frame}
+use Rattle.list_config.specs.History.{Accepted}
 use Rattle.abstract_port.specs.declared.Answer.{Answer}
 use Rattle.abstract_port.specs.declared.Answer.TheVariants as Answered
 use Rattle.abstract_port.specs.declared.Start.{Start}
@@ -13,7 +14,7 @@ use Rattle.separation.specs.Traffic.{Came, starts_of_class}
 use Rattle.any_traffic.proofs.Counting.{one_if}
 use Rattle.any_traffic.proofs.ListLaws.{none_here, one_before}
 use Rattle.any_traffic.proofs.PartLaws.{come_by}
-use Rattle.any_traffic.proofs.SharedSlots.{count_of, is_counted}
+use Rattle.any_traffic.proofs.SharedSlots.{AreSound, count_of, is_counted}
 use Rattle.any_traffic.proofs.Sharing.{AreLong, AreShared, AreSince}
 
 -- ---- all starts of a run
@@ -111,6 +112,21 @@ class_of c (z ∷ xs) i x e = by (eqb z.class c) refl i e (class_of c xs)
     by true t zero e ih = sym (ap (λ (y : Start). y.class) (same_Some z x e)) ∙ eqb-true z.class c t
     by true t (suc i) e ih = ih i x e
     by false f i e ih = ih i x e
+
+-- those of a class come one after another
+pub class_rises : (h : List Accepted) (need : ℕ → ℕ) (all : List Start) → AreSound h need all → (c i j : ℕ) (x y : Start)
+    → slice_get (starts_of_class c all) i ≡ Some x → slice_get (starts_of_class c all) j ≡ Some y → i ≤ j → x.at ≤ y.at
+class_rises h need all sound c i j x y e f le = elim (cases_lt i j) [
+  | inl less ↦
+      let both = class_pair c all i j x y e f less in
+      let after = sound.apart both.0 both.1 x y both.2 both.3 both.4 in
+      let long = sound.some both.0 x both.2 in
+      omega (arith, after, long)
+  | inr more ↦
+      let place : i ≡ j = omega (arith, le, more) in
+      let same = ap (λ (z : Start). z.at) (same_Some x y (sym e ∙ (ap (slice_get (starts_of_class c all)) place ∙ f))) in
+      omega (arith, same)
+]
 
 -- as many of a class start among all as among its own
 pub count_own : (j p s : ℕ) (xs : List Start) → count_of j p s xs ≡ count_of j p s (starts_of_class j xs)

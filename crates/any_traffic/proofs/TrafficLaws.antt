@@ -41,7 +41,7 @@ module _ (a : Accepted) (plan : Plan) (class d : ℕ) (curve : ℕ → ℕ) (wai
 module _ (ps class d : ℕ) (a : Accepted) (plan : Plan) (is : a.plan ≡ Some plan) (above : 0 < plan.cycle) (came : List Came)
     (short : (k : ℕ) (f : Came) → slice_get came k ≡ Some f → occupancy_of ps f.frame.len ≤ d)
     (since : (k : ℕ) (f : Came) → slice_get came k ≡ Some f → a.change ≤ f.moment) where
-  by_plan : (k m : ℕ) → IsBy (a ∷ []) ps class d came short k m → IsBySlot plan class d a.change came k m
+  pub by_plan : (k m : ℕ) → IsBy (a ∷ []) ps class d came short k m → IsBySlot plan class d a.change came k m
   by_plan k m b =
       let later = since b.place b.frame b.first in
       let at : a.change + ((b.frame).moment - a.change) ≡ (b.frame).moment = omega (arith, later) in
@@ -102,7 +102,7 @@ any_traffic_law ps mtu room class d wait most curve a plan events r keep b =
             (omega (arith, not_yet, past)))
       ];
       few = few_wait gates ps class d a.change wait most curve w n _ queued _ _ _ _ served.served;
-      all = λ enough. all_taken ps class a r.listed room d most curve enough
+      all = λ enough. all_taken ps class a r.listed room most (AreLawful ps d a.change curve) (part_lawful ps d a.change curve) enough
           (λ now came starts wire waits l s. few_wait gates ps class d a.change wait most curve w n came l now starts wire waits s)
           events p [] [] refl new r.apart r.only offered;
     }

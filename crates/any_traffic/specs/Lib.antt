@@ -8,8 +8,10 @@ pub mod BusyPeriod
 pub mod ArrivalWindows
 pub mod PeriodicWindows
 pub mod LateForEver
+pub mod PeriodicRoom
 pub mod ExactWindows
 pub mod Priority
 pub mod SharedSlots
 pub mod SharedRuns
+pub mod StartCurve
 pub mod SharedBounds

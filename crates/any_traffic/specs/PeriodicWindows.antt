@@ -2,18 +2,16 @@
 --
 -- The late run of the flows is that in which each frame comes at its latest moment, and all need the wire for as long as the longest.
 -- Moments count from the change moment of the schedule (IEEE Std 802.1Q-2018, 8.6.9), and times are in picoseconds.
-use Rattle.std.specs.Prelude.{◌≡◌, ◌<◌, ◌≤◌, ℕ, zero, suc, ◌+◌, ◌-◌, ◌*◌, ◌/◌, max, Bool, List, Some, length, slice_get, sum_by}
+use Rattle.std.specs.Prelude.{◌≡◌, ◌<◌, ◌≤◌, ℕ, zero, suc, ◌+◌, ◌-◌, ◌*◌, ◌/◌, max, Bool, List, Some, slice_get, sum_by}
 use Rattle.wire_time.specs.Wire.{occupancy_of}
 use Rattle.gate_list.specs.Gate.{Plan}
 use Rattle.list_config.specs.History.{Accepted}
-use Rattle.abstract_port.specs.declared.Start.{Start}
 use Rattle.abstract_port.specs.declared.Event.{Event}
 use Rattle.separation.specs.Served.{IsFirst}
 use Rattle.separation.specs.Traffic.{Came}
-use Rattle.delay_bounds.specs.ForEver.{Repeats}
 use Rattle.delay_bounds.specs.Walk.{may_by}
 use Rattle.any_traffic.specs.ArrivalWindows.{ArrivalWindow, IsIn, StartsWithin}
-use Rattle.any_traffic.specs.Runs.{IsApartRun, end_of_run, queued, started}
+use Rattle.any_traffic.specs.Runs.{IsApartRun, queued}
 use Rattle.any_traffic.specs.Slots.{IsSlot}
 
 -- 1. The frames
@@ -33,7 +31,8 @@ window_of flow n = record { earliest = flow.offset + flow.period * n; latest = f
 -- each frame that came is one of a flow, in its window, and no other is the same one; `numbers` has its flow's place and its number
 pub record ComeByFlows (ps change : ℕ) (flows : List PeriodicFlow) (numbers : List (ℕ × ℕ)) (came : List Came) : Type 0 where
   pub each : (k : ℕ) (f : Came) → slice_get came k ≡ Some f
-      → (i n : ℕ) × (flow : PeriodicFlow) × (slice_get numbers k ≡ Some (i, n)) × (slice_get flows i ≡ Some flow) × IsIn change (window_of flow n) f.moment
+      → (i n : ℕ) × (flow : PeriodicFlow) × (slice_get numbers k ≡ Some (i, n)) × (slice_get flows i ≡ Some flow)
+      × IsIn change (window_of flow n) f.moment
       × (flow.shortest ≤ occupancy_of ps f.frame.len) × (occupancy_of ps f.frame.len ≤ flow.longest)
   pub own : (j k : ℕ) (x : ℕ × ℕ) → slice_get numbers j ≡ Some x → slice_get numbers k ≡ Some x → j ≡ k
 

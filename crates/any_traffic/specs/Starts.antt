@@ -26,7 +26,8 @@ OwnStartsLaw =
 -- than the class may have the wire for d from m on.
 abbrev pub LeastStartLaw : Type 0
 LeastStartLaw =
-    (ps mtu room class d m s k : ℕ) (a : Accepted) (plan : Plan) (events : List Event) (f : Came) (x : Start) → IsScheduledRun ps mtu room class events a plan
+    (ps mtu room class d m s k : ℕ) (a : Accepted) (plan : Plan) (events : List Event) (f : Came) (x : Start)
+    → IsScheduledRun ps mtu room class events a plan
     → slice_get (queued ps mtu room class events) k ≡ Some f → slice_get (started ps mtu room class events) k ≡ Some x
     → a.change + m ≤ f.moment → d ≤ occupancy_of ps f.frame.len → IsFirst (may_by plan class) d m s → a.change + s ≤ x.at
 

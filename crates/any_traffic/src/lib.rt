@@ -8,11 +8,13 @@ ghost use Rattle.any_traffic.specs.ArrivalWindows.{WindowLaw};
 ghost use Rattle.any_traffic.specs.BusyPeriod.{CycleLaw, RisingLaw, SubadditiveLaw};
 ghost use Rattle.any_traffic.specs.ExactWindows.{ExactLaw};
 ghost use Rattle.any_traffic.specs.LateForEver.{LateEnoughLaw, LateForEverLaw, PeriodicBoundsLaw};
+ghost use Rattle.any_traffic.specs.PeriodicRoom.{PeriodicRoomLaw, RoomEnoughLaw};
 ghost use Rattle.any_traffic.specs.PeriodicWindows.{PeriodicWindowLaw};
 ghost use Rattle.any_traffic.specs.Priority.{PriorityLaw};
 ghost use Rattle.any_traffic.specs.SharedBounds.{SharedBusyLaw, SharedCycleLaw, SharedLaw};
 ghost use Rattle.any_traffic.specs.Slots.{SlotLaw};
 ghost use Rattle.any_traffic.specs.Sporadic.{PeriodicLaw, SporadicBoundsLaw, SporadicEndsLaw, SporadicLaw};
+ghost use Rattle.any_traffic.specs.StartCurve.{StartCurveLaw};
 ghost use Rattle.any_traffic.specs.Starts.{ApartRunLaw, LeastStartLaw, OwnStartsLaw};
 
 /// In every run each start of a class is that of its frame, and no sooner than the class may have the wire for it.
@@ -62,6 +64,8 @@ pub fn periodic_windows()
     ensures enough { LateEnoughLaw }
     ensures bounds { PeriodicBoundsLaw }
     ensures exact { ExactLaw }
+    ensures room { PeriodicRoomLaw }
+    ensures room_again { RoomEnoughLaw }
 {}
 
 /// At a moment at which the wire is free, and a frame of a class waits and fits, a frame of this class or a higher one
@@ -71,10 +75,11 @@ pub fn priority()
 {}
 
 /// In every run the frames of a class that shares its windows, under strict priority, start within the bounds that the
-/// plan alone has with the curves of the class and of the higher ones, and none is dropped where there is room for so
-/// many.
+/// plan alone has with the arrival curve of the class and the start curves of the higher ones, and none is dropped
+/// where there is room for so many. Such bounds give the class a start curve.
 pub fn shared()
     ensures always { SharedLaw }
     ensures busy { SharedBusyLaw }
     ensures cycle { SharedCycleLaw }
+    ensures curve { StartCurveLaw }
 {}
