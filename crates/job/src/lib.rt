@@ -6,6 +6,7 @@
 #![tactic(auto)]
 
 mod fault;
+mod halt;
 mod input;
 mod kind;
 mod report;
@@ -13,6 +14,7 @@ mod run_end;
 mod step;
 
 pub use fault::Fault;
+pub use halt::{Halt, halted};
 pub use input::{InputFault, LineInput};
 pub use kind::{CaptureKind, Errors, FaultKind, LineKind, ValueKind};
 pub use report::{Ended, say_fault, say_run};

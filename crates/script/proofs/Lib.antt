@@ -10,3 +10,8 @@ pub mod ClockLaws
 pub mod PlainLaws
 pub mod GivenLaws
 pub mod FewLaws
+pub mod HearingLaws
+pub mod TakenLaws
+pub mod WrittenLaws
+pub mod WalkSteps
+pub mod ReportLaws

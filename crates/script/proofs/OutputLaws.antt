@@ -17,7 +17,7 @@ abbrev pub lines_of_answers : List Answer → List ℕ
 lines_of_answers answers = lines_of (map Gave answers)
 
 -- the port after one request more
-events-more : (r : Request) (rest : List Request) (p : AbstractPort) → port_after (events_of (r ∷ rest)) p ≡ port_after (events_of rest) (responses_to r p).1
+pub events-more : (r : Request) (rest : List Request) (p : AbstractPort) → port_after (events_of (r ∷ rest)) p ≡ port_after (events_of rest) (responses_to r p).1
 events-more (Asks event) rest p = refl
 events-more (NoCommand fault) rest p = refl
 
@@ -26,7 +26,7 @@ asked-more until r requests None = refl
 asked-more until r requests (Some fault) = refl
 
 -- what is seen after one request more
-noted-more : (r : Request) (rest : List Request) (p : AbstractPort) (o : Option Observed) → noted_after (events_of (r ∷ rest)) p o ≡ noted_after (events_of rest) (responses_to r p).1 (noted_by r p o)
+pub noted-more : (r : Request) (rest : List Request) (p : AbstractPort) (o : Option Observed) → noted_after (events_of (r ∷ rest)) p o ≡ noted_after (events_of rest) (responses_to r p).1 (noted_by r p o)
 noted-more (Asks event) rest p o = noted_after-cons event (events_of rest) p o
 noted-more (NoCommand fault) rest p o = refl
 

@@ -1,9 +1,8 @@
 -- What a call leaves that answers a request.
-use Rattle.std.specs.Prelude.{◌≡◌, ◌≤◌, ◌+◌, ◌*◌, ℕ, max, List, Option, Result, Ok, OnOk}
+use Rattle.std.specs.Prelude.{◌≡◌, ◌≤◌, ◌+◌, ◌*◌, ℕ, max, List, Option, Result, OnOk}
 use Rattle.abstract_port.specs.AbstractPort.{AbstractPort, PortState, settled}
 use Rattle.abstract_port.specs.Sound.{IsSoundPort}
 use Rattle.octet_writer.specs.Writes.{Writes}
-use Rattle.octet_writer.specs.declared.WriteFault.{WriteFault}
 use Rattle.port.specs.Words.{longest}
 use Rattle.script.specs.Requests.{Request}
 use Rattle.script.specs.Responses.{lines_of, noted_by, responses_to}
@@ -21,7 +20,3 @@ pub record IsAnswered {T E : Type 0} (request : Request) (result : Result T E) (
   pub seen : OnOk result (seen_new ≡ noted_by request p.port seen_old)
   pub sound : OnOk result (IsSoundPort q.port)
   pub few : HasFewVisits p.port p q
-
--- Nothing is reported of the request: what was written and what was seen stay.
-abbrev pub IsSilent : Request → PortState → PortState → Type 0
-IsSilent request p q = (text : Option (List ℕ)) (seen : Option Observed) → IsAnswered {T = Unit {0}} {E = WriteFault} request (Ok tt) text text p q seen seen

@@ -5,6 +5,10 @@ pub mod Plain
 pub mod Responses
 pub mod Answered
 pub mod Outcome
+pub mod Told
+pub mod ToldLines
+pub mod ToldLaws
+pub mod Walked
 pub mod Separated
 pub mod Texts
 pub mod Kinds

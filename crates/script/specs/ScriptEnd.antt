@@ -1,5 +1,5 @@
 -- What a run of the program on a script leaves: its exit status, what the writer got, and the text of a fault.
-use Rattle.std.specs.Prelude.{List, ℕ, Option, Some, None, Result, Ok, Err, IfSome, unwrap_or, codes}
+use Rattle.std.specs.Prelude.{List, ℕ, Option, Result, Ok, Err, IfSome, unwrap_or, codes}
 use Rattle.abstract_port.specs.declared.Command.{Command}
 use Rattle.job.specs.RunEnd.{IsLetOut, IsRunEnding, IsUnanswered}
 use Rattle.job.specs.Outcome.{Outcome, RunsOut}

@@ -26,7 +26,7 @@ pub use Rattle.summary.specs.Lines.{class_text, summary_lines, wire_text}
 unfoldable pub use Rattle.summary.specs.Lines.{classes_from}
 pub use Rattle.summary.specs.Observed.{Observed, class_at, seen_all}
 pub use Rattle.summary.specs.Wanted.{noted_after, noted_all, noted_at}
-pub use Rattle.script.specs.Answered.{HasFewVisits, IsAnswered, IsSilent}
+pub use Rattle.script.specs.Answered.{HasFewVisits, IsAnswered}
 pub use Rattle.script.specs.ScriptEnd.{IsEnding, IsRefusal, settings_given, settings_or_usual, whole_script}
 pub use Rattle.script.specs.Given.{octets_of, words_of_values}
 pub use Rattle.script.specs.Kinds.{line_kind, script_kind, table_kind, value_kind}

@@ -1,7 +1,7 @@
 //! What a port answers to the lines of a script, written as it comes.
 
-ghost use Rattle.std.specs.Prelude.{ℕ, List, Option, Result, ◌≡◌, ◌<◌, ◌≤◌, length, OnOk, true, false};
-ghost use Rattle.script.specs.Words.{queue_of, IsSoundPort, Command, Writes, HasFewVisits, IsAnswered, IsSilent, Asks, tc_request, left_lines, left_text, IsReader, TcFault, greatest_moment, words_of, Observed};
+ghost use Rattle.std.specs.Prelude.{ℕ, List, Option, Result, ◌≡◌, ◌<◌, ◌≤◌, length, OnOk};
+ghost use Rattle.script.specs.Words.{queue_of, IsSoundPort, Command, Writes, HasFewVisits, IsAnswered, Asks, tc_request, left_lines, left_text, IsReader, TcFault, greatest_moment, words_of, Observed};
 ghost use Rattle.abstract_port.specs.declared.Event.TheVariants as Events;
 
 use crate::script_line::read_tc_into;
@@ -68,22 +68,6 @@ fn put_each_start<A: Allocator, W: PutLine>(
         put_start(writer, moments, &start)?;
     }
     Ok(())
-}
-
-/// Takes a clock event where it is known at once that nothing starts before its moment, and answers whether. Nothing is
-/// reported then; else nothing changes.
-#[inline(always)]
-pub(crate) fn rests<A: Allocator>(port: &mut RunningPort<A>, event: &Event<'_>) -> bool
-    ensures rests { result ≡ true → IsSilent (Asks event.now) port.old port.new }
-    ensures kept { result ≡ false → port.new ≡ port.old }
-{
-    let Event::Clock(until) = event else {
-        return false;
-    };
-    if *until < port.now() || *until > MAX_MOMENT {
-        return false;
-    }
-    port.rest_until(*until)
 }
 
 /// Calls who watches where the command of the line of this number is refused.

@@ -1,5 +1,5 @@
-use Rattle.std.proofs.Common.{List, ℕ, subst}
-use Rattle.script.specs.Words.{AbstractPort, Writes, end_lines}
+use Rattle.std.proofs.Common.{ℕ, subst}
+use Rattle.script.specs.Words.{Writes, end_lines}
 use Rattle.script.proofs.script_run.put_end_now.Goals as goal
 
 pub put_end-requires : goal.put_end-requires

@@ -1,186 +1,26 @@
-use Rattle.std.proofs.Common.{◌≡◌, ℕ, Bool, true, List, Option, Ok, Err, None, Some, refl, sym, ap, ◌∙◌, drop, length, take, subst, ◌+◌, ◌-◌, arith}
-use Rattle.script.specs.Words.{Advances, Script, script_left, words_of, Asks, request_of, said_in, tc_request, bad_line}
-use Rattle.std.proofs.lemmas.List.{length-drop}
+use Rattle.std.proofs.Common.{ap, Err, refl, ◌∙◌}
 use Rattle.std.proofs.lemmas.Result.{err_from_is_err_and}
-use Rattle.script.specs.Requests.{request_said}
-use Rattle.script.specs.declared.script_line.Said.TheVariants as Says
-use Rattle.job.specs.declared.fault.Fault.TheVariants as Faults
-use Rattle.script.proofs.LineSteps.{begins_in_hand, end_behind, end_whole, end_within, is_begun, goes_on, goes_past, goes_no_further, few_further, goes_wrong, ends_early, ends_well, next_in_hand, past_answered, past_hand, command_next, stops}
-use Rattle.script.proofs.script_run.run_lines.Goals.{then-not-rests+in_ok-put_answers, else-not-rests}
+use Rattle.script.specs.Words.{reading_of, script_left}
+use Rattle.script.specs.declared.answer_lines.AnswerLines.{AnswerLines}
+use Rattle.script.proofs.ReportLaws.{ended_early, ended_short, ended_well, if_known}
 use Rattle.script.proofs.script_run.run_lines.Goals as goal
 
--- the answer of a step
-advanced : {b d : Bool} (s : Option Script) (number : ℕ) (line : List ℕ) (new : Option Script) → b ≡ d → Advances s (Ok b) number line new → Advances s (Ok d) number line new
-advanced s number line new = subst (λ b. Advances s (Ok b) number line new)
-
-pub lines-init : goal.lines-init
-lines-init g c = λ read is. is_begun read _ _ _ _ _ c.now-now.ensures.sound
-
-pub plain-init : goal.plain-init
-plain-init g c = record {
-  running = λ read is lines all count i. begins_in_hand read _ g.R.Read.remaining lines _ _ _ _ _ _ _ _ _ all i;
-  front = end_whole _;
-  few = omega arith;
-  paid = omega arith;
-}
-
-pub plain-preserved : goal.plain-preserved
-plain-preserved g c =
-    let line = c.in-Some.ensures.line in
-    record {
-      running = λ read is lines all count i.
-          let e = ap (request_said (read (words_of (take c.in-Some.length c.plain.rest.now)))) line.says in
-          let a = next_in_hand g.R.Read.remaining lines _ _ _ _ _ _ c.plain.invariant.front all count c.plain.invariant.few c.in-Some.ensures.some line.ends (omega (arith, c.in-Some.ensures.short)) in
-          let run = c.plain.invariant.running read is lines all count i in
-          rw c.split_at.ensures.back (elim c.if-not-rests.branch [
-            | then-not-rests+in_ok-put_answers w ↦ rw (w.port-is, w.summary-is, w.writer-is) (goes_on read _ _ _ _ _ _ _ _ _ _ _ _ run c.settling.ensures _ _ _ (Asks c.in-Some.event) a e (rw (c.rests.ensures.kept w.if-not-rests.true) at w.in_ok-put_answers.ensures))
-            | else-not-rests w ↦ rw (w.port-is, w.summary-is, w.writer-is) (goes_on read _ _ _ _ _ _ _ _ _ _ _ _ run c.settling.ensures _ _ _ (Asks c.in-Some.event) a e (c.rests.ensures.rests w.if-not-rests.false _ _))
-          ]);
-      front = c.split_at.ensures.back ∙ end_behind _ _ _ (omega (arith, line.ends.within)) c.plain.invariant.front ∙ ap (λ octets. drop (length c.hand-hand.result.now - length octets) c.hand-hand.result.now) (sym c.split_at.ensures.back);
-      few = omega arith;
-      paid = omega (arith, c.plain.invariant.paid, c.plain.invariant.few, line.ends.within, end_within _ _ c.plain.invariant.front, ap length c.split_at.ensures.back, length-drop (c.in-Some.length + 1) c.plain.rest.now);
-    }
-
-pub returns-in_err-put_answers-clause-script : goal.returns-in_err-put_answers-clause-script
-returns-in_err-put_answers-clause-script g c = λ read is.
+pub returns-in_err-walk : goal.returns-in_err-walk
+returns-in_err-walk g c = λ read is.
     let p = err_from_is_err_and c.from_residual.result c.from_residual.ensures.1 in
-    let line = c.in-Some.ensures.line in
-    let e = ap (request_said (read (words_of (take c.in-Some.length c.plain.rest.now)))) line.says in
-    let a = next_in_hand g.R.Read.remaining c.lines.lines _ _ _ _ _ _ c.plain.invariant.front c.hand-hand.ensures c.lines_left-most.ensures c.plain.invariant.few c.in-Some.ensures.some line.ends (omega (arith, c.in-Some.ensures.short)) in
-    let done = rw (c.rests.ensures.kept c.if-not-rests.true) at c.in_err-put_answers.ensures in
-    goes_no_further read _ _ _ _ _ _ _ _ _ _ _ _ (c.plain.invariant.running read is c.lines.lines c.hand-hand.ensures c.lines_left-most.ensures (c.lines.invariant read is)) c.settling.ensures _ (Asks c.in-Some.event) a e done.text (p.1 ∙ ap Err p.2)
+    if_known (script_left g.R.Read.remaining c.args.lines.now)
+    (λ script w. ended_early (λ (s : AnswerLines _). s.summary) g.W.Write.contents c.args.until (reading_of read script) c.args.port.now.port c.walk.new.port.port c.args.answers.now _ _ _ _ (p.1 ∙ ap Err p.2) w)
+    (c.in_err-walk.ensures.told read is)
 
-pub overflow_sub-octets : goal.overflow_sub-octets
-overflow_sub-octets g c = end_within _ _ c.plain.invariant.front
-
-pub overflow_sub-most : goal.overflow_sub-most
-overflow_sub-most g c = omega (arith, c.plain.invariant.few)
-
-pub go_past-requires-clause-ended : goal.go_past-requires-clause-ended
-go_past-requires-clause-ended g c = omega (arith, c.plain.invariant.paid)
-
-pub put_answers-requires-in-Ok-Some-Asked : goal.put_answers-requires-in-Ok-Some-Asked
-put_answers-requires-in-Ok-Some-Asked g c = (search c.requires-raw, search c.requires-raw)
-
-pub put_tc-requires : goal.put_tc-requires
-put_tc-requires g c = (search c.requires-raw, search c.requires-raw)
-
-pub lines-preserved-in-Ok-None : goal.lines-preserved-in-Ok-None
-lines-preserved-in-Ok-None g c = λ read is.
-    let said : said_in c.next_line.new.lines.line.items ≡ Ok None = ap said_in (sym c.line-line.ensures) ∙ sym c.read_line.ensures ∙ c.in-Ok-None.is ∙ ap Ok c.in-Ok-None.field-0-is in
-    let e : request_of read c.next_line.new.lines.line.items ≡ Ok None = ap (request_said (read (words_of c.next_line.new.lines.line.items))) said in
-    let i = past_hand read _ g.R.Read.remaining _ _ _ _ _ _ _ _ _ _ _ _ _ _ (c.plain.invariant.running read is c.lines.lines c.hand-hand.ensures c.lines_left-most.ensures (c.lines.invariant read is)) c.plain.invariant.front c.hand-hand.ensures c.go_past.ensures.script c.in_ok-next_line.ensures.kept in
-    let a = advanced _ _ _ _ c.if-not-branch.false c.in_ok-next_line.ensures.step in
-    goes_past read _ _ _ _ _ _ _ _ _ _ _ _ i a e
-
-pub lines-preserved-in_ok-put_answers-in-Ok-Some-Asked : goal.lines-preserved-in_ok-put_answers-in-Ok-Some-Asked
-lines-preserved-in_ok-put_answers-in-Ok-Some-Asked g c = λ read is.
-    let said : said_in c.next_line.new.lines.line.items ≡ Ok (Some (Says.Asked c.in-Ok-Some-Asked.event)) = ap said_in (sym c.line-line.ensures) ∙ sym c.read_line.ensures ∙ c.in-Ok-Some-Asked.is ∙ ap Ok (c.in-Ok-Some-Asked.field-0-is ∙ ap Some c.in-Ok-Some-Asked.field-0-0-is) in
-    let e : request_of read c.next_line.new.lines.line.items ≡ Ok (Some (Asks c.in-Ok-Some-Asked.event)) = ap (request_said (read (words_of c.next_line.new.lines.line.items))) said in
-    let i = past_hand read _ g.R.Read.remaining _ _ _ _ _ _ _ _ _ _ _ _ _ _ (c.plain.invariant.running read is c.lines.lines c.hand-hand.ensures c.lines_left-most.ensures (c.lines.invariant read is)) c.plain.invariant.front c.hand-hand.ensures c.go_past.ensures.script c.in_ok-next_line.ensures.kept in
-    let a = advanced _ _ _ _ c.if-not-branch.false c.in_ok-next_line.ensures.step in
-    goes_on read _ _ _ _ _ _ _ _ _ _ _ _ i c.settling.ensures _ _ _ (Asks c.in-Ok-Some-Asked.event) a e c.in_ok-put_answers-in-Ok-Some-Asked.ensures
-
-pub lines-preserved : goal.lines-preserved
-lines-preserved g c = λ read is.
-    let said : said_in c.next_line.new.lines.line.items ≡ Ok (Some Says.Tc) = ap said_in (sym c.line-line.ensures) ∙ sym c.read_line.ensures ∙ c.in-Ok-Some-Tc.is ∙ ap Ok (c.in-Ok-Some-Tc.field-0-is ∙ ap Some c.in-Ok-Some-Tc.field-0-0-is) in
-    let e : request_of read c.next_line.new.lines.line.items ≡ Ok (Some (tc_request (read (words_of c.next_line.new.lines.line.items)))) = ap (request_said (read (words_of c.next_line.new.lines.line.items))) said in
-    let i = past_hand read _ g.R.Read.remaining _ _ _ _ _ _ _ _ _ _ _ _ _ _ (c.plain.invariant.running read is c.lines.lines c.hand-hand.ensures c.lines_left-most.ensures (c.lines.invariant read is)) c.plain.invariant.front c.hand-hand.ensures c.go_past.ensures.script c.in_ok-next_line.ensures.kept in
-    let a = advanced _ _ _ _ c.if-not-branch.false c.in_ok-next_line.ensures.step in
-    let done = rw c.line-line.ensures at c.in_ok-put_tc-in-Ok-Some-Tc.ensures.answered read is in
-    goes_on read _ _ _ _ _ _ _ _ _ _ _ _ i c.settling.ensures _ _ _ (tc_request (read (words_of c.next_line.new.lines.line.items))) a e done
-
-pub returns-in_err-next_line-clause-script : goal.returns-in_err-next_line-clause-script
-returns-in_err-next_line-clause-script g c = λ read is.
-    let p = err_from_is_err_and c.from_residual-in_err-next_line.result c.from_residual-in_err-next_line.ensures.1 in
-    let i = past_hand read _ g.R.Read.remaining _ _ _ _ _ _ _ _ _ _ _ _ _ _ (c.plain.invariant.running read is c.lines.lines c.hand-hand.ensures c.lines_left-most.ensures (c.lines.invariant read is)) c.plain.invariant.front c.hand-hand.ensures c.go_past.ensures.script c.in_err-next_line.ensures.kept in
-    stops read _ _ _ _ _ _ _ _ _ _ _ _ i _ c.in_err-next_line.ensures.step (p.1 ∙ ap Err p.2)
-
-pub returns-in_err-put_answers-in-Ok-Some-Asked-clause-script : goal.returns-in_err-put_answers-in-Ok-Some-Asked-clause-script
-returns-in_err-put_answers-in-Ok-Some-Asked-clause-script g c = λ read is.
-    let p = err_from_is_err_and c.from_residual-in_err-put_answers-in-Ok-Some-Asked.result c.from_residual-in_err-put_answers-in-Ok-Some-Asked.ensures.1 in
-    let said : said_in c.next_line.new.lines.line.items ≡ Ok (Some (Says.Asked c.in-Ok-Some-Asked.event)) = ap said_in (sym c.line-line.ensures) ∙ sym c.read_line.ensures ∙ c.in-Ok-Some-Asked.is ∙ ap Ok (c.in-Ok-Some-Asked.field-0-is ∙ ap Some c.in-Ok-Some-Asked.field-0-0-is) in
-    let e : request_of read c.next_line.new.lines.line.items ≡ Ok (Some (Asks c.in-Ok-Some-Asked.event)) = ap (request_said (read (words_of c.next_line.new.lines.line.items))) said in
-    let i = past_hand read _ g.R.Read.remaining _ _ _ _ _ _ _ _ _ _ _ _ _ _ (c.plain.invariant.running read is c.lines.lines c.hand-hand.ensures c.lines_left-most.ensures (c.lines.invariant read is)) c.plain.invariant.front c.hand-hand.ensures c.go_past.ensures.script c.in_ok-next_line.ensures.kept in
-    let a = advanced _ _ _ _ c.if-not-branch.false c.in_ok-next_line.ensures.step in
-    goes_no_further read _ _ _ _ _ _ _ _ _ _ _ _ i c.settling.ensures _ (Asks c.in-Ok-Some-Asked.event) a e c.in_err-put_answers-in-Ok-Some-Asked.ensures.text (p.1 ∙ ap Err p.2)
-
-pub returns-in_err-put_tc-in-Ok-Some-Tc-clause-script : goal.returns-in_err-put_tc-in-Ok-Some-Tc-clause-script
-returns-in_err-put_tc-in-Ok-Some-Tc-clause-script g c = λ read is.
-    let p = err_from_is_err_and c.from_residual-in_err-put_tc-in-Ok-Some-Tc.result c.from_residual-in_err-put_tc-in-Ok-Some-Tc.ensures.1 in
-    let said : said_in c.next_line.new.lines.line.items ≡ Ok (Some Says.Tc) = ap said_in (sym c.line-line.ensures) ∙ sym c.read_line.ensures ∙ c.in-Ok-Some-Tc.is ∙ ap Ok (c.in-Ok-Some-Tc.field-0-is ∙ ap Some c.in-Ok-Some-Tc.field-0-0-is) in
-    let e : request_of read c.next_line.new.lines.line.items ≡ Ok (Some (tc_request (read (words_of c.next_line.new.lines.line.items)))) = ap (request_said (read (words_of c.next_line.new.lines.line.items))) said in
-    let i = past_hand read _ g.R.Read.remaining _ _ _ _ _ _ _ _ _ _ _ _ _ _ (c.plain.invariant.running read is c.lines.lines c.hand-hand.ensures c.lines_left-most.ensures (c.lines.invariant read is)) c.plain.invariant.front c.hand-hand.ensures c.go_past.ensures.script c.in_ok-next_line.ensures.kept in
-    let a = advanced _ _ _ _ c.if-not-branch.false c.in_ok-next_line.ensures.step in
-    let done = rw c.line-line.ensures at c.in_err-put_tc-in-Ok-Some-Tc.ensures.answered read is in
-    goes_no_further read _ _ _ _ _ _ _ _ _ _ _ _ i c.settling.ensures _ (tc_request (read (words_of c.next_line.new.lines.line.items))) a e done.text (p.1 ∙ ap Err p.2)
-
-pub returns-in-Err-clause-script : goal.returns-in-Err-clause-script
-returns-in-Err-clause-script g c = λ read is.
-    let said : said_in c.next_line.new.lines.line.items ≡ Err c.in-Err.fault = ap said_in (sym c.line-line.ensures) ∙ sym c.read_line.ensures ∙ c.in-Err.is in
-    let e : request_of read c.next_line.new.lines.line.items ≡ Err c.in-Err.fault = ap (request_said (read (words_of c.next_line.new.lines.line.items))) said in
-    let i = past_hand read _ g.R.Read.remaining _ _ _ _ _ _ _ _ _ _ _ _ _ _ (c.plain.invariant.running read is c.lines.lines c.hand-hand.ensures c.lines_left-most.ensures (c.lines.invariant read is)) c.plain.invariant.front c.hand-hand.ensures c.go_past.ensures.script c.in_ok-next_line.ensures.kept in
-    let a = advanced _ _ _ _ c.if-not-branch.false c.in_ok-next_line.ensures.step in
-    goes_wrong read _ _ _ _ _ _ _ _ _ _ _ _ i {T = Unit {0}} c.in-Err.fault a e (ap (λ b. Err (Faults.Input b)) c.new.ensures ∙ ap (λ n. Err (Faults.Input (bad_line n c.in-Err.fault))) c.line_number-in-Err.ensures)
-
-pub returns-in_err-end-clause-script : goal.returns-in_err-end-clause-script
-returns-in_err-end-clause-script g c = λ read is.
+pub returns-in_err-end : goal.returns-in_err-end
+returns-in_err-end g c = λ read is.
     let p = err_from_is_err_and c.from_residual-in_err-end.result c.from_residual-in_err-end.ensures.1 in
-    let i = past_hand read _ g.R.Read.remaining _ _ _ _ _ _ _ _ _ _ _ _ _ _ (c.plain.invariant.running read is c.lines.lines c.hand-hand.ensures c.lines_left-most.ensures (c.lines.invariant read is)) c.plain.invariant.front c.hand-hand.ensures c.go_past.ensures.script c.in_ok-next_line.ensures.kept in
-    let a = advanced _ _ _ _ c.if-not-branch.true c.in_ok-next_line.ensures.step in
-    ends_early read _ _ _ _ _ _ _ _ _ _ _ _ i c.settling.ensures _ a c.in_err-end.ensures.text (p.1 ∙ ap Err p.2)
+    if_known (script_left g.R.Read.remaining c.args.lines.now)
+    (λ script w. ended_short c.args.until (reading_of read script) c.args.port.now.port c.walk.new.port.port c.args.answers.now.summary c.walk.new.observer.summary c.settling.ensures c.now-now.ensures.sound _ _ _ _ (p.1 ∙ ap Err p.2) w c.in_err-end.ensures)
+    (c.in_ok-walk.ensures.told read is)
 
-pub returns-clause-script : goal.returns-clause-script
-returns-clause-script g c = λ read is.
-    let i = past_hand read _ g.R.Read.remaining _ _ _ _ _ _ _ _ _ _ _ _ _ _ (c.plain.invariant.running read is c.lines.lines c.hand-hand.ensures c.lines_left-most.ensures (c.lines.invariant read is)) c.plain.invariant.front c.hand-hand.ensures c.go_past.ensures.script c.in_ok-next_line.ensures.kept in
-    let a = advanced _ _ _ _ c.if-not-branch.true c.in_ok-next_line.ensures.step in
-    ends_well read _ _ _ _ _ _ _ _ _ _ _ _ i {T = Unit {0}} c.settling.ensures tt _ a c.in_ok-end.ensures.text refl
-
-pub returns-in_err-put_answers-clause-few : goal.returns-in_err-put_answers-clause-few
-returns-in_err-put_answers-clause-few g c = λ read is. few_further read c.args.until _ _ _ _ _ _ _ _ (c.plain.invariant.running read is c.lines.lines c.hand-hand.ensures c.lines_left-most.ensures (c.lines.invariant read is)) c.put_answers.new.port (rw (c.rests.ensures.kept c.if-not-rests.true) at c.in_err-put_answers.ensures.few)
-
-pub returns-in_err-next_line-clause-few : goal.returns-in_err-next_line-clause-few
-returns-in_err-next_line-clause-few g c = λ read is. (c.plain.invariant.running read is c.lines.lines c.hand-hand.ensures c.lines_left-most.ensures (c.lines.invariant read is)).few
-
-pub returns-in_err-put_answers-in-Ok-Some-Asked-clause-few : goal.returns-in_err-put_answers-in-Ok-Some-Asked-clause-few
-returns-in_err-put_answers-in-Ok-Some-Asked-clause-few g c = λ read is. few_further read c.args.until _ _ _ _ _ _ _ _ (c.plain.invariant.running read is c.lines.lines c.hand-hand.ensures c.lines_left-most.ensures (c.lines.invariant read is)) c.put_answers-in-Ok-Some-Asked.new.port c.in_err-put_answers-in-Ok-Some-Asked.ensures.few
-
-pub returns-in_err-put_tc-in-Ok-Some-Tc-clause-few : goal.returns-in_err-put_tc-in-Ok-Some-Tc-clause-few
-returns-in_err-put_tc-in-Ok-Some-Tc-clause-few g c = λ read is. few_further read c.args.until _ _ _ _ _ _ _ _ (c.plain.invariant.running read is c.lines.lines c.hand-hand.ensures c.lines_left-most.ensures (c.lines.invariant read is)) c.put_tc-in-Ok-Some-Tc.new.port c.put_tc-in-Ok-Some-Tc.ensures.few
-
-pub returns-in-Err-clause-few : goal.returns-in-Err-clause-few
-returns-in-Err-clause-few g c = λ read is. (c.plain.invariant.running read is c.lines.lines c.hand-hand.ensures c.lines_left-most.ensures (c.lines.invariant read is)).few
-
-pub returns-in_err-end-clause-few : goal.returns-in_err-end-clause-few
-returns-in_err-end-clause-few g c = λ read is. few_further read c.args.until _ _ _ _ _ _ _ _ (c.plain.invariant.running read is c.lines.lines c.hand-hand.ensures c.lines_left-most.ensures (c.lines.invariant read is)) c.end.new.port c.end.ensures.few
-
-pub returns-clause-few : goal.returns-clause-few
-returns-clause-few g c = λ read is. few_further read c.args.until _ _ _ _ _ _ _ _ (c.plain.invariant.running read is c.lines.lines c.hand-hand.ensures c.lines_left-most.ensures (c.lines.invariant read is)) c.end.new.port c.end.ensures.few
-
-pub put_tc-requires-in-Ok-Some-Tc : goal.put_tc-requires-in-Ok-Some-Tc
-put_tc-requires-in-Ok-Some-Tc g c = (search c.requires-raw, search c.requires-raw)
-
-pub end-requires : goal.end-requires
-end-requires g c = (search c.requires-raw, search c.requires-raw)
-
-pub returns-in_err-put_tc-clause-script : goal.returns-in_err-put_tc-clause-script
-returns-in_err-put_tc-clause-script g c = λ read is.
-    let p = err_from_is_err_and c.from_residual-in_err-put_tc.result c.from_residual-in_err-put_tc.ensures.1 in
-    let line = c.in-Some-command_in_hand.line.now in
-    let here = c.in-Some-command_in_hand.ensures in
-    let e : request_of read line ≡ Ok (Some (tc_request (read (words_of line)))) = ap (request_said (read (words_of line))) here.says in
-    let i = past_answered read _ g.R.Read.remaining _ _ _ _ _ _ _ _ _ _ _ _ _ (c.plain.invariant.running read is c.lines.lines c.hand-hand.ensures c.lines_left-most.ensures (c.lines.invariant read is)) c.plain.invariant.front c.hand-hand.ensures c.go_past.ensures.script in
-    let done = c.in_err-put_tc.ensures.answered read is in
-    goes_no_further read _ _ _ _ _ _ _ _ _ _ _ _ i c.settling.ensures _ (tc_request (read (words_of line))) (command_next g.R.Read.remaining c.go_past.new.self line here) e done.text (p.1 ∙ ap Err p.2)
-
-pub returns-in_err-put_tc-clause-few : goal.returns-in_err-put_tc-clause-few
-returns-in_err-put_tc-clause-few g c = λ read is. few_further read c.args.until _ _ _ _ _ _ _ _ (c.plain.invariant.running read is c.lines.lines c.hand-hand.ensures c.lines_left-most.ensures (c.lines.invariant read is)) c.put_tc.new.port c.put_tc.ensures.few
-
-pub lines-preserved-in-Some-command_in_hand : goal.lines-preserved-in-Some-command_in_hand
-lines-preserved-in-Some-command_in_hand g c = λ read is.
-    let line = c.in-Some-command_in_hand.line.now in
-    let here = c.in-Some-command_in_hand.ensures in
-    let e : request_of read line ≡ Ok (Some (tc_request (read (words_of line)))) = ap (request_said (read (words_of line))) here.says in
-    let i = past_answered read _ g.R.Read.remaining _ _ _ _ _ _ _ _ _ _ _ _ _ (c.plain.invariant.running read is c.lines.lines c.hand-hand.ensures c.lines_left-most.ensures (c.lines.invariant read is)) c.plain.invariant.front c.hand-hand.ensures c.go_past.ensures.script in
-    let a = subst (λ t. Advances (script_left g.R.Read.remaining c.go_past.new.self) (Ok true) (c.go_past.new.self.breaks + 0 + 1) line t) (sym c.go_past-in-Some-command_in_hand.ensures.script) (command_next g.R.Read.remaining c.go_past.new.self line here) in
-    goes_on read _ _ _ _ _ _ _ _ _ _ _ _ i c.settling.ensures _ _ _ (tc_request (read (words_of line))) a e (c.in_ok-put_tc.ensures.answered read is)
+pub returns : goal.returns
+returns g c = λ read is.
+    if_known (script_left g.R.Read.remaining c.args.lines.now)
+    (λ script w. ended_well c.args.until (reading_of read script) c.args.port.now.port c.walk.new.port.port c.args.answers.now.summary c.walk.new.observer.summary c.settling.ensures c.now-now.ensures.sound _ _ _ refl w c.in_ok-end.ensures)
+    (c.in_ok-walk.ensures.told read is)

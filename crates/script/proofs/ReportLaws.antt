@@ -1,0 +1,156 @@
+-- What is written for a script, by what its observer was told.
+use Rattle.std.proofs.Common.{◌≡◌, ℕ, List, [], ◌∷◌, ◌++◌, Option, Some, None, Result, Ok, Err, refl, sym, ap, ◌∙◌, subst, append_assoc, append-nil}
+use Rattle.std.specs.Prelude.{IfSome}
+use Rattle.std.specs.Io.KnownBytes.{Appends}
+use Rattle.abstract_port.specs.Answers.{port_after}
+use Rattle.job.specs.Halts.{fault_of_halt, halted}
+use Rattle.job.specs.declared.fault.Fault.TheVariants as Faults
+use Rattle.job.specs.declared.halt.Halt.{Halt}
+use Rattle.job.specs.declared.halt.Halt.TheVariants as Halts
+use Rattle.octet_writer.specs.Writes.{AppendsFront, Writes}
+use Rattle.octet_writer.specs.declared.WriteFault.{WriteFault}
+use Rattle.octet_writer.proofs.Fronts.{Appends-append}
+use Rattle.separation.specs.Settled.{IsSettling}
+use Rattle.script.specs.Outcome.{Reading, clock_after}
+use Rattle.script.specs.Told.{told_of, told_to}
+use Rattle.script.specs.ToldLaws.{Lined, LinedFront}
+use Rattle.script.specs.ToldLines.{lines-both, noted-both, noted_told, request-lines, request-seen, requests-lines, told_lines}
+use Rattle.script.specs.Walked.{PutsEnd, Walked}
+use Rattle.script.specs.Words.{AbstractPort, BadLine, Fault, IsSoundPort, Observed, Request, RunsOut, end_lines, ending_text, events_of, lines_of, noted_after, noted_by, outcome_after, responses_to, settled}
+use Rattle.script.proofs.LeftLaws.{end-settled}
+use Rattle.script.proofs.LineSteps.{same-ending, stands_after_all, stands_for_itself}
+use Rattle.script.proofs.OutputLaws.{events-more, noted-more, outcome-more}
+use Rattle.script.proofs.WrittenLaws.{cut, heard}
+
+-- what follows of the lines to come, where the reader says
+pub if_known : {X : Type 0} {P Q : X → Type 0} (o : Option X) → ((x : X) → P x → Q x) → IfSome o P → IfSome o Q
+if_known None by known = tt
+if_known (Some x) by known = by x known
+
+-- 1. The text of all requests is the lines of what is told of them, and what is written after
+
+-- what is written behind the lines of requests
+abbrev tail : Option ℕ → Option BadLine → AbstractPort → Option Observed → List ℕ
+tail until fault p o = (outcome_after until (record { requests = []; fault = fault }) p o).text
+
+outcome-told : (until : Option ℕ) (requests : List Request) (fault : Option BadLine) (p : AbstractPort) (o : Option Observed)
+    → (outcome_after until (record { requests = requests; fault = fault }) p o).text ≡ told_lines (told_of requests p) ++ tail until fault (port_after (events_of requests) p) (noted_told (told_of requests p) o)
+outcome-told until [] fault p o = refl
+outcome-told until (r ∷ rest) fault p o =
+    let q = (responses_to r p).1 in
+    let later = noted_by r p o in
+    let told = told_of (r ∷ rest) p in
+    let end = tail until fault (port_after (events_of rest) q) (noted_told (told_of rest q) later) in
+    ap (λ x. x.text) (outcome-more until r (record { requests = rest; fault = fault }) p o)
+    ∙ ap (λ x. lines_of (responses_to r p).0 ++ x) (outcome-told until rest fault q later)
+    ∙ sym (append_assoc (lines_of (responses_to r p).0) (told_lines (told_of rest q)) end)
+    ∙ ap (λ x. x ++ end) (ap (λ x. x ++ told_lines (told_of rest q)) (sym (request-lines r p)) ∙ sym (lines-both (told_to r p) (told_of rest q)))
+    ∙ ap (λ x. told_lines told ++ tail until fault x (noted_told (told_of rest q) later)) (sym (events-more r rest p))
+    ∙ ap (λ n. told_lines told ++ tail until fault (port_after (events_of (r ∷ rest)) p) n) (ap (noted_told (told_of rest q)) (sym (request-seen r p o)) ∙ sym (noted-both (told_to r p) (told_of rest q) o))
+
+-- what is seen of them
+requests-seen : (requests : List Request) (p : AbstractPort) (o : Option Observed) → noted_told (told_of requests p) o ≡ noted_after (events_of requests) p o
+requests-seen [] p (Some o) = refl
+requests-seen [] p None = refl
+requests-seen (r ∷ rest) p o =
+    let q = (responses_to r p).1 in
+    noted-both (told_to r p) (told_of rest q) o ∙ ap (noted_told (told_of rest q)) (request-seen r p o) ∙ requests-seen rest q (noted_by r p o) ∙ sym (noted-more r rest p o)
+
+-- 2. A front of it
+
+front_before : (old new : Option (List ℕ)) (lines more whole : List ℕ) → whole ≡ lines ++ more → AppendsFront old new lines → AppendsFront old new whole
+front_before old new lines more whole e (left, s) = (left ++ more, record { done = s.done; appended = s.appended; parts = e ∙ ap (λ x. x ++ more) s.parts ∙ append_assoc s.done left more })
+
+front_behind : (old mid new : Option (List ℕ)) (lines more whole : List ℕ) → whole ≡ lines ++ more → Appends old mid lines → AppendsFront mid new more → AppendsFront old new whole
+front_behind old mid new lines more whole e all (left, s) = (
+  left,
+  record { done = lines ++ s.done; appended = Appends-append old mid new lines s.done all s.appended; parts = e ∙ ap (λ x. lines ++ x) s.parts ∙ sym (append_assoc lines s.done left) },
+)
+
+all_behind : (old mid new : Option (List ℕ)) (lines more whole : List ℕ) → whole ≡ lines ++ more → Appends old mid lines → Appends mid new more → Appends old new whole
+all_behind old mid new lines more whole e first second = let P : List ℕ → Type 0 = λ x. Appends old new x in subst P (sym e) (Appends-append old mid new lines more first second)
+
+-- 3. A walk that ended early
+
+module _ {S W : Type 0} (summary : S → Option Observed) (contents : W → Option (List ℕ)) (until : Option ℕ) (reading : Reading) (p q : AbstractPort) (s t : S) (w v : W) where
+  abbrev o : Option Observed
+  o = summary s
+
+  whole : (outcome_after until reading p o).text ≡ told_lines (told_of reading.requests p) ++ tail until reading.fault (port_after (events_of reading.requests) p) (noted_told (told_of reading.requests p) o)
+  whole = outcome-told until reading.requests reading.fault p o
+
+  some_front : cut summary contents (told_of reading.requests p) s w t v → AppendsFront (contents w) (contents v) (outcome_after until reading p o).text
+  some_front h = front_before (contents w) (contents v) _ _ _ whole h
+
+  early : (fault : Fault BadLine) → Walked {T = Unit {0}} (heard summary contents) (cut summary contents) reading p q (Err fault) s w t v → RunsOut {T = Unit {0}} (Err fault) (contents w) (contents v) (outcome_after until reading p o)
+  early (Faults.Input fault) (is, h) =
+      let P : List ℕ → Type 0 = λ x. Appends (contents w) (contents v) x in
+      let none = ap (λ k. told_lines (told_of reading.requests p) ++ tail until k (port_after (events_of reading.requests) p) (noted_told (told_of reading.requests p) o)) is ∙ append-nil (told_lines (told_of reading.requests p)) in
+      (is, subst P (sym (whole ∙ none)) h.0)
+  early Faults.Read h = some_front h
+  early Faults.Write h = some_front h
+  early Faults.Memory h = some_front h
+
+  pub ended_early : {x : Result (Unit {0}) (Fault BadLine)} (fault : Fault BadLine) → x ≡ Err fault → Walked {T = Unit {0}} (heard summary contents) (cut summary contents) reading p q (Err fault) s w t v
+      → RunsOut x (contents w) (contents v) (outcome_after until reading p (summary s))
+  ended_early fault e h = subst (λ (y : Result (Unit {0}) (Fault BadLine)). RunsOut y (contents w) (contents v) (outcome_after until reading p o)) (sym e) (early fault h)
+
+-- 4. A whole walk, and the end
+
+-- the text behind a walk that met no fault
+behind_walk : (until : Option ℕ) (reading : Reading) (p q : AbstractPort) (o n : Option Observed) → IsSettling → IsSoundPort p → reading.fault ≡ None → q ≡ settled (port_after (events_of reading.requests) p) → IsSoundPort q
+    → n ≡ noted_told (told_of reading.requests p) o → (outcome_after until reading p o).text ≡ told_lines (told_of reading.requests p) ++ ending_text until q n
+behind_walk until reading p q o n law sound none is sound_q seen =
+    let told = told_of reading.requests p in
+    let there = port_after (events_of reading.requests) p in
+    outcome-told until reading.requests reading.fault p o
+    ∙ ap (λ k. told_lines told ++ tail until k there (noted_told told o)) none
+    ∙ ap (λ x. told_lines told ++ ending_text until there x) (sym seen)
+    ∙ ap (λ x. told_lines told ++ x) (sym (same-ending law q there (stands_after_all law p p (stands_for_itself p sound) (events_of reading.requests) q is sound_q) until n))
+
+module _ (until : Option ℕ) (reading : Reading) (p q : AbstractPort) (o n : Option Observed) (law : IsSettling) (sound : IsSoundPort p) (old mid new : Option (List ℕ)) where
+  pub ended_well : {x : Result (Unit {0}) (Fault BadLine)} {y : Unit {0}} → x ≡ Ok y → (reading.fault ≡ None) × Lined (told_of reading.requests p) o old n mid × (q ≡ settled (port_after (events_of reading.requests) p)) × IsSoundPort q
+      → Appends mid new (ending_text until q n) → RunsOut x old new (outcome_after until reading p o)
+  ended_well {y = y} e (none, (lines, seen), is, sound_q) done =
+      subst (λ (z : Result (Unit {0}) (Fault BadLine)). RunsOut z old new (outcome_after until reading p o)) (sym e)
+      (none, all_behind old mid new _ _ _ (behind_walk until reading p q o n law sound none is sound_q seen) lines done)
+
+  pub ended_short : {x : Result (Unit {0}) (Fault BadLine)} (halt : Halt) → x ≡ Err (fault_of_halt halt) → (reading.fault ≡ None) × Lined (told_of reading.requests p) o old n mid × (q ≡ settled (port_after (events_of reading.requests) p)) × IsSoundPort q
+      → AppendsFront mid new (ending_text until q n) → RunsOut x old new (outcome_after until reading p o)
+  ended_short {x} halt e (none, (lines, seen), is, sound_q) done = by halt e
+    where
+      front : AppendsFront old new (outcome_after until reading p o).text
+      front = front_behind old mid new _ _ _ (behind_walk until reading p q o n law sound none is sound_q seen) lines done
+
+      by : (h : Halt) → x ≡ Err (fault_of_halt h) → RunsOut x old new (outcome_after until reading p o)
+      by Halts.Write e = subst (λ (z : Result (Unit {0}) (Fault BadLine)). RunsOut z old new (outcome_after until reading p o)) (sym e) front
+      by Halts.Memory e = subst (λ (z : Result (Unit {0}) (Fault BadLine)). RunsOut z old new (outcome_after until reading p o)) (sym e) front
+
+-- 5. The end itself
+
+-- its text, in two parts
+ending : (until : Option ℕ) (p : AbstractPort) (o : Option Observed)
+    → ending_text until p o ≡ told_lines (told_of (clock_after until) p) ++ end_lines (port_after (events_of (clock_after until)) p) (noted_told (told_of (clock_after until) p) o)
+ending until p o =
+    let requests = clock_after until in
+    let there = port_after (events_of requests) p in
+    ap (λ text. text ++ end_lines there (noted_after (events_of requests) p o)) (sym (requests-lines requests p))
+    ∙ ap (λ n. told_lines (told_of requests p) ++ end_lines there n) (sym (requests-seen requests p o))
+
+module _ (until : Option ℕ) (p q : AbstractPort) (o n : Option Observed) (old mid new : Option (List ℕ)) where
+  pub end_short : {x : Result (Unit {0}) Halt} (halt : Halt) → x ≡ Err halt → LinedFront (told_of (clock_after until) p) old new → PutsEnd x old new (ending_text until p o)
+  end_short halt e front = subst (λ (z : Result (Unit {0}) Halt). PutsEnd z old new (ending_text until p o)) (sym e) (front_before old new _ _ _ (ending until p o) front)
+
+  pub end_whole : (x : Result (Unit {0}) Halt) (r : Result (Unit {0}) WriteFault) → x ≡ halted r → Lined (told_of (clock_after until) p) o old n mid → q ≡ settled (port_after (events_of (clock_after until)) p)
+      → Writes r mid new (end_lines q n) → PutsEnd x old new (ending_text until p o)
+  end_whole x r e (lines, seen) is done = subst (λ (z : Result (Unit {0}) Halt). PutsEnd z old new (ending_text until p o)) (sym e) (by r done)
+    where
+      there : AbstractPort
+      there = port_after (events_of (clock_after until)) p
+
+      whole : ending_text until p o ≡ told_lines (told_of (clock_after until) p) ++ end_lines q n
+      whole = ending until p o ∙ ap (λ x. told_lines (told_of (clock_after until) p) ++ x) (ap (end_lines there) (sym seen) ∙ sym (end-settled there n) ∙ ap (λ y. end_lines y n) (sym is))
+
+      by : (r : Result (Unit {0}) WriteFault) → Writes r mid new (end_lines q n) → PutsEnd (halted r) old new (ending_text until p o)
+      by (Ok y) done = all_behind old mid new _ _ _ whole lines done
+      by (Err y) (left, some, s) = front_behind old mid new _ _ _ whole lines (left, s)
