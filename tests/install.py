@@ -23,7 +23,7 @@ class Checkout:
     def __init__(self, folder, program, *places):
         self.top = pathlib.Path(folder, "a clone")
         self.top.mkdir()
-        for name in ("install", "taprio_port", "crates.txt", "bench/place", "bench/unproved", *PLACES.values()):
+        for name in ("install", "taprio_port", "crates.txt", "build/place", "build/unproved", *PLACES.values()):
             self.put(name, TOP / name)
         (self.top / "crates" / "port" / "src").mkdir(parents=True)
         for place in places:
@@ -133,6 +133,26 @@ def case_words(program):
             usage = "usage: ./install PREFIX [DESTDIR]    (./install --help)"
             assert (status, output, errors) == (2, "", f"install: {said}\n{usage}\n"), (status, output, errors)
         assert files(pathlib.Path(folder)) == before
+
+
+def case_the_version_says_what_is_built(program):
+    """`--version` says whether the program is proved, and of which commit the sources are, where git knows it."""
+    with tempfile.TemporaryDirectory(prefix="taprio-case-") as folder:
+        clone = Checkout(folder, program, BUILT)
+        version = subprocess.run([program, "--version"], capture_output=True, text=True, timeout=SECONDS, check=True).stdout.strip()
+        for proved, how in ((False, "not proved: with a check at each step"), (True, "proved")):
+            if proved:
+                clone.put(PROVED, program)
+            assert clone.ran("taprio_port", "--version") == (0, f"{version}, {how}\n", ""), how
+        for words in ("init -q", "add -A", "-c user.name=a -c user.email=a@example.org commit -qm all"):
+            subprocess.run(["git", *words.split()], cwd=clone.top, check=True, timeout=SECONDS)
+        commit = subprocess.run(["git", "rev-parse", "--short=12", "HEAD"], cwd=clone.top, capture_output=True, text=True, check=True).stdout.strip()
+        for place in (BUILT, PROVED):
+            clone.put(place, program)
+        assert clone.ran("taprio_port", "--version") == (0, f"{version}, proved, commit {commit}\n", "")
+        (clone.top / "crates.txt").write_text("changed\n")
+        os.utime(clone.top / "crates.txt", (0, 0))
+        assert clone.ran("taprio_port", "--version") == (0, f"{version}, proved, commit {commit} with changes\n", "")
 
 
 def case_what_is_built(program):

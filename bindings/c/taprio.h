@@ -45,7 +45,7 @@
 #include <stdint.h>
 
 /* The version of this header, which is that of the library beside it. */
-#define TAPRIO_VERSION "0.1.0"
+#define TAPRIO_VERSION "0.2.0"
 
 #ifdef __cplusplus
 extern "C" {

@@ -62,14 +62,22 @@ def metadata(about: dict, version: str) -> str:
     return "\n".join(lines) + "\n"
 
 
-def wheel(folder: str, files: Files, with_command: bool, is_pure: bool, label: str = "") -> str:
-    """Writes a wheel of these files, and gives its name. A label stands behind the version."""
+PURE = "py3-none-any"
+"""The tag of a wheel that is for any machine."""
+
+
+def own_tag() -> str:
+    """The tag of a wheel that is for this machine's kind."""
+    return f"py3-none-{sysconfig.get_platform().replace('-', '_').replace('.', '_')}"
+
+
+def wheel(folder: str, files: Files, with_command: bool, tag: str, label: str = "") -> str:
+    """Writes a wheel of these files, for what the tag says, and gives its name. A label stands behind the version."""
     about = project()
     version = about["version"] + label
-    tag = "py3-none-any" if is_pure else f"py3-none-{sysconfig.get_platform().replace('-', '_').replace('.', '_')}"
     name = f"{about['name']}-{version}"
     info = f"{name}.dist-info"
-    says = f"Wheel-Version: 1.0\nGenerator: taprio\nRoot-Is-Purelib: {str(is_pure).lower()}\nTag: {tag}\n"
+    says = f"Wheel-Version: 1.0\nGenerator: taprio\nRoot-Is-Purelib: {str(tag == PURE).lower()}\nTag: {tag}\n"
     files = files | {f"{info}/METADATA": (metadata(about, version).encode(), 0o644), f"{info}/WHEEL": (says.encode(), 0o644)}
     if with_command:
         files[f"{info}/entry_points.txt"] = COMMAND.encode(), 0o644
@@ -86,12 +94,12 @@ def wheel(folder: str, files: Files, with_command: bool, is_pure: bool, label: s
     return f"{name}-{tag}.whl"
 
 
-def build_wheel(wheel_directory: str, config_settings: object = None, metadata_directory: object = None, label: str = "") -> str:
+def build_wheel(wheel_directory: str, config_settings: object = None, metadata_directory: object = None) -> str:
     """The wheel that pip installs."""
     found = built()
-    return wheel(wheel_directory, modules() | found, "taprio/taprio_port" in found, not found, label)
+    return wheel(wheel_directory, modules() | found, "taprio/taprio_port" in found, own_tag() if found else PURE)
 
 
 def build_editable(wheel_directory: str, config_settings: object = None, metadata_directory: object = None) -> str:
     """The wheel of `pip install -e`: it names this folder."""
-    return wheel(wheel_directory, {"taprio.pth": (f"{HERE}\n".encode(), 0o644)}, False, True)
+    return wheel(wheel_directory, {"taprio.pth": (f"{HERE}\n".encode(), 0o644)}, False, PURE)

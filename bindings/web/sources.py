@@ -10,7 +10,7 @@ import sys
 
 WEB = pathlib.Path(__file__).resolve().parent
 TOP = WEB.parent.parent
-sys.path.insert(0, str(TOP / "bench"))
+sys.path.insert(0, str(TOP / "build"))
 import crates  # noqa: E402
 
 # What of web/ goes into the page, or makes it.

@@ -41,7 +41,7 @@ from .results import read_bounds, read_check, read_frames, read_run
 from .schedules import Schedule
 from .traffic import Stream, bounds, frames, run_streams, table
 
-__version__ = "0.1.0"
+__version__ = "0.2.0"
 
 __all__ = [
     "Backend",

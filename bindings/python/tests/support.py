@@ -1,7 +1,8 @@
 """What the tests share. Run them with `python3 -m unittest discover bindings/python/tests`; a word says what is skipped, and why.
 
 The program is the one that TAPRIO_PORT names, or that of the checkout, which is built where it isn't yet. The shared object is that of
-bindings/c/build."""
+bindings/c/build. With TAPRIO_INSTALLED, which may say anything, the package, the program and the shared object are those that are
+installed."""
 
 import contextlib
 import os
@@ -15,12 +16,13 @@ EXAMPLES = ROOT / "crates" / "examples" / "data"
 if not EXAMPLES.is_dir():
     EXAMPLES = ROOT / "examples"
 DATA = HERE / "data"
-if str(HERE.parent) not in sys.path:
+IS_INSTALLED = bool(os.environ.get("TAPRIO_INSTALLED"))
+if not IS_INSTALLED and str(HERE.parent) not in sys.path:
     sys.path.insert(0, str(HERE.parent))
 
 import taprio  # noqa: E402
 
-PROGRAM = os.environ.get("TAPRIO_PORT") or taprio.program.of_checkout(str(ROOT / "taprio_port"))
+PROGRAM = os.environ.get("TAPRIO_PORT") or (taprio.program.found() if IS_INSTALLED else taprio.program.of_checkout(str(ROOT / "taprio_port")))
 if PROGRAM:
     os.environ["TAPRIO_PORT"] = PROGRAM
 HAS_LIBRARY = taprio.library.is_there()

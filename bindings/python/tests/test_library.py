@@ -444,7 +444,8 @@ class WithoutALibrary(unittest.TestCase):
                 if text is not None:
                     path.write_text(text)
                     path.chmod(0o755)
-                with self.subTest(name), mock.patch.object(taprio.program, "CHECKOUT", path):
+                beside = mock.patch.object(taprio.program, "BESIDE", pathlib.Path(folder, "beside"))
+                with self.subTest(name), beside, mock.patch.object(taprio.program, "CHECKOUT", path):
                     if found is None:
                         with self.assertRaisesRegex(taprio.LibraryMissing, "PATH.*TAPRIO_PORT.*bindings/c/build.*TAPRIO_LIBRARY"):
                             taprio.backend()

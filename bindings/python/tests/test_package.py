@@ -14,6 +14,10 @@ import zipfile
 from unittest import mock
 
 import support
+
+if support.IS_INSTALLED:
+    raise unittest.SkipTest("it is of the package in the checkout")
+
 import packing
 import taprio
 import taprio.schedules

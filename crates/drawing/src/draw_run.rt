@@ -270,7 +270,7 @@ fn take_line<A: Allocator, H: Watch>(
             watch.line_failed(line);
             return Err(fault);
         }
-        Ok(None) => watch.line_passed(number, line),
+        Ok(None) => watch.line_skipped(number, line),
         Ok(Some(Said::Asked(event))) => {
             take_asked(port, bands, course, &event, settings, options);
         }

@@ -65,15 +65,14 @@ pub(crate) fn deadline_text(
     }
 }
 
-/// Calls who watches for a frame of this stream that isn't in time.
-pub(crate) fn tell_missed<H: Watch>(stream: &Option<Stream>, row: &FrameRow, watch: &mut H) {
+/// Calls who watches for a frame whose stream has a deadline: whether it is in time.
+pub(crate) fn tell_judged<H: Watch>(stream: &Option<Stream>, row: &FrameRow, watch: &mut H) {
     let Some(stream) = stream else {
         return;
     };
     let Some(deadline) = stream.deadline else {
         return;
     };
-    if let Some(why) = missed(deadline, row.arrival.at, &row.fate) {
-        watch.deadline_failed(row.arrival.id, stream.first_id, why);
-    }
+    let missed = missed(deadline, row.arrival.at, &row.fate);
+    watch.deadline_judged(row.arrival.id, stream.first_id, missed);
 }

@@ -5,7 +5,7 @@ ghost use Rattle.octet_writer.specs.Writes.{Writes};
 ghost use Rattle.answer_text.specs.Part.{text_of};
 ghost use Rattle.frame_table.specs.RowText.{end_text, fate_text, has_column, head_line, number_text, row_line, start_text, stream_comma, stream_text, wait_text};
 
-use crate::deadline::{deadline_text, tell_missed};
+use crate::deadline::{deadline_text, tell_judged};
 use crate::streams::{Streams, stream_by};
 use abstract_port::{Dropped, Start};
 use answer_text::{Part, WriteFault, dropped_name, put, put_parts};
@@ -185,7 +185,7 @@ pub(crate) fn put_row<A: Allocator, W: Write, H: Watch>(
         ],
     );
     if written.is_ok() {
-        tell_missed(&stream, row, watch);
+        tell_judged(&stream, row, watch);
     }
     written
 }

@@ -15,7 +15,7 @@ use script::{ScriptFault, Watch, limit_fault};
 use std::alloc::Allocator;
 use std::io::Read;
 use std::marker::Model;
-use traffic::{Stream, StreamsFault, StreamsInput, read_stream_line};
+use traffic::{Stream, StreamsFault, StreamsInput, read_stream_line, tell_stream};
 
 /// The streams of a table, in its order.
 #[derive(Drop)]
@@ -165,7 +165,7 @@ pub(crate) fn read_streams<A: Allocator, B: Allocator, R: Read + Drop, H: Watch>
         match read_with_ids(lines.line()) {
             Ok(None) => {}
             Ok(Some(stream)) => {
-                watch.stream_read(lines.line_number(), stream.first_id, stream.count);
+                tell_stream(lines.line_number(), &stream, watch);
                 streams.keep(stream)?;
             }
             Err(fault) => {

@@ -265,7 +265,7 @@ fn run_lines<A: Allocator + Clone, B: Allocator, C: Allocator, R: Read + Drop, W
     'lines: while next_line::<BadLine, _, _, _>(lines, writer)? {
         let line = lines.line();
         match read_line(line) {
-            Ok(None) => watch.line_passed(lines.line_number(), line),
+            Ok(None) => watch.line_skipped(lines.line_number(), line),
             Ok(Some(Said::Asked(event))) => take_event(
                 port, arrivals, &event, streams, writer, watch,
             )?,

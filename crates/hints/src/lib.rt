@@ -15,5 +15,5 @@ pub use commands::put_failure;
 pub use fault_hints::put_fault_hint;
 pub use warnings::{
     Ids, put_busy_class, put_comment, put_frame_dropped, put_frames_left, put_missed,
-    put_no_command, put_shared_ids,
+    put_no_command, put_no_frame, put_none_judged, put_shared_ids,
 };

@@ -67,6 +67,19 @@ pub fn put_no_command<W: Write>(writer: &mut W) -> Result<(), WriteFault> {
     )
 }
 
+/// Writes that no frame came in a run.
+pub fn put_no_frame<W: Write>(writer: &mut W) -> Result<(), WriteFault> {
+    put(writer, b"taprio_port: warning: no frame came\n")
+}
+
+/// Writes that no frame of a run was judged by the deadlines of a table.
+pub fn put_none_judged<W: Write>(writer: &mut W) -> Result<(), WriteFault> {
+    put(
+        writer,
+        b"taprio_port: warning: no frame was judged: none that came is of a stream with a deadline\n",
+    )
+}
+
 /// Writes that the line of this number is a comment, where a command was perhaps meant.
 pub fn put_comment<W: Write>(writer: &mut W, number: u32, line: &[u8]) -> Result<(), WriteFault> {
     put_parts(

@@ -1,13 +1,14 @@
 //! Two frames, and what comes out.
 
+use abstract_port::Dropped;
 use job::{Ended, say_fault};
 use replay::{ReplayFault, ReplayInput, Stamp, replay};
-use script::{Settings, Unwatched, Watch};
+use script::{Failure, Missed, Settings, Unwatched, Watch};
 use std::alloc::{Allocator, Global};
 use std::io::{self, Read};
 use std::test::Fail;
 use test_streams::BOTH_LEFT;
-use wire_time::Rate;
+use wire_time::{Frame, Rate};
 
 /// What is reported of the two frames where all gates are open: the second comes no earlier than the first, and goes
 /// first.
@@ -156,11 +157,39 @@ struct Seen {
 }
 
 impl Watch for Seen {
+    ghost use Rattle.std.specs.Prelude.{⊤};
+
+    ghost alerted = { λ alerts s t. ⊤ };
+
     fn records_taken(&mut self, records: u32, moment: u128) {
         self.calls = self.calls.saturating_add(1);
         self.records = records;
         self.moment = moment;
     }
+
+    fn command_failed(&mut self, _number: u32, _line: &[u8], _why: Failure) {}
+
+    fn frame_dropped(&mut self, _moment: u128, _frame: &Frame, _why: Dropped) {}
+
+    fn class_used(&mut self, _class: u8) {}
+
+    fn frames_left(&mut self, _class: u8, _count: u64) {}
+
+    fn line_failed(&mut self, _line: &[u8]) {}
+
+    fn line_skipped(&mut self, _number: u32, _line: &[u8]) {}
+
+    fn line_passed(&mut self, _number: u32, _line: &[u8]) {}
+
+    fn class_is_busy(&mut self, _number: u32, _class: u8, _every: u128) {}
+
+    fn stream_read(&mut self, _number: u32, _first_id: u64, _count: u32, _has_deadline: bool) {}
+
+    fn deadline_judged(&mut self, _id: u64, _stream: u64, _missed: Option<Missed>) {}
+
+    ghost nothing = { λ s. tt };
+
+    ghost both = { λ xs ys s t u a b. tt };
 }
 
 /// What a replay of the three frames says of how far it has come: how often, and then of how many records and of which

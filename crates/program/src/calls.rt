@@ -209,8 +209,8 @@ fn answer_watched<
         &mut text,
         &mut onlooker,
     );
-    if name == JobName::Check && ended.status == 0 && !writer.is_written() {
-        onlooker.warn_of_no_command();
+    if ended.status == 0 {
+        onlooker.warn_of_nothing(name, writer.is_written());
     }
     if ended.status != 4 || !writer.is_closed() {
         let capture = first_octets(files, matches, &text);

@@ -1,13 +1,14 @@
 //! Who watches a run for the program: what it finds is reported on standard error, and is counted where the run is
 //! strict.
 
+use crate::job_name::JobName;
 use crate::progress::Progress;
 use crate::stream_ids::{StreamIds, ids_of};
 use abstract_port::Dropped;
 use arrayvec::ArrayVec;
 use hints::{
     put_busy_class, put_comment, put_failure, put_fault_hint, put_frame_dropped, put_frames_left,
-    put_missed, put_no_command, put_shared_ids,
+    put_missed, put_no_command, put_no_frame, put_none_judged, put_shared_ids,
 };
 use job::{CaptureKind, Ended, Errors, FaultKind};
 use octet_writer::put;
@@ -123,7 +124,10 @@ pub(crate) struct Onlooker<'a, 'b, C: Clock, P: Write + Drop, E: Write> {
     failures: u32,
     comments: u32,
     frames: u32,
+    came: bool,
     warned: bool,
+    has_deadlines: bool,
+    judged: bool,
     missed: bool,
     ids: StreamIds,
     line: ArrayVec<u8, LINE>,
@@ -144,7 +148,10 @@ impl<'a, 'b, C: Clock, P: Write + Drop, E: Write> Onlooker<'a, 'b, C, P, E> {
             failures: 0,
             comments: 0,
             frames: 0,
+            came: false,
             warned: false,
+            has_deadlines: false,
+            judged: false,
             missed: false,
             ids: StreamIds::new(alloc),
             line: ArrayVec::new(),
@@ -166,8 +173,23 @@ impl<'a, 'b, C: Clock, P: Write + Drop, E: Write> Onlooker<'a, 'b, C, P, E> {
         self.frames == 1
     }
 
+    /// Warns where a job has answered all, and there was nothing for it to look at: no command, no frame, or no frame with
+    /// a deadline. A check without a command has written nothing.
+    pub fn warn_of_nothing(&mut self, name: JobName, is_written: bool) {
+        match name {
+            JobName::Script | JobName::Replay => self.warn_of_no_frame(),
+            JobName::Frames => self.warn_of_none_judged(),
+            JobName::Check => {
+                if !is_written {
+                    self.warn_of_no_command();
+                }
+            }
+            JobName::Streams | JobName::Bounds | JobName::Draw => {}
+        }
+    }
+
     /// Warns of an input without a schedule command, where that is wanted.
-    pub fn warn_of_no_command(&mut self) {
+    fn warn_of_no_command(&mut self) {
         if !self.looks.warns() {
             return;
         }
@@ -176,26 +198,42 @@ impl<'a, 'b, C: Clock, P: Write + Drop, E: Write> Onlooker<'a, 'b, C, P, E> {
         let _ = self.errors.flush();
     }
 
+    /// Warns where no frame came, where frames are looked at and nothing else was found.
+    fn warn_of_no_frame(&mut self) {
+        if !self.looks.frames || self.came || self.has_found() {
+            return;
+        }
+        self.warned = true;
+        let _ = put_no_frame(self.errors);
+        let _ = self.errors.flush();
+    }
+
+    /// Warns where streams that were read have deadlines, and no frame was judged by one, where that is wanted.
+    fn warn_of_none_judged(&mut self) {
+        if !self.looks.warns() || !self.has_deadlines || self.judged {
+            return;
+        }
+        self.warned = true;
+        let _ = put_none_judged(self.errors);
+        let _ = self.errors.flush();
+    }
+
     /// Looks at a line that the job didn't: whether it is a malformed command, or a comment where a command was perhaps
     /// meant.
     fn look_at(&mut self, number: u32, line: &[u8]) {
-        let mut words = Words::new(line);
-        match words.next_word() {
-            Some(b"tc") => {
-                if let Err(fault) = read_tc(line) {
-                    self.command_failed(number, line, Failure::Malformed(fault));
-                }
-            }
-            Some(b"#") if words.next_word() == Some(b"tc".as_slice()) => {
-                self.look_at_comment(number, line)
-            }
-            _ => {}
+        if Words::new(line).next_word() != Some(b"tc".as_slice()) {
+            self.look_at_comment(number, line);
+        } else if let Err(fault) = read_tc(line) {
+            self.command_failed(number, line, Failure::Malformed(fault));
         }
     }
 
     /// Explains a comment where a command was perhaps meant.
     fn look_at_comment(&mut self, number: u32, line: &[u8]) {
-        if self.looks.explain && self.comments < EXPLAINED {
+        let mut words = Words::new(line);
+        let is_meant = words.next_word() == Some(b"#".as_slice())
+            && words.next_word() == Some(b"tc".as_slice());
+        if is_meant && self.looks.explain && self.comments < EXPLAINED {
             self.comments += 1;
             let _ = put_comment(self.errors, number, line);
             let _ = self.errors.flush();
@@ -216,6 +254,10 @@ impl<'a, 'b, C: Clock, P: Write + Drop, E: Write> Onlooker<'a, 'b, C, P, E> {
 }
 
 impl<C: Clock, P: Write + Drop, E: Write> Watch for Onlooker<'_, '_, C, P, E> {
+    ghost use Rattle.std.specs.Prelude.{⊤};
+
+    ghost alerted = { λ alerts s t. ⊤ };
+
     #[inline(always)]
     fn records_taken(&mut self, records: u32, moment: u128) {
         self.progress.records_taken(records, moment);
@@ -236,6 +278,10 @@ impl<C: Clock, P: Write + Drop, E: Write> Watch for Onlooker<'_, '_, C, P, E> {
             let _ = put_frame_dropped(self.errors, moment, frame.id, why);
             let _ = self.errors.flush();
         }
+    }
+
+    fn class_used(&mut self, _class: u8) {
+        self.came = true;
     }
 
     fn frames_left(&mut self, class: u8, count: u64) {
@@ -262,16 +308,23 @@ impl<C: Clock, P: Write + Drop, E: Write> Watch for Onlooker<'_, '_, C, P, E> {
         let _ = self.line.try_extend_from_slice(line);
     }
 
+    fn line_skipped(&mut self, number: u32, line: &[u8]) {
+        if self.looks.explain {
+            self.look_at_comment(number, line);
+        }
+    }
+
     fn line_passed(&mut self, number: u32, line: &[u8]) {
         if self.looks.warns() {
             self.look_at(number, line);
         }
     }
 
-    fn stream_read(&mut self, number: u32, first_id: u64, count: u32) {
+    fn stream_read(&mut self, number: u32, first_id: u64, count: u32, has_deadline: bool) {
         if !self.looks.warns() {
             return;
         }
+        self.has_deadlines |= has_deadline;
         let Some(later) = ids_of(number, first_id, count) else {
             return;
         };
@@ -282,7 +335,11 @@ impl<C: Clock, P: Write + Drop, E: Write> Watch for Onlooker<'_, '_, C, P, E> {
         }
     }
 
-    fn deadline_failed(&mut self, id: u64, stream: u64, why: Missed) {
+    fn deadline_judged(&mut self, id: u64, stream: u64, missed: Option<Missed>) {
+        self.judged = true;
+        let Some(why) = missed else {
+            return;
+        };
         let told = self.looks.strict && !self.missed;
         self.missed = true;
         if told {
@@ -290,4 +347,8 @@ impl<C: Clock, P: Write + Drop, E: Write> Watch for Onlooker<'_, '_, C, P, E> {
             let _ = self.errors.flush();
         }
     }
+
+    ghost nothing = { λ s. tt };
+
+    ghost both = { λ xs ys s t u a b. tt };
 }

@@ -509,7 +509,7 @@ pub(crate) fn command<'a>(alloc: Global) -> Result<Command<'a>, AllocError>
     ensures { IfOk result (λ command. app_of command ≡ program_app) }
 {
     let mut program = Command::new(alloc, "taprio_port")
-        .version("0.1.0")
+        .version("0.2.0")
         .about("An IEEE 802.1Qbv time-aware transmit port")
         .after_help(STATUSES)
         .subcommand_required(true);

@@ -8,7 +8,6 @@ ghost use Rattle.program.specs.Jobs.{Tells};
 ghost use Rattle.program.specs.Progress.{IsNoted, progress_line};
 
 use answer_text::{Part, put_parts};
-use script::Watch;
 use std::io::Write;
 use std::time::{Clock, Duration, Instant};
 
@@ -106,9 +105,10 @@ impl<'a, C: Clock, E: Write + Drop> Progress<'a, C, E> {
     }
 }
 
-impl<C: Clock, E: Write + Drop> Watch for Progress<'_, C, E> {
+impl<C: Clock, E: Write + Drop> Progress<'_, C, E> {
+    /// So many records are taken, the last at this moment, in picoseconds.
     #[inline(always)]
-    fn records_taken(&mut self, records: u32, moment: u128)
+    pub fn records_taken(&mut self, records: u32, moment: u128)
         ensures silent { self.old.begun ≡ None → self.new ≡ self.old }
         ensures noted { IsNoted records moment self.old.told self.new.told self.new.begun (E.contents self.old.writer) (E.contents self.new.writer) }
     {

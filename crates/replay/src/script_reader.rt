@@ -1,6 +1,9 @@
 //! Reads a script whole and keeps it.
 
-ghost use Rattle.std.specs.Prelude.{◌≡◌, ◌<◌, ◌∷◌, ◌++◌, [], ℕ, List, Result, IfOk, IfSome, OnOk, Ok, length};
+ghost use Rattle.std.specs.Prelude.{◌≡◌, ◌<◌, ◌∷◌, ◌++◌, [], ℕ, List, Result, IfOk, IfSome, OnOk, Ok, Err, Some, length};
+ghost use Rattle.job.specs.declared.fault.Fault.TheVariants as Faults;
+ghost use Rattle.line_reader.specs.LineReader.{how_ended};
+ghost use Rattle.line_reader.specs.declared.lines.LineFault.TheVariants as LineFaults;
 ghost use Rattle.replay.specs.Words.{Command, script_left, script_of, IsReader, TcFault, words_of, IsKept, kept_request, kept_requests, GivesScript, ReadsRest, IsEarly, line_request, reading_of};
 
 use crate::faults::{ReplayFault, ReplayInput};
@@ -64,19 +67,20 @@ fn keep<A: Allocator>(
     Ok(())
 }
 
-/// Keeps the lines that are to come, up to the first fault.
+/// Keeps the lines that are to come, up to the first fault. A failed read is told only where the lines ended by one.
 fn keep_lines<A: Allocator, B: Allocator, R: Read + Drop, P: Watch>(
     script: &mut KeptScript<A>,
     lines: &mut LineReader<R, B>,
     watch: &mut P,
 ) -> Result<(), ReplayFault>
-    ensures { (read : List (List ℕ) → Result Command TcFault) → IsReader read → IfSome (script_left R.remaining lines.old) (λ rest.
+    ensures rest { (read : List (List ℕ) → Result Command TcFault) → IsReader read → IfSome (script_left R.remaining lines.old) (λ rest.
         ReadsRest result (kept_requests read script.old.octets.items script.old.lines.items) (reading_of read rest) (kept_requests read script.new.octets.items script.new.lines.items)) }
+    ensures read { result ≡ Err Faults.Read → how_ended lines.new ≡ Some (Err LineFaults.Read) }
 {
     'lines: while lines.advance()? {
         let octets = lines.line();
         match read_line_beside(octets) {
-            Ok(None) => watch.line_passed(lines.line_number(), octets),
+            Ok(None) => watch.line_skipped(lines.line_number(), octets),
             Ok(Some(line)) => keep(script, line, octets, lines.line_number())?,
             Err(fault) => {
                 watch.line_failed(octets);

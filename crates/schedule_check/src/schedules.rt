@@ -59,7 +59,7 @@ fn check_lines<A: Allocator, R: Read + Drop, W: Write, H: Watch>(
     'lines: while next_line::<BadLine, _, _, _>(lines, writer)? {
         let line = lines.line();
         match is_command(line, settings.script) {
-            Ok(false) => watch.line_passed(lines.line_number(), line),
+            Ok(false) => watch.line_skipped(lines.line_number(), line),
             Ok(true) => put_line(writer, settings, lines.line_number(), line, watch)?,
             Err(fault) => {
                 watch.line_failed(line);

@@ -1,5 +1,5 @@
--- What who watches a run is told of it that counts for strictness, in order. Line numbers and texts are not pinned.
-use Rattle.std.specs.Prelude.{◌≡◌, ◌+◌, ◌==◌, ℕ, zero, suc, List, [], ◌∷◌, ◌++◌, Option, Some, None, Result, Ok, Err, IfSome, length, if◌then◌else◌}
+-- What who watches a run is told of it that may count for strictness, in order.
+use Rattle.std.specs.Prelude.{◌≡◌, ◌+◌, ◌==◌, ℕ, zero, suc, Bool, List, [], ◌∷◌, ◌++◌, Option, Some, None, Result, Ok, Err, IfSome, length, if◌then◌else◌}
 use Rattle.std.specs.List.{flat_map}
 use Rattle.wire_time.specs.declared.Frame.{Frame}
 use Rattle.abstract_port.specs.AbstractPort.{AbstractPort, new_port, queue_of}
@@ -26,13 +26,16 @@ use Rattle.script.specs.declared.watch.Failure.{Failure}
 use Rattle.script.specs.declared.watch.Failure.TheVariants as Failures
 use Rattle.script.specs.declared.watch.Missed.{Missed}
 
--- one alert: a tc line that fails, a frame that is dropped at a moment, a class that still has frames at the end, or a frame that has
--- missed its deadline, by its id and its stream's
+-- One alert: a tc line that fails; a frame that is dropped at a moment; a class that still has frames at the end; a line that is passed
+-- on; a stream that a line of a table is, with its first id, its count, and whether it has a deadline; or a frame that is judged by a
+-- deadline, by its id and its stream's, and why it isn't in time.
 pub data Alert : Type 0 where
   Failed : Failure → Alert
   Lost : ℕ → Frame → Dropped → Alert
   Left : ℕ → ℕ → Alert
-  Late : ℕ → ℕ → Missed → Alert
+  Passed : ℕ → List ℕ → Alert
+  Stream : ℕ → ℕ → ℕ → Bool → Alert
+  Judged : ℕ → ℕ → Option Missed → Alert
 
 -- the alert of one thing that an observer is told, if it is one
 abbrev pub alert_of : Told → List Alert

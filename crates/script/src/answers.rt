@@ -214,7 +214,7 @@ pub fn put_tc<A: Allocator, W: PutLine, H: Watch>(
     put_command(port, summary, number, line, &place.answer, writer, watch)
 }
 
-/// Writes how many frames a class still has, where it has some, and calls who watches there.
+/// Writes how many frames a class still has, where it has some, and calls who watches there, and where any were queued.
 fn put_left_in<A: Allocator, W: Write, H: Watch>(
     port: &RunningPort<A>,
     class: u8,
@@ -225,7 +225,11 @@ fn put_left_in<A: Allocator, W: Write, H: Watch>(
     ensures text { Writes result (W.contents writer.old) (W.contents writer.new) (left_text class (length (queue_of port.now.port class))) }
     ensures alerts { H.alerted (left_alert class (length (queue_of port.now.port class))) watch.old watch.new }
 {
-    let waiting = port.counters(class).waiting;
+    let counters = port.counters(class);
+    if counters.accepted > 0 {
+        watch.class_used(class);
+    }
+    let waiting = counters.waiting;
     if waiting == 0 {
         Ok(())
     } else {

@@ -310,7 +310,7 @@ pub fn walk<A: Allocator, B: Allocator, R: Read + Drop, W, O: Observer<W>, H: Wa
         }
         let line = lines.line();
         match read_line(line) {
-            Ok(None) => watch.line_passed(lines.line_number(), line),
+            Ok(None) => watch.line_skipped(lines.line_number(), line),
             Ok(Some(Said::Asked(event))) => take(port, observer, &event, out, watch)?,
             Ok(Some(Said::Tc)) => {
                 let number = lines.line_number();

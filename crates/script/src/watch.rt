@@ -1,7 +1,7 @@
 //! Who watches a run.
 
 ghost use Rattle.std.specs.Prelude.{◌∷◌, ◌++◌, [], List};
-ghost use Rattle.script.specs.Alerts.{Alert, Failed, Late, Left, Lost};
+ghost use Rattle.script.specs.Alerts.{Alert, Failed, Judged, Left, Lost, Passed, Stream};
 
 use abstract_port::{Dropped, Refused};
 use tc_reader::TcFault;
@@ -31,7 +31,7 @@ pub enum Missed {
 
 /// Who watches a run. Nothing that it does changes what is written.
 ///
-/// What counts for strictness is told as an alert, and contracts of runs say which alerts are told, in order. Of the
+/// What may count for strictness is told as an alert, and contracts of runs say which alerts are told, in order. Of the
 /// other calls they say nothing.
 pub trait Watch {
     /// From one value to another it was told these alerts.
@@ -49,6 +49,10 @@ pub trait Watch {
     fn frame_dropped(&mut self, moment: u128, frame: &Frame, why: Dropped)
         ensures { alerted (Lost moment frame.now why ∷ []) self.old self.new };
 
+    /// The run has ended, and frames of this class were queued in it.
+    fn class_used(&mut self, class: u8)
+        ensures { alerted [] self.old self.new };
+
     /// The run has ended, and the class still has so many frames, one at least.
     fn frames_left(&mut self, class: u8, count: u64)
         ensures { alerted (Left class count ∷ []) self.old self.new };
@@ -57,9 +61,14 @@ pub trait Watch {
     fn line_failed(&mut self, line: &[u8])
         ensures { alerted [] self.old self.new };
 
-    /// The line of this number, whose text this is, is skipped, or passed on as it is.
-    fn line_passed(&mut self, number: u32, line: &[u8])
+    /// The line of this number, whose text this is, is skipped: it has no words, is a comment, or is none of the lines
+    /// that are looked at. It does not begin with `tc`.
+    fn line_skipped(&mut self, number: u32, line: &[u8])
         ensures { alerted [] self.old self.new };
+
+    /// The line of this number, whose text this is, is passed on as it is.
+    fn line_passed(&mut self, number: u32, line: &[u8])
+        ensures { alerted (Passed number line.now ∷ []) self.old self.new };
 
     /// Whether hints are wanted for which more has to be worked out than is answered.
     fn wants_hints(&self) -> bool {
@@ -71,13 +80,15 @@ pub trait Watch {
     fn class_is_busy(&mut self, number: u32, class: u8, every: u128)
         ensures { alerted [] self.old self.new };
 
-    /// The line of this number of a table is a stream of so many frames, whose ids count from this one.
-    fn stream_read(&mut self, number: u32, first_id: u64, count: u32)
-        ensures { alerted [] self.old self.new };
+    /// The line of this number of a table is a stream of so many frames, whose ids count from this one. It may have a
+    /// deadline.
+    fn stream_read(&mut self, number: u32, first_id: u64, count: u32, has_deadline: bool)
+        ensures { alerted (Stream number first_id count has_deadline ∷ []) self.old self.new };
 
-    /// The frame of this id is of the stream with this first id, which has a deadline, and isn't in time.
-    fn deadline_failed(&mut self, id: u64, stream: u64, why: Missed)
-        ensures { alerted (Late id stream why ∷ []) self.old self.new };
+    /// The frame of this id is of the stream with this first id, which has a deadline. It is in time, or this is why it
+    /// isn't.
+    fn deadline_judged(&mut self, id: u64, stream: u64, missed: Option<Missed>)
+        ensures { alerted (Judged id stream missed ∷ []) self.old self.new };
 
     ghost nothing: { (s : Self) → alerted [] s s };
 
@@ -99,17 +110,21 @@ impl Watch for Unwatched {
 
     fn frame_dropped(&mut self, _moment: u128, _frame: &Frame, _why: Dropped) {}
 
+    fn class_used(&mut self, _class: u8) {}
+
     fn frames_left(&mut self, _class: u8, _count: u64) {}
 
     fn line_failed(&mut self, _line: &[u8]) {}
+
+    fn line_skipped(&mut self, _number: u32, _line: &[u8]) {}
 
     fn line_passed(&mut self, _number: u32, _line: &[u8]) {}
 
     fn class_is_busy(&mut self, _number: u32, _class: u8, _every: u128) {}
 
-    fn stream_read(&mut self, _number: u32, _first_id: u64, _count: u32) {}
+    fn stream_read(&mut self, _number: u32, _first_id: u64, _count: u32, _has_deadline: bool) {}
 
-    fn deadline_failed(&mut self, _id: u64, _stream: u64, _why: Missed) {}
+    fn deadline_judged(&mut self, _id: u64, _stream: u64, _missed: Option<Missed>) {}
 
     ghost nothing = { λ s. tt };
 

@@ -118,7 +118,7 @@ fn bound_lines<A: Allocator, R: Read + Drop, W: Write, H: Watch>(
         let number = lines.line_number();
         let line = lines.line();
         match is_command(line, false) {
-            Ok(false) => watch.line_passed(number, line),
+            Ok(false) => watch.line_skipped(number, line),
             Ok(true) => match put_line(alloc, writer, settings, streams, number, line, watch) {
                 Ok(answered) => so_far = joined(so_far, answered),
                 Err(fault) => return Err(fault),

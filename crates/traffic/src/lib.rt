@@ -21,4 +21,4 @@ mod turns;
 pub use faults::{StreamsFault, StreamsInput};
 pub use streams::write_streams;
 pub use streams_job::{answer_streams, from_given};
-pub use table::{Stream, read_stream_line};
+pub use table::{Stream, read_stream_line, tell_stream};

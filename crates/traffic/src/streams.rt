@@ -9,7 +9,7 @@ use crate::faults::{StreamsFault, StreamsInput, table_fault};
 use crate::frame_count::FrameCount;
 use crate::merge::write_merged;
 use crate::room::script_room;
-use crate::table::{Stream, read_line};
+use crate::table::{Stream, read_line, tell_stream};
 use crate::tournament::tournament;
 use crate::turn::Turn;
 use line_reader::{Limit, LineFault, LineReader};
@@ -56,7 +56,7 @@ fn read_streams<A: Allocator, B: Allocator, R: Read + Drop, H: Watch>(
         match read_line(lines.line(), from) {
             Ok(None) => {}
             Ok(Some(stream)) => {
-                watch.stream_read(lines.line_number(), stream.first_id, stream.count);
+                tell_stream(lines.line_number(), &stream, watch);
                 counted = counted.with(lines.line_number(), stream.count);
                 keep(turns, stream)?;
             }

@@ -3,7 +3,7 @@
 ghost use Rattle.std.specs.Prelude.{◌≡◌, ◌≤◌, ◌∷◌, IfSome, IfOk, true};
 ghost use Rattle.traffic.specs.Words.{greatest_moment, words_of, words_left, deadline_in, ends_in, judged, line_judged, line_said, moved, stream_in_words, stream_said, HasTimes, IsStream};
 
-use script::ScriptFault;
+use script::{ScriptFault, Watch};
 use times::time;
 use wire_time::MAX_MOMENT;
 use words::{Words, number};
@@ -225,4 +225,10 @@ pub(crate) fn read_line(line: &[u8], from: u128) -> Result<Option<Stream>, Scrip
         },
         Err(fault) => Err(fault),
     }
+}
+
+/// Calls who watches for a stream, which the line of this number is.
+pub fn tell_stream<H: Watch>(number: u32, stream: &Stream, watch: &mut H) {
+    let has_deadline = stream.deadline.is_some();
+    watch.stream_read(number, stream.first_id, stream.count, has_deadline);
 }

@@ -1,0 +1,17 @@
+pub mod Runs
+pub mod Starts
+pub mod ArrivalCurve
+pub mod Slots
+pub mod AnyTraffic
+pub mod Sporadic
+pub mod BusyPeriod
+pub mod ArrivalWindows
+pub mod PeriodicWindows
+pub mod LateForEver
+pub mod PeriodicRoom
+pub mod ExactWindows
+pub mod Priority
+pub mod SharedSlots
+pub mod SharedRuns
+pub mod StartCurve
+pub mod SharedBounds
