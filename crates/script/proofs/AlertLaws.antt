@@ -1,19 +1,28 @@
 -- What who watches is told, call by call.
-use Rattle.std.proofs.Common.{◌≡◌, ◌<◌, ◌≤◌, ◌+◌, ◌-◌, ◌||◌, ℕ, suc, Bool, true, false, cond, ltb, List, [], ◌∷◌, ◌++◌, map, length, Option, Some, None, Result, Ok, Err, refl, sym, ap, ◌∙◌, subst, append_assoc, append-nil, arith}
+use Rattle.std.proofs.Common.{◌≡◌, ◌<◌, ◌≤◌, inl, inr, ◌+◌, ◌-◌, ◌||◌, ℕ, suc, Bool, true, false, cond, ltb, List, [], ◌∷◌, ◌++◌, map, length, Option, Some, None, Result, Ok, Err, refl, sym, ap, ◌∙◌, subst, append_assoc, append-nil, arith}
+use Rattle.std.specs.Prelude.{IfSome}
 use Rattle.std.proofs.lemmas.Bool.{ne_eqb}
 use denote.Bor.{Bor}
 use Rattle.abstract_port.specs.AbstractPort.{installs, starts_until}
+use Rattle.abstract_port.specs.Answers.{port_after}
 use Rattle.abstract_port.specs.declared.Answer.TheVariants as Answers
+use Rattle.abstract_port.specs.declared.Counters.{Counters}
 use Rattle.abstract_port.specs.declared.Event.TheVariants.{Count, Install}
 use Rattle.abstract_port.specs.declared.Refused.{Refused}
 use Rattle.abstract_port.specs.declared.Start.{Start}
+use Rattle.job.specs.Halts.{fault_of_halt, halted}
+use Rattle.job.specs.RunEnd.{IsOrFails}
 use Rattle.job.specs.declared.fault.Fault.TheVariants as Faults
 use Rattle.job.specs.declared.halt.Halt.{Halt}
-use Rattle.script.specs.Alerts.{Alert, AlertedFront, Alerting, Left, Watched, alerts_from, alerts_of, alert_of, left_alert, refused_alert}
+use Rattle.job.specs.declared.halt.Halt.TheVariants as Halts
+use Rattle.octet_writer.specs.declared.WriteFault.{WriteFault}
+use Rattle.separation.specs.Settled.{IsSettling}
+use Rattle.script.specs.Alerts.{Alert, AlertedFront, Alerting, Left, Watched, alerts_from, alerts_of, alert_of, end_alerts, end_unless, left_alert, refused_alert, run_alerts}
 use Rattle.script.specs.Outcome.{Reading}
 use Rattle.script.specs.Told.{Given, Hearing, Otherwise, Told, Tells, told_answer, told_answers, told_of, told_to}
-use Rattle.script.specs.Walked.{IsTaken, Walked}
-use Rattle.script.specs.Words.{AbstractPort, Asks, BadLine, Clock, Command, Fault, PortState, Request, answers_to, command_answer, greatest_moment, queue_of}
+use Rattle.script.specs.Walked.{IsTaken, StepsHeard, Walked}
+use Rattle.script.specs.Words.{AbstractPort, Answer, Asks, BadLine, Clock, Command, Fault, IsSoundPort, PortState, Request, Script, answers_to, command_answer, counters_of, events_of, greatest_moment, queue_of, settled}
+use Rattle.script.proofs.LineSteps.{StandsFor, event-port, stands_after_all, stands_for_itself}
 
 -- 1. The alerts of what is told
 
@@ -29,14 +38,14 @@ starts-quiet now (s ∷ rest) = starts-quiet now rest
 pub clock-quiet : (m : ℕ) (p : AbstractPort) → alerts_of (told_to (Asks (Clock m)) p) ≡ []
 clock-quiet m p = by (ltb m p.now || ltb greatest_moment m)
   where
-    by : (b : Bool) → alerts_of (told_answers p.now Otherwise (cond b (Answers.Backward ∷ [], p) (map Answers.Start (starts_until p m).0, (starts_until p m).1)).0) ≡ []
+    by : (b : Bool) → alerts_of (told_answers p.now Otherwise (cond {A = List Answer × AbstractPort} b (Answers.Backward ∷ [], p) (map Answers.Start (starts_until p m).0, (starts_until p m).1)).0) ≡ []
     by true = refl
     by false = starts-quiet p.now (starts_until p m).0
 
 pub count-quiet : (class : ℕ) (p : AbstractPort) → alerts_of (told_to (Asks (Count class)) p) ≡ []
-count-quiet class p = by (ltb class 8)
+count-quiet class p = by (ltb class 8) (counters_of p class)
   where
-    by : (b : Bool) → (k : _) → alerts_of (told_answers p.now Otherwise (cond b (Answers.Counters class k ∷ []) (Answers.BadClass ∷ []))) ≡ []
+    by : (b : Bool) (k : Counters) → alerts_of (told_answers p.now Otherwise (cond b (Answers.Counters class k ∷ []) (Answers.BadClass ∷ []))) ≡ []
     by true k = refl
     by false k = refl
 
@@ -134,9 +143,17 @@ module _ {H : Type 0} (alerted : List Alert → H → H → Type 0) where
       by (Ok x) = a
       by (Err x) = front_of_all alerted _ h k a
 
+  -- a step to the next line that fails tells no alert
+  pub steps_watched : {S W : Type 0} (heard cut : Hearing S W) → ((s : H) → alerted [] s s) → (old : Option Script) (fault : Fault BadLine) (number : ℕ) (line : List ℕ) (new : Option Script) (s t : S) (w v : W) (h : H)
+      → StepsHeard heard cut old (Err fault) number line new s w t v → StepsHeard Hears Cuts old (Err fault) number line new h tt h tt
+  steps_watched heard cut nothing old (Faults.Input fault) number line new s t w v h (a, b) = (a, nothing h)
+  steps_watched heard cut nothing old Faults.Read number line new s t w v h (a, b) = (a, nothing h)
+  steps_watched heard cut nothing old Faults.Write number line new s t w v h a = front_of_all alerted [] h h (nothing h)
+  steps_watched heard cut nothing old Faults.Memory number line new s t w v h a = front_of_all alerted [] h h (nothing h)
+
   -- a walk
   pub watched_walk : {T : Type 0} (reading : Reading) (p q : AbstractPort) (f : Result T (Fault BadLine)) (h k : H) → Walked Hears Cuts reading p q f h tt k tt → Watched alerted (alerts_of (told_of reading.requests p)) f h k
-  watched_walk reading p q (Ok x) h k w = w.1.0
+  watched_walk reading p q (Ok x) h k w = w.1
   watched_walk reading p q (Err (Faults.Input fault)) h k w = w.1
   watched_walk reading p q (Err Faults.Read) h k w = w
   watched_walk reading p q (Err Faults.Write) h k w = w
@@ -161,3 +178,78 @@ none_alerted class n m e none = sym (ap (left_alert class) (sym e ∙ none))
 
 pub some_alerted : (class n m : ℕ) → n ≡ m → (n ≡ 0 → ⊥) → Left class n ∷ [] ≡ left_alert class m
 some_alerted class n m e some = sym (ap (λ t. cond t [] (Left class n ∷ [])) (ne_eqb n 0 some)) ∙ ap (left_alert class) e
+
+-- what waits is the same in a settled port
+pub alerts-settled : (p : AbstractPort) → alerts_from 8 0 (settled p) ≡ alerts_from 8 0 p
+unfolding alerts_from
+alerts-settled p = refl
+
+-- 5. The end of a run
+
+-- of a port that stands for another
+pub end-alerts-same : IsSettling → (q p : AbstractPort) → StandsFor q p → (until : Option ℕ) → end_alerts until q ≡ end_alerts until p
+end-alerts-same law q p s None = ap (alerts_from 8 0) s.same ∙ alerts-settled p
+end-alerts-same law q p s (Some m) = sym (alerts-settled (answers_to (Clock m) q).1) ∙ ap (alerts_from 8 0) (event-port law q p s (Clock m)) ∙ alerts-settled (answers_to (Clock m) p).1
+
+module _ {H : Type 0} (alerted : List Alert → H → H → Type 0) where
+  -- the end itself, which is written after the moment to run to
+  pub end_alerted : (x : Result (Unit {0}) Halt) (r : Result (Unit {0}) WriteFault) (q p : AbstractPort) (h k : H) → x ≡ halted r → q ≡ settled p → Alerting alerted (alerts_from 8 0 q) r h k → Alerting alerted (alerts_from 8 0 p) x h k
+  end_alerted x r q p h k e is a = subst (λ (z : Result (Unit {0}) Halt). Alerting alerted (alerts_from 8 0 p) z h k) (sym e) (by r (subst (λ (z : List Alert). Alerting alerted z r h k) (ap (alerts_from 8 0) is ∙ alerts-settled p) a))
+    where
+      by : (r : Result (Unit {0}) WriteFault) → Alerting alerted (alerts_from 8 0 p) r h k → Alerting alerted (alerts_from 8 0 p) (halted r) h k
+      by (Ok y) a = a
+      by (Err y) a = a
+
+  module _ (until : Option ℕ) (reading : Reading) (p : AbstractPort) (h : H) where
+    abbrev told : List Alert
+    told = alerts_of (told_of reading.requests p)
+
+    abbrev there : AbstractPort
+    there = port_after (events_of reading.requests) p
+
+    -- a walk that ended early
+    pub watched_early : {S W : Type 0} (heard cut : Hearing S W) (q : AbstractPort) (s t : S) (w v : W) (k : H) (x : Result (Unit {0}) (Fault BadLine)) (fault : Fault BadLine) → x ≡ Err fault → Walked {T = Unit {0}} heard cut reading p q (Err fault) s w t v
+        → Watched {T = Unit {0}} alerted told (Err fault) h k → Watched alerted (run_alerts until reading p) x h k
+    watched_early heard cut q s t w v k x fault e walked a = subst (λ (z : Result (Unit {0}) (Fault BadLine)). Watched alerted (run_alerts until reading p) z h k) (sym e) (by fault walked a)
+      where
+        by : (fault : Fault BadLine) → Walked {T = Unit {0}} heard cut reading p q (Err fault) s w t v → Watched {T = Unit {0}} alerted told (Err fault) h k → Watched {T = Unit {0}} alerted (run_alerts until reading p) (Err fault) h k
+        by (Faults.Input fault) (is, heard_all) a = alerts_same alerted told (run_alerts until reading p) h k (sym (ap (λ f. told ++ end_unless until f there) is ∙ append-nil told)) a
+        by Faults.Read walked a = front_of_more alerted told (end_unless until reading.fault there) _ h k refl a
+        by Faults.Write walked a = front_of_more alerted told (end_unless until reading.fault there) _ h k refl a
+        by Faults.Memory walked a = front_of_more alerted told (end_unless until reading.fault there) _ h k refl a
+
+    module _ (both : (xs ys : List Alert) (s t u : H) → alerted xs s t → alerted ys t u → alerted (xs ++ ys) s u) (law : IsSettling) (sound : IsSoundPort p) (q : AbstractPort) (k l : H) (none : reading.fault ≡ None) (is : q ≡ settled there) (sound_q : IsSoundPort q)
+        (a : alerted told h k) where
+      parts : run_alerts until reading p ≡ told ++ end_alerts until q
+      parts = ap (λ f. told ++ end_unless until f there) none ∙ ap (λ x. told ++ x) (sym (end-alerts-same law q there (stands_after_all law p p (stands_for_itself p sound) (events_of reading.requests) q is sound_q) until))
+
+      pub watched_well : (x : Result (Unit {0}) (Fault BadLine)) (y : Unit {0}) → x ≡ Ok y → alerted (end_alerts until q) k l → Watched alerted (run_alerts until reading p) x h l
+      watched_well x y e b = subst (λ (z : Result (Unit {0}) (Fault BadLine)). Watched alerted (run_alerts until reading p) z h l) (sym e) (alerts_same alerted _ _ h l (sym parts) (both told (end_alerts until q) h k l a b))
+
+      pub watched_short : (x : Result (Unit {0}) (Fault BadLine)) (halt : Halt) → x ≡ Err (fault_of_halt halt) → AlertedFront alerted (end_alerts until q) k l → Watched alerted (run_alerts until reading p) x h l
+      watched_short x halt e b = by halt e
+        where
+          front : AlertedFront alerted (run_alerts until reading p) h l
+          front = front_later alerted both told (end_alerts until q) (run_alerts until reading p) h k l parts a b
+
+          by : (halt : Halt) → x ≡ Err (fault_of_halt halt) → Watched alerted (run_alerts until reading p) x h l
+          by Halts.Write e = subst (λ (z : Result (Unit {0}) (Fault BadLine)). Watched alerted (run_alerts until reading p) z h l) (sym e) front
+          by Halts.Memory e = subst (λ (z : Result (Unit {0}) (Fault BadLine)). Watched alerted (run_alerts until reading p) z h l) (sym e) front
+
+  -- out of memory before anything is read
+  pub watched_none : ((s : H) → alerted [] s s) → {X : Type 0} (all : X → List Alert) (input : Option X) (h : H) (x : Result (Unit {0}) (Fault BadLine)) → x ≡ Err Faults.Memory → IfSome input (λ octets. Watched alerted (all octets) x h h)
+  watched_none nothing all None h x e = tt
+  watched_none nothing all (Some octets) h x e =
+      subst (λ (z : Result (Unit {0}) (Fault BadLine)). Watched alerted (all octets) z h h) (sym e) (record { first = []; rest = all octets; alerted_first = nothing h; parts = refl })
+
+  -- a result, or that of a write after it, which failed
+  pub watched_out : (all : List Alert) (before run : Result (Unit {0}) (Fault BadLine)) (h k : H) → IsOrFails run before → Watched alerted all before h k → Watched alerted all run h k
+  watched_out all before run h k (inl same) w = subst (λ (z : Result (Unit {0}) (Fault BadLine)). Watched alerted all z h k) (sym same) w
+  watched_out all before run h k (inr failed) w = subst (λ (z : Result (Unit {0}) (Fault BadLine)). Watched alerted all z h k) (sym failed) (by before w)
+    where
+      by : (r : Result (Unit {0}) (Fault BadLine)) → Watched alerted all r h k → AlertedFront alerted all h k
+      by (Ok y) w = front_of_all alerted all h k w
+      by (Err (Faults.Input fault)) w = front_of_all alerted all h k w
+      by (Err Faults.Read) w = w
+      by (Err Faults.Write) w = w
+      by (Err Faults.Memory) w = w

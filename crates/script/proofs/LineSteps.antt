@@ -75,7 +75,7 @@ module _ (law : IsSettling) (q p : AbstractPort) (s : StandsFor q p) where
       ap (λ x. (answers_to e x).0) s.same
       ∙ (sym (append-nil (answers_to e (settled p)).0) ∙ (law p (paced q p s) s.possible (e ∷ [])).answers_same ∙ append-nil (answers_to e p).0)
 
-  event-port : (e : Event) → settled (answers_to e q).1 ≡ settled (answers_to e p).1
+  pub event-port : (e : Event) → settled (answers_to e q).1 ≡ settled (answers_to e p).1
   event-port e = ap (λ x. settled (answers_to e x).1) s.same ∙ (law p (paced q p s) s.possible (e ∷ [])).port_same
 
   event-possible : (e : Event) → IsPossible (answers_to e p).1.history (answers_to e p).1.now

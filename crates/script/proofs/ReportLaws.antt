@@ -27,6 +27,10 @@ pub if_known : {X : Type 0} {P Q : X → Type 0} (o : Option X) → ((x : X) →
 if_known None by known = tt
 if_known (Some x) by known = by x known
 
+pub if_both : {X : Type 0} {P Q R : X → Type 0} (o : Option X) → ((x : X) → P x → Q x → R x) → IfSome o P → IfSome o Q → IfSome o R
+if_both None by first second = tt
+if_both (Some x) by first second = by x first second
+
 -- 1. The text of all requests is the lines of what is told of them, and what is written after
 
 -- what is written behind the lines of requests
