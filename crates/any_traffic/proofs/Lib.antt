@@ -11,7 +11,9 @@ pub mod WindowLaws
 pub mod PeriodicWindowLaws
 pub mod LateForEverLaws
 pub mod PeriodicBounds
+pub mod FlowFrames
 pub mod PeriodicRoomLaws
+pub mod ExactRuns
 pub mod ExactLaws
 pub mod CycleLaws
 pub mod PeriodicLaws

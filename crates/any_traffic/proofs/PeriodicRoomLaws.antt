@@ -18,75 +18,13 @@ use Rattle.any_traffic.specs.ArrivalWindows.{IsIn}
 use Rattle.any_traffic.specs.Slots.{IsSlot}
 use Rattle.any_traffic.proofs.Busy.{all_come, all_counted, waiting_by}
 use Rattle.any_traffic.proofs.LateForEverLaws.{Again, again, free_on}
+use Rattle.any_traffic.proofs.FlowFrames.{chosen, chosen_come}
 use Rattle.any_traffic.proofs.ListLaws.{none_here, one_at, one_before}
 use Rattle.any_traffic.proofs.Offered.{all_since, all_taken, are_part, are_rising}
 use Rattle.any_traffic.proofs.PartLaws.{ArePart, part_at, part_pair, rising_pair}
 use Rattle.any_traffic.proofs.PeriodicWindowLaws.{HavePeriod, as_many, must_more, slots_past}
 use Rattle.any_traffic.proofs.SlotLaws.{slot_before, slot_later}
 use Rattle.any_traffic.proofs.TrafficLaws.{by_plan}
-
--- ---- some of the frames of flows
-
--- what stands beside some of them
-chosen : (xs ys : List Came) → ArePart xs ys → List (ℕ × ℕ) → List (ℕ × ℕ)
-chosen [] ys p ns = []
-chosen (x ∷ xs) [] p ns = absurd p
-chosen (x ∷ xs) (y ∷ ys) p [] = []
-chosen (x ∷ xs) (y ∷ ys) (inl p) (n ∷ ns) = n ∷ chosen xs ys p.1 ns
-chosen (x ∷ xs) (y ∷ ys) (inr p) (n ∷ ns) = chosen (x ∷ xs) ys p ns
-
-chosen_from : (xs ys : List Came) (p : ArePart xs ys) (ns : List (ℕ × ℕ)) (k : ℕ) (n : ℕ × ℕ) → slice_get (chosen xs ys p ns) k ≡ Some n
-    → (m : ℕ) × (slice_get ns m ≡ Some n)
-unfolding chosen
-chosen_from [] ys p ns k n e = absurd (none_here k n e)
-chosen_from (x ∷ xs) [] p ns k n e = absurd p
-chosen_from (x ∷ xs) (y ∷ ys) p [] k n e = absurd (none_here k n e)
-chosen_from (x ∷ xs) (y ∷ ys) (inl p) (m ∷ ns) zero n e = (0, e)
-chosen_from (x ∷ xs) (y ∷ ys) (inl p) (m ∷ ns) (suc k) n e = (let r = chosen_from xs ys p.1 ns k n e in (suc r.0, r.1))
-chosen_from (x ∷ xs) (y ∷ ys) (inr p) (m ∷ ns) k n e = (let r = chosen_from (x ∷ xs) ys p ns k n e in (suc r.0, r.1))
-
-module _ (ps change : ℕ) (flows : List PeriodicFlow) where
-  behind_first : (n : ℕ × ℕ) (ns : List (ℕ × ℕ)) (y : Came) (ys : List Came) → ComeByFlows ps change flows (n ∷ ns) (y ∷ ys)
-      → ComeByFlows ps change flows ns ys
-  behind_first n ns y ys c = record {
-    each = λ k f e. c.each (suc k) f e;
-    own = λ j k x e h. (let same = c.own (suc j) (suc k) x e h in omega (arith, same));
-  }
-
-  with_first : (x y : Came) (xs ys : List Came) (p : ArePart xs ys) (m : ℕ × ℕ) (ns : List (ℕ × ℕ)) → x ≡ y
-      → ComeByFlows ps change flows (m ∷ ns) (y ∷ ys)
-      → ComeByFlows ps change flows (chosen xs ys p ns) xs → ComeByFlows ps change flows (m ∷ chosen xs ys p ns) (x ∷ xs)
-  with_first x y xs ys p m ns same c rest = record { each = each; own = own }
-    where
-      each : (k : ℕ) (f : Came) → slice_get (x ∷ xs) k ≡ Some f
-          → (i n : ℕ) × (flow : PeriodicFlow) × (slice_get (m ∷ chosen xs ys p ns) k ≡ Some (i, n)) × (slice_get flows i ≡ Some flow)
-          × IsIn change (window_of flow n) f.moment × (flow.shortest ≤ occupancy_of ps f.frame.len) ×
-          (occupancy_of ps f.frame.len ≤ flow.longest)
-      each zero f e = c.each 0 f (ap Some (sym same) ∙ e)
-      each (suc k) f e = rest.each k f e
-
-      -- the first is not among those behind it
-      apart : (k : ℕ) (z : ℕ × ℕ) → m ≡ z → slice_get (chosen xs ys p ns) k ≡ Some z → ⊥
-      apart k z is e =
-          let at = chosen_from xs ys p ns k z e in
-          let one = c.own 0 (suc at.0) m refl (at.1 ∙ ap Some (sym is)) in
-          absurd (omega (arith, one))
-
-      own : (j k : ℕ) (z : ℕ × ℕ) → slice_get (m ∷ chosen xs ys p ns) j ≡ Some z → slice_get (m ∷ chosen xs ys p ns) k ≡ Some z → j ≡ k
-      own zero zero z e h = refl
-      own zero (suc k) z e h = absurd (apart k z (same_Some m z e) h)
-      own (suc j) zero z e h = absurd (apart j z (same_Some m z h) e)
-      own (suc j) (suc k) z e h = ap suc (rest.own j k z e h)
-
-  chosen_come : (xs ys : List Came) (p : ArePart xs ys) (ns : List (ℕ × ℕ)) → ComeByFlows ps change flows ns ys
-      → ComeByFlows ps change flows (chosen xs ys p ns) xs
-  unfolding chosen
-  chosen_come [] ys p ns c = record { each = λ k f e. absurd (none_here k f e); own = λ j k x e h. absurd (none_here j x e) }
-  chosen_come (x ∷ xs) [] p ns c = absurd p
-  chosen_come (x ∷ xs) (y ∷ ys) p [] c = absurd (let first = c.each 0 y refl in none_here 0 (first.0, first.1) first.3)
-  chosen_come (x ∷ xs) (y ∷ ys) (inr p) (n ∷ ns) c = chosen_come (x ∷ xs) ys p ns (behind_first n ns y ys c)
-  chosen_come (x ∷ xs) (y ∷ ys) (inl p) (n ∷ ns) c = with_first x y xs ys p.1 n ns p.0 c
-      (chosen_come xs ys p.1 ns (behind_first n ns y ys c))
 
 -- ---- few wait
 

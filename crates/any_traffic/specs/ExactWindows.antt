@@ -2,13 +2,15 @@
 -- `delay_bounds`.
 use Rattle.std.specs.Prelude.{◌≡◌, ◌<◌, ℕ, ◌+◌, List, map, Some, slice_get}
 use Rattle.gate_list.specs.Gate.{Plan}
+use Rattle.abstract_port.specs.declared.Event.{Event}
 use Rattle.delay_bounds.specs.Bounds.{told_by}
-use Rattle.delay_bounds.specs.Claim.{IsFrame}
+use Rattle.delay_bounds.specs.Claim.{IsFrame, IsRun}
 use Rattle.delay_bounds.specs.Waits.{AreAllTold}
 use Rattle.delay_bounds.specs.Walk.{may_by}
 use Rattle.delay_bounds.specs.declared.Flow.{Flow}
 use Rattle.delay_bounds.specs.declared.Told.{Told}
-use Rattle.any_traffic.specs.PeriodicWindows.{IsLateStart, PeriodicFlow}
+use Rattle.any_traffic.specs.PeriodicWindows.{ComeByFlows, IsLateStart, PeriodicFlow}
+use Rattle.any_traffic.specs.Runs.{offered}
 
 -- an exact flow, as one with windows
 abbrev pub as_periodic : Flow → PeriodicFlow
@@ -22,3 +24,11 @@ ExactLaw =
     → ((i : ℕ) (flow : Flow) → slice_get flows i ≡ Some flow → (0 < flow.period) × (flow.need ≡ d)) → AreAllTold plan class room flows
     → IsFrame flows k place moment → IsFrame flows (k + 1) other later → moment < later → told_by plan class room flows k ≡ Some t
     → IsLateStart (may_by plan class) d (map as_periodic flows) moment (moment + t.wait)
+
+-- The premises can be met: a run of which the exact claim speaks is one of these flows with windows (`premises::bounds::is_run` finds such
+-- runs).
+abbrev pub ExactRunLaw : Type 0
+ExactRunLaw =
+    (ps mtu room class n : ℕ) (plan : Plan) (flows : List Flow) (events : List Event) (r : IsRun ps mtu room class plan flows n events)
+    → ((i : ℕ) (flow : Flow) → slice_get flows i ≡ Some flow → 0 < flow.period)
+    → (numbers : List (ℕ × ℕ)) × ComeByFlows ps (r.command).change (map as_periodic flows) numbers (offered ps mtu room class events)

@@ -66,8 +66,8 @@ SharedBusyLaw =
     → ((t : ℕ) → IsSharedBusyPeriod plan class need blocking pitch curve curves higher wait waiting t)
     → IsSharedInTime ps mtu room events class wait waiting
 
--- The law of one cycle: where the blocking repeats, too, but for that at the change moment, what bounds the busy period from each moment up to the
--- end of the first cycle bounds it from any.
+-- The law of one cycle: where the blocking repeats, too, but for that at the change moment, what bounds the busy period from each moment up
+-- to the end of the first cycle bounds it from any.
 abbrev pub SharedCycleLaw : Type 0
 SharedCycleLaw =
     (plan : Plan) (class pitch wait waiting : ℕ) (need blocking : ℕ → ℕ) (curve : ℕ → ℕ) (curves : ℕ → ℕ → ℕ) (higher : List ℕ)

@@ -6,7 +6,7 @@
 ghost use Rattle.any_traffic.specs.AnyTraffic.{AnyTrafficLaw};
 ghost use Rattle.any_traffic.specs.ArrivalWindows.{WindowLaw};
 ghost use Rattle.any_traffic.specs.BusyPeriod.{CycleLaw, RisingLaw, SubadditiveLaw};
-ghost use Rattle.any_traffic.specs.ExactWindows.{ExactLaw};
+ghost use Rattle.any_traffic.specs.ExactWindows.{ExactLaw, ExactRunLaw};
 ghost use Rattle.any_traffic.specs.LateForEver.{LateEnoughLaw, LateForEverLaw, PeriodicBoundsLaw};
 ghost use Rattle.any_traffic.specs.PeriodicRoom.{PeriodicRoomLaw, RoomEnoughLaw};
 ghost use Rattle.any_traffic.specs.PeriodicWindows.{PeriodicWindowLaw};
@@ -64,6 +64,7 @@ pub fn periodic_windows()
     ensures enough { LateEnoughLaw }
     ensures bounds { PeriodicBoundsLaw }
     ensures exact { ExactLaw }
+    ensures some { ExactRunLaw }
     ensures room { PeriodicRoomLaw }
     ensures room_again { RoomEnoughLaw }
 {}
