@@ -29,3 +29,6 @@ pub mod RunParts
 pub mod SharedLaws
 pub mod SharedCycleLaws
 mod SharedExample
+pub mod BlockedSlots
+pub mod BlockedWindowLaws
+pub mod BlockedForEverLaws

@@ -35,11 +35,11 @@ module _ (may : ℕ → ℕ → Bool) (own pitch : ℕ) (blocking : ℕ → ℕ)
         begins = omega (arith, begins, same);
       }
 
-  first_later : (t s : ℕ) → 0 < t → IsFirstShared may own pitch blocking t s → IsFirstShared may own pitch blocking (t + e) (s + e)
+  pub first_later : (t s : ℕ) → 0 < t → IsFirstShared may own pitch blocking t s → IsFirstShared may own pitch blocking (t + e) (s + e)
   first_later t s some (inl x) = (let same = blocked t some in let is = x.1 in inl (long_later t own some ∙ x.0, omega (arith, is, same)))
   first_later t s some (inr x) = inr (long_later t own some ∙ x.0, window_later t s x.1)
 
-  next_later : (r s : ℕ) → IsNextShared may own pitch blocking r s → IsNextShared may own pitch blocking (r + e) (s + e)
+  pub next_later : (r s : ℕ) → IsNextShared may own pitch blocking r s → IsNextShared may own pitch blocking (r + e) (s + e)
   next_later r s (inl x) = (let is = x.1 in inl (again r (pitch + own) ∙ x.0, omega (arith, is)))
   next_later r s (inr x) = inr (again r (pitch + own) ∙ x.0, window_later r s x.1)
 

@@ -23,7 +23,7 @@ use Rattle.any_traffic.specs.SharedRuns.{IsSharedInTime, IsSharedRun, KeepStartC
 use Rattle.any_traffic.proofs.ListLaws.{get_last, get_more, none_here, one_before}
 use Rattle.any_traffic.proofs.PartLaws.{ArePart, part_both, part_conform, part_front, part_pair, rising_pair}
 use Rattle.any_traffic.proofs.Offered.{are_part, are_rising, forced_since, offered_forced}
-use Rattle.any_traffic.proofs.RunParts.{large_on, offered_append, only_both, room_on, scheduled_both, shared_count, starts_append}
+use Rattle.any_traffic.proofs.RunParts.{sound_of, large_on, offered_append, only_both, room_on, scheduled_both, shared_count, starts_append}
 use Rattle.any_traffic.proofs.SharedSlots.{AreSound, count_of}
 use Rattle.any_traffic.proofs.SharedWaits.{AreInTime, in_busy_time, in_time}
 use Rattle.any_traffic.proofs.StartLaws.{apart_at, class_rises, class_within, count_own, long_at, span, start_holds}
@@ -127,19 +127,12 @@ module _ (ps mtu room c pitch wait waiting : ℕ) (need blocking : ℕ → ℕ) 
         (part_conform ps (need c) curve came (offered_in c events new) part run.conform)
       where
         sound : AreSound (a ∷ []) need so_far
-        sound = record {
-          through = λ i y e. subst (λ h. open_through h y.class y.at (y.«end» - y.at) ≡ true) full
-              (start_holds (IsOpenBy then.history) (answers_of before new)
-              (keeping ps mtu room (run.run).rate (run.run).large before).open_by_end i y e);
-          apart = λ i j x y e f less. apart_at 0 so_far i j x y chain.long
-              (keeping ps mtu room (run.run).rate (run.run).large before).apart e f less;
-          some = λ i y e. long_at so_far i y chain.long e;
-          short = λ i y e.
-              run.short i y
-              (ap (λ xs. slice_get (starts_in (answers_of xs new)) i) (sym parts)
-              ∙ (ap (λ xs. slice_get xs i) (starts_append before rest new) ∙ get_more so_far (starts_in (answers_of rest then)) i y e));
-          few = λ i y e. class_within so_far i y chain.long e;
-        }
+        sound =
+            sound_of ps mtu room a before need (run.run).rate (run.run).large full chain.long
+            (λ i y e.
+            run.short i y
+            (ap (λ xs. slice_get (starts_in (answers_of xs new)) i) (sym parts)
+            ∙ (ap (λ xs. slice_get xs i) (starts_append before rest new) ∙ get_more so_far (starts_in (answers_of rest then)) i y e)))
 
         few : (i j : ℕ) → slice_get higher i ≡ Some j → (p s : ℕ) → count_of j p (s + 1) so_far ≤ curves j (s - p)
         few i j e p s =

@@ -15,3 +15,4 @@ pub mod SharedSlots
 pub mod SharedRuns
 pub mod StartCurve
 pub mod SharedBounds
+pub mod BlockedWindows

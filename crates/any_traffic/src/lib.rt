@@ -5,6 +5,7 @@
 
 ghost use Rattle.any_traffic.specs.AnyTraffic.{AnyTrafficLaw};
 ghost use Rattle.any_traffic.specs.ArrivalWindows.{WindowLaw};
+ghost use Rattle.any_traffic.specs.BlockedWindows.{BlockedBoundsLaw, BlockedForEverLaw, BlockedWindowLaw};
 ghost use Rattle.any_traffic.specs.BusyPeriod.{CycleLaw, RisingLaw, SubadditiveLaw};
 ghost use Rattle.any_traffic.specs.ExactWindows.{ExactLaw, ExactRunLaw};
 ghost use Rattle.any_traffic.specs.LateForEver.{LateEnoughLaw, LateForEverLaw, PeriodicBoundsLaw};
@@ -83,4 +84,12 @@ pub fn shared()
     ensures busy { SharedBusyLaw }
     ensures cycle { SharedCycleLaw }
     ensures curve { StartCurveLaw }
+{}
+
+/// Frames of periodic flows with jitter, in a class that shares its windows with lower classes alone, start no later
+/// than in the late run, in which a frame of those may block each that comes.
+pub fn blocked_windows()
+    ensures starts { BlockedWindowLaw }
+    ensures again { BlockedForEverLaw }
+    ensures bounds { BlockedBoundsLaw }
 {}
