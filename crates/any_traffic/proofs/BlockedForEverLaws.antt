@@ -1,12 +1,10 @@
 -- The late run of a class that shares its windows with lower classes repeats.
-use Rattle.std.proofs.Common.{◌≡◌, ◌<◌, ◌≤◌, ℕ, zero, suc, ◌+◌, ◌-◌, max, Bool, inl, inr, List, Option, Some, None, refl, sym, ap, ◌∙◌, subst, arith, le_refl}
+use Rattle.std.proofs.Common.{◌≡◌, ◌<◌, ◌≤◌, ℕ, zero, suc, ◌+◌, ◌-◌, max, Bool, inl, inr, List, Option, Some, None, sym, ap, ◌∙◌, subst, arith}
 use Rattle.std.specs.Option.{option_map}
 use Rattle.std.proofs.lemmas.Bool.{cases_lt, both_ways}
-use Rattle.std.proofs.lemmas.Option.{same_Some}
 use Rattle.delay_bounds.specs.ForEver.{Repeats}
 use Rattle.delay_bounds.specs.Walk.{may_by}
 use Rattle.any_traffic.specs.BlockedWindows.{AreBlocked, BlockedBoundsLaw, BlockedForEverLaw, BlockedRecurs, IsBlockedLate, IsBlockedStart, IsLastBefore}
-use Rattle.any_traffic.specs.LateForEver.{AreLateWithin}
 use Rattle.any_traffic.specs.PeriodicWindows.{PeriodicFlow, can_by, must_before, window_of}
 use Rattle.any_traffic.specs.SharedSlots.{IsFirstShared, IsNextShared, IsNextWindow}
 use Rattle.any_traffic.proofs.BlockedWindowLaws.{blocked_window_law}

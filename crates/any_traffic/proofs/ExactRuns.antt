@@ -1,5 +1,5 @@
 -- A run of exact flows is one of flows with windows.
-use Rattle.std.proofs.Common.{◌≡◌, ◌<◌, ◌≤◌, ℕ, zero, suc, ◌+◌, ◌*◌, max, inl, inr, List, [], ◌∷◌, length, map, get_or, set, slice_get, Some, refl, sym, ap, ◌∙◌, subst, arith, le_refl, length-set, get_or-set_same, get_or-set_other}
+use Rattle.std.proofs.Common.{◌≡◌, ◌<◌, ◌≤◌, ℕ, zero, suc, ◌+◌, ◌*◌, max, inl, inr, List, [], ◌∷◌, length, map, get_or, set, slice_get, Some, refl, sym, ap, ◌∙◌, subst, arith, get_or-set_same, get_or-set_other}
 use Rattle.std.specs.Option.{option_map}
 use Rattle.std.proofs.lemmas.Bool.{cases_eq}
 use Rattle.std.proofs.lemmas.Option.{get_or_from_slice_get, same_Some, slice_get-map}
@@ -11,7 +11,7 @@ use Rattle.delay_bounds.specs.declared.Flow.{Flow}
 use Rattle.delay_bounds.proofs.StepLaws.{first_of}
 use Rattle.delay_bounds.proofs.WaitLaws.{coming_first}
 use Rattle.any_traffic.specs.ExactWindows.{ExactRunLaw, as_periodic}
-use Rattle.any_traffic.specs.PeriodicWindows.{ComeByFlows, PeriodicFlow, window_of}
+use Rattle.any_traffic.specs.PeriodicWindows.{ComeByFlows}
 use Rattle.any_traffic.proofs.ExactLaws.{AreNext, as_long, next_later, none_come, one_comes}
 use Rattle.any_traffic.proofs.FlowFrames.{IsOne, with_first}
 use Rattle.any_traffic.proofs.ListLaws.{none_here, one_at}

@@ -1,29 +1,12 @@
 -- Frames of periodic flows: some of them, and one more.
-use Rattle.std.proofs.Common.{◌≡◌, ◌<◌, ◌≤◌, ℕ, zero, suc, ◌+◌, ◌-◌, max, Bool, ◌⊎◌, inl, inr, List, [], ◌∷◌, length, slice_get, Some, refl, sym, ap, ◌∙◌, subst, arith, le_refl}
-use Rattle.std.proofs.lemmas.Bool.{cases_lt}
+use Rattle.std.proofs.Common.{◌≡◌, ◌≤◌, ℕ, zero, suc, inl, inr, List, [], ◌∷◌, slice_get, Some, refl, sym, ap, ◌∙◌, subst, arith}
 use Rattle.std.proofs.lemmas.Option.{same_Some}
 use Rattle.wire_time.specs.Wire.{occupancy_of}
-use Rattle.wire_time.specs.declared.Frame.{Frame}
-use Rattle.gate_list.specs.Gate.{Plan}
-use Rattle.list_config.specs.History.{Accepted, open_through}
-use Rattle.abstract_port.specs.declared.Start.{Start}
-use Rattle.abstract_port.specs.AbstractPort.{AbstractPort, new_port}
-use Rattle.separation.specs.Served.{AreServed}
-use Rattle.separation.specs.Traffic.{Came, offered_in, queued_in}
-use Rattle.separation.proofs.ServiceLaws.{new_holds, served_law}
-use Rattle.delay_bounds.specs.Walk.{may_by}
-use Rattle.any_traffic.specs.PeriodicRoom.{AreFewLate, HaveStarted, IsLateFrame, LateStartsRecur, PeriodicRoomLaw, RoomEnoughLaw}
-use Rattle.any_traffic.specs.PeriodicWindows.{ArePeriodic, ComeByFlows, PeriodicFlow, can_by, must_before, window_of}
+use Rattle.separation.specs.Traffic.{Came}
+use Rattle.any_traffic.specs.PeriodicWindows.{ComeByFlows, PeriodicFlow, window_of}
 use Rattle.any_traffic.specs.ArrivalWindows.{IsIn}
-use Rattle.any_traffic.specs.Slots.{IsSlot}
-use Rattle.any_traffic.proofs.Busy.{all_come, all_counted, waiting_by}
-use Rattle.any_traffic.proofs.LateForEverLaws.{Again, again, free_on}
-use Rattle.any_traffic.proofs.ListLaws.{none_here, one_at, one_before}
-use Rattle.any_traffic.proofs.Offered.{all_since, all_taken, are_part, are_rising}
-use Rattle.any_traffic.proofs.PartLaws.{ArePart, part_at, part_pair, rising_pair}
-use Rattle.any_traffic.proofs.PeriodicWindowLaws.{HavePeriod, as_many, must_more, slots_past}
-use Rattle.any_traffic.proofs.SlotLaws.{slot_before, slot_later}
-use Rattle.any_traffic.proofs.TrafficLaws.{by_plan}
+use Rattle.any_traffic.proofs.ListLaws.{none_here}
+use Rattle.any_traffic.proofs.PartLaws.{ArePart}
 
 -- ---- some of the frames of flows
 

@@ -1,5 +1,5 @@
 -- Beginnings of a run: what comes behind them, and what holds of them.
-use Rattle.std.proofs.Common.{◌≡◌, ◌≤◌, ◌<◌, ℕ, ◌+◌, ◌-◌, true, Bool, Some, slice_get, subst, List, [], ◌∷◌, ◌++◌, length, refl, sym, ap, ◌∙◌, arith, append_assoc}
+use Rattle.std.proofs.Common.{◌≡◌, ◌≤◌, ℕ, ◌+◌, ◌-◌, true, Bool, Some, slice_get, subst, List, [], ◌∷◌, ◌++◌, length, refl, sym, ap, ◌∙◌, arith, append_assoc}
 use Rattle.wire_time.specs.declared.Frame.{Frame}
 use Rattle.list_config.specs.History.{Accepted, open_through}
 use Rattle.abstract_port.specs.declared.Event.{Event}

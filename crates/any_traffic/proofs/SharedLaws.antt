@@ -12,9 +12,7 @@ use Rattle.abstract_port.specs.AbstractPort.{AbstractPort, new_port, queue_of}
 use Rattle.abstract_port.specs.Answers.{answers_of, answers_to, port_after}
 use Rattle.abstract_port.specs.Laws.{starts_in}
 use Rattle.abstract_port.proofs.RunLaws.{port_after-append}
-use Rattle.separation.specs.Hindsight.{IsOpenBy}
 use Rattle.separation.specs.Traffic.{Came, IsOnly, offered_by, offered_in, queued_by, queued_in, starts_of_class}
-use Rattle.separation.proofs.RunLaws.{keeping}
 use Rattle.delay_bounds.proofs.QueueLaws.{Taken, none_offered, one_queued, one_full, now_came, taken}
 use Rattle.any_traffic.specs.ArrivalCurve.{ConformTo}
 use Rattle.any_traffic.specs.Runs.{AreScheduled, IsScheduledAt}
@@ -26,7 +24,7 @@ use Rattle.any_traffic.proofs.Offered.{are_part, are_rising, forced_since, offer
 use Rattle.any_traffic.proofs.RunParts.{sound_of, large_on, offered_append, only_both, room_on, scheduled_both, shared_count, starts_append}
 use Rattle.any_traffic.proofs.SharedSlots.{AreSound, count_of}
 use Rattle.any_traffic.proofs.SharedWaits.{AreInTime, in_busy_time, in_time}
-use Rattle.any_traffic.proofs.StartLaws.{apart_at, class_rises, class_within, count_own, long_at, span, start_holds}
+use Rattle.any_traffic.proofs.StartLaws.{class_rises, count_own, span}
 use Rattle.any_traffic.proofs.Sharing.{AreShared, AreSince, SharedHolds, comes, shared_run, since_both}
 
 -- ---- how many frames of a higher class start in a time
