@@ -43,7 +43,7 @@ module _ (may : ℕ → ℕ → Bool) (own pitch : ℕ) (blocking : ℕ → ℕ)
       → IsReached may own pitch blocking gate gradual s
   start_reached None t s l h = first_reached may own pitch blocking gate gradual t s some h
   start_reached (Some r) t s l h =
-      later_one s h.0 h.1 h.4 (first_reached may own pitch blocking gate gradual t h.0 some h.2)
+      later_one s h.0 h.1 (let is = h.4 in let z : s ≡ max h.0 h.1 = omega (arith, is) in z) (first_reached may own pitch blocking gate gradual t h.0 some h.2)
       (next_reached may own pitch blocking gate gradual r h.1 some l h.3)
 
   sent_reached : (t n : ℕ) (last later : Option ℕ) → IsLast last → AreBlocked may own pitch blocking t n last later → IsLast later
@@ -155,16 +155,16 @@ blocked_window_law ps mtu room c pitch need blocking a plan events flows numbers
     now = (port_after events p).now
 
     pos : 0 < ps
-    pos = (let rate = r.rate in omega (arith, rate))
+    pos = (let rate = (r.one).rate in omega (arith, rate))
 
-    held : SharedHolds c a ps r.listed pos (port_after events p) came all
-    held = shared_run c a ps r.listed pos mtu room events r.large r.scheduled r.only
+    held : SharedHolds c a ps (r.one).listed pos (port_after events p) came all
+    held = shared_run c a ps (r.one).listed pos mtu room events (r.one).large r.scheduled (r.one).only
 
     above : HavePeriod flows
     above = λ j g at. (these j g at).0
 
     order : (j m : ℕ) (g h : Came) → slice_get came j ≡ Some g → slice_get came (j + m) ≡ Some h → g.moment ≤ h.moment
-    order = queued_order c events p r.large
+    order = queued_order c events p (r.one).large
 
     -- any number of frames may come at any time
     keep : ConformTo ps (need c) (λ x. length came) came
@@ -189,7 +189,7 @@ blocked_window_law ps mtu room c pitch need blocking a plan events flows numbers
     in_force full = (
       λ x y. by_late k 0 x.at f (let z : k + 0 ≡ k = omega arith in z) e
           (begun_from (a ∷ []) ps c (need c) all came keep.short now held.wire (queue_of (port_after events p) c) held.served k f x e y)
-          ((at_start ps a pos all now c plan r.is r.above need blocking pitch (λ x. length came)
+          ((at_start ps a pos all now c plan (r.one).is (r.one).above need blocking pitch (λ x. length came)
           (λ j y. 0) [] sharing.blocked sharing.apart sharing.among sound few came held.wire
           (queue_of (port_after events p) c) held.served held.since order keep k x y).later),
       λ past. elim (cases_lt k (length mine)) [
@@ -201,7 +201,7 @@ blocked_window_law ps mtu room c pitch need blocking a plan events flows numbers
             let not_yet = by_late m (k - m) now g.0 parts g.1
             (waits_from (a ∷ []) ps c (need c) all came keep.short now held.wire (queue_of (port_after events p) c) held.served m g.0 g.1
             (le_refl m))
-            ((at_now ps a pos all now c plan r.is r.above need blocking pitch (λ x. length came)
+            ((at_now ps a pos all now c plan (r.one).is (r.one).above need blocking pitch (λ x. length came)
             (λ j y. 0) [] sharing.blocked sharing.apart sharing.among sound few came held.wire
             (queue_of (port_after events p) c) held.served held.since order keep m (le_refl m)).later) in
             absurd (omega (arith, not_yet, past))
@@ -209,13 +209,13 @@ blocked_window_law ps mtu room c pitch need blocking a plan events flows numbers
     )
       where
         sound : AreSound (a ∷ []) need all
-        sound = sound_of ps mtu room a events need r.rate r.large full held.long short
+        sound = sound_of ps mtu room a events need (r.one).rate (r.one).large full held.long short
 
         few : (j l : ℕ) → slice_get (let none : List ℕ = [] in none) j ≡ Some l → (u v : ℕ) → count_of l u (v + 1) all ≤ 0
         few j l at u v = absurd (none_here j l at)
 
         by_late : (j m moment : ℕ) (g : Came) → j + m ≡ k → slice_get came j ≡ Some g
-            → (b : IsUp ps a pos all now c plan r.is r.above need blocking pitch (λ x. length came)
+            → (b : IsUp ps a pos all now c plan (r.one).is (r.one).above need blocking pitch (λ x. length came)
             (λ j y. 0) [] sharing.blocked sharing.apart sharing.among sound few came held.wire
             (queue_of (port_after events p) c) held.served held.since order keep j moment)
             → ((l : ℕ) (z : Start) → slice_get mine l ≡ Some z → j ≤ l → moment ≤ z.at) → moment ≤ a.change + s
@@ -235,7 +235,7 @@ blocked_window_law ps mtu room c pitch need blocking a plan events flows numbers
             let count : k - b.place ≡ j - b.place + m = omega (arith, within, is) in
             let near = shared_before (may_by plan c) (need c) pitch blocking (plan_gate plan c) gradual q (j - b.place) m far.0
             (subst (λ x. IsSharedSlot (may_by plan c) (need c) pitch blocking q x far.0) count far.1) in
-            let early = main ps a pos all now c plan r.is r.above need blocking pitch (λ x. length came)
+            let early = main ps a pos all now c plan (r.one).is (r.one).above need blocking pitch (λ x. length came)
             (λ j y. 0) [] sharing.blocked sharing.apart
             sharing.among sound few came held.wire
             (queue_of (port_after events p) c) held.served held.since order keep j moment g at b later

@@ -119,21 +119,21 @@ module _ (ps class d most : ℕ) (a : Accepted) (plan : Plan) (is : a.plan ≡ S
 pub periodic_room_law : PeriodicRoomLaw
 periodic_room_law ps mtu room class d most a plan events flows numbers r these c few =
     let p : AbstractPort = new_port ps mtu room in
-    let new = new_holds ps mtu room class a r.rate r.large r.listed in
-    let served = served_law ps mtu room class a events r.rate r.large r.listed r.apart r.only in
-    let rising = are_rising class events p r.large in
+    let new = new_holds ps mtu room class a (r.one).rate (r.one).large (r.one).listed in
+    let served = served_law ps mtu room class a events (r.one).rate (r.one).large (r.one).listed r.apart (r.one).only in
+    let rising = are_rising class events p (r.one).large in
     let offered : AreFlowFrames ps a.change flows (offered_in class events p) = record {
       numbers = numbers;
       come = c;
-      since = all_since ps class a r.listed events p [] [] new r.apart r.only;
+      since = all_since ps class a (r.one).listed events p [] [] new r.apart (r.one).only;
       order = λ k n f g e h. rising_pair 0 (offered_in class events p) k n f g rising e h;
     } in
     let queued = part_frames ps a.change flows (queued_in class events p) (offered_in class events p)
-    (are_part class events p r.large) offered in (
-      few_wait ps class d most a plan r.is r.above flows these few _ _ _ _ _ queued served.served,
-      λ enough. all_taken ps class a r.listed room most (AreFlowFrames ps a.change flows) (part_frames ps a.change flows) enough
-          (λ now came starts wire waits l s. few_wait ps class d most a plan r.is r.above flows these few now came starts wire waits l s)
-          events p [] [] refl new r.apart r.only offered,
+    (are_part class events p (r.one).large) offered in (
+      few_wait ps class d most a plan (r.one).is (r.one).above flows these few _ _ _ _ _ queued served.served,
+      λ enough. all_taken ps class a (r.one).listed room most (AreFlowFrames ps a.change flows) (part_frames ps a.change flows) enough
+          (λ now came starts wire waits l s. few_wait ps class d most a plan (r.one).is (r.one).above flows these few now came starts wire waits l s)
+          events p [] [] refl new r.apart (r.one).only offered,
     )
 
 -- ---- for ever

@@ -300,7 +300,7 @@ periodic_window_law ps mtu room class d a plan events flows numbers r these c k 
     let bound = (these x.0 x.2 x.4).1 in
     omega (arith, need, bound)) in
     let slots = slot_law ps mtu room class d a plan events r short in
-    let order = queued_order class events p r.large in
+    let order = queued_order class events p (r.one).large in
     let late = (the_frame ps a.change flows numbers came c k i n f flow e number place).0.1 in
     let t : ℕ = (window_of flow n).latest in (
       λ x y. by_late ps d a.change plan class flows numbers came above c order k k 0 x.at t s f (let z : k + 0 ≡ k = omega arith in z)

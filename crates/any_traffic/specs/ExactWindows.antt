@@ -1,6 +1,6 @@
 -- Exact traffic is the special case of windows with no jitter, and frames of one length: the late run is then the exact walk of
 -- `delay_bounds`.
-use Rattle.std.specs.Prelude.{◌≡◌, ◌<◌, ℕ, ◌+◌, List, map, Some, slice_get}
+use Rattle.std.specs.Prelude.{◌≡◌, ◌<◌, ◌≤◌, ℕ, ◌+◌, List, map, Some, slice_get}
 use Rattle.gate_list.specs.Gate.{Plan}
 use Rattle.abstract_port.specs.declared.Event.{Event}
 use Rattle.delay_bounds.specs.Bounds.{told_by}
@@ -25,10 +25,15 @@ ExactLaw =
     → IsFrame flows k place moment → IsFrame flows (k + 1) other later → moment < later → told_by plan class room flows k ≡ Some t
     → IsLateStart (may_by plan class) d (map as_periodic flows) moment (moment + t.wait)
 
--- The premises can be met: a run of which the exact claim speaks is one of these flows with windows (`premises::bounds::is_run` finds such
--- runs).
+-- the frames of a flow with windows, if they all come at their earliest, and have the longest length
+abbrev pub at_earliest : PeriodicFlow → Flow
+at_earliest flow = record { need = flow.longest; period = flow.period; offset = flow.offset }
+
+-- The premises can be met: a run of which the exact claim speaks, with those frames, is one of the flows with windows (`premises::bounds::is_run` finds
+-- such runs).
 abbrev pub ExactRunLaw : Type 0
 ExactRunLaw =
-    (ps mtu room class n : ℕ) (plan : Plan) (flows : List Flow) (events : List Event) (r : IsRun ps mtu room class plan flows n events)
-    → ((i : ℕ) (flow : Flow) → slice_get flows i ≡ Some flow → 0 < flow.period)
-    → (numbers : List (ℕ × ℕ)) × ComeByFlows ps (r.command).change (map as_periodic flows) numbers (offered ps mtu room class events)
+    (ps mtu room class n : ℕ) (plan : Plan) (flows : List PeriodicFlow) (events : List Event)
+    (r : IsRun ps mtu room class plan (map at_earliest flows) n events)
+    → ((i : ℕ) (flow : PeriodicFlow) → slice_get flows i ≡ Some flow → (0 < flow.period) × (flow.shortest ≤ flow.longest))
+    → (numbers : List (ℕ × ℕ)) × ComeByFlows ps (r.command).change flows numbers (offered ps mtu room class events)
