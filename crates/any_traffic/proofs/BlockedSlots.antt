@@ -91,7 +91,8 @@ module _ (may : ℕ → ℕ → Bool) (own pitch : ℕ) (blocking : ℕ → ℕ)
               first.1,
               λ v behind before. elim (cases_lt (t + 1) v) [
                 | inl later ↦ first.2 v later before
-                | inr here ↦ (let same : t + 1 ≡ v = omega (arith, here, behind) in ap (is_opening may own pitch blocking) (sym same) ∙ none)
+                | inr here ↦ (let same : t + 1 ≡ v = omega (arith, here, behind) in ap (is_opening may own pitch blocking) (sym same)
+                    ∙ none)
               ],
             ),
             rest.2,

@@ -43,7 +43,8 @@ module _ (may : ℕ → ℕ → Bool) (own pitch : ℕ) (blocking : ℕ → ℕ)
       → IsReached may own pitch blocking gate gradual s
   start_reached None t s l h = first_reached may own pitch blocking gate gradual t s some h
   start_reached (Some r) t s l h =
-      later_one s h.0 h.1 (let is = h.4 in let z : s ≡ max h.0 h.1 = omega (arith, is) in z) (first_reached may own pitch blocking gate gradual t h.0 some h.2)
+      later_one s h.0 h.1 (let is = h.4 in let z : s ≡ max h.0 h.1 = omega (arith, is) in z)
+      (first_reached may own pitch blocking gate gradual t h.0 some h.2)
       (next_reached may own pitch blocking gate gradual r h.1 some l h.3)
 
   sent_reached : (t n : ℕ) (last later : Option ℕ) → IsLast last → AreBlocked may own pitch blocking t n last later → IsLast later
@@ -228,7 +229,7 @@ blocked_window_law ps mtu room c pitch need blocking a plan events flows numbers
             let there = sym (ap (slice_get came) parts) ∙ e in
             let to = order b.place (k - b.place) o f b.first there in
             let upto = f_by in
-            let many = as_many ps (need c) a.change plan c flows numbers came above come order b.place
+            let many = as_many ps a.change flows numbers came above come order b.place
             (k - b.place) t o f b.first there since f_by in
             let far = blocked_past (may_by plan c) (need c) pitch blocking (plan_gate plan c) gradual some flows above q t s (k - b.place)
             (omega (arith, to, upto, since)) late many in

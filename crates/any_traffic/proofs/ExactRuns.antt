@@ -114,6 +114,7 @@ module _ (ps change : ℕ) (these : List PeriodicFlow)
 
 pub exact_run_law : ExactRunLaw
 exact_run_law ps mtu room class n plan these events r above =
-    let all = numbered ps (r.command).change these above (offered_in class events (new_port ps mtu room)) n (offsets_of (map at_earliest these)) 0 0
+    let all = numbered ps (r.command).change these above (offered_in class events (new_port ps mtu room)) n
+    (offsets_of (map at_earliest these)) 0 0
     (none_come (map at_earliest these)) r.come in
     (all.numbers, all.come)

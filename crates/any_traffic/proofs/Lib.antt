@@ -11,6 +11,7 @@ pub mod WindowLaws
 pub mod PeriodicWindowLaws
 pub mod LateForEverLaws
 pub mod PeriodicBounds
+pub mod WindowCurveLaws
 pub mod FlowFrames
 pub mod PeriodicRoomLaws
 pub mod ExactRuns

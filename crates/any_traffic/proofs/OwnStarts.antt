@@ -35,7 +35,8 @@ apart_run_law ps mtu room class a plan events r =
 pub own_starts_law : OwnStartsLaw
 own_starts_law ps mtu room class a plan events r k x e =
     let rate = (r.one).rate in
-    let held = shared_run class a ps (r.one).listed (let z : 0 < ps = omega (arith, rate) in z) mtu room events (r.one).large r.scheduled (r.one).only in
+    let held = shared_run class a ps (r.one).listed (let z : 0 < ps = omega (arith, rate) in z) mtu room events (r.one).large r.scheduled
+    (r.one).only in
     let f = start_frame (open_through (a ∷ []) class) ps class _ 0 _ _ _ _ _ held.served k x e in
     (f.0, f.1, own_shared (open_through (a ∷ []) class) ps class _ 0 _ _ _ _ _ held.served k f.0 x f.1 e, f.2)
 
@@ -46,7 +47,8 @@ least_start_law ps mtu room class d m s k a plan events f x r there e late long 
     p : AbstractPort
     p = new_port ps mtu room
 
-    held : SharedHolds class a ps (r.one).listed (let rate = (r.one).rate in let z : 0 < ps = omega (arith, rate) in z) (port_after events p)
+    held : SharedHolds class a ps (r.one).listed (let rate = (r.one).rate in let z : 0 < ps = omega (arith, rate) in z)
+        (port_after events p)
         (queued_in class events p) (starts_in (answers_of events p))
     held = (let rate = (r.one).rate in shared_run class a ps (r.one).listed
         (let z : 0 < ps = omega (arith, rate) in z) mtu room events (r.one).large r.scheduled (r.one).only)

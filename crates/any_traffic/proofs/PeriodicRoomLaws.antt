@@ -91,7 +91,7 @@ module _ (ps class d most : ℕ) (a : Accepted) (plan : Plan) (is : a.plan ≡ S
           let at : length starts + j ≡ b.place + (b.more + j) = omega (arith, sum) in
           let there = sym (ap (slice_get came) at) ∙ e in
           let come = all_come (open_through (a ∷ []) class) ps class 0 now came starts wire waits served (length starts + j) f e in
-          let many = as_many ps d a.change plan class flows l.numbers came periods l.come l.order b.place
+          let many = as_many ps a.change flows l.numbers came periods l.come l.order b.place
           (b.more + j) t o f b.first there since (omega (arith, come, since)) in
           let w = few t in
           let all = w.1 in
@@ -132,7 +132,8 @@ periodic_room_law ps mtu room class d most a plan events flows numbers r these c
     (are_part class events p (r.one).large) offered in (
       few_wait ps class d most a plan (r.one).is (r.one).above flows these few _ _ _ _ _ queued served.served,
       λ enough. all_taken ps class a (r.one).listed room most (AreFlowFrames ps a.change flows) (part_frames ps a.change flows) enough
-          (λ now came starts wire waits l s. few_wait ps class d most a plan (r.one).is (r.one).above flows these few now came starts wire waits l s)
+          (λ now came starts wire waits l s. few_wait ps class d most a plan (r.one).is
+          (r.one).above flows these few now came starts wire waits l s)
           events p [] [] refl new r.apart (r.one).only offered,
     )
 

@@ -110,7 +110,8 @@ module _ (ps mtu room c pitch wait waiting : ℕ) (need blocking : ℕ → ℕ) 
 
     chain : SharedHolds c a ps ((run.run).one).listed some then (queued_in c before new) so_far
     chain = shared_run c a ps ((run.run).one).listed some mtu room before ((run.run).one).large
-        (scheduled_before ps mtu room a ((run.run).one).rate ((run.run).one).large events before rest parts ((run.run).one).only c (run.run).scheduled).0
+        (scheduled_before ps mtu room a ((run.run).one).rate ((run.run).one).large events before rest parts ((run.run).one).only c
+        (run.run).scheduled).0
         first_part
 
     -- up to there, with a chain of frames that are some of those offered in the whole run
@@ -135,7 +136,8 @@ module _ (ps mtu room c pitch wait waiting : ℕ) (need blocking : ℕ → ℕ) 
         few : (i j : ℕ) → slice_get higher i ≡ Some j → (p s : ℕ) → count_of j p (s + 1) so_far ≤ curves j (s - p)
         few i j e p s =
             above_few (a ∷ []) need so_far j (curves j) sound
-            (higher_before ps mtu room a ((run.run).one).rate ((run.run).one).large events before rest parts ((run.run).one).only j (curves j)
+            (higher_before ps mtu room a ((run.run).one).rate ((run.run).one).large events before rest parts ((run.run).one).only j
+            (curves j)
             (run.above i j e)) p s
 
     -- one that comes then finds room
@@ -203,7 +205,8 @@ module _ (ps mtu room c pitch wait waiting : ℕ) (need blocking : ℕ → ℕ) 
       go (one_queued f o n some) same = ap (λ xs. xs ++ queued_in c rest q) n ∙
           (ap (λ xs. now_came p f ∷ xs) same ∙ sym (ap (λ xs. xs ++ offered_in c rest q) o))
       go (one_full f o n many) same =
-          let k = (scheduled_before ps mtu room a ((run.run).one).rate ((run.run).one).large events before (event ∷ rest) parts ((run.run).one).only c
+          let k = (scheduled_before ps mtu room a ((run.run).one).rate ((run.run).one).large events before (event ∷ rest) parts
+          ((run.run).one).only c
           (run.run).scheduled).1.0 in
           let less = finds_room before (event ∷ rest) parts enough event f k o (part f o) in
           absurd (omega (arith, many, less))
@@ -233,7 +236,8 @@ shared_law ps mtu room c pitch wait waiting need blocking curve curves higher a 
     by_judge ps mtu room c pitch wait waiting need blocking curve curves higher a plan events run
     (λ some all now sound few came wire waits served since order conform.
     in_time ps a some all now c plan ((run.run).one).is
-    ((run.run).one).above need blocking pitch curve curves higher sharing.blocked sharing.apart sharing.among sound few came wire waits served
+    ((run.run).one).above need blocking pitch curve curves higher sharing.blocked sharing.apart sharing.among sound few came wire waits
+    served
     since order conform
     wait waiting (λ t x. Unit {0}) (λ t x in_it. bounds.soon t x) (λ t x in_it. bounds.few t x) (λ i m j f g b at e le h come. tt))
 
@@ -242,6 +246,7 @@ shared_busy_law ps mtu room c pitch wait waiting need blocking curve curves high
     by_judge ps mtu room c pitch wait waiting need blocking curve curves higher a plan events run
     (λ some all now sound few came wire waits served since order conform.
     in_busy_time ps a some all now c plan ((run.run).one).is
-    ((run.run).one).above need blocking pitch curve curves higher sharing.blocked sharing.apart sharing.among sound few came wire waits served
+    ((run.run).one).above need blocking pitch curve curves higher sharing.blocked sharing.apart sharing.among sound few came wire waits
+    served
     since order conform
     wait waiting rises times)

@@ -29,8 +29,8 @@ ExactLaw =
 abbrev pub at_earliest : PeriodicFlow → Flow
 at_earliest flow = record { need = flow.longest; period = flow.period; offset = flow.offset }
 
--- The premises can be met: a run of which the exact claim speaks, with those frames, is one of the flows with windows (`premises::bounds::is_run` finds
--- such runs).
+-- The premises can be met: a run of which the exact claim speaks, with those frames, is one of the flows with windows
+-- (`premises::bounds::is_run` finds such runs).
 abbrev pub ExactRunLaw : Type 0
 ExactRunLaw =
     (ps mtu room class n : ℕ) (plan : Plan) (flows : List PeriodicFlow) (events : List Event)

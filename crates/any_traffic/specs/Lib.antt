@@ -9,6 +9,7 @@ pub mod ArrivalWindows
 pub mod PeriodicWindows
 pub mod LateForEver
 pub mod PeriodicRoom
+pub mod WindowCurve
 pub mod ExactWindows
 pub mod Priority
 pub mod SharedSlots

@@ -17,6 +17,7 @@ ghost use Rattle.any_traffic.specs.Slots.{SlotLaw};
 ghost use Rattle.any_traffic.specs.Sporadic.{PeriodicLaw, SporadicBoundsLaw, SporadicEndsLaw, SporadicLaw};
 ghost use Rattle.any_traffic.specs.StartCurve.{StartCurveLaw};
 ghost use Rattle.any_traffic.specs.Starts.{ApartRunLaw, LeastStartLaw, OwnStartsLaw};
+ghost use Rattle.any_traffic.specs.WindowCurve.{WindowCurveLaw};
 
 /// In every run each start of a class is that of its frame, and no sooner than the class may have the wire for it.
 pub fn starts()
@@ -36,11 +37,12 @@ pub fn any_traffic()
     ensures { AnyTrafficLaw }
 {}
 
-/// Frames of sporadic flows, with jitter, conform to the sum of the flows' curves.
+/// Frames of sporadic flows, with jitter, conform to the sum of the flows' curves, and so do those of periodic ones.
 pub fn sporadic()
     ensures curve { SporadicLaw }
     ensures bounds { SporadicBoundsLaw }
     ensures ends { SporadicEndsLaw }
+    ensures windows { WindowCurveLaw }
     ensures some { PeriodicLaw }
 {}
 
