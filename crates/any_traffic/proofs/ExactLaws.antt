@@ -24,7 +24,7 @@ use Rattle.any_traffic.proofs.PeriodicWindowLaws.{HavePeriod, before_is, before_
 -- ---- how many have come of each flow
 
 -- k frames of the flows have come, by a moment, when their next ones come at these
-abbrev AreNext : List Flow → List ℕ → (k m : ℕ) → Type 0
+abbrev pub AreNext : List Flow → List ℕ → (k m : ℕ) → Type 0
 AreNext [] [] k m = k ≡ 0
 AreNext [] (x ∷ xs) k m = ⊥
 AreNext (f ∷ flows) [] k m = ⊥
@@ -32,13 +32,13 @@ AreNext (f ∷ flows) (x ∷ xs) k m =
     (c : ℕ) × (rest : ℕ) × (k ≡ c + rest) × (x ≡ f.offset + f.period * c) × ((n : ℕ) → n < c → f.offset + f.period * n ≤ m)
     × AreNext flows xs rest m
 
-none_come : (flows : List Flow) → AreNext flows (offsets_of flows) 0 0
+pub none_come : (flows : List Flow) → AreNext flows (offsets_of flows) 0 0
 none_come [] = refl
 none_come (f ∷ flows) =
     let none : f.period * 0 ≡ 0 = omega arith in
     (0, 0, refl, omega (arith, none), λ n less. absurd (omega (arith, less)), none_come flows)
 
-next_later : (flows : List Flow) (xs : List ℕ) (k m u : ℕ) → m ≤ u → AreNext flows xs k m → AreNext flows xs k u
+pub next_later : (flows : List Flow) (xs : List ℕ) (k m u : ℕ) → m ≤ u → AreNext flows xs k m → AreNext flows xs k u
 next_later [] [] k m u le h = h
 next_later [] (x ∷ xs) k m u le h = absurd h
 next_later (f ∷ flows) [] k m u le h = absurd h
@@ -46,7 +46,7 @@ next_later (f ∷ flows) (x ∷ xs) k m u le h =
     (h.0, h.1, h.2, h.3, λ n less. (let by = h.4 n less in omega (arith, by, le)), next_later flows xs h.1 m u le h.5)
 
 -- one more comes
-one_comes : (flows : List Flow) (xs : List ℕ) (k m i : ℕ) → i < length xs → get_or xs i 0 ≤ m → AreNext flows xs k m
+pub one_comes : (flows : List Flow) (xs : List ℕ) (k m i : ℕ) → i < length xs → get_or xs i 0 ≤ m → AreNext flows xs k m
     → AreNext flows (set xs i (get_or xs i 0 + (flow_at flows i).period)) (suc k) m
 one_comes [] [] k m i less le h = absurd (omega (arith, less))
 one_comes [] (x ∷ xs) k m i less le h = absurd h
@@ -70,7 +70,7 @@ one_comes (f ∷ flows) (x ∷ xs) k m (suc i) less le h =
     let is = h.2 in
     (h.0, suc h.1, omega (arith, is), h.3, h.4, one_comes flows xs h.1 m i (omega (arith, less)) le h.5)
 
-as_long : (flows : List Flow) (xs : List ℕ) (k m : ℕ) → AreNext flows xs k m → length xs ≡ length flows
+pub as_long : (flows : List Flow) (xs : List ℕ) (k m : ℕ) → AreNext flows xs k m → length xs ≡ length flows
 as_long [] [] k m h = refl
 as_long [] (x ∷ xs) k m h = absurd h
 as_long (f ∷ flows) [] k m h = absurd h
@@ -78,7 +78,7 @@ as_long (f ∷ flows) (x ∷ xs) k m h = ap suc (as_long flows xs h.1 m h.5)
 
 -- ---- how many come before a moment
 
-abbrev IsPeriodic : List Flow → ℕ → Type 0
+abbrev pub IsPeriodic : List Flow → ℕ → Type 0
 IsPeriodic flows d = (i : ℕ) (flow : Flow) → slice_get flows i ≡ Some flow → (0 < flow.period) × (flow.need ≡ d)
 
 module _ (d : ℕ) where
@@ -120,7 +120,7 @@ module _ (d : ℕ) where
       by (suc c) come period = (let last = come c (omega arith) in let gone = before_of (f.offset + 0) f.period c u period
           (omega (arith, last, less)) in omega (arith, gone))
 
-all_periods : (flows : List Flow) (d : ℕ) → IsPeriodic flows d → HavePeriod (map as_periodic flows)
+pub all_periods : (flows : List Flow) (d : ℕ) → IsPeriodic flows d → HavePeriod (map as_periodic flows)
 all_periods [] d these i flow e = absurd (none_here i flow e)
 all_periods (f ∷ flows) d these zero flow e = subst (λ (x : PeriodicFlow). 0 < x.period) (same_Some (as_periodic f) flow e)
     (these 0 f refl).0

@@ -5,8 +5,8 @@ use Rattle.std.proofs.lemmas.List.Sums.{sum_by-cons}
 use Rattle.separation.specs.Served.{IsFirst}
 use Rattle.delay_bounds.proofs.WaitLaws.{one_first}
 use Rattle.delay_bounds.specs.ForEver.{Repeats}
-use Rattle.any_traffic.specs.LateForEver.{AreWhole, LateEnoughLaw, LateForEverLaw, LateRecurs}
-use Rattle.any_traffic.specs.PeriodicWindows.{AreSent, IsFreeFrom, IsLateStart, PeriodicFlow, before, can_by, must_before, window_of}
+use Rattle.any_traffic.specs.LateForEver.{AreLateWithin, AreWhole, LateEnoughLaw, LateForEverLaw, LateRecurs}
+use Rattle.any_traffic.specs.PeriodicWindows.{ArePeriodic, AreSent, IsFreeFrom, IsLateStart, PeriodicFlow, before, can_by, must_before, window_of}
 use Rattle.any_traffic.proofs.PeriodicWindowLaws.{HavePeriod, before_is, before_of}
 use Rattle.any_traffic.specs.Slots.{IsSlot}
 use Rattle.any_traffic.proofs.SlotLaws.{first_later, slot_later}
@@ -192,20 +192,22 @@ module _ (may : ℕ → ℕ → Bool) (d : ℕ) where
 pub late_for_ever_law : LateForEverLaw
 late_for_ever_law may d flows from every these r t s le h = late_again may d flows from every (λ i f e. (these i f e).0) r t s le h
 
-pub late_enough_law : LateEnoughLaw
-late_enough_law may d flows from every waits these r upto_then upto i n wait flow place time less = all (suc n) n
+-- where each late start comes again, what holds up to then holds of all
+pub late_enough : (Late : ℕ → ℕ → Type 0) (d : ℕ) (flows : List PeriodicFlow) (from every : ℕ) (waits : List ℕ)
+    → ArePeriodic d flows → AreWhole flows from every → 0 < every → ((t s : ℕ) → from ≤ t → Late t s → Late (t + every) (s + every))
+    → AreLateWithin Late flows waits (from + every) → (upto : ℕ) → AreLateWithin Late flows waits upto
+late_enough Late d flows from every waits these wholes above again_late upto_then upto i n wait flow place time less = all (suc n) n
     (let z : n < suc n = omega arith in z)
   where
-    all : (fuel n : ℕ) → n < fuel → (s : ℕ) × IsLateStart may d flows (window_of flow n).latest s × (s ≤ (window_of flow n).earliest + wait)
+    all : (fuel n : ℕ) → n < fuel → (s : ℕ) × Late (window_of flow n).latest s × (s ≤ (window_of flow n).earliest + wait)
     all zero n less = absurd (omega (arith, less))
     all (suc fuel) n less = elim (cases_lt (window_of flow n).latest (from + every)) [
       | inl before ↦ upto_then i n wait flow place time before
       | inr after ↦
-          let whole = r.whole i flow place in
+          let whole = wholes i flow place in
           let begun = whole.0 in
           let k : ℕ = whole.1.0 in
           let is = whole.1.1 in
-          let above = r.above in
           let enough : k ≤ n = no_less k n (omega (arith, after, begun, is)) in
           let some : 0 < k = positive k is in
           let w = all fuel (n - k) (omega (arith, less, some, enough)) in
@@ -214,8 +216,8 @@ late_enough_law may d flows from every waits these r upto_then upto i n wait flo
           let at : n - k + k ≡ n = omega (arith, enough) in
           let turned : flow.period * (n - k + k) ≡ flow.period * n = ap (λ m. flow.period * m) at in
           let latest : (window_of flow (n - k)).latest + every ≡ (window_of flow n).latest = omega (arith, parts, turned, is) in
-          let late = late_for_ever_law may d flows from every these r (window_of flow (n - k)).latest w.0 (omega (arith, begun)) w.1 in
-          (w.0 + every, subst (λ t. IsLateStart may d flows t (w.0 + every)) latest late, omega (arith, bound, parts, turned, is))
+          let late = again_late (window_of flow (n - k)).latest w.0 (omega (arith, begun)) w.1 in
+          (w.0 + every, subst (λ t. Late t (w.0 + every)) latest late, omega (arith, bound, parts, turned, is))
     ]
       where
         no_less : (k n : ℕ) → flow.period * k ≤ flow.period * n → k ≤ n
@@ -227,10 +229,14 @@ late_enough_law may d flows from every waits these r upto_then upto i n wait flo
               (suc (k - n - 1)) in
               let whole : flow.period * k ≡ flow.period * (n + suc (k - n - 1)) = ap (λ m. flow.period * m) at in
               let more : flow.period * suc (k - n - 1) ≡ flow.period * (k - n - 1) + flow.period = mul-suc flow.period (k - n - 1) in
-              let above = (these i flow place).0 in
-              absurd (omega (arith, le, parts, whole, more, above))
+              let period = (these i flow place).0 in
+              absurd (omega (arith, le, parts, whole, more, period))
         ]
 
         positive : (k : ℕ) → every ≡ flow.period * k → 0 < k
-        positive zero is = (let above = r.above in absurd (omega (arith, above, is)))
+        positive zero is = absurd (omega (arith, above, is))
         positive (suc k) is = omega arith
+
+pub late_enough_law : LateEnoughLaw
+late_enough_law may d flows from every waits these r =
+    late_enough (IsLateStart may d flows) d flows from every waits these r.whole r.above (late_for_ever_law may d flows from every these r)

@@ -11,7 +11,10 @@ pub mod WindowLaws
 pub mod PeriodicWindowLaws
 pub mod LateForEverLaws
 pub mod PeriodicBounds
+pub mod WindowCurveLaws
+pub mod FlowFrames
 pub mod PeriodicRoomLaws
+pub mod ExactRuns
 pub mod ExactLaws
 pub mod CycleLaws
 pub mod PeriodicLaws
@@ -27,3 +30,6 @@ pub mod RunParts
 pub mod SharedLaws
 pub mod SharedCycleLaws
 mod SharedExample
+pub mod BlockedSlots
+pub mod BlockedWindowLaws
+pub mod BlockedForEverLaws

@@ -26,7 +26,7 @@ use Rattle.separation.proofs.ServiceLaws.{Holds, takes, verdict_class}
 use Rattle.delay_bounds.proofs.QueueLaws.{Taken, none_offered, one_queued, one_full, now_came, room_kept, taken}
 use Rattle.any_traffic.specs.Runs.{IsScheduledAt}
 use Rattle.any_traffic.proofs.ListLaws.{none_here}
-use Rattle.any_traffic.proofs.PartLaws.{AreLawful, ArePart, AreRising, part_front, part_lawful, part_pair, rising_from, rising_pair}
+use Rattle.any_traffic.proofs.PartLaws.{ArePart, AreRising, part_front, part_pair, rising_from, rising_pair}
 
 -- ---- a port's moment never goes back
 

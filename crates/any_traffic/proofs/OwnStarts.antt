@@ -30,21 +30,13 @@ apart_scheduled class (event ∷ rest) p k = (scheduled_at class event p k.0, ap
 
 pub apart_run_law : ApartRunLaw
 apart_run_law ps mtu room class a plan events r =
-    record {
-      rate = r.rate;
-      large = r.large;
-      listed = r.listed;
-      is = r.is;
-      above = r.above;
-      scheduled = apart_scheduled class events
-          (new_port ps mtu room) r.apart;
-      only = r.only;
-    }
+    record { one = r.one; scheduled = apart_scheduled class events (new_port ps mtu room) r.apart }
 
 pub own_starts_law : OwnStartsLaw
 own_starts_law ps mtu room class a plan events r k x e =
-    let rate = r.rate in
-    let held = shared_run class a ps r.listed (let z : 0 < ps = omega (arith, rate) in z) mtu room events r.large r.scheduled r.only in
+    let rate = (r.one).rate in
+    let held = shared_run class a ps (r.one).listed (let z : 0 < ps = omega (arith, rate) in z) mtu room events (r.one).large r.scheduled
+    (r.one).only in
     let f = start_frame (open_through (a ∷ []) class) ps class _ 0 _ _ _ _ _ held.served k x e in
     (f.0, f.1, own_shared (open_through (a ∷ []) class) ps class _ 0 _ _ _ _ _ held.served k f.0 x f.1 e, f.2)
 
@@ -55,10 +47,11 @@ least_start_law ps mtu room class d m s k a plan events f x r there e late long 
     p : AbstractPort
     p = new_port ps mtu room
 
-    held : SharedHolds class a ps r.listed (let rate = r.rate in let z : 0 < ps = omega (arith, rate) in z) (port_after events p)
+    held : SharedHolds class a ps (r.one).listed (let rate = (r.one).rate in let z : 0 < ps = omega (arith, rate) in z)
+        (port_after events p)
         (queued_in class events p) (starts_in (answers_of events p))
-    held = (let rate = r.rate in shared_run class a ps r.listed
-        (let z : 0 < ps = omega (arith, rate) in z) mtu room events r.large r.scheduled r.only)
+    held = (let rate = (r.one).rate in shared_run class a ps (r.one).listed
+        (let z : 0 < ps = omega (arith, rate) in z) mtu room events (r.one).large r.scheduled (r.one).only)
 
     own : (f.moment ≤ x.at) × (x ≡ start_at ps class x.at f.frame)
     own =
@@ -78,12 +71,12 @@ least_start_law ps mtu room class d m s k a plan events f x r there e late long 
           let at : a.change + (x.at - a.change) ≡ x.at = omega (arith, from, late) in
           let opened = subst (λ h. open_through h x.class x.at (x.«end» - x.at) ≡ true) full
           (start_holds (IsOpenBy (port_after events p).history) (answers_of events p)
-          (keeping ps mtu room r.rate r.large events).open_by_end place.0 x place.1) in
+          (keeping ps mtu room (r.one).rate (r.one).large events).open_by_end place.0 x place.1) in
           let mine = subst (λ c. open_through (a ∷ []) c x.at (x.«end» - x.at) ≡ true)
           (class_of class (starts_in (answers_of events p)) k x e) opened in
           let short = open_within (gates (a ∷ [])) class x.at (x.«end» - x.at) x.at d mine (le_refl x.at) (omega (arith, ends, long)) in
           let by : may_by plan class (x.at - a.change) d ≡ true = sym
-          (ap (λ g. g (x.at - a.change) d) (same_gates a plan r.is r.above class)) ∙
+          (ap (λ g. g (x.at - a.change) d) (same_gates a plan (r.one).is (r.one).above class)) ∙
           (ap (λ t. open_through (a ∷ []) class t d) at ∙ short) in
           absurd (both_ways _ (first.least (x.at - a.change) (omega (arith, from, late)) (omega (arith, early, from, late))) by)
     ]

@@ -1,7 +1,6 @@
 -- Of the frames of periodic flows few wait, and none is dropped.
-use Rattle.std.proofs.Common.{◌≡◌, ◌<◌, ◌≤◌, ℕ, zero, suc, ◌+◌, ◌-◌, max, Bool, ◌⊎◌, inl, inr, List, [], ◌∷◌, length, slice_get, Some, refl, sym, ap, ◌∙◌, subst, arith, le_refl}
+use Rattle.std.proofs.Common.{◌≡◌, ◌<◌, ◌≤◌, ℕ, zero, suc, ◌+◌, ◌-◌, max, Bool, inl, inr, List, [], ◌∷◌, length, slice_get, Some, refl, sym, ap, ◌∙◌, subst, arith, le_refl}
 use Rattle.std.proofs.lemmas.Bool.{cases_lt}
-use Rattle.std.proofs.lemmas.Option.{same_Some}
 use Rattle.wire_time.specs.Wire.{occupancy_of}
 use Rattle.wire_time.specs.declared.Frame.{Frame}
 use Rattle.gate_list.specs.Gate.{Plan}
@@ -13,80 +12,17 @@ use Rattle.separation.specs.Traffic.{Came, offered_in, queued_in}
 use Rattle.separation.proofs.ServiceLaws.{new_holds, served_law}
 use Rattle.delay_bounds.specs.Walk.{may_by}
 use Rattle.any_traffic.specs.PeriodicRoom.{AreFewLate, HaveStarted, IsLateFrame, LateStartsRecur, PeriodicRoomLaw, RoomEnoughLaw}
-use Rattle.any_traffic.specs.PeriodicWindows.{ArePeriodic, ComeByFlows, PeriodicFlow, can_by, must_before, window_of}
-use Rattle.any_traffic.specs.ArrivalWindows.{IsIn}
+use Rattle.any_traffic.specs.PeriodicWindows.{ArePeriodic, ComeByFlows, PeriodicFlow, must_before}
 use Rattle.any_traffic.specs.Slots.{IsSlot}
 use Rattle.any_traffic.proofs.Busy.{all_come, all_counted, waiting_by}
 use Rattle.any_traffic.proofs.LateForEverLaws.{Again, again, free_on}
-use Rattle.any_traffic.proofs.ListLaws.{none_here, one_at, one_before}
+use Rattle.any_traffic.proofs.FlowFrames.{chosen, chosen_come}
+use Rattle.any_traffic.proofs.ListLaws.{one_at, one_before}
 use Rattle.any_traffic.proofs.Offered.{all_since, all_taken, are_part, are_rising}
 use Rattle.any_traffic.proofs.PartLaws.{ArePart, part_at, part_pair, rising_pair}
 use Rattle.any_traffic.proofs.PeriodicWindowLaws.{HavePeriod, as_many, must_more, slots_past}
 use Rattle.any_traffic.proofs.SlotLaws.{slot_before, slot_later}
 use Rattle.any_traffic.proofs.TrafficLaws.{by_plan}
-
--- ---- some of the frames of flows
-
--- what stands beside some of them
-chosen : (xs ys : List Came) → ArePart xs ys → List (ℕ × ℕ) → List (ℕ × ℕ)
-chosen [] ys p ns = []
-chosen (x ∷ xs) [] p ns = absurd p
-chosen (x ∷ xs) (y ∷ ys) p [] = []
-chosen (x ∷ xs) (y ∷ ys) (inl p) (n ∷ ns) = n ∷ chosen xs ys p.1 ns
-chosen (x ∷ xs) (y ∷ ys) (inr p) (n ∷ ns) = chosen (x ∷ xs) ys p ns
-
-chosen_from : (xs ys : List Came) (p : ArePart xs ys) (ns : List (ℕ × ℕ)) (k : ℕ) (n : ℕ × ℕ) → slice_get (chosen xs ys p ns) k ≡ Some n
-    → (m : ℕ) × (slice_get ns m ≡ Some n)
-unfolding chosen
-chosen_from [] ys p ns k n e = absurd (none_here k n e)
-chosen_from (x ∷ xs) [] p ns k n e = absurd p
-chosen_from (x ∷ xs) (y ∷ ys) p [] k n e = absurd (none_here k n e)
-chosen_from (x ∷ xs) (y ∷ ys) (inl p) (m ∷ ns) zero n e = (0, e)
-chosen_from (x ∷ xs) (y ∷ ys) (inl p) (m ∷ ns) (suc k) n e = (let r = chosen_from xs ys p.1 ns k n e in (suc r.0, r.1))
-chosen_from (x ∷ xs) (y ∷ ys) (inr p) (m ∷ ns) k n e = (let r = chosen_from (x ∷ xs) ys p ns k n e in (suc r.0, r.1))
-
-module _ (ps change : ℕ) (flows : List PeriodicFlow) where
-  behind_first : (n : ℕ × ℕ) (ns : List (ℕ × ℕ)) (y : Came) (ys : List Came) → ComeByFlows ps change flows (n ∷ ns) (y ∷ ys)
-      → ComeByFlows ps change flows ns ys
-  behind_first n ns y ys c = record {
-    each = λ k f e. c.each (suc k) f e;
-    own = λ j k x e h. (let same = c.own (suc j) (suc k) x e h in omega (arith, same));
-  }
-
-  with_first : (x y : Came) (xs ys : List Came) (p : ArePart xs ys) (m : ℕ × ℕ) (ns : List (ℕ × ℕ)) → x ≡ y
-      → ComeByFlows ps change flows (m ∷ ns) (y ∷ ys)
-      → ComeByFlows ps change flows (chosen xs ys p ns) xs → ComeByFlows ps change flows (m ∷ chosen xs ys p ns) (x ∷ xs)
-  with_first x y xs ys p m ns same c rest = record { each = each; own = own }
-    where
-      each : (k : ℕ) (f : Came) → slice_get (x ∷ xs) k ≡ Some f
-          → (i n : ℕ) × (flow : PeriodicFlow) × (slice_get (m ∷ chosen xs ys p ns) k ≡ Some (i, n)) × (slice_get flows i ≡ Some flow)
-          × IsIn change (window_of flow n) f.moment × (flow.shortest ≤ occupancy_of ps f.frame.len) ×
-          (occupancy_of ps f.frame.len ≤ flow.longest)
-      each zero f e = c.each 0 f (ap Some (sym same) ∙ e)
-      each (suc k) f e = rest.each k f e
-
-      -- the first is not among those behind it
-      apart : (k : ℕ) (z : ℕ × ℕ) → m ≡ z → slice_get (chosen xs ys p ns) k ≡ Some z → ⊥
-      apart k z is e =
-          let at = chosen_from xs ys p ns k z e in
-          let one = c.own 0 (suc at.0) m refl (at.1 ∙ ap Some (sym is)) in
-          absurd (omega (arith, one))
-
-      own : (j k : ℕ) (z : ℕ × ℕ) → slice_get (m ∷ chosen xs ys p ns) j ≡ Some z → slice_get (m ∷ chosen xs ys p ns) k ≡ Some z → j ≡ k
-      own zero zero z e h = refl
-      own zero (suc k) z e h = absurd (apart k z (same_Some m z e) h)
-      own (suc j) zero z e h = absurd (apart j z (same_Some m z h) e)
-      own (suc j) (suc k) z e h = ap suc (rest.own j k z e h)
-
-  chosen_come : (xs ys : List Came) (p : ArePart xs ys) (ns : List (ℕ × ℕ)) → ComeByFlows ps change flows ns ys
-      → ComeByFlows ps change flows (chosen xs ys p ns) xs
-  unfolding chosen
-  chosen_come [] ys p ns c = record { each = λ k f e. absurd (none_here k f e); own = λ j k x e h. absurd (none_here j x e) }
-  chosen_come (x ∷ xs) [] p ns c = absurd p
-  chosen_come (x ∷ xs) (y ∷ ys) p [] c = absurd (let first = c.each 0 y refl in none_here 0 (first.0, first.1) first.3)
-  chosen_come (x ∷ xs) (y ∷ ys) (inr p) (n ∷ ns) c = chosen_come (x ∷ xs) ys p ns (behind_first n ns y ys c)
-  chosen_come (x ∷ xs) (y ∷ ys) (inl p) (n ∷ ns) c = with_first x y xs ys p.1 n ns p.0 c
-      (chosen_come xs ys p.1 ns (behind_first n ns y ys c))
 
 -- ---- few wait
 
@@ -155,7 +91,7 @@ module _ (ps class d most : ℕ) (a : Accepted) (plan : Plan) (is : a.plan ≡ S
           let at : length starts + j ≡ b.place + (b.more + j) = omega (arith, sum) in
           let there = sym (ap (slice_get came) at) ∙ e in
           let come = all_come (open_through (a ∷ []) class) ps class 0 now came starts wire waits served (length starts + j) f e in
-          let many = as_many ps d a.change plan class flows l.numbers came periods l.come l.order b.place
+          let many = as_many ps a.change flows l.numbers came periods l.come l.order b.place
           (b.more + j) t o f b.first there since (omega (arith, come, since)) in
           let w = few t in
           let all = w.1 in
@@ -183,21 +119,22 @@ module _ (ps class d most : ℕ) (a : Accepted) (plan : Plan) (is : a.plan ≡ S
 pub periodic_room_law : PeriodicRoomLaw
 periodic_room_law ps mtu room class d most a plan events flows numbers r these c few =
     let p : AbstractPort = new_port ps mtu room in
-    let new = new_holds ps mtu room class a r.rate r.large r.listed in
-    let served = served_law ps mtu room class a events r.rate r.large r.listed r.apart r.only in
-    let rising = are_rising class events p r.large in
+    let new = new_holds ps mtu room class a (r.one).rate (r.one).large (r.one).listed in
+    let served = served_law ps mtu room class a events (r.one).rate (r.one).large (r.one).listed r.apart (r.one).only in
+    let rising = are_rising class events p (r.one).large in
     let offered : AreFlowFrames ps a.change flows (offered_in class events p) = record {
       numbers = numbers;
       come = c;
-      since = all_since ps class a r.listed events p [] [] new r.apart r.only;
+      since = all_since ps class a (r.one).listed events p [] [] new r.apart (r.one).only;
       order = λ k n f g e h. rising_pair 0 (offered_in class events p) k n f g rising e h;
     } in
     let queued = part_frames ps a.change flows (queued_in class events p) (offered_in class events p)
-    (are_part class events p r.large) offered in (
-      few_wait ps class d most a plan r.is r.above flows these few _ _ _ _ _ queued served.served,
-      λ enough. all_taken ps class a r.listed room most (AreFlowFrames ps a.change flows) (part_frames ps a.change flows) enough
-          (λ now came starts wire waits l s. few_wait ps class d most a plan r.is r.above flows these few now came starts wire waits l s)
-          events p [] [] refl new r.apart r.only offered,
+    (are_part class events p (r.one).large) offered in (
+      few_wait ps class d most a plan (r.one).is (r.one).above flows these few _ _ _ _ _ queued served.served,
+      λ enough. all_taken ps class a (r.one).listed room most (AreFlowFrames ps a.change flows) (part_frames ps a.change flows) enough
+          (λ now came starts wire waits l s. few_wait ps class d most a plan (r.one).is
+          (r.one).above flows these few now came starts wire waits l s)
+          events p [] [] refl new r.apart (r.one).only offered,
     )
 
 -- ---- for ever

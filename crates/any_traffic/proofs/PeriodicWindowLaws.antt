@@ -171,7 +171,7 @@ module _ (may : ℕ → ℕ → Bool) (d : ℕ) where
 no_flow : PeriodicFlow
 no_flow = record { offset = 0; period = 0; jitter = 0; shortest = 0; longest = 0 }
 
-module _ (ps d change : ℕ) (plan : Plan) (class : ℕ) (flows : List PeriodicFlow) (numbers : List (ℕ × ℕ)) (came : List Came)
+module _ (ps change : ℕ) (flows : List PeriodicFlow) (numbers : List (ℕ × ℕ)) (came : List Came)
     (above : HavePeriod flows) (c : ComeByFlows ps change flows numbers came)
     (order : (k n : ℕ) (f g : Came) → slice_get came k ≡ Some f → slice_get came (k + n) ≡ Some g → f.moment ≤ g.moment) where
   abbrev low : ℕ → ℕ → ℕ
@@ -255,10 +255,11 @@ module _ (ps d change : ℕ) (plan : Plan) (class : ℕ) (flows : List PeriodicF
           omega (arith, one)
 
   -- what is by a slot of the frame or of one before it is by the late start
-  pub by_late : (k m n moment t s : ℕ) (f : Came) → m + n ≡ k → IsBySlot plan class d change came m moment → slice_get came k ≡ Some f
+  pub by_late : (d : ℕ) (plan : Plan) (class k m n moment t s : ℕ) (f : Came) → m + n ≡ k → IsBySlot plan class d change came m moment
+      → slice_get came k ≡ Some f
       → f.moment ≤ change + t
       → IsLateStart (may_by plan class) d flows t s → moment ≤ change + s
-  by_late k m n moment t s f is b e by h =
+  by_late d plan class k m n moment t s f is b e by h =
       let g = b.frame in
       let sum = b.sum in
       let since = b.since in
@@ -300,10 +301,10 @@ periodic_window_law ps mtu room class d a plan events flows numbers r these c k 
     let bound = (these x.0 x.2 x.4).1 in
     omega (arith, need, bound)) in
     let slots = slot_law ps mtu room class d a plan events r short in
-    let order = queued_order class events p r.large in
+    let order = queued_order class events p (r.one).large in
     let late = (the_frame ps a.change flows numbers came c k i n f flow e number place).0.1 in
     let t : ℕ = (window_of flow n).latest in (
-      λ x y. by_late ps d a.change plan class flows numbers came above c order k k 0 x.at t s f (let z : k + 0 ≡ k = omega arith in z)
+      λ x y. by_late ps a.change flows numbers came above c order d plan class k k 0 x.at t s f (let z : k + 0 ≡ k = omega arith in z)
           (slots.starts k f x e y) e late last,
       λ past. elim (cases_lt k (length (started ps mtu room class events))) [
         | inl less ↦ less
@@ -311,7 +312,7 @@ periodic_window_law ps mtu room class d a plan events flows numbers r these c k 
             let m : ℕ = length (started ps mtu room class events) in
             let g = one_before came m k f more e in
             let parts : m + (k - m) ≡ k = omega (arith, more) in
-            let not_yet = by_late ps d a.change plan class flows numbers came above c order k m (k - m)
+            let not_yet = by_late ps a.change flows numbers came above c order d plan class k m (k - m)
             (end_of_run ps mtu room events) t s f parts (slots.waits g.0 g.1) e late last in
             absurd (omega (arith, not_yet, past))
       ],

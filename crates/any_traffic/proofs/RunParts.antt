@@ -1,20 +1,24 @@
 -- Beginnings of a run: what comes behind them, and what holds of them.
-use Rattle.std.proofs.Common.{◌≡◌, ◌≤◌, ℕ, ◌+◌, Bool, List, [], ◌∷◌, ◌++◌, length, refl, sym, ap, ◌∙◌, arith, append_assoc}
+use Rattle.std.proofs.Common.{◌≡◌, ◌≤◌, ℕ, ◌+◌, ◌-◌, true, Bool, Some, slice_get, subst, List, [], ◌∷◌, ◌++◌, length, refl, sym, ap, ◌∙◌, arith, append_assoc}
 use Rattle.wire_time.specs.declared.Frame.{Frame}
-use Rattle.list_config.specs.History.{Accepted}
+use Rattle.list_config.specs.History.{Accepted, open_through}
 use Rattle.abstract_port.specs.declared.Event.{Event}
 use Rattle.abstract_port.specs.declared.Start.{Start}
-use Rattle.abstract_port.specs.AbstractPort.{AbstractPort}
+use Rattle.abstract_port.specs.AbstractPort.{AbstractPort, new_port}
 use Rattle.abstract_port.specs.Answers.{answers_of, answers_to, port_after}
 use Rattle.abstract_port.specs.Laws.{starts_in}
 use Rattle.abstract_port.proofs.RunLaws.{answers_of-append}
 use Rattle.abstract_port.proofs.RunTurns.{starts_in-append}
 use Rattle.separation.specs.Traffic.{Came, IsOnly, offered_by, offered_in, queued_by, queued_in}
+use Rattle.separation.specs.Hindsight.{IsOpenBy}
+use Rattle.separation.proofs.RunLaws.{keeping}
 use Rattle.delay_bounds.proofs.QueueLaws.{room_kept}
 use Rattle.any_traffic.specs.Runs.{AreScheduled}
 use Rattle.any_traffic.proofs.PartLaws.{count_frames}
 use Rattle.any_traffic.proofs.Offered.{still_large}
-use Rattle.any_traffic.proofs.Sharing.{AreShared}
+use Rattle.any_traffic.proofs.SharedSlots.{AreSound}
+use Rattle.any_traffic.proofs.StartLaws.{apart_at, class_within, long_at, start_holds}
+use Rattle.any_traffic.proofs.Sharing.{AreLong, AreShared}
 
 module _ (may : ℕ → ℕ → Bool) (ps c : ℕ) where
   pub shared_count : (all : List Start) (free now : ℕ) (came : List Came) (starts : List Start) (wire : ℕ) (waiting : List Frame)
@@ -61,3 +65,22 @@ large_on (x ∷ xs) p large = large_on xs (answers_to x p).1 (still_large x p la
 pub room_on : (xs : List Event) (p : AbstractPort) → (port_after xs p).room ≡ p.room
 room_on [] p = refl
 room_on (x ∷ xs) p = room_on xs (answers_to x p).1 ∙ room_kept x p
+
+-- ---- all starts of a run
+
+pub sound_of : (ps mtu room : ℕ) (a : Accepted) (events : List Event) (need : ℕ → ℕ) → 80 ≤ ps → 68 ≤ mtu
+    → (port_after events (new_port ps mtu room)).history ≡ a ∷ [] → AreLong (starts_in (answers_of events (new_port ps mtu room)))
+    → ((k : ℕ) (x : Start) → slice_get (starts_in (answers_of events (new_port ps mtu room))) k ≡ Some x → x.«end» ≤ x.at + need x.class)
+    → AreSound (a ∷ []) need (starts_in (answers_of events (new_port ps mtu room)))
+sound_of ps mtu room a events need rate large full long short =
+    let p = new_port ps mtu room in
+    let all = starts_in (answers_of events p) in
+    let kept = keeping ps mtu room rate large events in
+    record {
+      through = λ i y e. subst (λ h. open_through h y.class y.at (y.«end» - y.at) ≡ true) full
+          (start_holds (IsOpenBy (port_after events p).history) (answers_of events p) kept.open_by_end i y e);
+      apart = λ i j x y e f less. apart_at 0 all i j x y long kept.apart e f less;
+      some = λ i y e. long_at all i y long e;
+      short = short;
+      few = λ i y e. class_within all i y long e;
+    }

@@ -8,22 +8,22 @@ use Rattle.any_traffic.specs.SharedBounds.{IsSharedBusyPeriod, IsSlotFor, Shared
 use Rattle.any_traffic.specs.SharedSlots.{IsFirstShared, IsNextShared, IsNextWindow, IsSharedSlot, is_opening}
 
 module _ (may : ℕ → ℕ → Bool) (own pitch : ℕ) (blocking : ℕ → ℕ) (e : ℕ) (again : Repeats may e)
-    (blocked : (u : ℕ) → blocking (u + e) ≡ blocking u) where
-  long_later : (u d : ℕ) → may (u + e) (blocking (u + e) + d) ≡ may u (blocking u + d)
-  long_later u d = ap (λ k. may (u + e) (k + d)) (blocked u) ∙ again u (blocking u + d)
+    (blocked : (u : ℕ) → 0 < u → blocking (u + e) ≡ blocking u) where
+  long_later : (u d : ℕ) → 0 < u → may (u + e) (blocking (u + e) + d) ≡ may u (blocking u + d)
+  long_later u d some = ap (λ k. may (u + e) (k + d)) (blocked u some) ∙ again u (blocking u + d)
 
   opening_later : (u : ℕ) → 0 < u → is_opening may own pitch blocking (u + e) ≡ is_opening may own pitch blocking u
   opening_later u some =
       let at : u + e - 1 ≡ u - 1 + e = omega (arith, some) in
       ap (λ k. not (may k 1) && may (u + e) (blocking (u + e) + own)) at
       ∙ (ap (λ b. not b && may (u + e) (blocking (u + e) + own)) (again (u - 1) 1)
-      ∙ ap (λ b. not (may (u - 1) 1) && b) (long_later u own))
+      ∙ ap (λ b. not (may (u - 1) 1) && b) (long_later u own some))
 
   window_later : (t s : ℕ) → IsNextWindow may own pitch blocking t s → IsNextWindow may own pitch blocking (t + e) (s + e)
   window_later t s w =
       let after = w.after in
       let begins = w.begins in
-      let same = blocked w.opening in
+      let same = blocked w.opening (omega (arith, after)) in
       record {
         opening = w.opening + e;
         after = omega (arith, after);
@@ -35,27 +35,29 @@ module _ (may : ℕ → ℕ → Bool) (own pitch : ℕ) (blocking : ℕ → ℕ)
         begins = omega (arith, begins, same);
       }
 
-  first_later : (t s : ℕ) → IsFirstShared may own pitch blocking t s → IsFirstShared may own pitch blocking (t + e) (s + e)
-  first_later t s (inl x) = (let same = blocked t in let is = x.1 in inl (long_later t own ∙ x.0, omega (arith, is, same)))
-  first_later t s (inr x) = inr (long_later t own ∙ x.0, window_later t s x.1)
+  pub first_later : (t s : ℕ) → 0 < t → IsFirstShared may own pitch blocking t s → IsFirstShared may own pitch blocking (t + e) (s + e)
+  first_later t s some (inl x) = (let same = blocked t some in let is = x.1 in inl (long_later t own some ∙ x.0, omega (arith, is, same)))
+  first_later t s some (inr x) = inr (long_later t own some ∙ x.0, window_later t s x.1)
 
-  next_later : (r s : ℕ) → IsNextShared may own pitch blocking r s → IsNextShared may own pitch blocking (r + e) (s + e)
+  pub next_later : (r s : ℕ) → IsNextShared may own pitch blocking r s → IsNextShared may own pitch blocking (r + e) (s + e)
   next_later r s (inl x) = (let is = x.1 in inl (again r (pitch + own) ∙ x.0, omega (arith, is)))
   next_later r s (inr x) = inr (again r (pitch + own) ∙ x.0, window_later r s x.1)
 
-  pub shared_later : (t n s : ℕ) → IsSharedSlot may own pitch blocking t n s → IsSharedSlot may own pitch blocking (t + e) n (s + e)
-  shared_later t zero s h = first_later t s h
-  shared_later t (suc n) s h = (h.0 + e, shared_later t n h.0 h.1, next_later h.0 s h.2)
+  pub shared_later : (t n s : ℕ) → 0 < t → IsSharedSlot may own pitch blocking t n s → IsSharedSlot may own pitch blocking (t + e) n (s + e)
+  shared_later t zero s some h = first_later t s some h
+  shared_later t (suc n) s some h = (h.0 + e, shared_later t n h.0 some h.1, next_later h.0 s h.2)
 
-blocking_repeats : (blocking : ℕ → ℕ) (c : ℕ) → ((u : ℕ) → blocking (u + c) ≡ blocking u) → (k u : ℕ) → blocking (u + c * k) ≡ blocking u
-blocking_repeats blocking c again zero u = (let none : u + c * 0 ≡ u = omega arith in ap blocking none)
-blocking_repeats blocking c again (suc k) u =
+blocking_repeats : (blocking : ℕ → ℕ) (c : ℕ) → ((u : ℕ) → 0 < u → blocking (u + c) ≡ blocking u) → (k u : ℕ) → 0 < u
+    → blocking (u + c * k) ≡ blocking u
+blocking_repeats blocking c again zero u some = (let none : u + c * 0 ≡ u = omega arith in ap blocking none)
+blocking_repeats blocking c again (suc k) u some =
     let more = mul-suc c k in
     let at : u + c * suc k ≡ u + c * k + c = omega (arith, more) in
-    ap blocking at ∙ (again (u + c * k) ∙ blocking_repeats blocking c again k u)
+    ap blocking at ∙ (again (u + c * k) (omega (arith, some)) ∙ blocking_repeats blocking c again k u some)
 
 pub shared_cycle_law : SharedCycleLaw
-shared_cycle_law plan class pitch wait waiting need blocking curve curves higher above blocked cycle t = subst
+shared_cycle_law plan class pitch wait waiting need blocking curve curves higher above blocked cycle zero = cycle 0 (omega arith)
+shared_cycle_law plan class pitch wait waiting need blocking curve curves higher above blocked cycle (suc t) = subst
     (IsSharedBusyPeriod plan class need blocking pitch curve curves higher wait waiting) whole moved
   where
     c : ℕ
@@ -64,19 +66,20 @@ shared_cycle_law plan class pitch wait waiting need blocking curve curves higher
     e : ℕ
     e = c * (t / c)
 
+    -- the moment of the first cycle, from the first one behind the change moment to the last
     p : ℕ
-    p = t % c
+    p = suc (t % c)
 
     some : 0 < c
     some = omega (arith, above)
 
-    whole : p + e ≡ t
+    whole : p + e ≡ suc t
     whole = (let parts = div-add-mod' t c in let turned = mul_comm (t / c) c in omega (arith, parts, turned))
 
     moves : (n s : ℕ) → IsSharedSlot (may_by plan class) (need class) pitch blocking p n s
         → IsSharedSlot (may_by plan class) (need class) pitch blocking (p + e) n (s + e)
     moves n s h = shared_later (may_by plan class) (need class) pitch blocking e (by_repeats plan above class (t / c))
-        (blocking_repeats blocking c blocked (t / c)) p n s h
+        (blocking_repeats blocking c blocked (t / c)) p n s (omega arith) h
 
     same_time : (s : ℕ) → s - p ≡ s + e - (p + e)
     same_time s = omega arith
@@ -92,7 +95,7 @@ shared_cycle_law plan class pitch wait waiting need blocking curve curves higher
 
     moved : IsSharedBusyPeriod plan class need blocking pitch curve curves higher wait waiting (p + e)
     moved =
-        let b = cycle p (mod-lt t some) in
+        let b = cycle p (let less = mod-lt t some in omega (arith, less)) in
         let ends = b.ends in
         record {
           last = b.last;

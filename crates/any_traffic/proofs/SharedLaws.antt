@@ -12,9 +12,7 @@ use Rattle.abstract_port.specs.AbstractPort.{AbstractPort, new_port, queue_of}
 use Rattle.abstract_port.specs.Answers.{answers_of, answers_to, port_after}
 use Rattle.abstract_port.specs.Laws.{starts_in}
 use Rattle.abstract_port.proofs.RunLaws.{port_after-append}
-use Rattle.separation.specs.Hindsight.{IsOpenBy}
 use Rattle.separation.specs.Traffic.{Came, IsOnly, offered_by, offered_in, queued_by, queued_in, starts_of_class}
-use Rattle.separation.proofs.RunLaws.{keeping}
 use Rattle.delay_bounds.proofs.QueueLaws.{Taken, none_offered, one_queued, one_full, now_came, taken}
 use Rattle.any_traffic.specs.ArrivalCurve.{ConformTo}
 use Rattle.any_traffic.specs.Runs.{AreScheduled, IsScheduledAt}
@@ -23,10 +21,10 @@ use Rattle.any_traffic.specs.SharedRuns.{IsSharedInTime, IsSharedRun, KeepStartC
 use Rattle.any_traffic.proofs.ListLaws.{get_last, get_more, none_here, one_before}
 use Rattle.any_traffic.proofs.PartLaws.{ArePart, part_both, part_conform, part_front, part_pair, rising_pair}
 use Rattle.any_traffic.proofs.Offered.{are_part, are_rising, forced_since, offered_forced}
-use Rattle.any_traffic.proofs.RunParts.{large_on, offered_append, only_both, room_on, scheduled_both, shared_count, starts_append}
+use Rattle.any_traffic.proofs.RunParts.{sound_of, large_on, offered_append, only_both, room_on, scheduled_both, shared_count, starts_append}
 use Rattle.any_traffic.proofs.SharedSlots.{AreSound, count_of}
 use Rattle.any_traffic.proofs.SharedWaits.{AreInTime, in_busy_time, in_time}
-use Rattle.any_traffic.proofs.StartLaws.{apart_at, class_rises, class_within, count_own, long_at, span, start_holds}
+use Rattle.any_traffic.proofs.StartLaws.{class_rises, count_own, span}
 use Rattle.any_traffic.proofs.Sharing.{AreShared, AreSince, SharedHolds, comes, shared_run, since_both}
 
 -- ---- how many frames of a higher class start in a time
@@ -105,14 +103,15 @@ module _ (ps mtu room c pitch wait waiting : ℕ) (need blocking : ℕ → ℕ) 
     so_far = starts_in (answers_of before new)
 
     some : 0 < ps
-    some = (let rate = (run.run).rate in omega (arith, rate))
+    some = (let rate = ((run.run).one).rate in omega (arith, rate))
 
     first_part : IsOnly a before new
-    first_part = (only_before ps mtu room a (run.run).rate (run.run).large events before rest parts (run.run).only).0
+    first_part = (only_before ps mtu room a ((run.run).one).rate ((run.run).one).large events before rest parts ((run.run).one).only).0
 
-    chain : SharedHolds c a ps (run.run).listed some then (queued_in c before new) so_far
-    chain = shared_run c a ps (run.run).listed some mtu room before (run.run).large
-        (scheduled_before ps mtu room a (run.run).rate (run.run).large events before rest parts (run.run).only c (run.run).scheduled).0
+    chain : SharedHolds c a ps ((run.run).one).listed some then (queued_in c before new) so_far
+    chain = shared_run c a ps ((run.run).one).listed some mtu room before ((run.run).one).large
+        (scheduled_before ps mtu room a ((run.run).one).rate ((run.run).one).large events before rest parts ((run.run).one).only c
+        (run.run).scheduled).0
         first_part
 
     -- up to there, with a chain of frames that are some of those offered in the whole run
@@ -123,34 +122,28 @@ module _ (ps mtu room c pitch wait waiting : ℕ) (need blocking : ℕ → ℕ) 
         judge some so_far then.now sound few came wire waits served since
         (λ k n f g e h. (let both = part_pair came (offered_in c events new) k n f g part e h in
         rising_pair new.now (offered_in c events new) both.place both.more f g
-        (are_rising c events new (run.run).large) both.first both.second))
+        (are_rising c events new ((run.run).one).large) both.first both.second))
         (part_conform ps (need c) curve came (offered_in c events new) part run.conform)
       where
         sound : AreSound (a ∷ []) need so_far
-        sound = record {
-          through = λ i y e. subst (λ h. open_through h y.class y.at (y.«end» - y.at) ≡ true) full
-              (start_holds (IsOpenBy then.history) (answers_of before new)
-              (keeping ps mtu room (run.run).rate (run.run).large before).open_by_end i y e);
-          apart = λ i j x y e f less. apart_at 0 so_far i j x y chain.long
-              (keeping ps mtu room (run.run).rate (run.run).large before).apart e f less;
-          some = λ i y e. long_at so_far i y chain.long e;
-          short = λ i y e.
-              run.short i y
-              (ap (λ xs. slice_get (starts_in (answers_of xs new)) i) (sym parts)
-              ∙ (ap (λ xs. slice_get xs i) (starts_append before rest new) ∙ get_more so_far (starts_in (answers_of rest then)) i y e));
-          few = λ i y e. class_within so_far i y chain.long e;
-        }
+        sound =
+            sound_of ps mtu room a before need ((run.run).one).rate ((run.run).one).large full chain.long
+            (λ i y e.
+            run.short i y
+            (ap (λ xs. slice_get (starts_in (answers_of xs new)) i) (sym parts)
+            ∙ (ap (λ xs. slice_get xs i) (starts_append before rest new) ∙ get_more so_far (starts_in (answers_of rest then)) i y e)))
 
         few : (i j : ℕ) → slice_get higher i ≡ Some j → (p s : ℕ) → count_of j p (s + 1) so_far ≤ curves j (s - p)
         few i j e p s =
             above_few (a ∷ []) need so_far j (curves j) sound
-            (higher_before ps mtu room a (run.run).rate (run.run).large events before rest parts (run.run).only j (curves j)
+            (higher_before ps mtu room a ((run.run).one).rate ((run.run).one).large events before rest parts ((run.run).one).only j
+            (curves j)
             (run.above i j e)) p s
 
     -- one that comes then finds room
     finds_room : waiting ≤ room → (event : Event) (f : Frame) → IsScheduledAt c event then → offered_by c event then ≡ now_came then f ∷ []
         → ArePart (queued_in c before new ++ now_came then f ∷ []) (offered_in c events new) → length (queue_of then c) < then.room
-    finds_room enough event f k o part = by (offered_forced c event then (large_on before new (run.run).large) k)
+    finds_room enough event f k o part = by (offered_forced c event then (large_on before new ((run.run).one).large) k)
       where
         found : is_some (in_force then.history then.now) ≡ true → length (queue_of then c) < then.room
         found forced = elim chain.phase [
@@ -184,7 +177,7 @@ module _ (ps mtu room c pitch wait waiting : ℕ) (need blocking : ℕ → ℕ) 
       → queued_in c rest (port_after before new) ≡ offered_in c rest (port_after before new)
   all_taken enough before [] parts = refl
   all_taken enough before (event ∷ rest) parts =
-      go (taken c event p (large_on before new (run.run).large))
+      go (taken c event p (large_on before new ((run.run).one).large))
       (subst (λ q. queued_in c rest q ≡ offered_in c rest q) (port_after-append before (event ∷ []) new)
       (all_taken enough (before ++ event ∷ []) rest (append_assoc before (event ∷ []) rest ∙ parts)))
     where
@@ -203,7 +196,7 @@ module _ (ps mtu room c pitch wait waiting : ℕ) (need blocking : ℕ → ℕ) 
           (subst (λ xs. ArePart (queued_in c before new ++ now_came p f ∷ []) (offered_in c before new ++ (xs ++ offered_in c rest q)))
           (sym o)
           (part_both (queued_in c before new) (offered_in c before new) (now_came p f ∷ []) (now_came p f ∷ offered_in c rest q)
-          (are_part c before new (run.run).large)
+          (are_part c before new ((run.run).one).large)
           (part_front (now_came p f ∷ []) (offered_in c rest q)))))
 
       go : Taken c p (offered_by c event p) (queued_by c event p) → queued_in c rest q ≡ offered_in c rest q
@@ -212,7 +205,8 @@ module _ (ps mtu room c pitch wait waiting : ℕ) (need blocking : ℕ → ℕ) 
       go (one_queued f o n some) same = ap (λ xs. xs ++ queued_in c rest q) n ∙
           (ap (λ xs. now_came p f ∷ xs) same ∙ sym (ap (λ xs. xs ++ offered_in c rest q) o))
       go (one_full f o n many) same =
-          let k = (scheduled_before ps mtu room a (run.run).rate (run.run).large events before (event ∷ rest) parts (run.run).only c
+          let k = (scheduled_before ps mtu room a ((run.run).one).rate ((run.run).one).large events before (event ∷ rest) parts
+          ((run.run).one).only c
           (run.run).scheduled).1.0 in
           let less = finds_room before (event ∷ rest) parts enough event f k o (part f o) in
           absurd (omega (arith, many, less))
@@ -222,7 +216,7 @@ module _ (ps mtu room c pitch wait waiting : ℕ) (need blocking : ℕ → ℕ) 
     | inl full ↦
         let h = chain events [] whole in
         let t = judged events [] whole full (queued_in c events new) h.wire (queue_of (port_after events new) c) h.served
-        (are_part c events new (run.run).large) h.since in
+        (are_part c events new ((run.run).one).large) h.since in
         record { soon = t.soon; starts = t.starts; few = t.few; all = λ enough. all_taken enough [] events refl }
     | inr none ↦ record {
       soon = λ i f x e y. absurd (none_here i f (sym (ap (λ xs. slice_get xs i) none.1) ∙ e));
@@ -241,8 +235,9 @@ pub shared_law : SharedLaw
 shared_law ps mtu room c pitch wait waiting need blocking curve curves higher a plan events sharing run bounds =
     by_judge ps mtu room c pitch wait waiting need blocking curve curves higher a plan events run
     (λ some all now sound few came wire waits served since order conform.
-    in_time ps a some all now c plan (run.run).is
-    (run.run).above need blocking pitch curve curves higher sharing.blocked sharing.apart sharing.among sound few came wire waits served
+    in_time ps a some all now c plan ((run.run).one).is
+    ((run.run).one).above need blocking pitch curve curves higher sharing.blocked sharing.apart sharing.among sound few came wire waits
+    served
     since order conform
     wait waiting (λ t x. Unit {0}) (λ t x in_it. bounds.soon t x) (λ t x in_it. bounds.few t x) (λ i m j f g b at e le h come. tt))
 
@@ -250,7 +245,8 @@ pub shared_busy_law : SharedBusyLaw
 shared_busy_law ps mtu room c pitch wait waiting need blocking curve curves higher a plan events sharing run rises times =
     by_judge ps mtu room c pitch wait waiting need blocking curve curves higher a plan events run
     (λ some all now sound few came wire waits served since order conform.
-    in_busy_time ps a some all now c plan (run.run).is
-    (run.run).above need blocking pitch curve curves higher sharing.blocked sharing.apart sharing.among sound few came wire waits served
+    in_busy_time ps a some all now c plan ((run.run).one).is
+    ((run.run).one).above need blocking pitch curve curves higher sharing.blocked sharing.apart sharing.among sound few came wire waits
+    served
     since order conform
     wait waiting rises times)

@@ -254,11 +254,11 @@ module _ (ps : ℕ) (a : Accepted) (some_time : 0 < ps) (all : List Start) (now 
   frames i x e = start_frame (open_through (a ∷ []) c) ps c all 0 now came begun wire waiting_now served i x e
 
   -- a moment up to which a frame has not started
-  abbrev IsUp : ℕ → ℕ → Type 0
+  abbrev pub IsUp : ℕ → ℕ → Type 0
   IsUp i m = IsFrom (a ∷ []) ps c (need c) all came keep.short i i m
 
   -- by a slot with enough before it
-  main : (i m : ℕ) (f : Came) → slice_get came i ≡ Some f → (b : IsUp i m)
+  pub main : (i m : ℕ) (f : Came) → slice_get came i ≡ Some f → (b : IsUp i m)
       → ((j : ℕ) (z : Start) → slice_get begun j ≡ Some z → i ≤ j → m ≤ z.at)
       → (n s : ℕ) → IsSharedSlot (may_by plan c) (need c) pitch blocking ((b.frame).moment - a.change) n s
       → i - b.place + 1 + most_above curves higher (s - ((b.frame).moment - a.change)) ≤ n + 1 → m ≤ a.change + s
@@ -348,7 +348,7 @@ module _ (ps : ℕ) (a : Accepted) (some_time : 0 < ps) (all : List Start) (now 
     pub by_now : m ≤ now
     pub waits : length begun ≤ i → now ≤ m
 
-  at_start : (i : ℕ) (x : Start) → slice_get begun i ≡ Some x → IsMoment i x.at
+  pub at_start : (i : ℕ) (x : Start) → slice_get begun i ≡ Some x → IsMoment i x.at
   at_start i x e = record {
     later = λ j z e' le. rising i j x z e e' le;
     earlier = λ j z e' less. rising j i z x e' e (omega (arith, less));
@@ -356,7 +356,7 @@ module _ (ps : ℕ) (a : Accepted) (some_time : 0 < ps) (all : List Start) (now 
     waits = λ le. (let within = slice_get_within begun i x e in absurd (omega (arith, within, le)));
   }
 
-  at_now : (i : ℕ) → length begun ≤ i → IsMoment i now
+  pub at_now : (i : ℕ) → length begun ≤ i → IsMoment i now
   at_now i le = record {
     later = λ j z e' on. (let within = slice_get_within begun j z e' in absurd (omega (arith, within, le, on)));
     earlier = λ j z e' less. started_by j z e';

@@ -192,7 +192,7 @@ sporadic_law ps mtu room class d flows places events large these s =
 pub sporadic_bounds_law : SporadicBoundsLaw
 sporadic_bounds_law ps mtu room class d wait most a plan flows places events r these s b =
     any_traffic_law ps mtu room class d wait most (curve_of_all flows) a plan events r
-    (sporadic_law ps mtu room class d flows places events r.large these s) b
+    (sporadic_law ps mtu room class d flows places events (r.one).large these s) b
 
 pub sporadic_ends_law : SporadicEndsLaw
 sporadic_ends_law ps mtu room class d wait most a plan flows places events r these s b enough k i f flow x e place is y =

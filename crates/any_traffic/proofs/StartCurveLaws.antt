@@ -100,10 +100,10 @@ start_curve_law ps mtu room c need wait most curve a plan events r conform rises
     mine = started ps mtu room c events
 
     keep : Rattle.any_traffic.specs.ArrivalCurve.ConformTo ps need curve came
-    keep = part_conform ps need curve came (offered_in c events p) (are_part c events p r.large) conform
+    keep = part_conform ps need curve came (offered_in c events p) (are_part c events p (r.one).large) conform
 
     order : (k n : ℕ) (f g : Came) → slice_get came k ≡ Some f → slice_get came (k + n) ≡ Some g → f.moment ≤ g.moment
-    order = queued_order c events p r.large
+    order = queued_order c events p (r.one).large
 
     frames : (k : ℕ) (x : Start) → slice_get mine k ≡ Some x → (f : Came) × (slice_get came k ≡ Some f) × (f.moment ≤ x.at)
     frames k x e = (let own = own_starts_law ps mtu room c a plan events r k x e in (own.0, own.1, own.3))

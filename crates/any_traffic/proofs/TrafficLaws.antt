@@ -62,37 +62,37 @@ module _ (ps class d : ℕ) (a : Accepted) (plan : Plan) (is : a.plan ≡ Some p
 pub slot_law : SlotLaw
 slot_law ps mtu room class d a plan events r short =
     let p : AbstractPort = new_port ps mtu room in
-    let new = new_holds ps mtu room class a r.rate r.large r.listed in
-    let served = served_law ps mtu room class a events r.rate r.large r.listed r.apart r.only in
+    let new = new_holds ps mtu room class a (r.one).rate (r.one).large (r.one).listed in
+    let served = served_law ps mtu room class a events (r.one).rate (r.one).large (r.one).listed r.apart (r.one).only in
     let came : List Came = queued_in class events p in
     let since : (k : ℕ) (f : Came) → slice_get came k ≡ Some f → a.change ≤ f.moment =
     λ k f e.
     (let q = part_at came (offered_in class events p) k f
-    (are_part class events p r.large) e in all_since ps class a r.listed events p [] [] new r.apart r.only q.0 f q.1) in
+    (are_part class events p (r.one).large) e in all_since ps class a (r.one).listed events p [] [] new r.apart (r.one).only q.0 f q.1) in
     record {
-      starts = λ k f x e y. by_plan ps class d a plan r.is r.above came short since k x.at
+      starts = λ k f x e y. by_plan ps class d a plan (r.one).is (r.one).above came short since k x.at
           (started_by (a ∷ []) ps class d came short _ _ _ _ served.served k f x e y);
-      waits = λ f e. by_plan ps class d a plan r.is r.above came short since _ _
+      waits = λ f e. by_plan ps class d a plan (r.one).is (r.one).above came short since _ _
           (waiting_by (a ∷ []) ps class d came short _ _ _ _ served.served f e);
     }
 
 pub any_traffic_law : AnyTrafficLaw
 any_traffic_law ps mtu room class d wait most curve a plan events r keep b =
     let p : AbstractPort = new_port ps mtu room in
-    let new = new_holds ps mtu room class a r.rate r.large r.listed in
-    let served = served_law ps mtu room class a events r.rate r.large r.listed r.apart r.only in
-    let rising = are_rising class events p r.large in
+    let new = new_holds ps mtu room class a (r.one).rate (r.one).large (r.one).listed in
+    let served = served_law ps mtu room class a events (r.one).rate (r.one).large (r.one).listed r.apart (r.one).only in
+    let rising = are_rising class events p (r.one).large in
     let offered : AreLawful ps d a.change curve (offered_in class events p) =
     record {
       keep = keep;
-      since = all_since ps class a r.listed events p [] [] new r.apart r.only;
+      since = all_since ps class a (r.one).listed events p [] [] new r.apart (r.one).only;
       order = λ k n f g e h. rising_pair 0
           (offered_in class events p) k n f g rising e h;
     } in
     let queued = part_lawful ps d a.change curve (queued_in class events p) (offered_in class events p)
-    (are_part class events p r.large) offered in
-    let w = within a plan class d curve wait most r.is r.above b in
-    let n = behind a plan class d curve wait most r.is r.above b in
+    (are_part class events p (r.one).large) offered in
+    let w = within a plan class d curve wait most (r.one).is (r.one).above b in
+    let n = behind a plan class d curve wait most (r.one).is (r.one).above b in
     let gates : List Accepted = a ∷ [] in
     record {
       soon = soon gates ps class d a.change wait most curve w n _ queued _ _ _ _ served.served;
@@ -102,7 +102,7 @@ any_traffic_law ps mtu room class d wait most curve a plan events r keep b =
             (omega (arith, not_yet, past)))
       ];
       few = few_wait gates ps class d a.change wait most curve w n _ queued _ _ _ _ served.served;
-      all = λ enough. all_taken ps class a r.listed room most (AreLawful ps d a.change curve) (part_lawful ps d a.change curve) enough
+      all = λ enough. all_taken ps class a (r.one).listed room most (AreLawful ps d a.change curve) (part_lawful ps d a.change curve) enough
           (λ now came starts wire waits l s. few_wait gates ps class d a.change wait most curve w n came l now starts wire waits s)
-          events p [] [] refl new r.apart r.only offered;
+          events p [] [] refl new r.apart (r.one).only offered;
     }

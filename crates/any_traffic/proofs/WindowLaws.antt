@@ -174,10 +174,10 @@ window_law ps mtu room class d a plan events windows places r c k i s f w e plac
     let p : AbstractPort = new_port ps mtu room in
     let slots = slot_law ps mtu room class d a plan events r c.short in
     let came : List Came = queued ps mtu room class events in
-    let rising = are_rising class events p r.large in
+    let rising = are_rising class events p (r.one).large in
     let order : (k n : ℕ) (f g : Came) → slice_get came k ≡ Some f → slice_get came (k + n) ≡ Some g → f.moment ≤ g.moment =
     λ k n f g e h.
-    (let both = part_pair came (offered_in class events p) k n f g (are_part class events p r.large) e h in
+    (let both = part_pair came (offered_in class events p) k n f g (are_part class events p (r.one).large) e h in
     rising_pair 0 (offered_in class events p) both.place both.more f g rising both.first both.second) in
     let own = c.each k f e in
     let same_place : own.0 ≡ i = same_Some own.0 i (sym own.2 ∙ place) in

@@ -32,13 +32,13 @@ module _ (may : ℕ → ℕ → Bool) (d : ℕ) (flows : List PeriodicFlow) wher
     pub is : IsFreeFrom may d flows (from + every) new
     pub alike : max (from + every) new ≡ max from old + every
 
-  -- each frame of the flows whose latest moment is before a moment starts in the late run within a time of its earliest, its flow's of
-  -- `waits`
-  abbrev pub AreLateWithin : (waits : List ℕ) → (upto : ℕ) → Type 0
-  AreLateWithin waits upto =
-      (i n wait : ℕ) (flow : PeriodicFlow) → slice_get flows i ≡ Some flow → slice_get waits i ≡ Some wait
-      → (window_of flow n).latest < upto
-      → (s : ℕ) × IsLateStart may d flows (window_of flow n).latest s × (s ≤ (window_of flow n).earliest + wait)
+-- Each frame of the flows whose latest moment is before a moment starts by the late run within a time of its earliest, its flow's of
+-- `waits`; `Late t s` says that the last of the frames that may have come by t starts at s.
+abbrev pub AreLateWithin : (Late : ℕ → ℕ → Type 0) (flows : List PeriodicFlow) (waits : List ℕ) (upto : ℕ) → Type 0
+AreLateWithin Late flows waits upto =
+    (i n wait : ℕ) (flow : PeriodicFlow) → slice_get flows i ≡ Some flow → slice_get waits i ≡ Some wait
+    → (window_of flow n).latest < upto
+    → (s : ℕ) × Late (window_of flow n).latest s × (s ≤ (window_of flow n).earliest + wait)
 
 -- The law: from then on each late start comes again, so much later.
 abbrev pub LateForEverLaw : Type 0
@@ -50,8 +50,8 @@ LateForEverLaw =
 abbrev pub LateEnoughLaw : Type 0
 LateEnoughLaw =
     (may : ℕ → ℕ → Bool) (d : ℕ) (flows : List PeriodicFlow) (from every : ℕ) (waits : List ℕ)
-    → ArePeriodic d flows → LateRecurs may d flows from every → AreLateWithin may d flows waits (from + every)
-    → (upto : ℕ) → AreLateWithin may d flows waits upto
+    → ArePeriodic d flows → LateRecurs may d flows from every → AreLateWithin (IsLateStart may d flows) flows waits (from + every)
+    → (upto : ℕ) → AreLateWithin (IsLateStart may d flows) flows waits upto
 
 -- What is known of the frame at place k among those taken, which is frame n of a flow: by its earliest moment, in picoseconds since the
 -- change moment. It starts no sooner than the class may have the wire for the flow's shortest frame; it starts within a time, and has ended
@@ -73,7 +73,7 @@ PeriodicBoundsLaw =
     (numbers : List (ℕ × ℕ)) (waits : List ℕ) (from every : ℕ)
     → IsApartRun ps mtu room class events a plan → ArePeriodic d flows
     → ComeByFlows ps a.change flows numbers (queued ps mtu room class events)
-    → LateRecurs (may_by plan class) d flows from every → AreLateWithin (may_by plan class) d flows waits (from + every)
+    → LateRecurs (may_by plan class) d flows from every → AreLateWithin (IsLateStart (may_by plan class) d flows) flows waits (from + every)
     → (k i n wait : ℕ) (f : Came) (flow : PeriodicFlow)
     → slice_get (queued ps mtu room class events) k ≡ Some f → slice_get numbers k ≡ Some (i, n) → slice_get flows i ≡ Some flow
     → slice_get waits i ≡ Some wait

@@ -9,9 +9,11 @@ pub mod ArrivalWindows
 pub mod PeriodicWindows
 pub mod LateForEver
 pub mod PeriodicRoom
+pub mod WindowCurve
 pub mod ExactWindows
 pub mod Priority
 pub mod SharedSlots
 pub mod SharedRuns
 pub mod StartCurve
 pub mod SharedBounds
+pub mod BlockedWindows

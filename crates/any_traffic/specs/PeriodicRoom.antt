@@ -50,5 +50,6 @@ PeriodicRoomLaw =
 -- The law of room, for ever: once the late run is as it was, the moments up to then are enough.
 abbrev pub RoomEnoughLaw : Type 0
 RoomEnoughLaw =
-    (may : ℕ → ℕ → Bool) (d : ℕ) (flows : List PeriodicFlow) (from every most : ℕ) → ArePeriodic d flows → LateStartsRecur may d flows from every
+    (may : ℕ → ℕ → Bool) (d : ℕ) (flows : List PeriodicFlow) (from every most : ℕ)
+    → ArePeriodic d flows → LateStartsRecur may d flows from every
     → ((t : ℕ) → t < from + every → AreFewLate may d flows most t) → (t : ℕ) → AreFewLate may d flows most t

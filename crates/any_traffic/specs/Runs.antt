@@ -45,25 +45,24 @@ module _ (ps mtu room class : ℕ) (events : List Event) where
   abbrev pub left : ℕ
   left = length (queue_of (port_after events (new_port ps mtu room)) class)
 
-  -- One command is accepted, which has this plan, and no frame of the class comes before it is in force.
-  pub record IsScheduledRun (a : Accepted) (plan : Plan) : Type 0 where
+  -- one command is accepted, which has this plan
+  pub record IsOnePlan (a : Accepted) (plan : Plan) : Type 0 where
     pub rate : MIN_PS_PER_OCTET ≤ ps
     pub large : MIN_MTU ≤ mtu
     pub listed : class < 8
     pub is : a.plan ≡ Some plan
     pub above : 0 < plan.cycle
-    pub scheduled : AreScheduled class events (new_port ps mtu room)
     pub only : IsOnly a events (new_port ps mtu room)
 
-  -- And the command keeps the class apart. Of the frames of other classes nothing is asked.
+  -- and no frame of the class comes before it is in force
+  pub record IsScheduledRun (a : Accepted) (plan : Plan) : Type 0 where
+    pub one : IsOnePlan a plan
+    pub scheduled : AreScheduled class events (new_port ps mtu room)
+
+  -- And it keeps the class apart. Of the frames of other classes nothing is asked.
   pub record IsApartRun (a : Accepted) (plan : Plan) : Type 0 where
-    pub rate : MIN_PS_PER_OCTET ≤ ps
-    pub large : MIN_MTU ≤ mtu
-    pub listed : class < 8
-    pub is : a.plan ≡ Some plan
-    pub above : 0 < plan.cycle
+    pub one : IsOnePlan a plan
     pub apart : IsKeptApart class events (new_port ps mtu room)
-    pub only : IsOnly a events (new_port ps mtu room)
 
   -- Each frame starts no later than so long after it came; as soon as that has passed it has started; no more than `most` wait at the end,
   -- and so at any time, since each beginning of a run is a run; and where there is room for these the queue takes every frame that it is

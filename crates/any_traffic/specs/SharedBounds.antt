@@ -66,10 +66,11 @@ SharedBusyLaw =
     → ((t : ℕ) → IsSharedBusyPeriod plan class need blocking pitch curve curves higher wait waiting t)
     → IsSharedInTime ps mtu room events class wait waiting
 
--- The law of one cycle: where the blocking repeats, too, what bounds the busy period from each moment of one cycle bounds it from any.
+-- The law of one cycle: where the blocking repeats, too, but for that at the change moment, what bounds the busy period from each moment up
+-- to the end of the first cycle bounds it from any.
 abbrev pub SharedCycleLaw : Type 0
 SharedCycleLaw =
     (plan : Plan) (class pitch wait waiting : ℕ) (need blocking : ℕ → ℕ) (curve : ℕ → ℕ) (curves : ℕ → ℕ → ℕ) (higher : List ℕ)
-    → 0 < plan.cycle → ((u : ℕ) → blocking (u + in_ps plan.cycle) ≡ blocking u)
-    → ((t : ℕ) → t < in_ps plan.cycle → IsSharedBusyPeriod plan class need blocking pitch curve curves higher wait waiting t)
+    → 0 < plan.cycle → ((u : ℕ) → 0 < u → blocking (u + in_ps plan.cycle) ≡ blocking u)
+    → ((t : ℕ) → t ≤ in_ps plan.cycle → IsSharedBusyPeriod plan class need blocking pitch curve curves higher wait waiting t)
     → (t : ℕ) → IsSharedBusyPeriod plan class need blocking pitch curve curves higher wait waiting t

@@ -5,8 +5,9 @@
 
 ghost use Rattle.any_traffic.specs.AnyTraffic.{AnyTrafficLaw};
 ghost use Rattle.any_traffic.specs.ArrivalWindows.{WindowLaw};
+ghost use Rattle.any_traffic.specs.BlockedWindows.{BlockedBoundsLaw, BlockedForEverLaw, BlockedWindowLaw};
 ghost use Rattle.any_traffic.specs.BusyPeriod.{CycleLaw, RisingLaw, SubadditiveLaw};
-ghost use Rattle.any_traffic.specs.ExactWindows.{ExactLaw};
+ghost use Rattle.any_traffic.specs.ExactWindows.{ExactLaw, ExactRunLaw};
 ghost use Rattle.any_traffic.specs.LateForEver.{LateEnoughLaw, LateForEverLaw, PeriodicBoundsLaw};
 ghost use Rattle.any_traffic.specs.PeriodicRoom.{PeriodicRoomLaw, RoomEnoughLaw};
 ghost use Rattle.any_traffic.specs.PeriodicWindows.{PeriodicWindowLaw};
@@ -16,6 +17,7 @@ ghost use Rattle.any_traffic.specs.Slots.{SlotLaw};
 ghost use Rattle.any_traffic.specs.Sporadic.{PeriodicLaw, SporadicBoundsLaw, SporadicEndsLaw, SporadicLaw};
 ghost use Rattle.any_traffic.specs.StartCurve.{StartCurveLaw};
 ghost use Rattle.any_traffic.specs.Starts.{ApartRunLaw, LeastStartLaw, OwnStartsLaw};
+ghost use Rattle.any_traffic.specs.WindowCurve.{WindowCurveLaw};
 
 /// In every run each start of a class is that of its frame, and no sooner than the class may have the wire for it.
 pub fn starts()
@@ -35,11 +37,12 @@ pub fn any_traffic()
     ensures { AnyTrafficLaw }
 {}
 
-/// Frames of sporadic flows, with jitter, conform to the sum of the flows' curves.
+/// Frames of sporadic flows, with jitter, conform to the sum of the flows' curves, and so do those of periodic ones.
 pub fn sporadic()
     ensures curve { SporadicLaw }
     ensures bounds { SporadicBoundsLaw }
     ensures ends { SporadicEndsLaw }
+    ensures windows { WindowCurveLaw }
     ensures some { PeriodicLaw }
 {}
 
@@ -64,6 +67,7 @@ pub fn periodic_windows()
     ensures enough { LateEnoughLaw }
     ensures bounds { PeriodicBoundsLaw }
     ensures exact { ExactLaw }
+    ensures some { ExactRunLaw }
     ensures room { PeriodicRoomLaw }
     ensures room_again { RoomEnoughLaw }
 {}
@@ -82,4 +86,12 @@ pub fn shared()
     ensures busy { SharedBusyLaw }
     ensures cycle { SharedCycleLaw }
     ensures curve { StartCurveLaw }
+{}
+
+/// Frames of periodic flows with jitter, in a class that shares its windows with lower classes alone, start no later
+/// than in the late run, in which a frame of those may block each that comes.
+pub fn blocked_windows()
+    ensures starts { BlockedWindowLaw }
+    ensures again { BlockedForEverLaw }
+    ensures bounds { BlockedBoundsLaw }
 {}

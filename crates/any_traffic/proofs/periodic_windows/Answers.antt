@@ -1,4 +1,5 @@
 use Rattle.any_traffic.proofs.ExactLaws as ExactLaws
+use Rattle.any_traffic.proofs.ExactRuns as ExactRuns
 use Rattle.any_traffic.proofs.LateForEverLaws as LateForEverLaws
 use Rattle.any_traffic.proofs.PeriodicBounds as PeriodicBounds
 use Rattle.any_traffic.proofs.PeriodicRoomLaws as PeriodicRoomLaws
@@ -25,3 +26,6 @@ returns-clause-room c = PeriodicRoomLaws.periodic_room_law
 
 pub returns-clause-room_again : goal.returns-clause-room_again
 returns-clause-room_again c = PeriodicRoomLaws.room_enough_law
+
+pub returns-clause-some : goal.returns-clause-some
+returns-clause-some c = ExactRuns.exact_run_law
