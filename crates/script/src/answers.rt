@@ -1,6 +1,6 @@
 //! What a port answers to the lines of a script, written as it comes.
 
-ghost use Rattle.std.specs.Prelude.{ℕ, List, Option, Result, ◌≡◌, ◌<◌, ◌≤◌, length, OnOk};
+ghost use Rattle.std.specs.Prelude.{ℕ, List, Option, Result, [], ◌≡◌, ◌<◌, ◌≤◌, length, OnOk};
 ghost use Rattle.script.specs.Alerts.{Alerting, alerts_from, left_alert};
 ghost use Rattle.script.specs.Words.{queue_of, IsSoundPort, Command, Writes, HasFewVisits, IsAnswered, Asks, tc_request, left_lines, left_text, IsReader, TcFault, greatest_moment, words_of, Observed};
 ghost use Rattle.abstract_port.specs.declared.Event.TheVariants as Events;
@@ -214,6 +214,16 @@ pub fn put_tc<A: Allocator, W: PutLine, H: Watch>(
     put_command(port, summary, number, line, &place.answer, writer, watch)
 }
 
+/// Calls who watches where frames of a class were queued.
+fn tell_used<A: Allocator, H: Watch>(port: &RunningPort<A>, class: u8, watch: &mut H)
+    requires { class < CLASSES }
+    ensures { H.alerted [] watch.old watch.new }
+{
+    if port.counters(class).accepted > 0 {
+        watch.class_used(class);
+    }
+}
+
 /// Writes how many frames a class still has, where it has some, and calls who watches there, and where any were queued.
 fn put_left_in<A: Allocator, W: Write, H: Watch>(
     port: &RunningPort<A>,
@@ -225,11 +235,8 @@ fn put_left_in<A: Allocator, W: Write, H: Watch>(
     ensures text { Writes result (W.contents writer.old) (W.contents writer.new) (left_text class (length (queue_of port.now.port class))) }
     ensures alerts { H.alerted (left_alert class (length (queue_of port.now.port class))) watch.old watch.new }
 {
-    let counters = port.counters(class);
-    if counters.accepted > 0 {
-        watch.class_used(class);
-    }
-    let waiting = counters.waiting;
+    tell_used(port, class, watch);
+    let waiting = port.counters(class).waiting;
     if waiting == 0 {
         Ok(())
     } else {

@@ -22,9 +22,11 @@ returns-else-waiting-eq0-clause-text g c =
 pub returns-then-waiting-eq0-clause-alerts : goal.returns-then-waiting-eq0-clause-alerts
 returns-then-waiting-eq0-clause-alerts g c =
     let same = ap (λ k. k.waiting) c.counters-waiting.ensures in
-    alerts_same g.H.Watch.alerted [] _ c.args.watch.now c.args.watch.now (none_alerted c.args.class _ _ same c.if-waiting-eq0.true) (g.met.H.Watch.nothing c.args.watch.now)
+    alerts_same g.H.Watch.alerted [] _ c.args.watch.now c.tell_used.new.watch (none_alerted c.args.class _ _ same c.if-waiting-eq0.true) c.tell_used.ensures
 
 pub returns-else-waiting-eq0-clause-alerts : goal.returns-else-waiting-eq0-clause-alerts
 returns-else-waiting-eq0-clause-alerts g c =
     let same = ap (λ k. k.waiting) c.counters-waiting.ensures in
-    alerts_same g.H.Watch.alerted (Left c.args.class c.counters-waiting.result.waiting ∷ []) _ c.args.watch.now c.frames_left.new.self (some_alerted c.args.class _ _ same c.if-waiting-eq0.false) c.frames_left.ensures
+    let left = Left c.args.class c.counters-waiting.result.waiting ∷ [] in
+    alerts_same g.H.Watch.alerted left _ c.args.watch.now c.frames_left.new.self (some_alerted c.args.class _ _ same c.if-waiting-eq0.false)
+    (g.met.H.Watch.both [] left c.args.watch.now c.tell_used.new.watch c.frames_left.new.self c.tell_used.ensures c.frames_left.ensures)
