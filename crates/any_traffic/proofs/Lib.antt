@@ -33,3 +33,4 @@ mod SharedExample
 pub mod BlockedSlots
 pub mod BlockedWindowLaws
 pub mod BlockedForEverLaws
+pub mod ReachedLaws

@@ -1,5 +1,5 @@
 -- Frames of periodic flows with jitter conform to the sum of the flows' curves.
-use Rattle.std.proofs.Common.{◌≡◌, ◌<◌, ◌≤◌, ℕ, suc, ◌+◌, ◌-◌, ◌*◌, ◌/◌, inl, inr, List, [], ◌∷◌, map, slice_get, Some, refl, sym, ap, ◌∙◌, arith, le_refl, mul-add, mul_comm}
+use Rattle.std.proofs.Common.{◌≡◌, ◌<◌, ◌≤◌, ℕ, suc, ◌+◌, ◌-◌, ◌*◌, ◌/◌, inl, inr, List, [], ◌∷◌, map, slice_get, Some, refl, ap, arith, mul-add, mul_comm}
 use Rattle.std.specs.Prelude.{sum_by}
 use Rattle.std.proofs.Math.Nat.{le-div_iff_mul-le}
 use Rattle.std.proofs.lemmas.Bool.{cases_lt}
@@ -7,7 +7,7 @@ use Rattle.std.proofs.lemmas.List.Sums.{sum_by-cons}
 use Rattle.abstract_port.specs.AbstractPort.{new_port}
 use Rattle.separation.specs.Traffic.{Came, offered_in}
 use Rattle.any_traffic.specs.PeriodicWindows.{PeriodicFlow, before}
-use Rattle.any_traffic.specs.Sporadic.{Sporadic, curve_of, curve_of_all}
+use Rattle.any_traffic.specs.Sporadic.{curve_of, curve_of_all}
 use Rattle.any_traffic.specs.WindowCurve.{WindowCurveLaw, without_offset}
 use Rattle.any_traffic.proofs.Offered.{are_rising}
 use Rattle.any_traffic.proofs.PartLaws.{rising_pair}

@@ -2,6 +2,7 @@ pub mod Runs
 pub mod Starts
 pub mod ArrivalCurve
 pub mod Slots
+pub mod Reached
 pub mod AnyTraffic
 pub mod Sporadic
 pub mod BusyPeriod

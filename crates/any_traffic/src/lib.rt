@@ -12,6 +12,7 @@ ghost use Rattle.any_traffic.specs.LateForEver.{LateEnoughLaw, LateForEverLaw, P
 ghost use Rattle.any_traffic.specs.PeriodicRoom.{PeriodicRoomLaw, RoomEnoughLaw};
 ghost use Rattle.any_traffic.specs.PeriodicWindows.{PeriodicWindowLaw};
 ghost use Rattle.any_traffic.specs.Priority.{PriorityLaw};
+ghost use Rattle.any_traffic.specs.Reached.{ReachedLaw};
 ghost use Rattle.any_traffic.specs.SharedBounds.{SharedBusyLaw, SharedCycleLaw, SharedLaw};
 ghost use Rattle.any_traffic.specs.Slots.{SlotLaw};
 ghost use Rattle.any_traffic.specs.Sporadic.{PeriodicLaw, SporadicBoundsLaw, SporadicEndsLaw, SporadicLaw};
@@ -26,9 +27,11 @@ pub fn starts()
     ensures apart { ApartRunLaw }
 {}
 
-/// In every run each frame of a class that is kept apart starts by a slot of the plan alone, whenever its frames come.
+/// In every run each frame of a class that is kept apart starts by a slot of the plan alone, whenever its frames come;
+/// and at the slot exactly, where all have one length and keep the wire busy.
 pub fn slots()
-    ensures { SlotLaw }
+    ensures starts { SlotLaw }
+    ensures reached { ReachedLaw }
 {}
 
 /// In every run the frames of a class that is kept apart, whenever they come by an arrival curve, start within the
