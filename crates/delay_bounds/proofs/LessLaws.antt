@@ -23,7 +23,7 @@ use Rattle.delay_bounds.specs.Walk.{begun}
 use Rattle.delay_bounds.specs.declared.Flow.{Flow}
 
 -- a shorter frame that may start earlier starts no later
-first_rises : (h : List Accepted) (class d e t u s v : ℕ) → d ≤ e → t ≤ u → IsFirst (open_through h class) d t s → IsFirst (open_through h class) e u v → s ≤ v
+pub first_rises : (h : List Accepted) (class d e t u s v : ℕ) → d ≤ e → t ≤ u → IsFirst (open_through h class) d t s → IsFirst (open_through h class) e u v → s ≤ v
 first_rises h class d e t u s v shorter sooner a b =
     elim (cases_lt v s) [
       | inl before ↦

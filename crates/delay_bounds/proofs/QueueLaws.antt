@@ -278,7 +278,7 @@ arrival_taken class p f large = go (verdict p f) refl
     go (Err TooLong) e = none_offered refl refl
     go (Err OverSdu) e = none_offered refl refl
 
-taken : (class : ℕ) (event : Event) (p : AbstractPort) → 68 ≤ p.mtu → Taken class p (offered_by class event p) (queued_by class event p)
+pub taken : (class : ℕ) (event : Event) (p : AbstractPort) → 68 ≤ p.mtu → Taken class p (offered_by class event p) (queued_by class event p)
 taken class (Arrive f) p large = arrival_taken class p f large
 taken class (Install b) p large = none_offered refl refl
 taken class (Clock m) p large = none_offered refl refl
