@@ -1,0 +1,145 @@
+//! The moments from which a busy time may be the worst: right behind the last one from which so many frames could be
+//! sent before a window ends.
+
+use crate::busy::{busy_frames, longest_wait, most_waiting};
+use crate::repeats::{Repeat, frames_until};
+use crate::slots::{is_slot, slots_from};
+use crate::{Bounds, Unbound};
+use gate_list::{Schedule, Visits};
+use list_position::Position;
+use std::alloc::Allocator;
+
+/// How far a busy time is looked at.
+#[derive(Clone, Copy)]
+pub enum Reach {
+    /// Behind so many frames the wire is idle.
+    Idle(usize),
+    /// Behind so many frames all comes again.
+    Again(usize),
+}
+
+/// How far the busy time from a moment on has to be looked at; none where its end isn't seen.
+fn reach_of(
+    slots: &[u128],
+    moments: &[u128],
+    from: u128,
+    need: u128,
+    repeat: Option<Repeat>,
+) -> Option<Reach> {
+    match busy_frames(slots, moments, from, need) {
+        Some(frames) => Some(Reach::Idle(frames)),
+        None => Some(Reach::Again(frames_until(slots, moments, from, repeat?)?)),
+    }
+}
+
+/// The greater of bounds and those of so many frames.
+fn with_frames(
+    bounds: Bounds,
+    slots: &[u128],
+    moments: &[u128],
+    from: u128,
+    frames: usize,
+) -> Bounds {
+    Bounds {
+        wait: longest_wait(slots, moments, from, frames).max(bounds.wait),
+        most: most_waiting(slots, moments, from, frames).max(bounds.most),
+    }
+}
+
+/// Bounds, with the busy time from a moment on.
+pub fn with_moment(
+    bounds: &mut Bounds,
+    slots: &[u128],
+    moments: &[u128],
+    from: u128,
+    need: u128,
+    repeat: Option<Repeat>,
+) -> Result<Reach, Unbound> {
+    let Some(reach) = reach_of(slots, moments, from, need, repeat) else {
+        return Err(Unbound::Long);
+    };
+    let frames = match reach {
+        Reach::Idle(frames) => frames,
+        Reach::Again(frames) => frames,
+    };
+    *bounds = with_frames(*bounds, slots, moments, from, frames);
+    Ok(reach)
+}
+
+/// Whether the wire is idle before so many frames are sent.
+fn is_idle_before(reach: Reach, frames: usize) -> bool {
+    match reach {
+        Reach::Idle(n) => n < frames,
+        Reach::Again(_) => false,
+    }
+}
+
+/// Bounds, with the busy times that begin just too late for 1, 2, .. frames to be sent before a window ends.
+fn with_window<A: Allocator>(
+    alloc: &A,
+    schedule: &Schedule,
+    first: &Position,
+    class: u8,
+    need: u128,
+    end: u128,
+    moments: &[u128],
+    repeat: Option<Repeat>,
+    bounds: &mut Bounds,
+) -> Result<(), Unbound>
+where
+    A: Clone,
+{
+    let mut from = end + 1;
+    let mut frames = 0;
+    let mut slots = slots_from(
+        alloc,
+        schedule,
+        first,
+        class,
+        need,
+        end.saturating_sub(need) + 1,
+        moments.len(),
+    )?;
+    while from > need && is_slot(schedule, first, class, need, from - need - 1) {
+        from -= need;
+        if frames > 0 {
+            let Ok(()) = slots.insert(0, from) else {
+                return Err(Unbound::Memory);
+            };
+        }
+        frames += 1;
+        let reach = with_moment(bounds, slots.as_slice(), moments, from, need, repeat)?;
+        if is_idle_before(reach, frames) {
+            return Ok(());
+        }
+    }
+    Ok(())
+}
+
+/// Bounds, with the busy times around the end of each window of a cycle.
+pub fn with_windows<A: Allocator>(
+    alloc: &A,
+    schedule: &Schedule,
+    first: &Position,
+    class: u8,
+    need: u128,
+    moments: &[u128],
+    repeat: Option<Repeat>,
+    bounds: &mut Bounds,
+) -> Result<(), Unbound>
+where
+    A: Clone,
+{
+    let mut visits = Visits::zero();
+    let cycle = 1000 * u128::from(schedule.cycle_ns());
+    let mut end = cycle;
+    for i in 0..schedule.len() {
+        if !is_slot(schedule, first, class, 1, end) && is_slot(schedule, first, class, 1, end - 1) {
+            with_window(
+                alloc, schedule, first, class, need, end, moments, repeat, bounds,
+            )?;
+        }
+        end += 1000 * u128::from(schedule.entry(i, &mut visits).interval);
+    }
+    Ok(())
+}

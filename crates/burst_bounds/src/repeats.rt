@@ -1,0 +1,88 @@
+//! Where as many frames come as the windows take, the wire need not become idle. Then all repeats.
+
+use crate::Talker;
+
+/// After so long as many frames have come, and so on.
+#[derive(Clone, Copy)]
+pub struct Repeat {
+    pub frames: usize,
+    pub time: u128,
+}
+
+/// The greatest common divisor.
+fn common_divisor(a: u128, b: u128) -> u128 {
+    let mut a = a;
+    let mut b = b;
+    while b != 0 {
+        let rest = a % b;
+        a = b;
+        b = rest;
+    }
+    a
+}
+
+/// A common multiple, the least, where it is below 2^127.
+fn common_multiple(a: u128, b: u128) -> Option<u128> {
+    let times = b / common_divisor(a, b).max(1);
+    a.checked_mul(times)
+}
+
+/// Whole cycles and whole periods of each talker; none where that is too long.
+fn common_time(talkers: &[Talker], cycle: u128) -> Option<u128> {
+    let mut time = cycle;
+    for talker in talkers {
+        time = common_multiple(time, talker.period)?;
+    }
+    Some(time)
+}
+
+/// How many frames come in a time of whole periods, where they are no more than may be.
+fn frames_in(talkers: &[Talker], time: u128, limit: usize) -> Option<usize> {
+    let mut left = limit as u128;
+    for talker in talkers {
+        left = left.checked_sub(time / talker.period)?;
+    }
+    Some(limit - left as usize)
+}
+
+/// After how long, and how many frames, all comes again; none where there are more than may be looked at.
+pub fn repeat_of(talkers: &[Talker], cycle: u128, limit: usize) -> Option<Repeat> {
+    let time = common_time(talkers, cycle)?;
+    let frames = frames_in(talkers, time, limit)?;
+    Some(Repeat { frames, time })
+}
+
+/// The first slot that comes again.
+fn first_again(slots: &[u128], repeat: Repeat) -> Option<usize> {
+    let mut i = 0;
+    while i < slots.len() && repeat.frames < slots.len() - i {
+        if slots[i + repeat.frames] == slots[i] + repeat.time {
+            return Some(i);
+        }
+        i += 1;
+    }
+    None
+}
+
+/// The first frame from a place on that comes behind a slot.
+fn first_behind(moments: &[u128], from: u128, place: usize, slot: u128) -> Option<usize> {
+    let mut i = place;
+    while i < moments.len() {
+        if slot < from + moments[i] {
+            return Some(i);
+        }
+        i += 1;
+    }
+    None
+}
+
+/// How many frames have to be looked at, where all then comes again.
+pub fn frames_until(slots: &[u128], moments: &[u128], from: u128, repeat: Repeat) -> Option<usize> {
+    let again = first_again(slots, repeat)?;
+    let behind = first_behind(moments, from, again, slots[again])?;
+    if repeat.frames <= moments.len() - behind && behind + repeat.frames <= slots.len() {
+        Some(behind + repeat.frames)
+    } else {
+        None
+    }
+}

@@ -1,0 +1,118 @@
+//! The bounds of a class, by the busy times from finitely many moments.
+
+use crate::arrivals::arrivals;
+use crate::moments::{with_moment, with_windows};
+use crate::rate::is_overloaded;
+use crate::repeats::{Repeat, repeat_of};
+use crate::slots::slots_from;
+use crate::{Bounds, Talker, Unbound};
+use gate_list::{Schedule, Visits};
+use list_position::Position;
+use std::alloc::Allocator;
+
+/// So many frames are looked at from each moment on at first.
+const FEW: usize = 256;
+
+/// The longest need of all talkers.
+fn longest_need(talkers: &[Talker]) -> u128 {
+    let mut need = 0;
+    for talker in talkers {
+        need = talker.need.max(need);
+    }
+    need
+}
+
+/// The bounds, where so many frames from each moment on show them.
+fn bounds_by<A: Allocator>(
+    alloc: &A,
+    schedule: &Schedule,
+    first: &Position,
+    class: u8,
+    need: u128,
+    talkers: &[Talker],
+    repeat: Option<Repeat>,
+    frames: usize,
+) -> Result<Bounds, Unbound>
+where
+    A: Clone,
+{
+    let Ok(moments) = arrivals(alloc, talkers, frames) else {
+        return Err(Unbound::Memory);
+    };
+    let slots = slots_from(alloc, schedule, first, class, need, 0, frames)?;
+    let mut bounds = Bounds { wait: 0, most: 0 };
+    let _reach = with_moment(
+        &mut bounds,
+        slots.as_slice(),
+        moments.as_slice(),
+        0,
+        need,
+        repeat,
+    )?;
+    with_windows(
+        alloc,
+        schedule,
+        first,
+        class,
+        need,
+        moments.as_slice(),
+        repeat,
+        &mut bounds,
+    )?;
+    Ok(bounds)
+}
+
+/// The bounds by more and more frames from each moment on.
+fn bounds_within<A: Allocator>(
+    alloc: &A,
+    schedule: &Schedule,
+    first: &Position,
+    class: u8,
+    need: u128,
+    talkers: &[Talker],
+    repeat: Option<Repeat>,
+    most: usize,
+) -> Result<Bounds, Unbound>
+where
+    A: Clone,
+{
+    let mut frames = FEW;
+    while frames < most {
+        match bounds_by(alloc, schedule, first, class, need, talkers, repeat, frames) {
+            Err(Unbound::Long) => {}
+            other => return other,
+        }
+        frames = 2 * frames;
+    }
+    bounds_by(alloc, schedule, first, class, need, talkers, repeat, most)
+}
+
+/// The bounds of a class that a schedule keeps apart, whenever the frames of its talkers come.
+pub fn burst_bounds<A: Allocator>(
+    alloc: &A,
+    schedule: &Schedule,
+    class: u8,
+    talkers: &[Talker],
+    limit: u32,
+) -> Result<Bounds, Unbound>
+where
+    A: Clone,
+{
+    let first = Position::first(schedule, 0, &mut Visits::zero());
+    let need = longest_need(talkers);
+    if is_overloaded(alloc, schedule, &first, class, need, talkers)? {
+        return Err(Unbound::Overloaded);
+    }
+    let cycle = 1000 * u128::from(schedule.cycle_ns());
+    let repeat = repeat_of(talkers, cycle, limit as usize);
+    bounds_within(
+        alloc,
+        schedule,
+        &first,
+        class,
+        need,
+        talkers,
+        repeat,
+        limit as usize + 1,
+    )
+}
