@@ -1,0 +1,3 @@
+pub mod BusyLaws
+pub mod SlotLaws
+pub mod SlotlessLaws

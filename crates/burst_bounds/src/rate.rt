@@ -97,7 +97,7 @@ fn same_times<A: Allocator>(
     time: u128,
 ) -> Result<Vec<u128, A>, AllocError> {
     let mut times = Vec::with_capacity(alloc, talkers)?;
-    for _ in 0..talkers {
+    for _i in 0..talkers {
         times.push(time)?;
     }
     Ok(times)
