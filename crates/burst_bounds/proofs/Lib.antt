@@ -1,3 +1,4 @@
 pub mod BusyLaws
 pub mod SlotLaws
 pub mod SlotlessLaws
+pub mod ArrivalLaws
