@@ -1,5 +1,6 @@
 -- The busy time from a moment on, by its slots and by when the frames come at the earliest.
-use Rattle.std.specs.Prelude.{◌≡◌, ◌<◌, ◌≤◌, ℕ, ◌+◌, ◌-◌, ◌⊎◌, List, length, slice_index}
+use Rattle.std.specs.Prelude.{◌≡◌, ◌<◌, ◌≤◌, ℕ, ◌+◌, ◌-◌, ◌⊎◌, max, List, length, slice_index}
+use Rattle.burst_bounds.specs.declared.Bounds.{Bounds}
 
 -- no later moment is earlier
 pub record Rises (moments : List ℕ) : Type 0 where
@@ -25,3 +26,12 @@ pub record IsLongest (from : ℕ) (slots moments : List ℕ) (frames wait : ℕ)
 pub record IsMost (from : ℕ) (slots moments : List ℕ) (frames most : ℕ) : Type 0 where
   pub within : (i n : ℕ) → i < frames → n < length slots → from + slice_index moments i ≤ slice_index slots n → i + 1 ≤ n + most
   pub reached : (most ≡ 0) ⊎ ((i n : ℕ) × (i < frames) × (n < length slots) × (from + slice_index moments i ≤ slice_index slots n) × (i + 1 ≡ n + most))
+
+-- bounds, and those of so many frames: each is the greater of the two
+pub record HasFrames (old : Bounds) (from : ℕ) (slots moments : List ℕ) (frames : ℕ) (new : Bounds) : Type 0 where
+  pub wait : ℕ
+  pub most : ℕ
+  pub longest : IsLongest from slots moments frames wait
+  pub greatest : IsMost from slots moments frames most
+  pub wait_is : new.wait ≡ max wait old.wait
+  pub most_is : new.most ≡ max most old.most

@@ -4,3 +4,4 @@ pub mod Unbound
 pub mod Walk
 pub mod Busy
 pub mod Slotless
+pub mod Reach

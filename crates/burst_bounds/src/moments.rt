@@ -1,6 +1,15 @@
 //! The moments from which a busy time may be the worst: right behind the last one from which so many frames could be
 //! sent before a window ends.
 
+ghost use Rattle.std.specs.Prelude.{◌≡◌, ℕ, ◌<◌, ◌≤◌, ◌+◌, ◌-◌, ◌*◌, Err, None, IfErr, IfOk, IfSome, IsTrue, MatchOption, length};
+ghost use Rattle.wire_time.specs.Moment.{greatest_moment};
+ghost use Rattle.gate_list.specs.Gate.{IsSchedule, Plan, in_ps};
+ghost use Rattle.list_position.specs.Position.{IsPlaced};
+ghost use Rattle.delay_bounds.specs.Walk.{may_by};
+ghost use Rattle.burst_bounds.specs.Busy.{HasFrames, IsBusyUntil, Rises};
+ghost use Rattle.burst_bounds.specs.Reach.{IsSeen, IsSmall, frames_of};
+ghost use Rattle.burst_bounds.specs.Walk.{AreArrivals, AreBelow, AreSlots};
+
 use crate::busy::{busy_frames, longest_wait, most_waiting};
 use crate::repeats::{Repeat, frames_until};
 use crate::slots::{is_slot, slots_from};
@@ -25,10 +34,33 @@ fn reach_of(
     from: u128,
     need: u128,
     repeat: Option<Repeat>,
-) -> Option<Reach> {
-    match busy_frames(slots, moments, from, need) {
-        Some(frames) => Some(Reach::Idle(frames)),
-        None => Some(Reach::Again(frames_until(slots, moments, from, repeat?)?)),
+) -> Option<Reach>
+    requires slots { AreBelow 100 slots.now }
+    requires moments { AreBelow 120 moments.now }
+    requires from { from ≤ greatest_moment }
+    requires need { need ≤ greatest_moment }
+    requires repeat { IfSome repeat IsSmall }
+    ensures { MatchOption result (IsBusyUntil need from slots.now moments.now) (IsSeen need from slots.now moments.now repeat) }
+{
+    if let Some(frames) = busy_frames(slots, moments, from, need) {
+        return Some(Reach::Idle(frames));
+    }
+    let Some(repeat) = repeat else {
+        return None;
+    };
+    match frames_until(slots, moments, from, repeat) {
+        Some(frames) => Some(Reach::Again(frames)),
+        None => None,
+    }
+}
+
+/// How many frames are looked at.
+fn frames_of(reach: Reach) -> usize
+    ensures { result ≡ frames_of reach }
+{
+    match reach {
+        Reach::Idle(frames) => frames,
+        Reach::Again(frames) => frames,
     }
 }
 
@@ -39,7 +71,14 @@ fn with_frames(
     moments: &[u128],
     from: u128,
     frames: usize,
-) -> Bounds {
+) -> Bounds
+    requires slots { AreBelow 100 slots.now }
+    requires moments { AreBelow 120 moments.now }
+    requires from { from ≤ greatest_moment }
+    requires rises { Rises moments.now }
+    requires within { (frames ≤ length slots.now) × (frames ≤ length moments.now) }
+    ensures { HasFrames bounds from slots.now moments.now frames result }
+{
     Bounds {
         wait: longest_wait(slots, moments, from, frames).max(bounds.wait),
         most: most_waiting(slots, moments, from, frames).max(bounds.most),
@@ -54,20 +93,28 @@ pub fn with_moment(
     from: u128,
     need: u128,
     repeat: Option<Repeat>,
-) -> Result<Reach, Unbound> {
+) -> Result<Reach, Unbound>
+    requires slots { AreBelow 100 slots.now }
+    requires moments { AreBelow 120 moments.now }
+    requires from { from ≤ greatest_moment }
+    requires rises { Rises moments.now }
+    requires need { need ≤ greatest_moment }
+    requires repeat { IfSome repeat IsSmall }
+    ensures seen { IfOk result (IsSeen need from slots.now moments.now repeat) }
+    ensures bounds { IfOk result (λ reach. HasFrames bounds.old from slots.now moments.now (frames_of reach) bounds.new) }
+    ensures why { IfErr result (λ why. (why ≡ Unbound.Long) × IsBusyUntil need from slots.now moments.now) }
+{
     let Some(reach) = reach_of(slots, moments, from, need, repeat) else {
         return Err(Unbound::Long);
     };
-    let frames = match reach {
-        Reach::Idle(frames) => frames,
-        Reach::Again(frames) => frames,
-    };
-    *bounds = with_frames(*bounds, slots, moments, from, frames);
+    *bounds = with_frames(*bounds, slots, moments, from, frames_of(reach));
     Ok(reach)
 }
 
 /// Whether the wire is idle before so many frames are sent.
-fn is_idle_before(reach: Reach, frames: usize) -> bool {
+fn is_idle_before(reach: Reach, frames: usize) -> bool
+    ensures { IsTrue result → (n : ℕ) × (reach ≡ Reach.Idle n) × (n < frames) }
+{
     match reach {
         Reach::Idle(n) => n < frames,
         Reach::Again(_) => false,

@@ -1,5 +1,10 @@
 //! Where as many frames come as the windows take, the wire need not become idle. Then all repeats.
 
+ghost use Rattle.std.specs.Prelude.{◌≡◌, ℕ, ◌<◌, ◌≤◌, ◌+◌, IfSome, length, slice_index};
+ghost use Rattle.wire_time.specs.Moment.{greatest_moment};
+ghost use Rattle.burst_bounds.specs.Walk.{AreBelow};
+ghost use Rattle.burst_bounds.specs.Reach.{ComesBack, IsSmall};
+
 use crate::Talker;
 
 /// After so long as many frames have come, and so on.
@@ -53,7 +58,11 @@ pub fn repeat_of(talkers: &[Talker], cycle: u128, limit: usize) -> Option<Repeat
 }
 
 /// The first slot that comes again.
-fn first_again(slots: &[u128], repeat: Repeat) -> Option<usize> {
+fn first_again(slots: &[u128], repeat: Repeat) -> Option<usize>
+    requires slots { AreBelow 100 slots.now }
+    requires small { IsSmall repeat }
+    ensures { IfSome result (λ i. (i + repeat.frames < length slots.now) × (slice_index slots.now (i + repeat.frames) ≡ slice_index slots.now i + repeat.time)) }
+{
     let mut i = 0;
     while i < slots.len() && repeat.frames < slots.len() - i {
         if slots[i + repeat.frames] == slots[i] + repeat.time {
@@ -65,7 +74,11 @@ fn first_again(slots: &[u128], repeat: Repeat) -> Option<usize> {
 }
 
 /// The first frame from a place on that comes behind a slot.
-fn first_behind(moments: &[u128], from: u128, place: usize, slot: u128) -> Option<usize> {
+fn first_behind(moments: &[u128], from: u128, place: usize, slot: u128) -> Option<usize>
+    requires moments { AreBelow 120 moments.now }
+    requires from { from ≤ greatest_moment }
+    ensures { IfSome result (λ i. (place ≤ i) × (i < length moments.now) × (slot < from + slice_index moments.now i)) }
+{
     let mut i = place;
     while i < moments.len() {
         if slot < from + moments[i] {
@@ -77,12 +90,18 @@ fn first_behind(moments: &[u128], from: u128, place: usize, slot: u128) -> Optio
 }
 
 /// How many frames have to be looked at, where all then comes again.
-pub fn frames_until(slots: &[u128], moments: &[u128], from: u128, repeat: Repeat) -> Option<usize> {
+pub fn frames_until(slots: &[u128], moments: &[u128], from: u128, repeat: Repeat) -> Option<usize>
+    requires slots { AreBelow 100 slots.now }
+    requires moments { AreBelow 120 moments.now }
+    requires from { from ≤ greatest_moment }
+    requires small { IsSmall repeat }
+    ensures { IfSome result (ComesBack from slots.now moments.now repeat) }
+{
     let again = first_again(slots, repeat)?;
     let behind = first_behind(moments, from, again, slots[again])?;
-    if repeat.frames <= moments.len() - behind && behind + repeat.frames <= slots.len() {
-        Some(behind + repeat.frames)
-    } else {
-        None
+    let frames = behind.checked_add(repeat.frames)?;
+    if frames > moments.len() || frames > slots.len() {
+        return None;
     }
+    Some(frames)
 }

@@ -43,11 +43,11 @@ kept_next talkers moments counts n place moment these h inside is first below =
     let last : ℕ = h.counted.0 in
     let old = h.counted.1 in
     let firsts : (i : ℕ) → i < length talkers → comes_at (talker_at talkers place) (get_or counts place 0) ≤ comes_at (talker_at talkers i) (get_or counts i 0) =
-        λ i less. subst (λ k. k ≤ comes_at (talker_at talkers i) (get_or counts i 0)) is (first i less)
+    λ i less. subst (λ k. k ≤ comes_at (talker_at talkers i) (get_or counts i 0)) is (first i less)
     in
     let arrives = arrives_next talkers counts last place these old inside firsts in
     let here : IsArrival (curve talkers) (length moments) moment =
-        subst (λ k. IsArrival (curve talkers) k moment) (h.sum ∙ sym h.count) (subst (IsArrival (curve talkers) (total counts)) (sym is) arrives)
+    subst (λ k. IsArrival (curve talkers) k moment) (h.sum ∙ sym h.count) (subst (IsArrival (curve talkers) (total counts)) (sym is) arrives)
     in
     let all = length-append moments (moment ∷ []) in
     let one : length (moment ∷ []) ≡ 1 = refl in
@@ -71,21 +71,21 @@ loop-i-preserved g c =
     let moment : ℕ = c.next_of-moment.result.0 in
     let seen : c.deref.result.now ≡ counts = c.deref.ensures.value in
     let these : (i : ℕ) → i < length talkers → 0 < (talker_at talkers i).period =
-        λ i less. (All-get_or IsTalker talkers i (record { need = 0; period = 0; jitter = 0 }) less c.requires.talkers).above
+    λ i less. (All-get_or IsTalker talkers i (record { need = 0; period = 0; jitter = 0 }) less c.requires.talkers).above
     in
     let is : moment ≡ comes_at (talker_at talkers place) (get_or counts place 0) = subst (λ xs. moment ≡ comes_at (talker_at talkers place) (get_or xs place 0)) seen told.moment in
     let first : (i : ℕ) → i < length talkers → moment ≤ comes_at (talker_at talkers i) (get_or counts i 0) =
-        λ i less. subst (λ xs. moment ≤ comes_at (talker_at talkers i) (get_or xs i 0)) seen (told.first i less)
+    λ i less. subst (λ xs. moment ≤ comes_at (talker_at talkers i) (get_or xs i 0)) seen (told.first i less)
     in
     let old : IsKept talkers c.loop-i.moments.items counts c.loop-i._i =
-        record { count = inv.count; moments_are = inv.moments; below = inv.below; sum = inv.sum; few = inv.few; counted = inv.counted }
+    record { count = inv.count; moments_are = inv.moments; below = inv.below; sum = inv.sum; few = inv.few; counted = inv.counted }
     in
     let next = kept_next talkers c.loop-i.moments.items counts c.loop-i._i place moment these old told.within is first told.below in
     let listed : place < length counts = (let same = (inv.counted.1).places in let inside = told.within in omega (arith, same, inside)) in
     let value : c.index_mut.result.now ≡ get_or counts place 0 = c.index_mut.ensures.value ∙ get_or_default counts place c.index_mut.result.now 0 listed in
     let pushed = c.in_ok-push.ensures.items in
     let all : IsKept talkers c.push.new.self.items (set counts place (c.index_mut.result.now + 1)) (c.loop-i._i + 1) =
-        subst (λ xs. IsKept talkers xs (set counts place (c.index_mut.result.now + 1)) (c.loop-i._i + 1)) (sym pushed)
-        (subst (λ n. IsKept talkers (c.loop-i.moments.items ++ moment ∷ []) (set counts place (n + 1)) (c.loop-i._i + 1)) (sym value) next)
+    subst (λ xs. IsKept talkers xs (set counts place (c.index_mut.result.now + 1)) (c.loop-i._i + 1)) (sym pushed)
+    (subst (λ n. IsKept talkers (c.loop-i.moments.items ++ moment ∷ []) (set counts place (n + 1)) (c.loop-i._i + 1)) (sym value) next)
     in
     record { count = all.count; moments = all.moments_are; below = all.below; sum = all.sum; few = all.few; counted = all.counted }

@@ -1,0 +1,69 @@
+-- How far a busy time is looked at, and what is so then.
+use Rattle.std.specs.Prelude.{◌≡◌, ◌<◌, ◌≤◌, ℕ, ◌+◌, ◌-◌, ◌^◌, List, length, slice_index, Option, Some, None}
+use Rattle.gate_list.specs.Gate.{Plan}
+use Rattle.delay_bounds.specs.ForEver.{Repeats}
+use Rattle.delay_bounds.specs.Walk.{may_by}
+use Rattle.any_traffic.specs.Cycle.{IsBusyTime}
+use Rattle.any_traffic.specs.Slots.{AreBounds, IsSlot}
+use Rattle.burst_bounds.specs.Busy.{IsIdleBehind}
+use Rattle.burst_bounds.specs.Walk.{AreBoundsFrom}
+use Rattle.burst_bounds.specs.declared.Bounds.{Bounds}
+use Rattle.burst_bounds.specs.declared.repeats.Repeat.{Repeat}
+use Rattle.burst_bounds.specs.declared.moments.Reach.{Reach}
+use Rattle.burst_bounds.specs.declared.moments.Reach.TheVariants.{Idle, Again}
+
+-- After such a time the gates are as before, and so many frames more have come.
+pub record ComesAgain (plan : Plan) (class : ℕ) (curve : ℕ → ℕ) (r : Repeat) : Type 0 where
+  pub gates : Repeats (may_by plan class) r.time
+  pub come : (x : ℕ) → curve (x + r.time) ≡ curve x + r.frames
+
+-- by such a time, if there is one
+abbrev pub MayComeAgain : Plan → ℕ → (ℕ → ℕ) → Option Repeat → Type 0
+MayComeAgain plan class curve None = Unit {0}
+MayComeAgain plan class curve (Some r) = ComesAgain plan class curve r
+
+-- The wire is idle behind at most so many frames from a moment on, and the bounds hold up to then.
+pub record IsIdleBy (plan : Plan) (class d : ℕ) (curve : ℕ → ℕ) (wait most t frames : ℕ) : Type 0 where
+  pub time : IsBusyTime plan class d curve wait most t
+  pub few : curve time.last ≤ frames
+
+-- from a moment on the bounds hold, up to when the wire is idle, or for ever
+abbrev pub IsReach : Plan → ℕ → ℕ → (ℕ → ℕ) → Bounds → ℕ → Reach → Type 0
+IsReach plan class d curve b t (Idle frames) = IsIdleBy plan class d curve b.wait b.most t frames
+IsReach plan class d curve b t (Again frames) = AreBoundsFrom plan class d curve b.wait b.most t
+
+-- none are less than these
+abbrev pub AreUnder : Plan → ℕ → ℕ → (ℕ → ℕ) → Bounds → Type 0
+AreUnder plan class d curve b = (w m : ℕ) → AreBounds plan class d curve w m → (b.wait ≤ w) × (b.most ≤ m)
+
+-- some are no less
+abbrev pub AreWithin : Bounds → Bounds → Type 0
+AreWithin a b = (a.wait ≤ b.wait) × (a.most ≤ b.most)
+
+-- The slots from a moment on come again: one and the one so many behind it are so far apart, and each frame from one on that comes behind the first of the
+-- two. So many frames show all then.
+pub record ComesBack (from : ℕ) (slots moments : List ℕ) (r : Repeat) (frames : ℕ) : Type 0 where
+  pub again : ℕ
+  pub behind : ℕ
+  pub order : again ≤ behind
+  pub sum : frames ≡ behind + r.frames
+  pub slotted : frames ≤ length slots
+  pub known : frames ≤ length moments
+  pub same : slice_index slots (again + r.frames) ≡ slice_index slots again + r.time
+  pub later : slice_index slots again < from + slice_index moments behind
+  pub inside : behind < length moments
+  pub first : again + r.frames < length slots
+
+-- how many frames are looked at
+abbrev pub frames_of : Reach → ℕ
+frames_of (Idle frames) = frames
+frames_of (Again frames) = frames
+
+-- what is seen of slots and moments
+abbrev pub IsSeen : ℕ → ℕ → List ℕ → List ℕ → Option Repeat → Reach → Type 0
+IsSeen d from slots moments repeat (Idle frames) = IsIdleBehind d from slots moments frames
+IsSeen d from slots moments repeat (Again frames) = (r : Repeat) × (repeat ≡ Some r) × ComesBack from slots moments r frames
+
+-- a time that is no longer than any that is looked at
+abbrev pub IsSmall : Repeat → Type 0
+IsSmall r = r.time < 2 ^ 127
