@@ -4,3 +4,6 @@ pub mod SlotlessLaws
 pub mod ArrivalLaws
 pub mod RowLaws
 pub mod BusyTimeLaws
+pub mod AlikeLaws
+pub mod JumpLaws
+pub mod CoverLaws

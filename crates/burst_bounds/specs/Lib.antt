@@ -5,3 +5,5 @@ pub mod Walk
 pub mod Busy
 pub mod Slotless
 pub mod Reach
+pub mod Good
+pub mod Laws

@@ -6,6 +6,7 @@
 
 mod arrivals;
 mod busy;
+pub mod laws;
 mod moments;
 mod rate;
 mod repeats;
