@@ -7,3 +7,4 @@ pub mod BusyTimeLaws
 pub mod AlikeLaws
 pub mod JumpLaws
 pub mod CoverLaws
+pub mod SeenLaws

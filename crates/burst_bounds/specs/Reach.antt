@@ -6,14 +6,18 @@ use Rattle.delay_bounds.specs.Walk.{may_by}
 use Rattle.any_traffic.specs.Cycle.{IsBusyTime}
 use Rattle.any_traffic.specs.Slots.{AreBounds, IsSlot}
 use Rattle.burst_bounds.specs.Busy.{IsIdleBehind}
-use Rattle.burst_bounds.specs.Walk.{AreBoundsFrom}
+use Rattle.burst_bounds.specs.Unbound.{IsLong, IsStuck}
+use Rattle.burst_bounds.specs.Walk.{AreArrivals, AreBoundsFrom}
 use Rattle.burst_bounds.specs.declared.Bounds.{Bounds}
+use Rattle.burst_bounds.specs.declared.Unbound.{Unbound}
+use Rattle.burst_bounds.specs.declared.Unbound.TheVariants.{Overloaded, Stuck, Long, Memory}
 use Rattle.burst_bounds.specs.declared.repeats.Repeat.{Repeat}
 use Rattle.burst_bounds.specs.declared.moments.Reach.{Reach}
 use Rattle.burst_bounds.specs.declared.moments.Reach.TheVariants.{Idle, Again}
 
 -- After such a time the gates are as before, and so many frames more have come.
 pub record ComesAgain (plan : Plan) (class : ℕ) (curve : ℕ → ℕ) (r : Repeat) : Type 0 where
+  pub lasts : 0 < r.time
   pub gates : Repeats (may_by plan class) r.time
   pub come : (x : ℕ) → curve (x + r.time) ≡ curve x + r.frames
 
@@ -67,3 +71,18 @@ IsSeen d from slots moments repeat (Again frames) = (r : Repeat) × (repeat ≡ 
 -- a time that is no longer than any that is looked at
 abbrev pub IsSmall : Repeat → Type 0
 IsSmall r = r.time < 2 ^ 127
+
+-- Moments are the arrivals of a curve, which rises from 1 on; and it comes again by such a time, if there is one.
+pub record IsRead (plan : Plan) (class d : ℕ) (curve : ℕ → ℕ) (moments : List ℕ) (repeat : Option Repeat) : Type 0 where
+  pub above : 0 < d
+  pub rises : (x y : ℕ) → x ≤ y → curve x ≤ curve y
+  pub some : (x : ℕ) → 0 < curve x
+  pub come : AreArrivals curve moments
+  pub again : MayComeAgain plan class curve repeat
+
+-- Why the bounds of a curve aren't seen, by so many of its arrivals.
+abbrev pub IsUnseen : Plan → ℕ → ℕ → (ℕ → ℕ) → ℕ → Unbound → Type 0
+IsUnseen plan class d curve count Long = IsLong plan class d curve (count - 1)
+IsUnseen plan class d curve count Stuck = IsStuck plan class d
+IsUnseen plan class d curve count Memory = Unit {0}
+IsUnseen plan class d curve count Overloaded = ⊥
