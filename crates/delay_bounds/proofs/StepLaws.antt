@@ -200,7 +200,7 @@ module _ (flows : List Flow) where
   -- ---- moments rise
 
   -- the first of moments is the least
-  least_of : (xs : List ℕ) (e : ℕ × ℕ) → earliest xs ≡ Some e → (k : ℕ) → k < length xs → e.0 ≤ get_or xs k 0
+  pub least_of : (xs : List ℕ) (e : ℕ × ℕ) → earliest xs ≡ Some e → (k : ℕ) → k < length xs → e.0 ≤ get_or xs k 0
   unfolding earliest
   least_of [] e h k less = absurd (omega (arith, less))
   least_of (x ∷ xs) e h k less = go (earliest xs) refl h k less (least_of xs)

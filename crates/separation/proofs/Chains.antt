@@ -9,15 +9,15 @@ use Rattle.separation.specs.Traffic.{Came}
 use Rattle.separation.specs.Served.{start_at, IsStart, frames_of, HaveCome, Waits, AreServed}
 use Rattle.separation.proofs.Alone.{serve}
 
-have_come_later : (m n : ℕ) (came : List Came) → m ≤ n → HaveCome m came → HaveCome n came
+pub have_come_later : (m n : ℕ) (came : List Came) → m ≤ n → HaveCome m came → HaveCome n came
 have_come_later m n [] le h = tt
 have_come_later m n (f ∷ rest) le h = (let before = h.0 in omega arith, have_come_later m n rest le h.1)
 
-have_come_more : (now : ℕ) (came : List Came) (f : Came) → f.moment ≤ now → HaveCome now came → HaveCome now (came ++ f ∷ [])
+pub have_come_more : (now : ℕ) (came : List Came) (f : Came) → f.moment ≤ now → HaveCome now came → HaveCome now (came ++ f ∷ [])
 have_come_more now [] f le h = (le, tt)
 have_come_more now (g ∷ rest) f le h = (h.0, have_come_more now rest f le h.1)
 
-frames_more : (came : List Came) (f : Came) → frames_of (came ++ f ∷ []) ≡ frames_of came ++ f.frame ∷ []
+pub frames_more : (came : List Came) (f : Came) → frames_of (came ++ f ∷ []) ≡ frames_of came ++ f.frame ∷ []
 frames_more [] f = refl
 frames_more (g ∷ rest) f = ap (λ xs. g.frame ∷ xs) (frames_more rest f)
 

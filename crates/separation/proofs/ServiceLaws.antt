@@ -68,19 +68,19 @@ drop_free : (p : AbstractPort) (why : Dropped) (o : Option ℕ) → (drop_in p w
 drop_free p why None = refl
 drop_free p why (Some class) = refl
 
-drop_queues : (p : AbstractPort) (why : Dropped) (o : Option ℕ) → (drop_in p why o).queues ≡ p.queues
+pub drop_queues : (p : AbstractPort) (why : Dropped) (o : Option ℕ) → (drop_in p why o).queues ≡ p.queues
 drop_queues p why None = refl
 drop_queues p why (Some class) = refl
 
-arrival_free : (p : AbstractPort) (f : Frame) (v : Result ℕ Dropped) → (after_arrival p f v).free ≡ p.free
+pub arrival_free : (p : AbstractPort) (f : Frame) (v : Result ℕ Dropped) → (after_arrival p f v).free ≡ p.free
 arrival_free p f (Ok class) = refl
 arrival_free p f (Err why) = drop_free p why (class_for p f.priority)
 
-arrival_starts : (f : Frame) (v : Result ℕ Dropped) → starts_in (arrival_answer f v ∷ []) ≡ []
+pub arrival_starts : (f : Frame) (v : Result ℕ Dropped) → starts_in (arrival_answer f v ∷ []) ≡ []
 arrival_starts f (Ok class) = refl
 arrival_starts f (Err why) = refl
 
-arrival_queue : (c : ℕ) (p : AbstractPort) (f : Frame) (v : Result ℕ Dropped) → c < length p.queues → queue_of (after_arrival p f v) c ≡ queue_of p c ++ frames_of (queued_as c p f v)
+pub arrival_queue : (c : ℕ) (p : AbstractPort) (f : Frame) (v : Result ℕ Dropped) → c < length p.queues → queue_of (after_arrival p f v) c ≡ queue_of p c ++ frames_of (queued_as c p f v)
 arrival_queue c p f (Ok d) listed =
     elim (cases_eq d c) [
       | inl e ↦ subst (λ k. get_or (set p.queues k (queue_of p k ++ f ∷ [])) c [] ≡ queue_of p c ++ frames_of (cond (eqb k c) (record { moment = p.now; frame = f } ∷ []) [])) (sym e)
@@ -104,7 +104,7 @@ verdict_class p f d large e = go (class_for p f.priority) refl e
         by (dropped why w) = absurd (let z : Err why ≡ Ok d = sym w ∙ v in cc)
 
 -- before a schedule is in force none is
-none_queued : (c : ℕ) (p : AbstractPort) (f : Frame) → 68 ≤ p.mtu → p.history ≡ [] → IsApartAt c (Arrive f) p → queued_as c p f (verdict p f) ≡ []
+pub none_queued : (c : ℕ) (p : AbstractPort) (f : Frame) → 68 ≤ p.mtu → p.history ≡ [] → IsApartAt c (Arrive f) p → queued_as c p f (verdict p f) ≡ []
 none_queued c p f large empty k = go (verdict p f) refl
   where
     go : (v : Result ℕ Dropped) → verdict p f ≡ v → queued_as c p f v ≡ []
@@ -291,7 +291,7 @@ module _ (c : ℕ) (a : Accepted) (pace : ℕ) (lc : c < 8) where
 
   -- ---- any event
 
-  count_starts : (b : Bool) (class : ℕ) (p : AbstractPort) → starts_in (cond b (Answered.Counters class (counters_of p class) ∷ []) (Answered.BadClass ∷ [])) ≡ []
+  pub count_starts : (b : Bool) (class : ℕ) (p : AbstractPort) → starts_in (cond b (Answered.Counters class (counters_of p class) ∷ []) (Answered.BadClass ∷ [])) ≡ []
   count_starts true class p = refl
   count_starts false class p = refl
 
