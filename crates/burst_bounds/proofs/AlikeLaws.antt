@@ -6,12 +6,13 @@ use Rattle.gate_list.proofs.OpenLaws.{open_at, open_from}
 use Rattle.separation.specs.Served.{IsFirst}
 use Rattle.delay_bounds.specs.ForEver.{Repeats}
 use Rattle.delay_bounds.specs.Walk.{may_by}
-use Rattle.any_traffic.specs.Cycle.{IsBusyTime}
+use Rattle.any_traffic.specs.BusyPeriod.{IsBusyPeriod}
 use Rattle.any_traffic.specs.Slots.{IsSlot}
 use Rattle.burst_bounds.specs.Walk.{AreBoundsFrom}
 use Rattle.burst_bounds.specs.Good.{FitBefore, IsGood}
 use Rattle.burst_bounds.specs.Reach.{IsIdleBy}
-use Rattle.burst_bounds.proofs.RowLaws.{one_slot, slot_earlier, slot_from, slot_later}
+use Rattle.any_traffic.proofs.SlotLaws.{one_slot, slot_earlier, slot_later}
+use Rattle.burst_bounds.proofs.SlotLaws.{slot_from}
 
 -- the first slots from a moment on are those from another, so much apart
 pub record AreAlike (may : ℕ → ℕ → Bool) (d n t u : ℕ) : Type 0 where

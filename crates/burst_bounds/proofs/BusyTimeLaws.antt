@@ -3,13 +3,14 @@ use Rattle.std.proofs.Common.{◌≡◌, ◌<◌, ◌≤◌, ◌⊎◌, ℕ, zer
 use Rattle.std.proofs.lemmas.Bool.{cases_lt}
 use Rattle.gate_list.specs.Gate.{Plan}
 use Rattle.delay_bounds.specs.Walk.{may_by}
-use Rattle.any_traffic.specs.Cycle.{IsBusyTime}
-use Rattle.any_traffic.specs.Slots.{AreBounds, IsSlot}
-use Rattle.any_traffic.proofs.SlotLaws.{slot_before}
+use Rattle.any_traffic.specs.AnyTraffic.{AreCurveBounds}
+use Rattle.any_traffic.specs.BusyPeriod.{IsBusyPeriod}
+use Rattle.any_traffic.specs.Slots.{IsSlot}
 use Rattle.burst_bounds.specs.Busy.{IsIdleBehind, IsLongest, IsMost, Rises}
 use Rattle.burst_bounds.specs.Walk.{AreArrivals, AreSlots, IsArrival}
 use Rattle.burst_bounds.specs.Reach.{IsIdleBy}
-use Rattle.burst_bounds.proofs.RowLaws.{one_slot, slot_from, slots_rise}
+use Rattle.any_traffic.proofs.SlotLaws.{one_slot, slot_before}
+use Rattle.burst_bounds.proofs.SlotLaws.{slot_from, slots_rise}
 
 -- ---- arrivals rise
 
@@ -93,7 +94,7 @@ module _ (plan : Plan) (class d : ℕ) (curve : ℕ → ℕ) (t : ℕ) (slots mo
 
   -- ---- no bounds are less
 
-  pub wait_under : (n wait w m : ℕ) → n ≤ length slots → n ≤ length moments → IsLongest t slots moments n wait → AreBounds plan class d curve w m → wait ≤ w
+  pub wait_under : (n wait w m : ℕ) → n ≤ length slots → n ≤ length moments → IsLongest t slots moments n wait → AreCurveBounds plan class d curve w m → wait ≤ w
   wait_under n wait w m listed known h bounds = elim h.reached [
     | inl none ↦ omega (arith, none)
     | inr one ↦
@@ -108,7 +109,7 @@ module _ (plan : Plan) (class d : ℕ) (curve : ℕ → ℕ) (t : ℕ) (slots mo
         omega (arith, at, up, within)
   ]
 
-  pub most_under : (n most w m : ℕ) → n ≤ length moments → IsMost t slots moments n most → AreBounds plan class d curve w m → most ≤ m
+  pub most_under : (n most w m : ℕ) → n ≤ length moments → IsMost t slots moments n most → AreCurveBounds plan class d curve w m → most ≤ m
   most_under n most w m known h bounds = elim h.reached [
     | inl none ↦ omega (arith, none)
     | inr one ↦

@@ -9,15 +9,15 @@ use Rattle.delay_bounds.proofs.GateLaws.{by_repeats}
 use Rattle.delay_bounds.proofs.LongestWaitLaws.{closes_at}
 use Rattle.delay_bounds.specs.ForEver.{Repeats}
 use Rattle.delay_bounds.specs.Walk.{may_by}
-use Rattle.any_traffic.specs.Cycle.{AddsUp, IsBusyTime}
-use Rattle.any_traffic.specs.Slots.{AreBounds, IsSlot}
-use Rattle.any_traffic.proofs.SlotLaws.{slot_before}
+use Rattle.any_traffic.specs.AnyTraffic.{AreCurveBounds}
+use Rattle.any_traffic.specs.BusyPeriod.{IsSubadditive, IsBusyPeriod}
+use Rattle.any_traffic.specs.Slots.{IsSlot}
 use Rattle.burst_bounds.specs.Good.{AreGoodAtWindows, FitBefore, IsGood}
 use Rattle.burst_bounds.specs.Laws.{MomentsLaw}
 use Rattle.burst_bounds.specs.Walk.{AreBoundsFrom}
 use Rattle.burst_bounds.proofs.AlikeLaws.{AreAlike, good_alike, joined, later_alike, one_behind_another, turned}
 use Rattle.burst_bounds.proofs.JumpLaws.{Closes, IsCritical, NoJump, busy_on, for_ever_on, jumps}
-use Rattle.burst_bounds.proofs.RowLaws.{both_slots, one_slot, slot_exists, slot_sooner, slots_behind}
+use Rattle.any_traffic.proofs.SlotLaws.{both_slots, one_slot, slot_before, slot_exists, slot_sooner, slots_behind}
 
 rise_times : (a b c : ℕ) → a ≤ b → a * c ≤ b * c
 rise_times a b c le = (let e : b * c ≡ a * c + (b - a) * c = (let s : b ≡ a + (b - a) = omega (arith, le) in ap (λ m. m * c) s ∙ add-mul a (b - a) c) in omega (arith, e))
@@ -210,7 +210,7 @@ module _ (plan : Plan) (class d : ℕ) (sound : IsSchedule plan) (above : 0 < d)
 
 -- ---- bounds from all moments are bounds
 
-module _ (plan : Plan) (class d : ℕ) (curve : ℕ → ℕ) (wait most : ℕ) (pos : 0 < d) (adds : AddsUp curve)
+module _ (plan : Plan) (class d : ℕ) (curve : ℕ → ℕ) (wait most : ℕ) (pos : 0 < d) (adds : IsSubadditive curve)
     (there : (t : ℕ) → (s : ℕ) × IsFirst (may_by plan class) d t s) (good : (t : ℕ) → IsGood plan class d curve wait most t) where
   soon_by : (n t x : ℕ) → x < n → (s : ℕ) × IsSlot (may_by plan class) d t (curve x - 1) s × (s ≤ t + x + wait)
   soon_by zero t x less = absurd (omega (arith, less))
@@ -240,7 +240,7 @@ module _ (plan : Plan) (class d : ℕ) (curve : ℕ → ℕ) (wait most : ℕ) (
   few_by zero t x m s less slot after = absurd (omega (arith, less))
   few_by (suc n) t x m s less slot after = by (good t) (λ u y l k below row on. few_by n u y l k below row on)
     where
-      beyond : (b : IsBusyTime plan class d curve wait most t) → b.last < x → ((u y l k : ℕ) → y < n → IsSlot (may_by plan class) d u l k → u + y ≤ k → curve y ≤ l + most) → curve x ≤ m + most
+      beyond : (b : IsBusyPeriod plan class d curve wait most t) → b.last < x → ((u y l k : ℕ) → y < n → IsSlot (may_by plan class) d u l k → u + y ≤ k → curve y ≤ l + most) → curve x ≤ m + most
       beyond b over ih =
           let y : ℕ = x - b.last - 1 in
           let is : b.last + 1 + y ≡ x = omega (arith, over) in
@@ -273,7 +273,7 @@ module _ (plan : Plan) (class d : ℕ) (curve : ℕ → ℕ) (wait most : ℕ) (
         | inl over ↦ beyond b over ih
       ]
 
-  pub are_bounds : AreBounds plan class d curve wait most
+  pub are_bounds : AreCurveBounds plan class d curve wait most
   are_bounds = record {
     soon = λ t x. soon_by (suc x) t x (le_refl (suc x));
     few = λ t x n s slot after. few_by (suc x) t x n s (le_refl (suc x)) slot after;

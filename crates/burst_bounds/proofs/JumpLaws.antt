@@ -6,14 +6,13 @@ use Rattle.gate_list.specs.Gate.{Plan}
 use Rattle.separation.specs.Served.{IsFirst}
 use Rattle.delay_bounds.specs.Walk.{may_by}
 use Rattle.delay_bounds.proofs.WaitLaws.{one_first}
-use Rattle.any_traffic.specs.Cycle.{IsBusyTime}
+use Rattle.any_traffic.specs.BusyPeriod.{IsBusyPeriod}
 use Rattle.any_traffic.specs.Slots.{IsSlot}
-use Rattle.any_traffic.proofs.SlotLaws.{slot_last}
-use Rattle.any_traffic.proofs.WindowLaws.{sooner}
 use Rattle.burst_bounds.specs.Good.{IsGood}
 use Rattle.burst_bounds.specs.Walk.{AreBoundsFrom}
 use Rattle.burst_bounds.proofs.AlikeLaws.{next_fits, one_behind_another}
-use Rattle.burst_bounds.proofs.RowLaws.{one_slot, slot_exists, slot_from}
+use Rattle.any_traffic.proofs.SlotLaws.{one_slot, slot_exists, slot_last, sooner}
+use Rattle.burst_bounds.proofs.SlotLaws.{slot_from}
 
 -- Frames can be sent one behind another from a moment on, k behind the first; but not right behind the last of these moments.
 pub record Closes (may : ℕ → ℕ → Bool) (d t k : ℕ) : Type 0 where
@@ -182,7 +181,7 @@ module _ (plan : Plan) (class d : ℕ) (above : 0 < d) where
     fewer : (t n m : ℕ) → m ≤ n → NoJump may d t n → NoJump may d t m
     fewer t n m le h = record { near = λ k u v less a b. h.near k u v (omega (arith, less, le)) a b }
 
-    pub busy_on : (t : ℕ) → (b : IsBusyTime plan class d curve wait most t) → NoJump may d t (curve b.last) → IsBusyTime plan class d curve wait most (t + 1)
+    pub busy_on : (t : ℕ) → (b : IsBusyPeriod plan class d curve wait most t) → NoJump may d t (curve b.last) → IsBusyPeriod plan class d curve wait most (t + 1)
     busy_on t b none =
         let new = slot_exists may d there (t + 1) (curve b.last - 1) in
         let up = none.near (curve b.last - 1) b.slot new.0 (omega arith) b.is new.1 in

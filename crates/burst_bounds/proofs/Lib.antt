@@ -2,9 +2,10 @@ pub mod BusyLaws
 pub mod SlotLaws
 pub mod SlotlessLaws
 pub mod ArrivalLaws
-pub mod RowLaws
 pub mod BusyTimeLaws
 pub mod AlikeLaws
 pub mod JumpLaws
 pub mod CoverLaws
 pub mod SeenLaws
+pub mod WindowSeenLaws
+pub mod UnseenLaws

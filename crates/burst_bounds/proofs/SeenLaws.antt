@@ -5,9 +5,8 @@ use Rattle.std.proofs.lemmas.Option.{same_Some}
 use Rattle.gate_list.specs.Gate.{Plan}
 use Rattle.delay_bounds.specs.ForEver.{Repeats}
 use Rattle.delay_bounds.specs.Walk.{may_by}
-use Rattle.any_traffic.specs.Cycle.{IsBusyTime}
-use Rattle.any_traffic.specs.Slots.{AreBounds, IsSlot}
-use Rattle.any_traffic.proofs.SlotLaws.{slot_before}
+use Rattle.any_traffic.specs.BusyPeriod.{IsBusyPeriod}
+use Rattle.any_traffic.specs.Slots.{IsSlot}
 use Rattle.burst_bounds.specs.Busy.{HasFrames, IsBusyUntil, IsIdleBehind, IsLongest, IsMost}
 use Rattle.burst_bounds.specs.Good.{IsGood}
 use Rattle.burst_bounds.specs.Reach.{AreUnder, AreWithin, ComesAgain, ComesBack, IsIdleBy, IsReach, IsRead, IsSeen, MayComeAgain, frames_of}
@@ -18,12 +17,13 @@ use Rattle.burst_bounds.specs.declared.repeats.Repeat.{Repeat}
 use Rattle.burst_bounds.specs.declared.moments.Reach.{Reach}
 use Rattle.burst_bounds.specs.declared.moments.Reach.TheVariants.{Idle, Again}
 use Rattle.burst_bounds.proofs.BusyTimeLaws.{arrival_rises, come_within, few_by, idle_by, most_under, soon_by, wait_under}
-use Rattle.burst_bounds.proofs.RowLaws.{both_slots, one_slot, slot_from, slot_later, slots_behind, slots_rise}
+use Rattle.any_traffic.proofs.SlotLaws.{both_slots, one_slot, slot_before, slot_later, slots_behind}
+use Rattle.burst_bounds.proofs.SlotLaws.{slot_from, slots_rise}
 
 -- ---- greater bounds hold, too
 
 module _ (plan : Plan) (class d : ℕ) (curve : ℕ → ℕ) (w m v n : ℕ) (wait : w ≤ v) (most : m ≤ n) where
-  pub busy_more : (t : ℕ) → IsBusyTime plan class d curve w m t → IsBusyTime plan class d curve v n t
+  pub busy_more : (t : ℕ) → IsBusyPeriod plan class d curve w m t → IsBusyPeriod plan class d curve v n t
   busy_more t b = record {
     last = b.last;
     slot = b.slot;

@@ -1,5 +1,5 @@
 -- Slots: the next one, and how they follow.
-use Rattle.std.proofs.Common.{◌≡◌, ◌<◌, ◌≤◌, ℕ, zero, suc, ◌+◌, ◌⊎◌, Bool, true, false, List, [], ◌∷◌, ◌++◌, length, get_or, Some, None, inl, inr, refl, sym, ap, ◌∙◌, subst, arith, eqb, eq-eqb, ne_eqb}
+use Rattle.std.proofs.Common.{◌≡◌, ◌<◌, ◌≤◌, ℕ, zero, suc, ◌+◌, ◌-◌, ◌⊎◌, Bool, true, false, List, [], ◌∷◌, ◌++◌, length, get_or, Some, None, inl, inr, refl, sym, ap, ◌∙◌, subst, arith, eqb, eq-eqb, ne_eqb}
 use Rattle.std.proofs.lemmas.Bool.{both_ways, cases_Bool, cases_lt}
 use Rattle.std.proofs.lemmas.Option.{same_Some}
 use Rattle.std.proofs.lemmas.List.{length-append}
@@ -10,6 +10,7 @@ use Rattle.delay_bounds.specs.Bounds.{first_fit}
 use Rattle.delay_bounds.proofs.NeverLaws.{none_is}
 use Rattle.delay_bounds.proofs.WaitLaws.{first_is}
 use Rattle.any_traffic.specs.Slots.{IsSlot}
+use Rattle.any_traffic.proofs.SlotLaws.{one_slot, slot_before}
 
 -- a first moment that is found is the one that is asked about just where the class may have the wire then
 module _ (may : ℕ → ℕ → Bool) (d t n : ℕ) (some : 0 < n) where
@@ -57,3 +58,16 @@ module _ (may : ℕ → ℕ → Bool) (d : ℕ) where
 
   pub sought_next : (from n next s : ℕ) → IsSought from n next → IsFirst may d next s → IsSought from (n + 1) (s + d)
   sought_next from n next s h first = record { by = inr (n, s, omega arith, found from n next s h first, refl) }
+
+  -- none is before the moment
+  pub slot_from : (t n s : ℕ) → IsSlot may d t n s → t ≤ s
+  slot_from t zero s h = h.from
+  slot_from t (suc n) s h = (let a = (h.1).from in let b = slot_from (h.0 + d) n s h.2 in omega (arith, a, b))
+
+  -- one behind fewer others is no later
+  pub slots_rise : (t m n r s : ℕ) → m ≤ n → IsSlot may d t m r → IsSlot may d t n s → r ≤ s
+  slots_rise t m n r s le a b =
+      let before = slot_before may d t m (n - m) n s (omega (arith, le)) b in
+      let same = one_slot may d t m before.0 r before.1 a in
+      let up = before.2 in
+      omega (arith, same, up)

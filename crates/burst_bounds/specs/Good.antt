@@ -2,12 +2,12 @@
 use Rattle.std.specs.Prelude.{◌≡◌, ◌<◌, ◌≤◌, ◌⊎◌, ℕ, ◌+◌, ◌-◌, ◌*◌, Bool, true, false, length}
 use Rattle.gate_list.specs.Gate.{Plan, in_ps, prefix}
 use Rattle.delay_bounds.specs.Walk.{may_by}
-use Rattle.any_traffic.specs.Cycle.{IsBusyTime}
+use Rattle.any_traffic.specs.BusyPeriod.{IsBusyPeriod}
 use Rattle.burst_bounds.specs.Walk.{AreBoundsFrom}
 
 -- Bounds hold from a moment on: up to when the wire is idle, or for ever.
 abbrev pub IsGood : Plan → ℕ → ℕ → (ℕ → ℕ) → ℕ → ℕ → ℕ → Type 0
-IsGood plan class d curve wait most t = IsBusyTime plan class d curve wait most t ⊎ AreBoundsFrom plan class d curve wait most t
+IsGood plan class d curve wait most t = IsBusyPeriod plan class d curve wait most t ⊎ AreBoundsFrom plan class d curve wait most t
 
 -- Before the end of a window so many frames can be sent, one behind another.
 abbrev pub FitBefore : Plan → ℕ → ℕ → ℕ → ℕ → Type 0

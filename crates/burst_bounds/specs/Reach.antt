@@ -1,11 +1,13 @@
 -- How far a busy time is looked at, and what is so then.
-use Rattle.std.specs.Prelude.{◌≡◌, ◌<◌, ◌≤◌, ℕ, ◌+◌, ◌-◌, ◌^◌, List, length, slice_index, Option, Some, None}
-use Rattle.gate_list.specs.Gate.{Plan}
+use Rattle.std.specs.Prelude.{◌≡◌, ◌<◌, ◌≤◌, ℕ, ◌+◌, ◌-◌, ◌^◌, Bool, true, false, List, length, slice_index, Option, Some, None}
+use Rattle.gate_list.specs.Gate.{Plan, in_ps, prefix}
 use Rattle.delay_bounds.specs.ForEver.{Repeats}
 use Rattle.delay_bounds.specs.Walk.{may_by}
-use Rattle.any_traffic.specs.Cycle.{IsBusyTime}
-use Rattle.any_traffic.specs.Slots.{AreBounds, IsSlot}
+use Rattle.any_traffic.specs.AnyTraffic.{AreCurveBounds}
+use Rattle.any_traffic.specs.BusyPeriod.{IsBusyPeriod}
+use Rattle.any_traffic.specs.Slots.{IsSlot}
 use Rattle.burst_bounds.specs.Busy.{IsIdleBehind}
+use Rattle.burst_bounds.specs.Good.{AreGoodBefore}
 use Rattle.burst_bounds.specs.Unbound.{IsLong, IsStuck}
 use Rattle.burst_bounds.specs.Walk.{AreArrivals, AreBoundsFrom}
 use Rattle.burst_bounds.specs.declared.Bounds.{Bounds}
@@ -28,7 +30,7 @@ MayComeAgain plan class curve (Some r) = ComesAgain plan class curve r
 
 -- The wire is idle behind at most so many frames from a moment on, and the bounds hold up to then.
 pub record IsIdleBy (plan : Plan) (class d : ℕ) (curve : ℕ → ℕ) (wait most t frames : ℕ) : Type 0 where
-  pub time : IsBusyTime plan class d curve wait most t
+  pub time : IsBusyPeriod plan class d curve wait most t
   pub few : curve time.last ≤ frames
 
 -- from a moment on the bounds hold, up to when the wire is idle, or for ever
@@ -38,7 +40,7 @@ IsReach plan class d curve b t (Again frames) = AreBoundsFrom plan class d curve
 
 -- none are less than these
 abbrev pub AreUnder : Plan → ℕ → ℕ → (ℕ → ℕ) → Bounds → Type 0
-AreUnder plan class d curve b = (w m : ℕ) → AreBounds plan class d curve w m → (b.wait ≤ w) × (b.most ≤ m)
+AreUnder plan class d curve b = (w m : ℕ) → AreCurveBounds plan class d curve w m → (b.wait ≤ w) × (b.most ≤ m)
 
 -- some are no less
 abbrev pub AreWithin : Bounds → Bounds → Type 0
@@ -86,3 +88,17 @@ IsUnseen plan class d curve count Long = IsLong plan class d curve (count - 1)
 IsUnseen plan class d curve count Stuck = IsStuck plan class d
 IsUnseen plan class d curve count Memory = Unit {0}
 IsUnseen plan class d curve count Overloaded = ⊥
+
+-- Bounds have become so that they hold from all moments around the end of a window, and are still not greater than any that hold.
+pub record IsWindowSeen (plan : Plan) (class d end : ℕ) (moments : List ℕ) (repeat : Option Repeat) (old new : Bounds) : Type 0 where
+  pub grown : AreWithin old new
+  pub good : (curve : ℕ → ℕ) → IsRead plan class d curve moments repeat → AreGoodBefore plan class d curve new.wait new.most end
+  pub under : (curve : ℕ → ℕ) → IsRead plan class d curve moments repeat → AreUnder plan class d curve old → AreUnder plan class d curve new
+
+-- the same for those windows that end where one of the first entries begins
+pub record AreWindowsSeen (plan : Plan) (class d : ℕ) (moments : List ℕ) (repeat : Option Repeat) (count : ℕ) (old new : Bounds) : Type 0 where
+  pub grown : AreWithin old new
+  pub good : (curve : ℕ → ℕ) → IsRead plan class d curve moments repeat → (i : ℕ) → i < count
+      → may_by plan class (in_ps plan.cycle + prefix plan.entries i) 1 ≡ false → may_by plan class (in_ps plan.cycle + prefix plan.entries i - 1) 1 ≡ true
+      → AreGoodBefore plan class d curve new.wait new.most (in_ps plan.cycle + prefix plan.entries i)
+  pub under : (curve : ℕ → ℕ) → IsRead plan class d curve moments repeat → AreUnder plan class d curve old → AreUnder plan class d curve new
