@@ -9,3 +9,5 @@ pub mod CoverLaws
 pub mod SeenLaws
 pub mod WindowSeenLaws
 pub mod UnseenLaws
+pub mod TalkerLaws
+pub mod WalkLaws

@@ -1,5 +1,5 @@
 -- How far a busy time is looked at, and what is so then.
-use Rattle.std.specs.Prelude.{◌≡◌, ◌<◌, ◌≤◌, ℕ, ◌+◌, ◌-◌, ◌^◌, Bool, true, false, List, length, slice_index, Option, Some, None}
+use Rattle.std.specs.Prelude.{◌≡◌, ◌<◌, ◌≤◌, ℕ, ◌+◌, ◌-◌, ◌*◌, ◌%◌, ◌^◌, Bool, true, false, List, length, slice_index, Option, Some, None}
 use Rattle.gate_list.specs.Gate.{Plan, in_ps, prefix}
 use Rattle.delay_bounds.specs.ForEver.{Repeats}
 use Rattle.delay_bounds.specs.Walk.{may_by}
@@ -8,9 +8,10 @@ use Rattle.any_traffic.specs.BusyPeriod.{IsBusyPeriod}
 use Rattle.any_traffic.specs.Slots.{IsSlot}
 use Rattle.burst_bounds.specs.Busy.{IsIdleBehind}
 use Rattle.burst_bounds.specs.Good.{AreGoodBefore}
-use Rattle.burst_bounds.specs.Unbound.{IsLong, IsStuck}
-use Rattle.burst_bounds.specs.Walk.{AreArrivals, AreBoundsFrom}
+use Rattle.burst_bounds.specs.Unbound.{IsLong, IsStuck, periods_in}
+use Rattle.burst_bounds.specs.Walk.{AreArrivals, AreBoundsFrom, talker_at}
 use Rattle.burst_bounds.specs.declared.Bounds.{Bounds}
+use Rattle.burst_bounds.specs.declared.Talker.{Talker}
 use Rattle.burst_bounds.specs.declared.Unbound.{Unbound}
 use Rattle.burst_bounds.specs.declared.Unbound.TheVariants.{Overloaded, Stuck, Long, Memory}
 use Rattle.burst_bounds.specs.declared.repeats.Repeat.{Repeat}
@@ -102,3 +103,12 @@ pub record AreWindowsSeen (plan : Plan) (class d : ℕ) (moments : List ℕ) (re
       → may_by plan class (in_ps plan.cycle + prefix plan.entries i) 1 ≡ false → may_by plan class (in_ps plan.cycle + prefix plan.entries i - 1) 1 ≡ true
       → AreGoodBefore plan class d curve new.wait new.most (in_ps plan.cycle + prefix plan.entries i)
   pub under : (curve : ℕ → ℕ) → IsRead plan class d curve moments repeat → AreUnder plan class d curve old → AreUnder plan class d curve new
+
+-- After a time of whole cycles and of whole periods of each talker as many frames more have come as periods have passed.
+pub record IsCommon (talkers : List Talker) (cycle : ℕ) (r : Repeat) : Type 0 where
+  pub cycles : ℕ
+  pub whole : r.time ≡ cycle * cycles
+  pub lasts : 0 < r.time
+  pub small : IsSmall r
+  pub divides : (i : ℕ) → i < length talkers → r.time % (talker_at talkers i).period ≡ 0
+  pub frames : r.frames ≡ periods_in r.time talkers

@@ -1,5 +1,12 @@
 //! The bounds of a class, by the busy times from finitely many moments.
 
+ghost use Rattle.std.specs.Prelude.{◌≡◌, ◌<◌, ◌≤◌, ◌*◌, ◌^◌, All, None, IfErr, IfOk, IfSome, length};
+ghost use Rattle.gate_list.specs.Gate.{IsSchedule, in_ps};
+ghost use Rattle.list_position.specs.Position.{IsPlaced};
+ghost use Rattle.burst_bounds.specs.Least.{AreLeast};
+ghost use Rattle.burst_bounds.specs.Reach.{IsCommon, IsUnseen};
+ghost use Rattle.burst_bounds.specs.Talkers.{IsTalker, curve, longest_need};
+
 use crate::arrivals::arrivals;
 use crate::moments::{with_moment, with_windows};
 use crate::rate::is_overloaded;
@@ -9,12 +16,15 @@ use crate::{Bounds, Talker, Unbound};
 use gate_list::{Schedule, Visits};
 use list_position::Position;
 use std::alloc::Allocator;
+use wire_time::CLASSES;
 
 /// So many frames are looked at from each moment on at first.
 const FEW: usize = 256;
 
 /// The longest need of all talkers.
-fn longest_need(talkers: &[Talker]) -> u128 {
+fn longest_need(talkers: &[Talker]) -> u128
+    ensures { result ≡ longest_need talkers.now }
+{
     let mut need = 0;
     for talker in talkers {
         need = talker.need.max(need);
@@ -35,31 +45,34 @@ fn bounds_by<A: Allocator>(
 ) -> Result<Bounds, Unbound>
 where
     A: Clone,
+    requires sound { IsSchedule schedule.now }
+    requires first { IsPlaced schedule.now 0 None 0 first.now }
+    requires class { class < CLASSES }
+    requires some { 0 < length talkers.now }
+    requires talkers { All IsTalker talkers.now }
+    requires need { need ≡ longest_need talkers.now }
+    requires repeat { IfSome repeat (IsCommon talkers.now (in_ps schedule.now.cycle)) }
+    requires frames { (0 < frames) × (frames < 2 ^ 40) }
+    ensures least { IfOk result (λ b. AreLeast schedule.now class need (curve talkers.now) b.wait b.most) }
+    ensures why { IfErr result (IsUnseen schedule.now class need (curve talkers.now) frames) }
 {
     let Ok(moments) = arrivals(alloc, talkers, frames) else {
         return Err(Unbound::Memory);
     };
-    let slots = slots_from(alloc, schedule, first, class, need, 0, frames)?;
+    let slots = match slots_from(alloc, schedule, first, class, need, 0, frames) {
+        Ok(slots) => slots,
+        Err(why) => return Err(why),
+    };
     let mut bounds = Bounds { wait: 0, most: 0 };
-    let _reach = with_moment(
-        &mut bounds,
-        slots.as_slice(),
-        moments.as_slice(),
-        0,
-        need,
-        repeat,
-    )?;
-    with_windows(
-        alloc,
-        schedule,
-        first,
-        class,
-        need,
-        moments.as_slice(),
-        repeat,
-        &mut bounds,
-    )?;
-    Ok(bounds)
+    let moments = moments.as_slice();
+    let _reach = match with_moment(&mut bounds, slots.as_slice(), moments, 0, need, repeat) {
+        Ok(reach) => reach,
+        Err(why) => return Err(why),
+    };
+    match with_windows(alloc, schedule, first, class, need, moments, repeat, &mut bounds) {
+        Ok(()) => Ok(bounds),
+        Err(why) => Err(why),
+    }
 }
 
 /// The bounds by more and more frames from each moment on.
@@ -75,6 +88,16 @@ fn bounds_within<A: Allocator>(
 ) -> Result<Bounds, Unbound>
 where
     A: Clone,
+    requires sound { IsSchedule schedule.now }
+    requires first { IsPlaced schedule.now 0 None 0 first.now }
+    requires class { class < CLASSES }
+    requires some { 0 < length talkers.now }
+    requires talkers { All IsTalker talkers.now }
+    requires need { need ≡ longest_need talkers.now }
+    requires repeat { IfSome repeat (IsCommon talkers.now (in_ps schedule.now.cycle)) }
+    requires most { (0 < most) × (most < 2 ^ 40) }
+    ensures least { IfOk result (λ b. AreLeast schedule.now class need (curve talkers.now) b.wait b.most) }
+    ensures why { IfErr result (IsUnseen schedule.now class need (curve talkers.now) most) }
 {
     let mut frames = FEW;
     while frames < most {

@@ -1,5 +1,5 @@
 use Rattle.burst_bounds.proofs.CoverLaws.{moments_law}
-use Rattle.burst_bounds.proofs.SeenLaws.{good_of}
+use Rattle.burst_bounds.proofs.WalkLaws.{are_least}
 use Rattle.burst_bounds.proofs.laws.moments.Goals as goal
 
 pub returns : goal.returns
