@@ -11,3 +11,4 @@ pub mod WindowSeenLaws
 pub mod UnseenLaws
 pub mod TalkerLaws
 pub mod WalkLaws
+pub mod CommonLaws

@@ -1,5 +1,5 @@
 -- Why bounds aren't seen.
-use Rattle.std.proofs.Common.{◌≡◌, ◌<◌, ◌≤◌, ℕ, ◌+◌, ◌-◌, List, length, Option, inl, inr, sym, subst, arith}
+use Rattle.std.proofs.Common.{◌≡◌, ◌<◌, ◌≤◌, ℕ, ◌+◌, ◌-◌, List, length, Option, Result, Ok, Err, IfErr, inl, inr, refl, sym, subst, arith}
 use Rattle.gate_list.specs.Gate.{Plan}
 use Rattle.delay_bounds.specs.Walk.{may_by}
 use Rattle.burst_bounds.specs.Busy.{IsBusyUntil}
@@ -29,3 +29,11 @@ pub by_end : (plan : Plan) (class d from : ℕ) (slots moments : List ℕ) (repe
 by_end plan class d from slots moments repeat curve why read rows many is busy =
     let none : Bounds = record { wait = 0; most = 0 } in
     subst (IsUnseen plan class d curve (length moments)) (sym is) (from, inl (busy_for plan class d curve from slots moments repeat read rows none none busy many))
+
+-- but for frames that are too many it doesn't matter how many are looked at
+pub any_count : (plan : Plan) (class d n m : ℕ) (curve : ℕ → ℕ) (r : Result Bounds Unbound) → (r ≡ Err Long → ⊥) → IfErr r (IsUnseen plan class d curve n) → IfErr r (IsUnseen plan class d curve m)
+any_count plan class d n m curve (Ok b) none why = tt
+any_count plan class d n m curve (Err Long) none why = absurd (none refl)
+any_count plan class d n m curve (Err Stuck) none why = why
+any_count plan class d n m curve (Err Memory) none why = tt
+any_count plan class d n m curve (Err Overloaded) none why = why

@@ -104,6 +104,22 @@ pub record AreWindowsSeen (plan : Plan) (class d : ℕ) (moments : List ℕ) (re
       → AreGoodBefore plan class d curve new.wait new.most (in_ps plan.cycle + prefix plan.entries i)
   pub under : (curve : ℕ → ℕ) → IsRead plan class d curve moments repeat → AreUnder plan class d curve old → AreUnder plan class d curve new
 
+-- a whole number of the first times, and of the second
+pub record IsMultiple (a b t : ℕ) : Type 0 where
+  pub times : ℕ
+  pub whole : t ≡ a * times
+  pub lasts : 0 < t
+  pub small : t < 2 ^ 127
+  pub divides : t % b ≡ 0
+
+-- a time of whole cycles, and of whole periods of each talker
+pub record IsCommonTime (talkers : List Talker) (cycle t : ℕ) : Type 0 where
+  pub cycles : ℕ
+  pub whole : t ≡ cycle * cycles
+  pub lasts : 0 < t
+  pub small : t < 2 ^ 127
+  pub divides : (i : ℕ) → i < length talkers → t % (talker_at talkers i).period ≡ 0
+
 -- After a time of whole cycles and of whole periods of each talker as many frames more have come as periods have passed.
 pub record IsCommon (talkers : List Talker) (cycle : ℕ) (r : Repeat) : Type 0 where
   pub cycles : ℕ

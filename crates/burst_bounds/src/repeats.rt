@@ -1,9 +1,11 @@
 //! Where as many frames come as the windows take, the wire need not become idle. Then all repeats.
 
-ghost use Rattle.std.specs.Prelude.{◌≡◌, ℕ, ◌<◌, ◌≤◌, ◌+◌, IfSome, length, slice_index};
+ghost use Rattle.std.specs.Prelude.{◌≡◌, ℕ, ◌<◌, ◌≤◌, ◌+◌, ◌^◌, All, IfSome, length, slice_index};
 ghost use Rattle.wire_time.specs.Moment.{greatest_moment};
+ghost use Rattle.burst_bounds.specs.Talkers.{IsTalker};
+ghost use Rattle.burst_bounds.specs.Unbound.{periods_in};
 ghost use Rattle.burst_bounds.specs.Walk.{AreBelow};
-ghost use Rattle.burst_bounds.specs.Reach.{ComesBack, IsSmall};
+ghost use Rattle.burst_bounds.specs.Reach.{ComesBack, IsCommon, IsCommonTime, IsMultiple, IsSmall};
 
 use crate::Talker;
 
@@ -26,14 +28,25 @@ fn common_divisor(a: u128, b: u128) -> u128 {
     a
 }
 
-/// A common multiple, the least, where it is below 2^127.
-fn common_multiple(a: u128, b: u128) -> Option<u128> {
+/// A common multiple, the least one; none where it is too long to be looked at.
+fn common_multiple(a: u128, b: u128) -> Option<u128>
+    requires { 0 < b }
+    ensures { IfSome result (IsMultiple a b) }
+{
     let times = b / common_divisor(a, b).max(1);
-    a.checked_mul(times)
+    let time = a.checked_mul(times)?;
+    if time == 0 || time > u128::MAX / 2 || time % b != 0 {
+        return None;
+    }
+    Some(time)
 }
 
-/// Whole cycles and whole periods of each talker; none where that is too long.
-fn common_time(talkers: &[Talker], cycle: u128) -> Option<u128> {
+/// Whole cycles and whole periods of each talker; none where that is too long to be looked at.
+fn common_time(talkers: &[Talker], cycle: u128) -> Option<u128>
+    requires talkers { All IsTalker talkers.now }
+    requires cycle { (0 < cycle) × (cycle < 2 ^ 127) }
+    ensures { IfSome result (IsCommonTime talkers.now cycle) }
+{
     let mut time = cycle;
     for talker in talkers {
         time = common_multiple(time, talker.period)?;
@@ -41,8 +54,11 @@ fn common_time(talkers: &[Talker], cycle: u128) -> Option<u128> {
     Some(time)
 }
 
-/// How many frames come in a time of whole periods, where they are no more than may be.
-fn frames_in(talkers: &[Talker], time: u128, limit: usize) -> Option<usize> {
+/// How many whole periods of all talkers pass in a time; none where they are more than a limit.
+fn periods_in(talkers: &[Talker], time: u128, limit: usize) -> Option<usize>
+    requires { All IsTalker talkers.now }
+    ensures { IfSome result (λ n. n ≡ periods_in time talkers.now) }
+{
     let mut left = limit as u128;
     for talker in talkers {
         left = left.checked_sub(time / talker.period)?;
@@ -51,9 +67,13 @@ fn frames_in(talkers: &[Talker], time: u128, limit: usize) -> Option<usize> {
 }
 
 /// After how long, and how many frames, all comes again; none where there are more than may be looked at.
-pub fn repeat_of(talkers: &[Talker], cycle: u128, limit: usize) -> Option<Repeat> {
+pub fn repeat_of(talkers: &[Talker], cycle: u128, limit: usize) -> Option<Repeat>
+    requires talkers { All IsTalker talkers.now }
+    requires cycle { (0 < cycle) × (cycle < 2 ^ 127) }
+    ensures { IfSome result (IsCommon talkers.now cycle) }
+{
     let time = common_time(talkers, cycle)?;
-    let frames = frames_in(talkers, time, limit)?;
+    let frames = periods_in(talkers, time, limit)?;
     Some(Repeat { frames, time })
 }
 

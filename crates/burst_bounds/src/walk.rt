@@ -1,6 +1,6 @@
 //! The bounds of a class, by the busy times from finitely many moments.
 
-ghost use Rattle.std.specs.Prelude.{◌≡◌, ◌<◌, ◌≤◌, ◌*◌, ◌^◌, All, None, IfErr, IfOk, IfSome, length};
+ghost use Rattle.std.specs.Prelude.{◌≡◌, ◌<◌, ◌≤◌, ◌*◌, ◌^◌, All, Err, false, None, IfErr, IfOk, IfSome, length};
 ghost use Rattle.gate_list.specs.Gate.{IsSchedule, in_ps};
 ghost use Rattle.list_position.specs.Position.{IsPlaced};
 ghost use Rattle.burst_bounds.specs.Least.{AreLeast};
@@ -69,9 +69,28 @@ where
         Ok(reach) => reach,
         Err(why) => return Err(why),
     };
-    match with_windows(alloc, schedule, first, class, need, moments, repeat, &mut bounds) {
+    match with_windows(
+        alloc,
+        schedule,
+        first,
+        class,
+        need,
+        moments,
+        repeat,
+        &mut bounds,
+    ) {
         Ok(()) => Ok(bounds),
         Err(why) => Err(why),
+    }
+}
+
+/// Whether a look at more frames may show the bounds.
+fn wants_more(found: Result<Bounds, Unbound>) -> bool
+    ensures { result ≡ false → found ≡ Err Unbound.Long → ⊥ }
+{
+    match found {
+        Err(Unbound::Long) => true,
+        _ => false,
     }
 }
 
@@ -101,11 +120,11 @@ where
 {
     let mut frames = FEW;
     while frames < most {
-        match bounds_by(alloc, schedule, first, class, need, talkers, repeat, frames) {
-            Err(Unbound::Long) => {}
-            other => return other,
+        let found = bounds_by(alloc, schedule, first, class, need, talkers, repeat, frames);
+        if !wants_more(found) {
+            return found;
         }
-        frames = 2 * frames;
+        frames *= 2;
     }
     bounds_by(alloc, schedule, first, class, need, talkers, repeat, most)
 }
