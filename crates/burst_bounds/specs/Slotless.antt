@@ -17,4 +17,3 @@ abbrev pub IsSlotless : Plan → ℕ → ℕ → ℕ → ℕ → Unbound → Typ
 IsSlotless plan class d from count Long = IsLate plan class d from (count - 2) × (2 ≤ count)
 IsSlotless plan class d from count Stuck = IsStuck plan class d
 IsSlotless plan class d from count Memory = Unit {0}
-IsSlotless plan class d from count why = ⊥

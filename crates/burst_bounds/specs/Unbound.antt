@@ -2,37 +2,21 @@
 use Rattle.std.specs.Prelude.{◌≡◌, ◌<◌, ◌≤◌, ℕ, ◌+◌, ◌-◌, ◌*◌, ◌/◌, ◌⊎◌, Bool, false, List, sum_by}
 use Rattle.wire_time.specs.Moment.{greatest_moment}
 use Rattle.gate_list.specs.Gate.{Plan, in_ps}
-use Rattle.separation.specs.Served.{IsFirst}
 use Rattle.delay_bounds.specs.Walk.{may_by}
 use Rattle.any_traffic.specs.Slots.{IsSlot}
 use Rattle.burst_bounds.specs.Talkers.{curve, longest_need}
 use Rattle.burst_bounds.specs.Walk.{IsArrival}
 use Rattle.burst_bounds.specs.declared.Talker.{Talker}
 use Rattle.burst_bounds.specs.declared.Unbound.{Unbound}
-use Rattle.burst_bounds.specs.declared.Unbound.TheVariants.{Overloaded, Stuck, Long, Memory}
+use Rattle.burst_bounds.specs.declared.Unbound.TheVariants.{Stuck, Long, Memory}
 
 -- No window takes d.
 abbrev pub IsStuck : Plan → ℕ → ℕ → Type 0
 IsStuck plan class d = (t : ℕ) → may_by plan class t d ≡ false
 
--- From some slot on so many further ones take just so many cycles. A plan repeats, so this goes on so: it is what the class takes in the long run, with
--- the time that is lost where a frame doesn't fit.
-pub record Takes (plan : Plan) (class d frames cycles : ℕ) : Type 0 where
-  pub from : ℕ
-  pub slot : ℕ
-  pub first : IsFirst (may_by plan class) d from slot
-  pub later : IsSlot (may_by plan class) d from frames (slot + in_ps plan.cycle * cycles)
-
 -- how many whole periods of all talkers pass in a time
 abbrev pub periods_in : ℕ → List Talker → ℕ
 periods_in x talkers = sum_by (λ t. x / t.period) talkers
-
--- More frames come than are taken: in some whole cycles more whole periods of the talkers pass than there are slots.
-pub record IsOverloaded (plan : Plan) (class d : ℕ) (talkers : List Talker) : Type 0 where
-  pub frames : ℕ
-  pub cycles : ℕ
-  pub takes : Takes plan class d frames cycles
-  pub more : frames < periods_in (in_ps plan.cycle * cycles) talkers
 
 -- From a moment on the wire isn't idle before so many frames have come: each comes before the one before it has ended.
 abbrev pub IsBusyFor : Plan → ℕ → ℕ → (ℕ → ℕ) → ℕ → ℕ → Type 0
@@ -49,8 +33,6 @@ IsLong plan class d curve frames = (t : ℕ) × (IsBusyFor plan class d curve t 
 
 -- why talkers have no bounds, where so many frames of a busy time may be looked at
 abbrev pub IsUnbound : Plan → ℕ → List Talker → ℕ → Unbound → Type 0
-IsUnbound plan class talkers limit Overloaded = IsOverloaded plan class (longest_need talkers) talkers
 IsUnbound plan class talkers limit Stuck = IsStuck plan class (longest_need talkers)
-IsUnbound plan class talkers limit Long =
-    IsLong plan class (longest_need talkers) (curve talkers) limit × (IsOverloaded plan class (longest_need talkers) talkers → ⊥)
+IsUnbound plan class talkers limit Long = IsLong plan class (longest_need talkers) (curve talkers) limit
 IsUnbound plan class talkers limit Memory = Unit {0}

@@ -8,7 +8,6 @@ mod arrivals;
 mod busy;
 pub mod laws;
 mod moments;
-mod rate;
 mod repeats;
 mod slots;
 mod walk;
@@ -39,12 +38,10 @@ pub struct Bounds {
 /// Why a class has no bounds.
 #[derive(Clone, Copy, Debug, PartialEq, Eq)]
 pub enum Unbound {
-    /// In the long run more frames come than the windows take.
-    Overloaded,
     /// No window takes the longest frame.
     Stuck,
-    /// The class isn't overloaded, but from some moment on it is busy with more frames than may be looked at, or until
-    /// the greatest moment.
+    /// From some moment on the class is busy with more frames than may be looked at, or until the greatest moment. So it
+    /// is, too, where in the long run more frames come than the windows take.
     Long,
     /// Out of memory.
     Memory,

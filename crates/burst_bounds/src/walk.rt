@@ -6,10 +6,10 @@ ghost use Rattle.list_position.specs.Position.{IsPlaced};
 ghost use Rattle.burst_bounds.specs.Least.{AreLeast};
 ghost use Rattle.burst_bounds.specs.Reach.{IsCommon, IsUnseen};
 ghost use Rattle.burst_bounds.specs.Talkers.{IsTalker, curve, longest_need};
+ghost use Rattle.burst_bounds.specs.Unbound.{IsUnbound};
 
 use crate::arrivals::arrivals;
 use crate::moments::{with_moment, with_windows};
-use crate::rate::is_overloaded;
 use crate::repeats::{Repeat, repeat_of};
 use crate::slots::slots_from;
 use crate::{Bounds, Talker, Unbound};
@@ -129,7 +129,18 @@ where
     bounds_by(alloc, schedule, first, class, need, talkers, repeat, most)
 }
 
-/// The bounds of a class that a schedule keeps apart, whenever the frames of its talkers come.
+/// The bounds of a class that a schedule keeps apart, whenever the frames of its talkers come: the longest time from a
+/// frame's arrival to its start, and the most frames that ever wait at once. Each frame is taken to need the wire for as
+/// long as the longest one.
+///
+/// From each moment at which a busy time may be the worst at most `limit` frames are walked, each as early as it may
+/// come: until the wire is idle, or until all comes again. It takes memory for that many moments.
+///
+/// # Errors
+/// `Stuck`: no window takes the longest frame. `Long`: some busy time has more than `limit` frames, or lasts until
+/// `MAX_MOMENT`. `Memory`: out of memory.
+///
+/// IEEE Std 802.1Q-2018, 8.6.8.4 and 8.6.9. `any_traffic::any_traffic` says what the bounds are worth in every run.
 pub fn burst_bounds<A: Allocator>(
     alloc: &A,
     schedule: &Schedule,
@@ -139,22 +150,17 @@ pub fn burst_bounds<A: Allocator>(
 ) -> Result<Bounds, Unbound>
 where
     A: Clone,
+    requires class { class < CLASSES }
+    requires some { 0 < length talkers.now }
+    requires talkers { All IsTalker talkers.now }
+    ensures least { IfOk result (λ b. AreLeast schedule.now class (longest_need talkers.now) (curve talkers.now) b.wait b.most) }
+    ensures why { IfErr result (IsUnbound schedule.now class talkers.now limit) }
 {
+    let _entries = schedule.len();
     let first = Position::first(schedule, 0, &mut Visits::zero());
     let need = longest_need(talkers);
-    if is_overloaded(alloc, schedule, &first, class, need, talkers)? {
-        return Err(Unbound::Overloaded);
-    }
     let cycle = 1000 * u128::from(schedule.cycle_ns());
     let repeat = repeat_of(talkers, cycle, limit as usize);
-    bounds_within(
-        alloc,
-        schedule,
-        &first,
-        class,
-        need,
-        talkers,
-        repeat,
-        limit as usize + 1,
-    )
+    let most = limit as usize + 1;
+    bounds_within(alloc, schedule, &first, class, need, talkers, repeat, most)
 }
