@@ -1,14 +1,12 @@
 -- Moments from which the slots are alike, and what so holds from one that holds from the other.
-use Rattle.std.proofs.Common.{◌≡◌, ◌<◌, ◌≤◌, ◌⊎◌, ℕ, zero, suc, ◌+◌, ◌-◌, ◌*◌, Bool, true, Some, None, add-mul, inl, inr, refl, sym, ap, ◌∙◌, subst, arith, le_refl}
+use Rattle.std.proofs.Common.{◌≡◌, ◌<◌, ◌≤◌, ℕ, zero, suc, ◌+◌, ◌-◌, ◌*◌, Bool, true, Some, None, add-mul, inl, inr, sym, ap, ◌∙◌, subst, arith, le_refl}
 use Rattle.std.proofs.lemmas.Bool.{cases_lt}
 use Rattle.gate_list.specs.Gate.{Plan, mask_since}
 use Rattle.gate_list.proofs.OpenLaws.{open_at, open_from}
 use Rattle.separation.specs.Served.{IsFirst}
 use Rattle.delay_bounds.specs.ForEver.{Repeats}
 use Rattle.delay_bounds.specs.Walk.{may_by}
-use Rattle.any_traffic.specs.BusyPeriod.{IsBusyPeriod}
 use Rattle.any_traffic.specs.Slots.{IsSlot}
-use Rattle.burst_bounds.specs.Walk.{AreBoundsFrom}
 use Rattle.burst_bounds.specs.Good.{FitBefore, IsGood}
 use Rattle.burst_bounds.specs.Reach.{IsIdleBy}
 use Rattle.any_traffic.proofs.SlotLaws.{one_slot, slot_earlier, slot_later}

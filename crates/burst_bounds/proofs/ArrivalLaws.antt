@@ -1,12 +1,12 @@
 -- When frames come at the earliest: of all talkers' next frames the first.
-use Rattle.std.proofs.Common.{◌≡◌, ◌<◌, ◌≤◌, ℕ, zero, suc, ◌+◌, ◌-◌, ◌*◌, ◌/◌, Bool, List, [], ◌∷◌, map, length, get_or, set, length-set, All, inl, inr, refl, sym, ap, ◌∙◌, subst, arith, div-lt_iff_lt-mul}
+use Rattle.std.proofs.Common.{◌≡◌, ◌<◌, ◌≤◌, ℕ, suc, ◌+◌, ◌*◌, ◌/◌, List, [], ◌∷◌, map, length, get_or, set, length-set, inl, inr, refl, sym, ◌∙◌, subst, arith, div-lt_iff_lt-mul}
 use Rattle.std.proofs.Math.Nat.{div-mul-le_self, le-div_iff_mul-le}
 use Rattle.std.specs.Prelude.{sum_by}
 use Rattle.std.proofs.lemmas.Bool.{cases_lt}
 use Rattle.std.proofs.lemmas.List.{get_or-set_same, get_or-set_other}
 use Rattle.std.proofs.lemmas.List.Sums.{sum_by-cons, sum_by-set}
-use Rattle.any_traffic.specs.Sporadic.{Sporadic, curve_of}
-use Rattle.burst_bounds.specs.Talkers.{IsTalker, curve, sporadic_of}
+use Rattle.any_traffic.specs.Sporadic.{curve_of}
+use Rattle.burst_bounds.specs.Talkers.{curve, sporadic_of}
 use Rattle.burst_bounds.specs.Walk.{IsArrival, comes_at, talker_at}
 use Rattle.burst_bounds.specs.declared.Talker.{Talker}
 

@@ -1,7 +1,7 @@
 -- The longest wait and the most that wait at once, frame by frame.
-use Rattle.std.proofs.Common.{◌≡◌, ◌<◌, ◌≤◌, ℕ, ◌+◌, ◌-◌, max, ◌⊎◌, List, length, get_or, inl, inr, subst, arith}
+use Rattle.std.proofs.Common.{◌≡◌, ◌<◌, ◌≤◌, ℕ, ◌+◌, ◌-◌, max, List, length, get_or, inl, inr, subst, arith}
 use Rattle.std.proofs.lemmas.Bool.{cases_lt}
-use Rattle.burst_bounds.specs.Busy.{IsLongest, IsMost, Rises}
+use Rattle.burst_bounds.specs.Busy.{IsLongest, IsMost}
 
 module _ (from : ℕ) (slots moments : List ℕ) where
   abbrev slot : ℕ → ℕ

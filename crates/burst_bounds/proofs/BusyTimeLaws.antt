@@ -1,15 +1,14 @@
 -- What the slots and the arrivals of a busy time say of the bounds.
-use Rattle.std.proofs.Common.{◌≡◌, ◌<◌, ◌≤◌, ◌⊎◌, ℕ, zero, suc, ◌+◌, ◌-◌, Bool, List, length, get_or, inl, inr, refl, sym, ap, ◌∙◌, subst, arith, le_refl}
+use Rattle.std.proofs.Common.{◌<◌, ◌≤◌, ℕ, ◌+◌, ◌-◌, Bool, List, length, get_or, inl, inr, arith, le_refl}
 use Rattle.std.proofs.lemmas.Bool.{cases_lt}
 use Rattle.gate_list.specs.Gate.{Plan}
 use Rattle.delay_bounds.specs.Walk.{may_by}
 use Rattle.any_traffic.specs.AnyTraffic.{AreCurveBounds}
-use Rattle.any_traffic.specs.BusyPeriod.{IsBusyPeriod}
 use Rattle.any_traffic.specs.Slots.{IsSlot}
 use Rattle.burst_bounds.specs.Busy.{IsIdleBehind, IsLongest, IsMost, Rises}
 use Rattle.burst_bounds.specs.Walk.{AreArrivals, AreSlots, IsArrival}
 use Rattle.burst_bounds.specs.Reach.{IsIdleBy}
-use Rattle.any_traffic.proofs.SlotLaws.{one_slot, slot_before}
+use Rattle.any_traffic.proofs.SlotLaws.{one_slot}
 use Rattle.burst_bounds.proofs.SlotLaws.{slot_from, slots_rise}
 
 -- ---- arrivals rise

@@ -1,7 +1,6 @@
 -- Times of whole periods.
-use Rattle.std.proofs.Common.{◌≡◌, ◌<◌, ◌≤◌, ℕ, zero, suc, ◌+◌, ◌-◌, ◌*◌, ◌/◌, ◌%◌, ◌^◌, List, [], ◌∷◌, length, drop, drop_of_length-le, refl, sym, ap, ◌∙◌, subst, arith, mul_assoc, inl, inr}
+use Rattle.std.proofs.Common.{◌≡◌, ◌<◌, ◌≤◌, ℕ, zero, suc, ◌+◌, ◌*◌, ◌/◌, ◌%◌, ◌^◌, List, [], ◌∷◌, length, drop, drop_of_length-le, sym, ap, ◌∙◌, subst, arith, mul_assoc, inl, inr}
 use Rattle.std.proofs.Math.Nat.{div-add-mod, mul-mod_right}
-use Rattle.std.specs.Prelude.{sum_by}
 use Rattle.std.proofs.lemmas.Bool.{cases_lt}
 use Rattle.std.proofs.lemmas.List.Sums.{sum_by-cons}
 use Rattle.burst_bounds.specs.Reach.{IsCommonTime, IsMultiple}

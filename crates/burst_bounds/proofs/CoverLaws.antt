@@ -14,7 +14,6 @@ use Rattle.any_traffic.specs.BusyPeriod.{IsSubadditive, IsBusyPeriod}
 use Rattle.any_traffic.specs.Slots.{IsSlot}
 use Rattle.burst_bounds.specs.Good.{AreGoodAtWindows, FitBefore, IsGood}
 use Rattle.burst_bounds.specs.Laws.{MomentsLaw}
-use Rattle.burst_bounds.specs.Walk.{AreBoundsFrom}
 use Rattle.burst_bounds.proofs.AlikeLaws.{AreAlike, good_alike, joined, later_alike, one_behind_another, turned}
 use Rattle.burst_bounds.proofs.JumpLaws.{Closes, IsCritical, NoJump, busy_on, for_ever_on, jumps}
 use Rattle.any_traffic.proofs.SlotLaws.{both_slots, one_slot, slot_before, slot_exists, slot_sooner, slots_behind}

@@ -1,6 +1,6 @@
 -- From one moment to the next slots stay, or move with it, or jump: only where a window ends right behind frames that are sent one behind another from
 -- the first moment on.
-use Rattle.std.proofs.Common.{◌≡◌, ◌<◌, ◌≤◌, ◌⊎◌, ℕ, zero, suc, ◌+◌, ◌-◌, ◌*◌, Bool, true, false, inl, inr, refl, sym, ap, ◌∙◌, subst, arith, le_refl}
+use Rattle.std.proofs.Common.{◌≡◌, ◌<◌, ◌≤◌, ◌⊎◌, ℕ, zero, suc, ◌+◌, ◌-◌, ◌*◌, Bool, true, false, inl, inr, sym, ap, ◌∙◌, subst, arith, le_refl}
 use Rattle.std.proofs.lemmas.Bool.{both_ways, cases_Bool, cases_lt}
 use Rattle.gate_list.specs.Gate.{Plan}
 use Rattle.separation.specs.Served.{IsFirst}
@@ -8,11 +8,9 @@ use Rattle.delay_bounds.specs.Walk.{may_by}
 use Rattle.delay_bounds.proofs.WaitLaws.{one_first}
 use Rattle.any_traffic.specs.BusyPeriod.{IsBusyPeriod}
 use Rattle.any_traffic.specs.Slots.{IsSlot}
-use Rattle.burst_bounds.specs.Good.{IsGood}
 use Rattle.burst_bounds.specs.Walk.{AreBoundsFrom}
 use Rattle.burst_bounds.proofs.AlikeLaws.{next_fits, one_behind_another}
 use Rattle.any_traffic.proofs.SlotLaws.{one_slot, slot_exists, slot_last, sooner}
-use Rattle.burst_bounds.proofs.SlotLaws.{slot_from}
 
 -- Frames can be sent one behind another from a moment on, k behind the first; but not right behind the last of these moments.
 pub record Closes (may : ℕ → ℕ → Bool) (d t k : ℕ) : Type 0 where

@@ -1,17 +1,15 @@
 -- What a look at one moment says of the bounds.
-use Rattle.std.proofs.Common.{◌≡◌, ◌<◌, ◌≤◌, ◌⊎◌, ℕ, zero, suc, ◌+◌, ◌-◌, ◌*◌, max, Bool, List, length, get_or, Option, Some, None, inl, inr, refl, sym, ap, ◌∙◌, subst, arith, le_refl}
+use Rattle.std.proofs.Common.{◌≡◌, ◌<◌, ◌≤◌, ℕ, zero, suc, ◌+◌, ◌-◌, Bool, List, length, get_or, Option, inl, inr, sym, ap, ◌∙◌, subst, arith, le_refl}
 use Rattle.std.proofs.lemmas.Bool.{cases_lt}
-use Rattle.std.proofs.lemmas.Option.{same_Some}
 use Rattle.gate_list.specs.Gate.{Plan}
-use Rattle.delay_bounds.specs.ForEver.{Repeats}
 use Rattle.delay_bounds.specs.Walk.{may_by}
 use Rattle.any_traffic.specs.BusyPeriod.{IsBusyPeriod}
 use Rattle.any_traffic.specs.Slots.{IsSlot}
-use Rattle.burst_bounds.specs.Busy.{HasFrames, IsBusyUntil, IsIdleBehind, IsLongest, IsMost}
+use Rattle.burst_bounds.specs.Busy.{HasFrames, IsBusyUntil, IsLongest, IsMost}
 use Rattle.burst_bounds.specs.Good.{IsGood}
-use Rattle.burst_bounds.specs.Reach.{AreUnder, AreWithin, ComesAgain, ComesBack, IsIdleBy, IsReach, IsRead, IsSeen, MayComeAgain, frames_of}
+use Rattle.burst_bounds.specs.Reach.{AreUnder, AreWithin, ComesAgain, ComesBack, IsReach, IsRead, IsSeen, MayComeAgain, frames_of}
 use Rattle.burst_bounds.specs.Unbound.{IsBusyFor}
-use Rattle.burst_bounds.specs.Walk.{AreArrivals, AreBoundsFrom, AreSlots, IsArrival}
+use Rattle.burst_bounds.specs.Walk.{AreArrivals, AreBoundsFrom, AreSlots}
 use Rattle.burst_bounds.specs.declared.Bounds.{Bounds}
 use Rattle.burst_bounds.specs.declared.repeats.Repeat.{Repeat}
 use Rattle.burst_bounds.specs.declared.moments.Reach.{Reach}

@@ -1,12 +1,11 @@
 -- The curve of talkers rises, adds up, and comes again after whole periods.
-use Rattle.std.proofs.Common.{◌≡◌, ◌<◌, ◌≤◌, ℕ, zero, suc, ◌+◌, ◌-◌, ◌*◌, ◌/◌, ◌%◌, max, List, [], ◌∷◌, map, length, slice_get, get_or, drop, drop_of_length-le, All, Some, refl, sym, ap, ◌∙◌, subst, arith}
+use Rattle.std.proofs.Common.{◌≡◌, ◌<◌, ◌≤◌, ℕ, zero, suc, ◌+◌, ◌*◌, ◌/◌, ◌%◌, max, List, [], ◌∷◌, map, length, drop, drop_of_length-le, All, refl, ap, ◌∙◌, subst, arith}
 use Rattle.std.proofs.Math.Nat.{div-add-mod, add-mul-div_left}
-use Rattle.std.specs.Prelude.{sum_by}
 use Rattle.std.proofs.lemmas.List.Sums.{sum_by-cons}
 use Rattle.std.proofs.lemmas.Option.{same_Some}
 use Rattle.wire_time.specs.Moment.{greatest_moment}
 use Rattle.any_traffic.specs.BusyPeriod.{IsSubadditive}
-use Rattle.any_traffic.specs.Sporadic.{AreFlows, Sporadic, curve_of}
+use Rattle.any_traffic.specs.Sporadic.{AreFlows, curve_of}
 use Rattle.any_traffic.proofs.CycleLaws.{rising_law, subadditive_law}
 use Rattle.burst_bounds.specs.Talkers.{IsTalker, curve, flows_of, longest_need, sporadic_of}
 use Rattle.burst_bounds.specs.Unbound.{periods_in}

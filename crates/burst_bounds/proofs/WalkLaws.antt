@@ -1,5 +1,5 @@
 -- The bounds that a walk over the moments finds are the least.
-use Rattle.std.proofs.Common.{◌≡◌, ◌<◌, ◌≤◌, ℕ, ◌+◌, ◌-◌, ◌*◌, Bool, true, List, length, Option, Some, None, IfSome, All, refl, sym, ap, ◌∙◌, subst, arith, le_refl}
+use Rattle.std.proofs.Common.{◌≡◌, ◌<◌, ℕ, ◌+◌, List, length, Option, Some, None, IfSome, All, refl, sym, ap, ◌∙◌, subst, arith}
 use Rattle.std.proofs.lemmas.Bool.{both_ways}
 use Rattle.gate_list.specs.Gate.{IsSchedule, Plan, in_ps}
 use Rattle.separation.specs.Served.{IsFirst}
@@ -9,11 +9,10 @@ use Rattle.delay_bounds.proofs.GateLaws.{by_repeats}
 use Rattle.delay_bounds.proofs.LongestWaitLaws.{found}
 use Rattle.delay_bounds.proofs.NeverLaws.{none_ever}
 use Rattle.any_traffic.specs.AnyTraffic.{AreCurveBounds}
-use Rattle.any_traffic.specs.Slots.{IsSlot}
 use Rattle.burst_bounds.specs.Busy.{HasFrames}
 use Rattle.burst_bounds.specs.Good.{IsGood}
 use Rattle.burst_bounds.specs.Least.{AreLeast}
-use Rattle.burst_bounds.specs.Reach.{AreUnder, AreWindowsSeen, ComesAgain, IsCommon, IsRead, IsSeen, MayComeAgain, frames_of}
+use Rattle.burst_bounds.specs.Reach.{AreUnder, AreWindowsSeen, IsCommon, IsRead, IsSeen, MayComeAgain, frames_of}
 use Rattle.burst_bounds.specs.Talkers.{IsTalker, curve, longest_need}
 use Rattle.burst_bounds.specs.Walk.{AreArrivals, AreSlots}
 use Rattle.burst_bounds.specs.declared.Bounds.{Bounds}

@@ -1,5 +1,5 @@
 -- The moments around the end of a window, one after another.
-use Rattle.std.proofs.Common.{◌≡◌, ◌<◌, ◌≤◌, ℕ, zero, suc, ◌+◌, ◌-◌, ◌*◌, ◌^◌, Bool, true, false, List, [], ◌∷◌, length, get_or, Option, inl, inr, refl, sym, ap, ◌∙◌, subst, arith, add-mul, mul-add}
+use Rattle.std.proofs.Common.{◌≡◌, ◌<◌, ◌≤◌, ℕ, zero, suc, ◌+◌, ◌-◌, ◌*◌, ◌^◌, Bool, true, false, List, ◌∷◌, length, get_or, Option, inl, inr, ap, ◌∙◌, subst, arith, add-mul, mul-add}
 use Rattle.std.proofs.lemmas.Bool.{both_ways, cases_lt}
 use Rattle.gate_list.specs.Gate.{Plan, in_ps, prefix}
 use Rattle.separation.specs.Served.{IsFirst}
@@ -12,7 +12,7 @@ use Rattle.burst_bounds.specs.Walk.{AreBelow, AreSlots}
 use Rattle.burst_bounds.specs.declared.Bounds.{Bounds}
 use Rattle.burst_bounds.specs.declared.repeats.Repeat.{Repeat}
 use Rattle.burst_bounds.specs.declared.moments.Reach.{Reach}
-use Rattle.burst_bounds.specs.declared.moments.Reach.TheVariants.{Idle, Again}
+use Rattle.burst_bounds.specs.declared.moments.Reach.TheVariants.{Idle}
 use Rattle.burst_bounds.proofs.AlikeLaws.{idle_alike, later_alike_before, next_fits}
 use Rattle.burst_bounds.proofs.SeenLaws.{good_more, good_of, grown, reached, under}
 

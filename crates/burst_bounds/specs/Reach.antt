@@ -1,11 +1,10 @@
 -- How far a busy time is looked at, and what is so then.
-use Rattle.std.specs.Prelude.{◌≡◌, ◌<◌, ◌≤◌, ℕ, ◌+◌, ◌-◌, ◌*◌, ◌%◌, ◌^◌, Bool, true, false, List, length, slice_index, Option, Some, None}
+use Rattle.std.specs.Prelude.{◌≡◌, ◌<◌, ◌≤◌, ℕ, ◌+◌, ◌-◌, ◌*◌, ◌%◌, ◌^◌, true, false, List, length, slice_index, Option, Some, None}
 use Rattle.gate_list.specs.Gate.{Plan, in_ps, prefix}
 use Rattle.delay_bounds.specs.ForEver.{Repeats}
 use Rattle.delay_bounds.specs.Walk.{may_by}
 use Rattle.any_traffic.specs.AnyTraffic.{AreCurveBounds}
 use Rattle.any_traffic.specs.BusyPeriod.{IsBusyPeriod}
-use Rattle.any_traffic.specs.Slots.{IsSlot}
 use Rattle.burst_bounds.specs.Busy.{IsIdleBehind}
 use Rattle.burst_bounds.specs.Good.{AreGoodBefore}
 use Rattle.burst_bounds.specs.Unbound.{IsLong, IsStuck, periods_in}

@@ -1,4 +1,4 @@
-use Rattle.std.proofs.Common.{◌≡◌, ◌<◌, ◌≤◌, ℕ, length, get_or}
+use Rattle.std.proofs.Common.{◌≡◌, ◌≤◌, ℕ, length, get_or}
 use Rattle.burst_bounds.specs.Talkers.{curve}
 use Rattle.burst_bounds.specs.Walk.{AreArrivals, AreBelow}
 use Rattle.burst_bounds.proofs.ArrivalLaws.{AreCounted, total}

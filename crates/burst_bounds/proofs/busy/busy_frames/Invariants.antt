@@ -1,4 +1,4 @@
-use Rattle.std.proofs.Common.{ℕ, ◌+◌, ◌-◌, ◌<◌, ◌≤◌, length, get_or}
+use Rattle.std.proofs.Common.{ℕ, ◌+◌, ◌-◌, ◌<◌, length, get_or}
 use Rattle.burst_bounds.proofs.busy.busy_frames.Given as goal
 
 abbrev pub invariant-loop-frames : goal.invariant-loop-frames

@@ -1,4 +1,4 @@
-use Rattle.std.proofs.Common.{◌≡◌, max, ap, ◌∙◌}
+use Rattle.std.proofs.Common.{max, ap, ◌∙◌}
 use Rattle.burst_bounds.proofs.BusyLaws.{longer}
 use Rattle.burst_bounds.proofs.busy.longest_wait.Goals as goal
 

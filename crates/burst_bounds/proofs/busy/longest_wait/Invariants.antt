@@ -1,4 +1,3 @@
-use Rattle.std.proofs.Common.{◌≡◌, ℕ, ◌+◌, ◌<◌, ◌≤◌, ◌⊎◌, get_or}
 use Rattle.burst_bounds.specs.Busy.{IsLongest}
 use Rattle.burst_bounds.proofs.busy.longest_wait.Given as goal
 

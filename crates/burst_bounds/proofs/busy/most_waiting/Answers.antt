@@ -1,4 +1,4 @@
-use Rattle.std.proofs.Common.{◌≡◌, ◌<◌, ◌+◌, ◌≤◌, length, get_or, ℕ, max, inl, inr, ap, ◌∙◌, arith}
+use Rattle.std.proofs.Common.{◌<◌, ◌+◌, length, get_or, ℕ, max, inl, inr, ap, ◌∙◌, arith}
 use Rattle.std.proofs.lemmas.Bool.{cases_lt}
 use Rattle.burst_bounds.proofs.BusyLaws.{more_waiting}
 use Rattle.burst_bounds.proofs.busy.most_waiting.Goals as goal

@@ -1,5 +1,4 @@
 use Rattle.burst_bounds.proofs.CoverLaws.{moments_law}
-use Rattle.burst_bounds.proofs.WalkLaws.{are_least}
 use Rattle.burst_bounds.proofs.laws.moments.Goals as goal
 
 pub returns : goal.returns

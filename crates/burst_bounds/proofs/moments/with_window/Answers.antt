@@ -1,7 +1,6 @@
-use Rattle.std.proofs.Common.{◌≡◌, ◌<◌, ◌≤◌, ◌+◌, ◌-◌, ◌∷◌, ℕ, List, length, sym, subst, arith}
-use Rattle.delay_bounds.specs.Walk.{may_by}
+use Rattle.std.proofs.Common.{◌+◌, ◌-◌, ℕ, List, length, sym, subst, arith}
 use Rattle.burst_bounds.specs.Busy.{HasFrames, IsBusyUntil}
-use Rattle.burst_bounds.specs.Reach.{IsSeen, IsWindowSeen, frames_of}
+use Rattle.burst_bounds.specs.Reach.{IsSeen, frames_of}
 use Rattle.burst_bounds.proofs.UnseenLaws.{by_end, by_slot}
 use Rattle.burst_bounds.proofs.WindowSeenLaws.{IsInWindow, ends_full, ends_idle, frames_within, goes_on}
 use Rattle.burst_bounds.proofs.moments.with_window.Goals as goal

@@ -1,10 +1,9 @@
-use Rattle.std.proofs.Common.{◌≡◌, ◌≤◌, ◌+◌, ◌-◌, ◌*◌, ◌^◌, ℕ, Bool, true, false, sym, ap, subst, arith, refl}
+use Rattle.std.proofs.Common.{◌≡◌, ◌+◌, ◌-◌, ℕ, true, false, sym, subst, arith}
 use Rattle.std.proofs.lemmas.Bool.{both_ways}
 use Rattle.gate_list.specs.Gate.{in_ps, prefix}
 use Rattle.gate_list.proofs.RowLaws.{prefix_next}
 use Rattle.delay_bounds.specs.Walk.{may_by}
 use Rattle.burst_bounds.specs.Reach.{AreWindowsSeen, IsWindowSeen}
-use Rattle.burst_bounds.specs.declared.Bounds.{Bounds}
 use Rattle.burst_bounds.proofs.WindowSeenLaws.{no_more, one_more}
 use Rattle.burst_bounds.proofs.moments.with_windows.Goals as goal
 use Rattle.burst_bounds.proofs.moments.with_windows.Goals.{then-ends_window+in-Ok, else-ends_window}

@@ -1,12 +1,9 @@
-use Rattle.std.proofs.Common.{◌≡◌, ◌<◌, ◌≤◌, ◌+◌, ◌^◌, ◌*◌, ℕ, None, List, ◌++◌, ◌∷◌, [], length, get_or, inl, sym, ap, ◌∙◌, subst, arith, refl, le_refl}
+use Rattle.std.proofs.Common.{◌≡◌, ◌<◌, ◌+◌, ◌^◌, ℕ, List, ◌++◌, ◌∷◌, [], length, inl, sym, ap, ◌∙◌, subst, arith, refl, le_refl}
 use Rattle.std.proofs.lemmas.List.{length-append}
-use Rattle.gate_list.specs.Gate.{in_ps}
-use Rattle.wire_time.specs.Moment.{greatest_moment}
 use Rattle.delay_bounds.specs.Walk.{may_by}
 use Rattle.any_traffic.specs.Slots.{IsSlot}
 use Rattle.burst_bounds.specs.Walk.{AreBelow, AreSlots}
-use Rattle.burst_bounds.proofs.SlotLaws.{IsSought, found, one_more, sought_next}
-use Rattle.burst_bounds.proofs.SlotlessLaws.{slotless}
+use Rattle.burst_bounds.proofs.SlotLaws.{found, one_more, sought_next}
 use Rattle.burst_bounds.proofs.slots.slots_from.Goals as goal
 
 none : (P : List ℕ → Type 0) (xs : List ℕ) → xs ≡ [] → P [] → P xs

@@ -1,8 +1,8 @@
 use Rattle.std.proofs.Common.{◌≡◌, ◌<◌, ◌≤◌, ℕ, List, All, length, refl, sym, ap, ◌∙◌, subst, arith}
 use Rattle.wire_time.specs.Moment.{greatest_moment}
 use Rattle.delay_bounds.specs.Walk.{may_by}
-use Rattle.burst_bounds.specs.Busy.{IsBusyUntil, Rises}
-use Rattle.burst_bounds.specs.Reach.{IsRead, IsUnseen}
+use Rattle.burst_bounds.specs.Busy.{Rises}
+use Rattle.burst_bounds.specs.Reach.{IsUnseen}
 use Rattle.burst_bounds.specs.Talkers.{IsTalker, curve, longest_need}
 use Rattle.burst_bounds.specs.Walk.{AreArrivals, AreSlots}
 use Rattle.burst_bounds.specs.declared.Talker.{Talker}
