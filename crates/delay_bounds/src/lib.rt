@@ -6,7 +6,7 @@
 use std::alloc::{Allocator, Global};
 
 mod extremes;
-mod fit;
+pub mod fit;
 mod idle_wait;
 pub mod laws;
 mod line;

@@ -1,0 +1,14 @@
+pub mod BusyLaws
+pub mod SlotLaws
+pub mod SlotlessLaws
+pub mod ArrivalLaws
+pub mod BusyTimeLaws
+pub mod AlikeLaws
+pub mod JumpLaws
+pub mod CoverLaws
+pub mod SeenLaws
+pub mod WindowSeenLaws
+pub mod UnseenLaws
+pub mod TalkerLaws
+pub mod WalkLaws
+pub mod CommonLaws

@@ -1,0 +1,14 @@
+use Rattle.std.proofs.Common.{◌-◌, ◌<◌, ◌≤◌, None, Some}
+use Rattle.gate_list.specs.Gate.{mask_since}
+use Rattle.gate_list.specs.Stay.{NoneFrom}
+use Rattle.list_position.specs.Position.{IsPlaced}
+use Rattle.burst_bounds.proofs.slots.next_fit.Given as goal
+
+abbrev pub invariant-loop-visits : goal.invariant-loop-visits
+invariant-loop-visits l =
+    (l.from ≤ l.moment) × (l.moment < l.stop)
+    × IsPlaced l.schedule 0 None l.moment l.position
+    × NoneFrom (mask_since (Some l.schedule) 0 None) l.class l.length l.from l.moment
+
+abbrev pub decreases-loop-visits : goal.decreases-loop-visits
+decreases-loop-visits l = l.stop - l.moment

@@ -1,0 +1,9 @@
+pub mod Talkers
+pub mod Least
+pub mod Unbound
+pub mod Walk
+pub mod Busy
+pub mod Slotless
+pub mod Reach
+pub mod Good
+pub mod Laws
