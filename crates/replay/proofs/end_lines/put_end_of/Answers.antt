@@ -15,4 +15,4 @@ returns g c =
     let port = c.args.sending.now.port.port in
     let same = at c.args.until port c.args.sending.now.leaving.last c.now-now.result c.counted_to-moment.result c.now-now.ensures.now c.counted_to-moment.ensures.moment in
     let P : ℕ → Type 0 = λ m. Writes c.put_end.result (g.V.Write.contents c.args.report.now) (g.V.Write.contents c.put_end.new.writer) (end_lines (record port { now = m }) c.args.sending.now.summary) in
-    subst P same c.put_end.ensures
+    subst P same c.put_end.ensures.text
