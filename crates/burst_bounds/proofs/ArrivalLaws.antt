@@ -66,9 +66,11 @@ pub record AreCounted (talkers : List Talker) (counts : List ℕ) (last : ℕ) :
   pub come : (i : ℕ) → i < length talkers → get_or counts i 0 ≤ curve_of last (sporadic_of (talker_at talkers i))
   pub ahead : (i : ℕ) → i < length talkers → last ≤ comes_at (talker_at talkers i) (get_or counts i 0)
 
-module _ (talkers : List Talker) (counts : List ℕ) (last place : ℕ) (these : (i : ℕ) → i < length talkers → 0 < (talker_at talkers i).period)
+module _ (talkers : List Talker) (counts : List ℕ) (last place : ℕ) (these : (i : ℕ) → i < length talkers
+    → 0 < (talker_at talkers i).period)
     (h : AreCounted talkers counts last) (inside : place < length talkers)
-    (first : (i : ℕ) → i < length talkers → comes_at (talker_at talkers place) (get_or counts place 0) ≤ comes_at (talker_at talkers i) (get_or counts i 0)) where
+    (first : (i : ℕ) → i < length talkers → comes_at (talker_at talkers place) (get_or counts place 0) ≤ comes_at (talker_at talkers i)
+    (get_or counts i 0)) where
   abbrev moment : ℕ
   moment = comes_at (talker_at talkers place) (get_or counts place 0)
 
@@ -88,14 +90,16 @@ module _ (talkers : List Talker) (counts : List ℕ) (last place : ℕ) (these :
       | inl before ↦ other_come i less (λ e. (let wrong : ⊥ = omega (arith, e, before) in wrong))
       | inr after ↦ elim (cases_lt place i) [
         | inl behind ↦ other_come i less (λ e. (let wrong : ⊥ = omega (arith, e, behind) in wrong))
-        | inr here ↦ subst (λ k. get_or more k 0 ≤ curve_of moment (sporadic_of (talker_at talkers k))) (let e : place ≡ i = omega (arith, here, after) in e) own_come
+        | inr here ↦ subst (λ k. get_or more k 0 ≤ curve_of moment (sporadic_of (talker_at talkers k)))
+            (let e : place ≡ i = omega (arith, here, after) in e) own_come
       ]
     ];
     ahead = λ i less. elim (cases_lt i place) [
       | inl before ↦ other_ahead i less (λ e. (let wrong : ⊥ = omega (arith, e, before) in wrong))
       | inr after ↦ elim (cases_lt place i) [
         | inl behind ↦ other_ahead i less (λ e. (let wrong : ⊥ = omega (arith, e, behind) in wrong))
-        | inr here ↦ subst (λ k. moment ≤ comes_at (talker_at talkers k) (get_or more k 0)) (let e : place ≡ i = omega (arith, here, after) in e) own_ahead
+        | inr here ↦ subst (λ k. moment ≤ comes_at (talker_at talkers k) (get_or more k 0))
+            (let e : place ≡ i = omega (arith, here, after) in e) own_ahead
       ]
     ];
   }
@@ -104,10 +108,12 @@ module _ (talkers : List Talker) (counts : List ℕ) (last place : ℕ) (these :
       own = get_or-set_same counts place (get_or counts place 0 + 1) 0 listed
 
       own_come : get_or more place 0 ≤ curve_of moment (sporadic_of (talker_at talkers place))
-      own_come = (let up = come_by (talker_at talkers place) moment (get_or counts place 0) (these place inside) (omega arith) in let is = own in omega (arith, up, is))
+      own_come = (let up = come_by (talker_at talkers place) moment (get_or counts place 0) (these place inside) (omega arith) in let is =
+          own in omega (arith, up, is))
 
       own_ahead : moment ≤ comes_at (talker_at talkers place) (get_or more place 0)
-      own_ahead = subst (λ n. moment ≤ comes_at (talker_at talkers place) n) (sym own) (let z : moment ≤ comes_at (talker_at talkers place) (get_or counts place 0 + 1) = omega arith in z)
+      own_ahead = subst (λ n. moment ≤ comes_at (talker_at talkers place) n) (sym own)
+          (let z : moment ≤ comes_at (talker_at talkers place) (get_or counts place 0 + 1) = omega arith in z)
 
       other : (i : ℕ) → (i ≡ place → ⊥) → get_or more i 0 ≡ get_or counts i 0
       other i apart = get_or-set_other counts place i (get_or counts place 0 + 1) 0 apart
@@ -129,5 +135,7 @@ module _ (talkers : List Talker) (counts : List ℕ) (last place : ℕ) (these :
         let up = at_least moment talkers more all.places all.come in
         let one = one_counted in
         omega (arith, up, one);
-    least = λ y less. at_most y talkers counts h.places (λ i listed. not_yet (talker_at talkers i) y (get_or counts i 0) (these i listed) (let f = first i listed in omega (arith, f, less)));
+    least = λ y less. at_most y talkers counts h.places
+        (λ i listed. not_yet (talker_at talkers i) y (get_or counts i 0) (these i listed)
+        (let f = first i listed in omega (arith, f, less)));
   }

@@ -11,7 +11,8 @@ module _ (from : ℕ) (slots moments : List ℕ) where
   come i = from + get_or moments i 0
 
   -- one frame more
-  pub longer : (i wait next : ℕ) → IsLongest from slots moments i wait → next ≡ max (slot i - come i) wait → IsLongest from slots moments (i + 1) next
+  pub longer : (i wait next : ℕ) → IsLongest from slots moments i wait → next ≡ max (slot i - come i) wait
+      → IsLongest from slots moments (i + 1) next
   longer i wait next h is = record {
     within = λ j less. elim (cases_lt j i) [
       | inl before ↦ (let w = h.within j before in omega (arith, w, is))

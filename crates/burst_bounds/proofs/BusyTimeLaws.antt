@@ -21,7 +21,8 @@ arrival_rises curve i j x y le a b = elim (cases_lt y x) [
 
 pub arrivals_rise : (curve : ℕ → ℕ) (moments : List ℕ) → AreArrivals curve moments → Rises moments
 arrivals_rise curve moments h = record {
-  each = λ i j le listed. arrival_rises curve i j (get_or moments i 0) (get_or moments j 0) le (h.each i (omega (arith, le, listed))) (h.each j listed);
+  each = λ i j le listed. arrival_rises curve i j (get_or moments i 0) (get_or moments j 0) le (h.each i (omega (arith, le, listed)))
+      (h.each j listed);
 }
 
 -- a frame that is among those that come within x has come by then
@@ -47,7 +48,8 @@ module _ (plan : Plan) (class d : ℕ) (curve : ℕ → ℕ) (t : ℕ) (slots mo
       let w = longest.within i (omega (arith, some, few)) in
       (get_or slots i 0, rows.each i (omega (arith, some, few, listed)), omega (arith, by, w))
 
-  pub few_by : (n most x m s : ℕ) → IsMost t slots moments n most → n ≤ length slots → n ≤ length moments → curve x ≤ n → IsSlot may d t m s → t + x ≤ s → curve x ≤ m + most
+  pub few_by : (n most x m s : ℕ) → IsMost t slots moments n most → n ≤ length slots → n ≤ length moments → curve x ≤ n
+      → IsSlot may d t m s → t + x ≤ s → curve x ≤ m + most
   few_by n most x m s h listed known few slot after = elim (cases_lt m (length slots)) [
     | inr many ↦ omega (arith, many, few, listed)
     | inl less ↦ elim (cases_lt 0 (curve x)) [
@@ -63,7 +65,8 @@ module _ (plan : Plan) (class d : ℕ) (curve : ℕ → ℕ) (t : ℕ) (slots mo
   ]
 
   -- where the wire is idle behind so many frames
-  pub idle_by : (n wait most : ℕ) → 0 < d → ((x : ℕ) → 0 < curve x) → IsIdleBehind d t slots moments n → IsLongest t slots moments n wait → IsMost t slots moments n most
+  pub idle_by : (n wait most : ℕ) → 0 < d → ((x : ℕ) → 0 < curve x) → IsIdleBehind d t slots moments n → IsLongest t slots moments n wait
+      → IsMost t slots moments n most
       → IsIdleBy plan class d curve wait most t n
   idle_by n wait most above some idle longest all =
       let ends = idle.idle in
@@ -77,8 +80,10 @@ module _ (plan : Plan) (class d : ℕ) (curve : ℕ → ℕ) (t : ℕ) (slots mo
       let within : (y : ℕ) → y ≤ last → curve y ≤ n = λ y le. (come.each n known).least y (omega (arith, le, ends, from, above)) in
       let one = some last in
       let few = within last (le_refl last) in
-      let mine : IsSlot may d t (curve last - 1) (get_or slots (curve last - 1) 0) = rows.each (curve last - 1) (omega (arith, few, listed, begun)) in
-      let up = slots_rise may d t (curve last - 1) (n - 1) (get_or slots (curve last - 1) 0) (get_or slots (n - 1) 0) (omega (arith, few)) mine end_slot in
+      let mine : IsSlot may d t (curve last - 1) (get_or slots (curve last - 1) 0) = rows.each (curve last - 1)
+      (omega (arith, few, listed, begun)) in
+      let up = slots_rise may d t (curve last - 1) (n - 1) (get_or slots (curve last - 1) 0) (get_or slots (n - 1) 0) (omega (arith, few))
+      mine end_slot in
       record {
         time = record {
           last = last;
@@ -93,7 +98,8 @@ module _ (plan : Plan) (class d : ℕ) (curve : ℕ → ℕ) (t : ℕ) (slots mo
 
   -- ---- no bounds are less
 
-  pub wait_under : (n wait w m : ℕ) → n ≤ length slots → n ≤ length moments → IsLongest t slots moments n wait → AreCurveBounds plan class d curve w m → wait ≤ w
+  pub wait_under : (n wait w m : ℕ) → n ≤ length slots → n ≤ length moments → IsLongest t slots moments n wait
+      → AreCurveBounds plan class d curve w m → wait ≤ w
   wait_under n wait w m listed known h bounds = elim h.reached [
     | inl none ↦ omega (arith, none)
     | inr one ↦
@@ -103,7 +109,8 @@ module _ (plan : Plan) (class d : ℕ) (curve : ℕ → ℕ) (t : ℕ) (slots mo
         let y : ℕ = get_or moments i 0 in
         let comes = (come.each i (omega (arith, inside, known))).come in
         let told = bounds.soon t y in
-        let up = slots_rise may d t i (curve y - 1) (get_or slots i 0) told.0 (omega (arith, comes)) (rows.each i (omega (arith, inside, listed))) told.1 in
+        let up = slots_rise may d t i (curve y - 1) (get_or slots i 0) told.0 (omega (arith, comes))
+        (rows.each i (omega (arith, inside, listed))) told.1 in
         let within = told.2 in
         omega (arith, at, up, within)
   ]

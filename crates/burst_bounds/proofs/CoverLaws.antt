@@ -19,7 +19,8 @@ use Rattle.burst_bounds.proofs.JumpLaws.{Closes, IsCritical, NoJump, busy_on, fo
 use Rattle.any_traffic.proofs.SlotLaws.{both_slots, one_slot, slot_before, slot_exists, slot_sooner, slots_behind}
 
 rise_times : (a b c : ℕ) → a ≤ b → a * c ≤ b * c
-rise_times a b c le = (let e : b * c ≡ a * c + (b - a) * c = (let s : b ≡ a + (b - a) = omega (arith, le) in ap (λ m. m * c) s ∙ add-mul a (b - a) c) in omega (arith, e))
+rise_times a b c le = (let e : b * c ≡ a * c + (b - a) * c =
+    (let s : b ≡ a + (b - a) = omega (arith, le) in ap (λ m. m * c) s ∙ add-mul a (b - a) c) in omega (arith, e))
 
 -- a slot fits, and is no earlier than if all were sent one behind another
 slot_fits : (may : ℕ → ℕ → Bool) (d t n s : ℕ) → IsSlot may d t n s → may s d ≡ true
@@ -84,7 +85,8 @@ module _ (plan : Plan) (class d : ℕ) (sound : IsSchedule plan) (above : 0 < d)
           let e = ends in
           absurd (both_ways _ h.shut (open_from mask class (t + k * d + 1) d (λ n from below. elim (cases_lt n (t + k * d + d)) [
             | inl before ↦ open_at mask class (t + k * d) d last n (omega (arith, from)) before
-            | inr after ↦ subst (λ m. opens (mask m) class ≡ true) (let same : end ≡ n = omega (arith, after, below, e) in same) (open_at mask class end 1 shown end (le_refl end) (omega arith))
+            | inr after ↦ subst (λ m. opens (mask m) class ≡ true) (let same : end ≡ n = omega (arith, after, below, e) in same)
+                (open_at mask class end 1 shown end (le_refl end) (omega arith))
           ])))
     ]
 
@@ -106,14 +108,18 @@ module _ (plan : Plan) (class d : ℕ) (sound : IsSchedule plan) (above : 0 < d)
         let e = ends in
         let p = above in
         let at : end - 1 + 1 ≡ end = omega (arith, e, p) in
-        let shown : opens (mask (end - 1)) class ≡ true = open_at mask class (end - 1) 1 (opened (end - 1) (omega (arith, e, p)) (omega (arith, e, p))) (end - 1) (le_refl (end - 1)) (omega arith) in
+        let shown : opens (mask (end - 1)) class ≡ true = open_at mask class (end - 1) 1
+        (opened (end - 1) (omega (arith, e, p)) (omega (arith, e, p))) (end - 1) (le_refl (end - 1)) (omega arith) in
         let closed : opens (mask end) class ≡ false = closed_by (opens (mask end) class) refl in
-        let it = closes_at plan class positive sound.plan_is.entries (end - 1) shown (subst (λ m. opens (mask m) class ≡ false) (sym at) closed) in
+        let it = closes_at plan class positive sound.plan_is.entries (end - 1) shown
+        (subst (λ m. opens (mask m) class ≡ false) (sym at) closed) in
         (it.0, it.1, it.2 ∙ ap (λ m. m % cycle) at)
       where
         closed_by : (b : Bool) → opens (mask end) class ≡ b → opens (mask end) class ≡ false
         closed_by false is = is
-        closed_by true is = absurd (both_ways _ shut (open_from mask class end 1 (λ n from below. subst (λ m. opens (mask m) class ≡ true) (let same : end ≡ n = omega (arith, from, below) in same) is)))
+        closed_by true is = absurd (both_ways _ shut
+            (open_from mask class end 1 (λ n from below. subst (λ m. opens (mask m) class ≡ true)
+            (let same : end ≡ n = omega (arith, from, below) in same) is)))
 
     module _ (curve : ℕ → ℕ) (rises : (x y : ℕ) → x ≤ y → curve x ≤ curve y) (some : (x : ℕ) → 0 < curve x) (wait most : ℕ)
         (windows : AreGoodAtWindows plan class d curve wait most) where
@@ -142,7 +148,8 @@ module _ (plan : Plan) (class d : ℕ) (sound : IsSchedule plan) (above : 0 < d)
               let all = short in
               let w = whole in
               let l : ℕ = suc k - j in
-              let parts : suc k * d ≡ l * d + j * d = (let sum : l + j ≡ suc k = omega (arith, within) in ap (λ m. m * d) (sym sum) ∙ add-mul l j d) in
+              let parts : suc k * d ≡ l * d + j * d = (let sum : l + j ≡ suc k = omega (arith, within) in ap (λ m. m * d) (sym sum) ∙
+              add-mul l j d) in
               let at : seen - j * d + cycle * q ≡ t + l * d + cycle * 1 = omega (arith, parts, w, few, all) in
               (omega (arith, few, all), sym (same (seen - j * d) (t + l * d) d at) ∙ h.row l (omega (arith, from)))
 
@@ -154,7 +161,8 @@ module _ (plan : Plan) (class d : ℕ) (sound : IsSchedule plan) (above : 0 < d)
               let c = positive in
               let closed : may seen 1 ≡ false = sym (same seen end 1 w) ∙ shut in
               let before : seen - 1 + cycle * q ≡ end - 1 + cycle * 1 = omega (arith, w, e, p, c) in
-              let shown : may (seen - 1) 1 ≡ true = sym (same (seen - 1) (end - 1) 1 before) ∙ opened (end - 1) (omega (arith, e, p)) (omega (arith, e, p)) in
+              let shown : may (seen - 1) 1 ≡ true = sym (same (seen - 1) (end - 1) 1 before) ∙ opened (end - 1) (omega (arith, e, p))
+              (omega (arith, e, p)) in
               windows i edge.1 closed shown (suc k) (omega arith) fit
 
           alike : (n : ℕ) → AreAlike may d n (seen + 1 - suc k * d) (t + 1)
@@ -169,7 +177,8 @@ module _ (plan : Plan) (class d : ℕ) (sound : IsSchedule plan) (above : 0 < d)
   -- ---- from moment to moment
 
   module _ (curve : ℕ → ℕ) (rises : (x y : ℕ) → x ≤ y → curve x ≤ curve y) (some : (x : ℕ) → 0 < curve x) (wait most : ℕ)
-      (there : (t : ℕ) → (s : ℕ) × IsFirst may d t s) (origin : IsGood plan class d curve wait most 0) (windows : AreGoodAtWindows plan class d curve wait most) where
+      (there : (t : ℕ) → (s : ℕ) × IsFirst may d t s) (origin : IsGood plan class d curve wait most 0)
+      (windows : AreGoodAtWindows plan class d curve wait most) where
     -- where none of the first slots jumps, none does: a window has no more slots than a cycle has picoseconds
     none_jumps : (t : ℕ) → NoJump may d t cycle → (n : ℕ) → NoJump may d t n
     none_jumps t none n = go (jumps plan class d above t n)
@@ -180,7 +189,8 @@ module _ (plan : Plan) (class d : ℕ) (sound : IsSchedule plan) (above : 0 < d)
             let k : ℕ = critical.k in
             let c = critical.closes in
             let few = short t k c in
-            let many : suc k ≤ suc k * d = (let up = rise_times 1 d (suc k) above in let turn : d * suc k ≡ suc k * d = mul_comm d (suc k) in omega (arith, up, turn)) in
+            let many : suc k ≤ suc k * d = (let up = rise_times 1 d (suc k) above in let turn : d * suc k ≡ suc k * d = mul_comm d
+            (suc k) in omega (arith, up, turn)) in
             let old = one_behind_another plan class d k t c.row in
             let new = slot_exists may d there (t + 1) k in
             let up = none.near k (t + k * d) new.0 (omega (arith, few, many)) old new.1 in
@@ -215,7 +225,9 @@ module _ (plan : Plan) (class d : ℕ) (curve : ℕ → ℕ) (wait most : ℕ) (
   soon_by zero t x less = absurd (omega (arith, less))
   soon_by (suc n) t x less = by (good t) (λ u y inside. soon_by n u y inside)
     where
-      by : IsGood plan class d curve wait most t → ((u y : ℕ) → y < n → (s : ℕ) × IsSlot (may_by plan class) d u (curve y - 1) s × (s ≤ u + y + wait)) → (s : ℕ) × IsSlot (may_by plan class) d t (curve x - 1) s × (s ≤ t + x + wait)
+      by : IsGood plan class d curve wait most t
+          → ((u y : ℕ) → y < n → (s : ℕ) × IsSlot (may_by plan class) d u (curve y - 1) s × (s ≤ u + y + wait))
+          → (s : ℕ) × IsSlot (may_by plan class) d t (curve x - 1) s × (s ≤ t + x + wait)
       by (inr h) ih = h.soon x
       by (inl b) ih = elim (cases_lt b.last x) [
         | inr within ↦ b.soon x within
@@ -227,8 +239,10 @@ module _ (plan : Plan) (class d : ℕ) (curve : ℕ → ℕ) (wait most : ℕ) (
             let near = slot_sooner (may_by plan class) d (b.slot + d) u (curve y - 1) later.0 b.ends later.1 in
             let all = both_slots (may_by plan class) d t (curve b.last - 1) (curve y - 1) b.slot near.0 b.is near.1 in
             let most_x = subst (λ k. curve k ≤ curve b.last + curve y) is (adds b.last y) in
-            let parts : suc (curve b.last - 1 + (curve y - 1)) ≡ curve x - 1 + (suc (curve b.last - 1 + (curve y - 1)) - (curve x - 1)) = omega (arith, most_x) in
-            let r = slot_before (may_by plan class) d t (curve x - 1) (suc (curve b.last - 1 + (curve y - 1)) - (curve x - 1)) (suc (curve b.last - 1 + (curve y - 1))) near.0 parts all in
+            let parts : suc (curve b.last - 1 + (curve y - 1)) ≡ curve x - 1 + (suc (curve b.last - 1 + (curve y - 1)) - (curve x - 1)) =
+            omega (arith, most_x) in
+            let r = slot_before (may_by plan class) d t (curve x - 1) (suc (curve b.last - 1 + (curve y - 1)) - (curve x - 1))
+            (suc (curve b.last - 1 + (curve y - 1))) near.0 parts all in
             let one = r.2 in
             let two = near.2 in
             let three = later.2 in
@@ -239,7 +253,8 @@ module _ (plan : Plan) (class d : ℕ) (curve : ℕ → ℕ) (wait most : ℕ) (
   few_by zero t x m s less slot after = absurd (omega (arith, less))
   few_by (suc n) t x m s less slot after = by (good t) (λ u y l k below row on. few_by n u y l k below row on)
     where
-      beyond : (b : IsBusyPeriod plan class d curve wait most t) → b.last < x → ((u y l k : ℕ) → y < n → IsSlot (may_by plan class) d u l k → u + y ≤ k → curve y ≤ l + most) → curve x ≤ m + most
+      beyond : (b : IsBusyPeriod plan class d curve wait most t) → b.last < x
+          → ((u y l k : ℕ) → y < n → IsSlot (may_by plan class) d u l k → u + y ≤ k → curve y ≤ l + most) → curve x ≤ m + most
       beyond b over ih =
           let y : ℕ = x - b.last - 1 in
           let is : b.last + 1 + y ≡ x = omega (arith, over) in
@@ -256,7 +271,8 @@ module _ (plan : Plan) (class d : ℕ) (curve : ℕ → ℕ) (wait most : ℕ) (
             | inl more ↦
                 let l : ℕ = m - 1 - (curve b.last - 1) in
                 let parts : m ≡ suc (curve b.last - 1 + l) = omega (arith, more) in
-                let rest = slots_behind (may_by plan class) d t (curve b.last - 1) l b.slot s b.is (subst (λ k. IsSlot (may_by plan class) d t k s) parts slot) in
+                let rest = slots_behind (may_by plan class) d t (curve b.last - 1) l b.slot s b.is
+                (subst (λ k. IsSlot (may_by plan class) d t k s) parts slot) in
                 let far = slot_exists (may_by plan class) d there u l in
                 let near = slot_sooner (may_by plan class) d (b.slot + d) u l far.0 ends far.1 in
                 let same = one_slot (may_by plan class) d (b.slot + d) l near.0 s near.1 rest in
@@ -265,7 +281,8 @@ module _ (plan : Plan) (class d : ℕ) (curve : ℕ → ℕ) (wait most : ℕ) (
                 omega (arith, most_x, fewer, more)
           ]
 
-      by : IsGood plan class d curve wait most t → ((u y l k : ℕ) → y < n → IsSlot (may_by plan class) d u l k → u + y ≤ k → curve y ≤ l + most) → curve x ≤ m + most
+      by : IsGood plan class d curve wait most t
+          → ((u y l k : ℕ) → y < n → IsSlot (may_by plan class) d u l k → u + y ≤ k → curve y ≤ l + most) → curve x ≤ m + most
       by (inr h) ih = h.few x m s slot after
       by (inl b) ih = elim (cases_lt b.last x) [
         | inr within ↦ b.few x m s within slot after
@@ -280,4 +297,5 @@ module _ (plan : Plan) (class d : ℕ) (curve : ℕ → ℕ) (wait most : ℕ) (
 
 pub moments_law : MomentsLaw
 moments_law plan class d curve wait most sound above adds rises some there origin windows =
-    are_bounds plan class d curve wait most above adds there (all_good plan class d sound above curve rises some wait most there origin windows)
+    are_bounds plan class d curve wait most above adds there
+    (all_good plan class d sound above curve rises some wait most there origin windows)

@@ -1,5 +1,5 @@
--- From one moment to the next slots stay, or move with it, or jump: only where a window ends right behind frames that are sent one behind another from
--- the first moment on.
+-- From one moment to the next slots stay, or move with it, or jump: only where a window ends right behind frames that are sent one behind
+-- another from the first moment on.
 use Rattle.std.proofs.Common.{◌≡◌, ◌<◌, ◌≤◌, ◌⊎◌, ℕ, zero, suc, ◌+◌, ◌-◌, ◌*◌, Bool, true, false, inl, inr, sym, ap, ◌∙◌, subst, arith, le_refl}
 use Rattle.std.proofs.lemmas.Bool.{both_ways, cases_Bool, cases_lt}
 use Rattle.gate_list.specs.Gate.{Plan}
@@ -55,10 +55,14 @@ module _ (plan : Plan) (class d : ℕ) (above : 0 < d) where
 
   begin : (t : ℕ) → IsCritical may d t 0 ⊎ (IsAligned may d t 0 ⊎ IsCalm may d t 0)
   begin t = elim (cases_Bool (may t d)) [
-    | inr shut ↦ inr (inr (record { stays = λ u v a b. (let same = one_first may d (t + 1) u v (first_behind t u shut a) b in omega (arith, same)) }))
+    | inr shut ↦ inr (inr (record {
+      stays = λ u v a b.
+          (let same = one_first may d (t + 1) u v (first_behind t u shut a) b in omega (arith, same));
+    }))
     | inl fits ↦
         let at : t + 0 * d ≡ t = omega arith in
-        let row : (j : ℕ) → j ≤ 0 → may (t + j * d) d ≡ true = λ j le. subst (λ k. may k d ≡ true) (let e : t ≡ t + j * d = (let z : j ≡ 0 = omega (arith, le) in sym at ∙ ap (λ i. t + i * d) (sym z)) in e) fits in
+        let row : (j : ℕ) → j ≤ 0 → may (t + j * d) d ≡ true = λ j le. subst (λ k. may k d ≡ true)
+        (let e : t ≡ t + j * d = (let z : j ≡ 0 = omega (arith, le) in sym at ∙ ap (λ i. t + i * d) (sym z)) in e) fits in
         elim (cases_Bool (may (t + 0 * d + 1) d)) [
           | inl moves ↦ inr (inl (record { row = row; moves = moves }))
           | inr shut ↦ inl (record { k = 0; within = omega arith; closes = record { row = row; shut = shut } })
@@ -71,7 +75,8 @@ module _ (plan : Plan) (class d : ℕ) (above : 0 < d) where
     | inl less ↦
         let on : t + suc j * d ≡ t + j * d + d = grind arith in
         let at : t + j * d + 1 ≡ t + 1 + j * d = omega arith in
-        subst (λ k. may k d ≡ true) at (next_fits plan class d (t + j * d) above (h.row j le) (subst (λ k. may k d ≡ true) on (h.row (suc j) (omega (arith, less)))))
+        subst (λ k. may k d ≡ true) at (next_fits plan class d (t + j * d) above (h.row j le)
+        (subst (λ k. may k d ≡ true) on (h.row (suc j) (omega (arith, less)))))
     | inr last ↦
         let same : n ≡ j = omega (arith, last, le) in
         let at : t + n * d + 1 ≡ t + 1 + n * d = omega arith in
@@ -97,7 +102,8 @@ module _ (plan : Plan) (class d : ℕ) (above : 0 < d) where
           let old = slot_last may d t n u a in
           let new = slot_last may d (t + 1) n v b in
           let one = one_slot may d t n old.0 (t + n * d) old.1 (one_behind_another plan class d n t (λ j le. h.row j le)) in
-          let two = one_slot may d (t + 1) n new.0 (t + 1 + n * d) new.1 (one_behind_another plan class d n (t + 1) (λ j le. moved_row t n h j le)) in
+          let two = one_slot may d (t + 1) n new.0 (t + 1 + n * d) new.1
+          (one_behind_another plan class d n (t + 1) (λ j le. moved_row t n h j le)) in
           let on : t + suc n * d ≡ t + n * d + d = grind arith in
           let at : old.0 + d ≡ t + suc n * d = omega (arith, one, on) in
           let to : new.0 + d ≡ t + suc n * d + 1 = omega (arith, two, on) in
@@ -124,7 +130,8 @@ module _ (plan : Plan) (class d : ℕ) (above : 0 < d) where
   state t zero = begin t
   state t (suc n) = go (state t n)
     where
-      go : IsCritical may d t n ⊎ (IsAligned may d t n ⊎ IsCalm may d t n) → IsCritical may d t (suc n) ⊎ (IsAligned may d t (suc n) ⊎ IsCalm may d t (suc n))
+      go : IsCritical may d t n ⊎ (IsAligned may d t n ⊎ IsCalm may d t n)
+          → IsCritical may d t (suc n) ⊎ (IsAligned may d t (suc n) ⊎ IsCalm may d t (suc n))
       go (inl critical) = inl (more_critical t n critical)
       go (inr (inl aligned)) = behind_aligned t n aligned
       go (inr (inr calm)) = inr (inr (behind_calm t n calm))
@@ -144,11 +151,13 @@ module _ (plan : Plan) (class d : ℕ) (above : 0 < d) where
       go : IsCritical may d t 0 ⊎ (IsAligned may d t 0 ⊎ IsCalm may d t 0) → IsCritical may d t 0 ⊎ NoJump may d t 0
       go (inl critical) = inl critical
       go (inr rest) = inr (record {
-        near = λ m u v le a b. (let z : m ≡ 0 = omega (arith, le) in near_by t 0 u v rest (subst (λ k. IsSlot may d t k u) z a) (subst (λ k. IsSlot may d (t + 1) k v) z b));
+        near = λ m u v le a b. (let z : m ≡ 0 = omega (arith, le) in near_by t 0 u v rest (subst (λ k. IsSlot may d t k u) z a)
+            (subst (λ k. IsSlot may d (t + 1) k v) z b));
       })
   jumps t (suc n) = go (jumps t n) (state t (suc n))
     where
-      go : IsCritical may d t n ⊎ NoJump may d t n → IsCritical may d t (suc n) ⊎ (IsAligned may d t (suc n) ⊎ IsCalm may d t (suc n)) → IsCritical may d t (suc n) ⊎ NoJump may d t (suc n)
+      go : IsCritical may d t n ⊎ NoJump may d t n → IsCritical may d t (suc n) ⊎ (IsAligned may d t (suc n) ⊎ IsCalm may d t (suc n))
+          → IsCritical may d t (suc n) ⊎ NoJump may d t (suc n)
       go (inl critical) s = inl (more_critical t n critical)
       go (inr none) (inl critical) = inl critical
       go (inr none) (inr rest) = inr (record {
@@ -162,15 +171,18 @@ module _ (plan : Plan) (class d : ℕ) (above : 0 < d) where
 
   -- ---- bounds go on from a moment to the next
 
-  module _ (curve : ℕ → ℕ) (rises : (x y : ℕ) → x ≤ y → curve x ≤ curve y) (wait most : ℕ) (there : (t : ℕ) → (s : ℕ) × IsFirst may d t s) where
-    soon_on : (t x : ℕ) → NoJump may d t (curve x - 1) → (s : ℕ) × IsSlot may d t (curve x - 1) s × (s ≤ t + x + wait) → (s : ℕ) × IsSlot may d (t + 1) (curve x - 1) s × (s ≤ t + 1 + x + wait)
+  module _ (curve : ℕ → ℕ) (rises : (x y : ℕ) → x ≤ y → curve x ≤ curve y) (wait most : ℕ) (there : (t : ℕ)
+      → (s : ℕ) × IsFirst may d t s) where
+    soon_on : (t x : ℕ) → NoJump may d t (curve x - 1) → (s : ℕ) × IsSlot may d t (curve x - 1) s × (s ≤ t + x + wait)
+        → (s : ℕ) × IsSlot may d (t + 1) (curve x - 1) s × (s ≤ t + 1 + x + wait)
     soon_on t x none h =
         let new = slot_exists may d there (t + 1) (curve x - 1) in
         let up = none.near (curve x - 1) h.0 new.0 (le_refl (curve x - 1)) h.1 new.1 in
         let bound = h.2 in
         (new.0, new.1, omega (arith, up, bound))
 
-    few_on : (t x m s : ℕ) → NoJump may d t m → IsSlot may d (t + 1) m s → t + 1 + x ≤ s → ((r : ℕ) → IsSlot may d t m r → t + x ≤ r → curve x ≤ m + most) → curve x ≤ m + most
+    few_on : (t x m s : ℕ) → NoJump may d t m → IsSlot may d (t + 1) m s → t + 1 + x ≤ s
+        → ((r : ℕ) → IsSlot may d t m r → t + x ≤ r → curve x ≤ m + most) → curve x ≤ m + most
     few_on t x m s none slot after few =
         let old = slot_exists may d there t m in
         let up = none.near m old.0 s (le_refl m) old.1 slot in
@@ -179,7 +191,8 @@ module _ (plan : Plan) (class d : ℕ) (above : 0 < d) where
     fewer : (t n m : ℕ) → m ≤ n → NoJump may d t n → NoJump may d t m
     fewer t n m le h = record { near = λ k u v less a b. h.near k u v (omega (arith, less, le)) a b }
 
-    pub busy_on : (t : ℕ) → (b : IsBusyPeriod plan class d curve wait most t) → NoJump may d t (curve b.last) → IsBusyPeriod plan class d curve wait most (t + 1)
+    pub busy_on : (t : ℕ) → (b : IsBusyPeriod plan class d curve wait most t) → NoJump may d t (curve b.last)
+        → IsBusyPeriod plan class d curve wait most (t + 1)
     busy_on t b none =
         let new = slot_exists may d there (t + 1) (curve b.last - 1) in
         let up = none.near (curve b.last - 1) b.slot new.0 (omega arith) b.is new.1 in
@@ -189,14 +202,17 @@ module _ (plan : Plan) (class d : ℕ) (above : 0 < d) where
           slot = new.0;
           is = new.1;
           ends = omega (arith, up, ends);
-          soon = λ x le. (let r = rises x b.last le in soon_on t x (fewer t (curve b.last) (curve x - 1) (omega (arith, r)) none) (b.soon x le));
+          soon = λ x le. (let r = rises x b.last le in soon_on t x (fewer t (curve b.last) (curve x - 1) (omega (arith, r)) none)
+              (b.soon x le));
           few = λ x m s le slot after. (let r = rises x b.last le in elim (cases_lt m (curve b.last)) [
-            | inl less ↦ few_on t x m s (fewer t (curve b.last) m (omega (arith, less)) none) slot after (λ q old first. b.few x m q le old first)
+            | inl less ↦ few_on t x m s (fewer t (curve b.last) m (omega (arith, less)) none) slot after
+                (λ q old first. b.few x m q le old first)
             | inr many ↦ omega (arith, many, r)
           ]);
         }
 
-    pub for_ever_on : (t : ℕ) → AreBoundsFrom plan class d curve wait most t → ((n : ℕ) → NoJump may d t n) → AreBoundsFrom plan class d curve wait most (t + 1)
+    pub for_ever_on : (t : ℕ) → AreBoundsFrom plan class d curve wait most t → ((n : ℕ) → NoJump may d t n)
+        → AreBoundsFrom plan class d curve wait most (t + 1)
     for_ever_on t h none = record {
       soon = λ x. soon_on t x (none (curve x - 1)) (h.soon x);
       few = λ x m s slot after. few_on t x m s (none m) slot after (λ q old first. h.few x m q old first);

@@ -44,7 +44,8 @@ module _ (plan : Plan) (class d : ℕ) (curve : ℕ → ℕ) (w m v n : ℕ) (wa
 -- ---- where all comes again
 
 module _ (plan : Plan) (class d : ℕ) (curve : ℕ → ℕ) (t : ℕ) (slots moments : List ℕ) (r : Repeat)
-    (rows : AreSlots (may_by plan class) d t slots) (come : AreArrivals curve moments) (rises : (x y : ℕ) → x ≤ y → curve x ≤ curve y) (some : (x : ℕ) → 0 < curve x)
+    (rows : AreSlots (may_by plan class) d t slots) (come : AreArrivals curve moments) (rises : (x y : ℕ) → x ≤ y
+    → curve x ≤ curve y) (some : (x : ℕ) → 0 < curve x)
     (again : ComesAgain plan class curve r) (frames : ℕ) (back : ComesBack t slots moments r frames) where
   abbrev may : ℕ → ℕ → Bool
   may = may_by plan class
@@ -67,14 +68,16 @@ module _ (plan : Plan) (class d : ℕ) (curve : ℕ → ℕ) (t : ℕ) (slots mo
     | inr here ↦
         let e : back.again ≡ k = omega (arith, here, le) in
         let same = one_slot may d t k a s (subst (λ i. IsSlot may d t i a) e first) slot in
-        subst (λ i. IsSlot may d t (i + r.frames) (s + r.time)) e (subst (λ z. IsSlot may d t (back.again + r.frames) (z + r.time)) same second)
+        subst (λ i. IsSlot may d t (i + r.frames) (s + r.time)) e
+        (subst (λ z. IsSlot may d t (back.again + r.frames) (z + r.time)) same second)
     | inl more ↦
         let l : ℕ = k - back.again - 1 in
         let at : suc (back.again + l) ≡ k = omega (arith, more) in
         let rest = slots_behind may d t back.again l a s first (subst (λ i. IsSlot may d t i s) (sym at) slot) in
         let moved = slot_later may d r.time (a + d) l s again.gates rest in
         let to : a + d + r.time ≡ a + r.time + d = omega arith in
-        let all = both_slots may d t (back.again + r.frames) l (a + r.time) (s + r.time) second (subst (λ i. IsSlot may d i l (s + r.time)) to moved) in
+        let all = both_slots may d t (back.again + r.frames) l (a + r.time) (s + r.time) second
+        (subst (λ i. IsSlot may d i l (s + r.time)) to moved) in
         subst (λ i. IsSlot may d t i (s + r.time)) (let e : suc (back.again + r.frames + l) ≡ k + r.frames = omega (arith, at) in e) all
   ]
 
@@ -169,34 +172,43 @@ module _ (plan : Plan) (class d : ℕ) (curve : ℕ → ℕ) (t : ℕ) (slots mo
 
 -- ---- one moment
 
-module _ (plan : Plan) (class d : ℕ) (curve : ℕ → ℕ) (t : ℕ) (slots moments : List ℕ) (repeat : Option Repeat) (read : IsRead plan class d curve moments repeat)
+module _ (plan : Plan) (class d : ℕ) (curve : ℕ
+    → ℕ) (t : ℕ) (slots moments : List ℕ) (repeat : Option Repeat) (read : IsRead plan class d curve moments repeat)
     (rows : AreSlots (may_by plan class) d t slots) (old new : Bounds) where
   -- bounds of the frames that are looked at hold from the moment on
-  pub reached : (reach : Reach) → IsSeen d t slots moments repeat reach → HasFrames old t slots moments (frames_of reach) new → IsReach plan class d curve new t reach
+  pub reached : (reach : Reach) → IsSeen d t slots moments repeat reach → HasFrames old t slots moments (frames_of reach) new
+      → IsReach plan class d curve new t reach
   unfolding busy_more
   reached (Idle n) seen has =
-      let by = idle_by plan class d curve t slots moments rows read.come n has.wait has.most read.above read.some seen has.longest has.greatest in
+      let by = idle_by plan class d curve t slots moments rows read.come n has.wait has.most read.above read.some seen has.longest
+      has.greatest in
       let w = has.wait_is in
       let m = has.most_is in
-      record { time = busy_more plan class d curve has.wait has.most new.wait new.most (omega (arith, w)) (omega (arith, m)) t by.time; few = by.few }
+      record {
+        time = busy_more plan class d curve has.wait has.most new.wait new.most (omega (arith, w)) (omega (arith, m)) t by.time;
+        few = by.few;
+      }
   reached (Again n) seen has =
       let r : Repeat = seen.0 in
       let again : ComesAgain plan class curve r = subst (MayComeAgain plan class curve) seen.1 read.again in
       let w = has.wait_is in
       let m = has.most_is in
       ever_more plan class d curve has.wait has.most new.wait new.most (omega (arith, w)) (omega (arith, m)) t
-      (for_ever plan class d curve t slots moments r rows read.come read.rises read.some again n seen.2 has.wait has.most has.longest has.greatest)
+      (for_ever plan class d curve t slots moments r rows read.come read.rises read.some again n seen.2 has.wait has.most has.longest
+      has.greatest)
 
   pub good_of : (reach : Reach) → IsReach plan class d curve new t reach → IsGood plan class d curve new.wait new.most t
   good_of (Idle n) h = inl h.time
   good_of (Again n) h = inr h
 
-  seen_lengths : (reach : Reach) → IsSeen d t slots moments repeat reach → (frames_of reach ≤ length slots) × (frames_of reach ≤ length moments)
+  seen_lengths : (reach : Reach) → IsSeen d t slots moments repeat reach
+      → (frames_of reach ≤ length slots) × (frames_of reach ≤ length moments)
   seen_lengths (Idle n) seen = (let more = seen.follows in (seen.slotted, omega (arith, more)))
   seen_lengths (Again n) seen = ((seen.2).slotted, (seen.2).known)
 
   -- and none are less, where none were
-  pub under : (reach : Reach) → IsSeen d t slots moments repeat reach → HasFrames old t slots moments (frames_of reach) new → AreUnder plan class d curve old → AreUnder plan class d curve new
+  pub under : (reach : Reach) → IsSeen d t slots moments repeat reach → HasFrames old t slots moments (frames_of reach) new
+      → AreUnder plan class d curve old → AreUnder plan class d curve new
   under reach seen has before w m bounds =
       let lens = seen_lengths reach seen in
       let b = before w m bounds in
@@ -204,7 +216,8 @@ module _ (plan : Plan) (class d : ℕ) (curve : ℕ → ℕ) (t : ℕ) (slots mo
       let bm = b.1 in
       let wi = has.wait_is in
       let mi = has.most_is in
-      let one = wait_under plan class d curve t slots moments rows read.come (frames_of reach) has.wait w m lens.0 lens.1 has.longest bounds in
+      let one = wait_under plan class d curve t slots moments rows read.come (frames_of reach) has.wait w m lens.0 lens.1 has.longest
+      bounds in
       let two = most_under plan class d curve t slots moments rows read.come (frames_of reach) has.most w m lens.1 has.greatest bounds in
       (omega (arith, wi, one, bw), omega (arith, mi, two, bm))
 
@@ -221,5 +234,6 @@ module _ (plan : Plan) (class d : ℕ) (curve : ℕ → ℕ) (t : ℕ) (slots mo
       omega (arith, b, up, down, same)
 
 -- bounds grow
-pub grown : (old : Bounds) (from : ℕ) (slots moments : List ℕ) (frames : ℕ) (new : Bounds) → HasFrames old from slots moments frames new → AreWithin old new
+pub grown : (old : Bounds) (from : ℕ) (slots moments : List ℕ) (frames : ℕ) (new : Bounds) → HasFrames old from slots moments frames new
+    → AreWithin old new
 grown old from slots moments frames new has = (let w = has.wait_is in let m = has.most_is in (omega (arith, w), omega (arith, m)))

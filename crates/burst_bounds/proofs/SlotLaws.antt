@@ -52,7 +52,8 @@ module _ (may : ℕ → ℕ → Bool) (d : ℕ) where
   pub found : (from n next s : ℕ) → IsSought from n next → IsFirst may d next s → IsSlot may d from n s
   found from n next s h first = elim h.by [
     | inl none ↦ subst (λ k. IsSlot may d from k s) (sym none.0) (subst (λ k. IsFirst may d k s) none.1 first)
-    | inr some ↦ subst (λ k. IsSlot may d from k s) (sym some.2) (slot_then from some.0 some.1 s some.3 (subst (λ k. IsFirst may d k s) some.4 first))
+    | inr some ↦ subst (λ k. IsSlot may d from k s) (sym some.2)
+        (slot_then from some.0 some.1 s some.3 (subst (λ k. IsFirst may d k s) some.4 first))
   ]
 
   pub sought_next : (from n next s : ℕ) → IsSought from n next → IsFirst may d next s → IsSought from (n + 1) (s + d)

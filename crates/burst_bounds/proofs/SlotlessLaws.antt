@@ -8,7 +8,8 @@ use Rattle.burst_bounds.specs.declared.Unbound.{Unbound}
 use Rattle.burst_bounds.specs.declared.Unbound.TheVariants.{Stuck, Long, Memory}
 use Rattle.burst_bounds.proofs.SlotLaws.{IsSought}
 
-pub slotless : (plan : Plan) (class d from i next count : ℕ) (why : Unbound) → from ≤ greatest_moment → i < count → IsSought (may_by plan class) d from i next
+pub slotless : (plan : Plan) (class d from i next count : ℕ) (why : Unbound) → from ≤ greatest_moment → i < count
+    → IsSought (may_by plan class) d from i next
     → IsNoSlot plan class d next why → IsSlotless plan class d from count why
 slotless plan class d from i next count Long soon less sought late = elim sought.by [
   | inl none ↦ (let same = none.1 in absurd (omega (arith, same, soon, late)))

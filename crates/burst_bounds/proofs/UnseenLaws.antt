@@ -16,7 +16,8 @@ use Rattle.burst_bounds.specs.declared.repeats.Repeat.{Repeat}
 use Rattle.burst_bounds.proofs.SeenLaws.{busy_for}
 
 -- a slot isn't found
-pub by_slot : (plan : Plan) (class d from count : ℕ) (curve : ℕ → ℕ) (why : Unbound) → IsSlotless plan class d from count why → IsUnseen plan class d curve count why
+pub by_slot : (plan : Plan) (class d from count : ℕ) (curve : ℕ → ℕ) (why : Unbound) → IsSlotless plan class d from count why
+    → IsUnseen plan class d curve count why
 by_slot plan class d from count curve Long late =
     let it = late.0 in
     let n : ℕ = it.0 in
@@ -26,14 +27,18 @@ by_slot plan class d from count curve Stuck stuck = stuck
 by_slot plan class d from count curve Memory none = tt
 
 -- an end isn't seen
-pub by_end : (plan : Plan) (class d from : ℕ) (slots moments : List ℕ) (repeat : Option Repeat) (curve : ℕ → ℕ) (why : Unbound) → IsRead plan class d curve moments repeat
-    → AreSlots (may_by plan class) d from slots → length moments ≤ length slots → why ≡ Long → IsBusyUntil d from slots moments → IsUnseen plan class d curve (length moments) why
+pub by_end : (plan : Plan) (class d from : ℕ) (slots moments : List ℕ) (repeat : Option Repeat) (curve : ℕ → ℕ) (why : Unbound)
+    → IsRead plan class d curve moments repeat
+    → AreSlots (may_by plan class) d from slots → length moments ≤ length slots → why ≡ Long → IsBusyUntil d from slots moments → IsUnseen
+    plan class d curve (length moments) why
 by_end plan class d from slots moments repeat curve why read rows many is busy =
     let none : Bounds = record { wait = 0; most = 0 } in
-    subst (IsUnseen plan class d curve (length moments)) (sym is) (from, inl (busy_for plan class d curve from slots moments repeat read rows none none busy many))
+    subst (IsUnseen plan class d curve (length moments)) (sym is)
+    (from, inl (busy_for plan class d curve from slots moments repeat read rows none none busy many))
 
 -- but for frames that are too many it doesn't matter how many are looked at
-pub any_count : (plan : Plan) (class d n m : ℕ) (curve : ℕ → ℕ) (r : Result Bounds Unbound) → (r ≡ Err Long → ⊥) → IfErr r (IsUnseen plan class d curve n) → IfErr r (IsUnseen plan class d curve m)
+pub any_count : (plan : Plan) (class d n m : ℕ) (curve : ℕ → ℕ) (r : Result Bounds Unbound) → (r ≡ Err Long → ⊥)
+    → IfErr r (IsUnseen plan class d curve n) → IfErr r (IsUnseen plan class d curve m)
 any_count plan class d n m curve (Ok b) none why = tt
 any_count plan class d n m curve (Err Long) none why = absurd (none refl)
 any_count plan class d n m curve (Err Stuck) none why = why

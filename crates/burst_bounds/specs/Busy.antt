@@ -22,10 +22,12 @@ pub record IsLongest (from : ℕ) (slots moments : List ℕ) (frames wait : ℕ)
   pub within : (i : ℕ) → i < frames → slice_index slots i ≤ from + slice_index moments i + wait
   pub reached : (wait ≡ 0) ⊎ ((i : ℕ) × (i < frames) × (slice_index slots i ≡ from + slice_index moments i + wait))
 
--- When one of so many frames comes no more wait, itself among them: those whose slots are not before then. At one of them so many do, or none ever waits.
+-- When one of so many frames comes no more wait, itself among them: those whose slots are not before then. At one of them so many do, or
+-- none ever waits.
 pub record IsMost (from : ℕ) (slots moments : List ℕ) (frames most : ℕ) : Type 0 where
   pub within : (i n : ℕ) → i < frames → n < length slots → from + slice_index moments i ≤ slice_index slots n → i + 1 ≤ n + most
-  pub reached : (most ≡ 0) ⊎ ((i n : ℕ) × (i < frames) × (n < length slots) × (from + slice_index moments i ≤ slice_index slots n) × (i + 1 ≡ n + most))
+  pub reached : (most ≡ 0) ⊎ ((i n : ℕ) × (i < frames) × (n < length slots) × (from + slice_index moments i ≤ slice_index slots n) ×
+      (i + 1 ≡ n + most))
 
 -- bounds, and those of so many frames: each is the greater of the two
 pub record HasFrames (old : Bounds) (from : ℕ) (slots moments : List ℕ) (frames : ℕ) (new : Bounds) : Type 0 where

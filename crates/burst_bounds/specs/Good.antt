@@ -15,9 +15,11 @@ FitBefore plan class d end k = (j : ℕ) → 0 < j → j ≤ k → (j * d ≤ en
 
 -- Bounds hold from each moment that is just too late for so many frames to be sent before the end of a window.
 abbrev pub AreGoodBefore : Plan → ℕ → ℕ → (ℕ → ℕ) → ℕ → ℕ → ℕ → Type 0
-AreGoodBefore plan class d curve wait most end = (k : ℕ) → 0 < k → FitBefore plan class d end k → IsGood plan class d curve wait most (end + 1 - k * d)
+AreGoodBefore plan class d curve wait most end = (k : ℕ) → 0 < k → FitBefore plan class d end k
+    → IsGood plan class d curve wait most (end + 1 - k * d)
 
--- Bounds hold from all such moments, at the end of each window of a cycle: the class is shut where an entry begins, and was open just before.
+-- Bounds hold from all such moments, at the end of each window of a cycle: the class is shut where an entry begins, and was open just
+-- before.
 abbrev pub AreGoodAtWindows : Plan → ℕ → ℕ → (ℕ → ℕ) → ℕ → ℕ → Type 0
 AreGoodAtWindows plan class d curve wait most =
     (i : ℕ) → i < length plan.entries → may_by plan class (in_ps plan.cycle + prefix plan.entries i) 1 ≡ false

@@ -7,8 +7,8 @@ use Rattle.any_traffic.specs.BusyPeriod.{IsSubadditive}
 use Rattle.any_traffic.specs.AnyTraffic.{AreCurveBounds}
 use Rattle.burst_bounds.specs.Good.{AreGoodAtWindows, IsGood}
 
--- The law of moments: bounds that hold from moment 0 and from each moment that is just too late for some frames to be sent before the end of a window hold
--- from all moments. So finitely many are enough, for ever.
+-- The law of moments: bounds that hold from moment 0 and from each moment that is just too late for some frames to be sent before the end
+-- of a window hold from all moments. So finitely many are enough, for ever.
 abbrev pub MomentsLaw : Type 0
 MomentsLaw =
     (plan : Plan) (class d : ℕ) (curve : ℕ → ℕ) (wait most : ℕ) → IsSchedule plan → 0 < d

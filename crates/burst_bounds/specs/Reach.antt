@@ -46,8 +46,8 @@ AreUnder plan class d curve b = (w m : ℕ) → AreCurveBounds plan class d curv
 abbrev pub AreWithin : Bounds → Bounds → Type 0
 AreWithin a b = (a.wait ≤ b.wait) × (a.most ≤ b.most)
 
--- The slots from a moment on come again: one and the one so many behind it are so far apart, and each frame from one on that comes behind the first of the
--- two. So many frames show all then.
+-- The slots from a moment on come again: one and the one so many behind it are so far apart, and each frame from one on that comes behind
+-- the first of the two. So many frames show all then.
 pub record ComesBack (from : ℕ) (slots moments : List ℕ) (r : Repeat) (frames : ℕ) : Type 0 where
   pub again : ℕ
   pub behind : ℕ
@@ -95,10 +95,12 @@ pub record IsWindowSeen (plan : Plan) (class d end : ℕ) (moments : List ℕ) (
   pub under : (curve : ℕ → ℕ) → IsRead plan class d curve moments repeat → AreUnder plan class d curve old → AreUnder plan class d curve new
 
 -- the same for those windows that end where one of the first entries begins
-pub record AreWindowsSeen (plan : Plan) (class d : ℕ) (moments : List ℕ) (repeat : Option Repeat) (count : ℕ) (old new : Bounds) : Type 0 where
+pub record AreWindowsSeen (plan : Plan) (class d : ℕ) (moments : List ℕ) (repeat : Option Repeat) (count : ℕ)
+    (old new : Bounds) : Type 0 where
   pub grown : AreWithin old new
   pub good : (curve : ℕ → ℕ) → IsRead plan class d curve moments repeat → (i : ℕ) → i < count
-      → may_by plan class (in_ps plan.cycle + prefix plan.entries i) 1 ≡ false → may_by plan class (in_ps plan.cycle + prefix plan.entries i - 1) 1 ≡ true
+      → may_by plan class (in_ps plan.cycle + prefix plan.entries i) 1 ≡ false → may_by plan class
+      (in_ps plan.cycle + prefix plan.entries i - 1) 1 ≡ true
       → AreGoodBefore plan class d curve new.wait new.most (in_ps plan.cycle + prefix plan.entries i)
   pub under : (curve : ℕ → ℕ) → IsRead plan class d curve moments repeat → AreUnder plan class d curve old → AreUnder plan class d curve new
 

@@ -10,7 +10,8 @@ use Rattle.burst_bounds.proofs.SlotLaws.{one_more}
 use Rattle.burst_bounds.proofs.arrivals.arrivals.Goals as goal
 
 -- one count more
-few_more : (counts : List ℕ) (place n : ℕ) → place < length counts → ((i : ℕ) → get_or counts i 0 ≤ n) → (i : ℕ) → get_or (set counts place (get_or counts place 0 + 1)) i 0 ≤ n + 1
+few_more : (counts : List ℕ) (place n : ℕ) → place < length counts → ((i : ℕ) → get_or counts i 0 ≤ n) → (i : ℕ)
+    → get_or (set counts place (get_or counts place 0 + 1)) i 0 ≤ n + 1
 few_more counts place n listed few i = elim (cases_lt i place) [
   | inl before ↦ other (λ e. (let wrong : ⊥ = omega (arith, e, before) in wrong))
   | inr after ↦ elim (cases_lt place i) [
@@ -35,19 +36,22 @@ record IsKept (talkers : List Talker) (moments counts : List ℕ) (n : ℕ) : Ty
   pub few : (i : ℕ) → get_or counts i 0 ≤ n
   pub counted : (last : ℕ) × AreCounted talkers counts last
 
-kept_next : (talkers : List Talker) (moments counts : List ℕ) (n place moment : ℕ) → ((i : ℕ) → i < length talkers → 0 < (talker_at talkers i).period)
+kept_next : (talkers : List Talker) (moments counts : List ℕ) (n place moment : ℕ)
+    → ((i : ℕ) → i < length talkers → 0 < (talker_at talkers i).period)
     → IsKept talkers moments counts n → place < length talkers → moment ≡ comes_at (talker_at talkers place) (get_or counts place 0)
     → ((i : ℕ) → i < length talkers → moment ≤ comes_at (talker_at talkers i) (get_or counts i 0)) → moment < 2 ^ 120
     → IsKept talkers (moments ++ moment ∷ []) (set counts place (get_or counts place 0 + 1)) (n + 1)
 kept_next talkers moments counts n place moment these h inside is first below =
     let last : ℕ = h.counted.0 in
     let old = h.counted.1 in
-    let firsts : (i : ℕ) → i < length talkers → comes_at (talker_at talkers place) (get_or counts place 0) ≤ comes_at (talker_at talkers i) (get_or counts i 0) =
+    let firsts : (i : ℕ) → i < length talkers → comes_at (talker_at talkers place) (get_or counts place 0) ≤ comes_at (talker_at talkers i)
+    (get_or counts i 0) =
     λ i less. subst (λ k. k ≤ comes_at (talker_at talkers i) (get_or counts i 0)) is (first i less)
     in
     let arrives = arrives_next talkers counts last place these old inside firsts in
     let here : IsArrival (curve talkers) (length moments) moment =
-    subst (λ k. IsArrival (curve talkers) k moment) (h.sum ∙ sym h.count) (subst (IsArrival (curve talkers) (total counts)) (sym is) arrives)
+    subst (λ k. IsArrival (curve talkers) k moment) (h.sum ∙ sym h.count)
+    (subst (IsArrival (curve talkers) (total counts)) (sym is) arrives)
     in
     let all = length-append moments (moment ∷ []) in
     let one : length (moment ∷ []) ≡ 1 = refl in
@@ -58,7 +62,11 @@ kept_next talkers moments counts n place moment these h inside is first below =
       below = record { each = one_more (λ i x. x < 2 ^ 120) moments moment h.below.each below };
       sum = (let s = one_counted talkers counts last place these old inside firsts in let sum = h.sum in omega (arith, s, sum));
       few = few_more counts place n listed h.few;
-      counted = (comes_at (talker_at talkers place) (get_or counts place 0), counted_next talkers counts last place these old inside firsts);
+      counted = (
+        comes_at (talker_at talkers place) (get_or counts place 0),
+        counted_next talkers counts last place these old inside
+            firsts,
+      );
     }
 
 pub loop-i-preserved : goal.loop-i-preserved
@@ -73,7 +81,8 @@ loop-i-preserved g c =
     let these : (i : ℕ) → i < length talkers → 0 < (talker_at talkers i).period =
     λ i less. (All-get_or IsTalker talkers i (record { need = 0; period = 0; jitter = 0 }) less c.requires.talkers).above
     in
-    let is : moment ≡ comes_at (talker_at talkers place) (get_or counts place 0) = subst (λ xs. moment ≡ comes_at (talker_at talkers place) (get_or xs place 0)) seen told.moment in
+    let is : moment ≡ comes_at (talker_at talkers place) (get_or counts place 0) = subst
+    (λ xs. moment ≡ comes_at (talker_at talkers place) (get_or xs place 0)) seen told.moment in
     let first : (i : ℕ) → i < length talkers → moment ≤ comes_at (talker_at talkers i) (get_or counts i 0) =
     λ i less. subst (λ xs. moment ≤ comes_at (talker_at talkers i) (get_or xs i 0)) seen (told.first i less)
     in
@@ -82,7 +91,8 @@ loop-i-preserved g c =
     in
     let next = kept_next talkers c.loop-i.moments.items counts c.loop-i._i place moment these old told.within is first told.below in
     let listed : place < length counts = (let same = (inv.counted.1).places in let inside = told.within in omega (arith, same, inside)) in
-    let value : c.index_mut.result.now ≡ get_or counts place 0 = c.index_mut.ensures.value ∙ get_or_default counts place c.index_mut.result.now 0 listed in
+    let value : c.index_mut.result.now ≡ get_or counts place 0 = c.index_mut.ensures.value ∙ get_or_default counts place
+    c.index_mut.result.now 0 listed in
     let pushed = c.in_ok-push.ensures.items in
     let all : IsKept talkers c.push.new.self.items (set counts place (c.index_mut.result.now + 1)) (c.loop-i._i + 1) =
     subst (λ xs. IsKept talkers xs (set counts place (c.index_mut.result.now + 1)) (c.loop-i._i + 1)) (sym pushed)

@@ -19,7 +19,8 @@ loop-i-preserved c =
     ]
     in
     record {
-      most = more_waiting c.args.from c.args.slots.now c.args.moments.now i c.loop-i.most c.begun_by-begun.result c.max-most.result inv.most all before begun.at
+      most = more_waiting c.args.from c.args.slots.now c.args.moments.now i c.loop-i.most c.begun_by-begun.result c.max-most.result
+          inv.most all before begun.at
           (c.max-most.ensures ∙ ap (λ w. max w c.loop-i.most) c.saturating_sub.ensures);
       begun = begun.within;
       before = λ j n later listed less.

@@ -22,15 +22,24 @@ loop-i-preserved g c =
       few = omega arith;
       seen = elim c.if-ends_window.branch [
         | then-ends_window+in-Ok w ↦
-            subst (AreWindowsSeen plan c.args.class c.args.need c.args.moments.now c.args.repeat (i + 1) c.args.bounds.now) (sym w.bounds-is)
-            (one_more plan c.args.class c.args.need c.args.moments.now c.args.repeat c.args.bounds.now i c.loop-i.bounds w.with_window.new.bounds inv.seen
-            (subst (λ e. IsWindowSeen plan c.args.class c.args.need e c.args.moments.now c.args.repeat c.loop-i.bounds w.with_window.new.bounds) begins w.in-Ok.ensures.seen))
+            subst (AreWindowsSeen plan c.args.class c.args.need c.args.moments.now c.args.repeat (i + 1) c.args.bounds.now)
+            (sym w.bounds-is)
+            (one_more plan c.args.class c.args.need c.args.moments.now c.args.repeat c.args.bounds.now i c.loop-i.bounds
+            w.with_window.new.bounds inv.seen
+            (subst (λ e. IsWindowSeen plan c.args.class c.args.need e c.args.moments.now c.args.repeat c.loop-i.bounds
+            w.with_window.new.bounds) begins w.in-Ok.ensures.seen))
         | else-ends_window w ↦
-            let none : may_by plan c.args.class (in_ps plan.cycle + prefix plan.entries i) 1 ≡ false → may_by plan c.args.class (in_ps plan.cycle + prefix plan.entries i - 1) 1 ≡ true → ⊥ =
+            let none : may_by plan c.args.class (in_ps plan.cycle + prefix plan.entries i) 1 ≡ false → may_by plan c.args.class
+            (in_ps plan.cycle + prefix plan.entries i - 1) 1 ≡ true → ⊥ =
             λ shut opened. both_ways c.ends_window.result w.if-ends_window.false
-            (c.ends_window.ensures.1 (subst (λ e. may_by plan c.args.class e 1 ≡ false) (sym begins) shut, subst (λ e. may_by plan c.args.class (e - 1) 1 ≡ true) (sym begins) opened))
+            (c.ends_window.ensures.1 (
+              subst (λ e. may_by plan c.args.class e 1 ≡ false) (sym begins) shut,
+              subst
+                  (λ e. may_by plan c.args.class (e - 1) 1 ≡ true) (sym begins) opened,
+            ))
             in
-            subst (AreWindowsSeen plan c.args.class c.args.need c.args.moments.now c.args.repeat (i + 1) c.args.bounds.now) (sym w.bounds-is)
+            subst (AreWindowsSeen plan c.args.class c.args.need c.args.moments.now c.args.repeat (i + 1) c.args.bounds.now)
+            (sym w.bounds-is)
             (no_more plan c.args.class c.args.need c.args.moments.now c.args.repeat c.args.bounds.now i c.loop-i.bounds inv.seen none)
       ];
     }

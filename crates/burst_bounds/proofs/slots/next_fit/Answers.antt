@@ -12,9 +12,12 @@ returns-then-stop-end-clause-fit c =
     let wide = c.from.ensures in
     let past = c.if-stop-end.true in
     let flat = c.in_ok-end.ensures.flat plan 0 c.loop-visits.moment c.requires.sound inv.2 in
-    let shut : open_while (mask_since (Some plan) 0 None) c.args.class c.loop-visits.moment c.args.length ≡ false = sym (c.stays_open.ensures 0 inv.2) ∙ c.loop-visits-test.true in
-    let none = flat_to (mask_since (Some plan) 0 None) c.args.class c.args.length c.args.from c.loop-visits.moment c.in_ok-end.end flat inv.3 shut in
-    sym (fit_none (mask_since (Some plan) 0 None) c.args.class c.args.length c.args.from (in_ps plan.cycle) (λ m from below. none m from (omega (arith, value, wide, past, below))))
+    let shut : open_while (mask_since (Some plan) 0 None) c.args.class c.loop-visits.moment c.args.length ≡ false = sym
+    (c.stays_open.ensures 0 inv.2) ∙ c.loop-visits-test.true in
+    let none = flat_to (mask_since (Some plan) 0 None) c.args.class c.args.length c.args.from c.loop-visits.moment c.in_ok-end.end flat
+    inv.3 shut in
+    sym (fit_none (mask_since (Some plan) 0 None) c.args.class c.args.length c.args.from (in_ps plan.cycle)
+    (λ m from below. none m from (omega (arith, value, wide, past, below))))
 
 pub loop-visits-preserved : goal.loop-visits-preserved
 loop-visits-preserved c =
@@ -22,7 +25,8 @@ loop-visits-preserved c =
     let inv = c.loop-visits.invariant in
     let from = inv.0 in
     let flat = c.in_ok-end.ensures.flat plan 0 c.loop-visits.moment c.requires.sound inv.2 in
-    let shut : open_while (mask_since (Some plan) 0 None) c.args.class c.loop-visits.moment c.args.length ≡ false = sym (c.stays_open.ensures 0 inv.2) ∙ c.loop-visits-test.true in (
+    let shut : open_while (mask_since (Some plan) 0 None) c.args.class c.loop-visits.moment c.args.length ≡ false = sym
+    (c.stays_open.ensures 0 inv.2) ∙ c.loop-visits-test.true in (
       omega (arith, from, later_than (mask_since (Some plan) 0 None) c.loop-visits.moment c.in_ok-end.end flat),
       c.if-stop-end.false,
       c.go_on-in-loop-visits.ensures.placed,
@@ -36,5 +40,6 @@ returns-clause-fit c =
     let value = c.cycle_ns.ensures.value in
     let wide = c.from.ensures in
     let before = inv.1 in
-    sym (fit_some (mask_since (Some plan) 0 None) c.args.class c.args.length c.args.from (in_ps plan.cycle) c.loop-visits.moment inv.0 (omega (arith, value, wide, before)) inv.3
+    sym (fit_some (mask_since (Some plan) 0 None) c.args.class c.args.length c.args.from (in_ps plan.cycle) c.loop-visits.moment inv.0
+    (omega (arith, value, wide, before)) inv.3
     (sym (c.stays_open.ensures 0 inv.2) ∙ c.loop-visits-test.false))

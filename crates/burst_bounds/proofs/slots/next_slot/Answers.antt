@@ -8,7 +8,8 @@ use Rattle.burst_bounds.proofs.slots.next_slot.Goals as goal
 
 pub returns-in-Some-clause-slot : goal.returns-in-Some-clause-slot
 returns-in-Some-clause-slot c =
-    first_is (may_by c.args.schedule.now c.args.class) c.args.need c.args.from (in_ps c.args.schedule.now.cycle) c.in-Some.at (sym c.in-Some.ensures.fit)
+    first_is (may_by c.args.schedule.now c.args.class) c.args.need c.args.from (in_ps c.args.schedule.now.cycle) c.in-Some.at
+    (sym c.in-Some.ensures.fit)
 
 pub returns-in-None-clause-why : goal.returns-in-None-clause-why
 returns-in-None-clause-why c =

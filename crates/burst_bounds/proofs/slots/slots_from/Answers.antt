@@ -14,7 +14,8 @@ loop-i-init g c =
     let empty = c.in-Ok-with_capacity.ensures.items in
     record {
       count = ap length empty;
-      slots = none (AreSlots (may_by c.args.schedule.now c.args.class) c.args.need c.args.from) _ empty (record { each = λ i less. absurd (omega (arith, less)) });
+      slots = none (AreSlots (may_by c.args.schedule.now c.args.class) c.args.need c.args.from) _ empty
+          (record { each = λ i less. absurd (omega (arith, less)) });
       below = none (AreBelow 100) _ empty (record { each = λ i less. absurd (omega (arith, less)) });
       sought = record { by = inl (refl, refl) };
       stood = (c.args.from, le_refl c.args.from, c.jump_to.ensures.placed);
@@ -34,10 +35,12 @@ loop-i-preserved g c =
     record {
       count = ap length added ∙ (let e : length (c.loop-i.slots.items ++ at ∷ []) ≡ c.loop-i._i + 1 = omega (arith, all, count, one) in e);
       slots = subst (AreSlots may c.args.need c.args.from) (sym added) (record {
-        each = one_more (IsSlot may c.args.need c.args.from) c.loop-i.slots.items at inv.slots.each (subst (λ k. IsSlot may c.args.need c.args.from k at) (sym count) slot);
+        each = one_more (IsSlot may c.args.need c.args.from) c.loop-i.slots.items at inv.slots.each
+            (subst (λ k. IsSlot may c.args.need c.args.from k at) (sym count) slot);
       });
       below = subst (AreBelow 100) (sym added) (record {
-        each = one_more (λ i x. x < 2 ^ 100) c.loop-i.slots.items at inv.below.each (let soon = told.soon in let within = c.requires.sound.cycle in omega (arith, soon, within));
+        each = one_more (λ i x. x < 2 ^ 100) c.loop-i.slots.items at inv.below.each
+            (let soon = told.soon in let within = c.requires.sound.cycle in omega (arith, soon, within));
       });
       sought = sought_next may c.args.need c.args.from c.loop-i._i c.loop-i.next at inv.sought told.slot;
       stood = (at, omega arith, told.placed);

@@ -25,10 +25,12 @@ pub slots_from-requires-clause-need : goal.slots_from-requires-clause-need
 slots_from-requires-clause-need g c = small c.args.talkers.now c.args.need c.requires.talkers c.requires.need
 
 pub returns-in-Err-clause-why : goal.returns-in-Err-clause-why
-returns-in-Err-clause-why g c = by_slot c.args.schedule.now c.args.class c.args.need 0 c.args.frames (curve c.args.talkers.now) c.in-Err.why c.in-Err.ensures.why
+returns-in-Err-clause-why g c = by_slot c.args.schedule.now c.args.class c.args.need 0 c.args.frames (curve c.args.talkers.now)
+    c.in-Err.why c.in-Err.ensures.why
 
 pub with_moment-requires-clause-rises : goal.with_moment-requires-clause-rises
-with_moment-requires-clause-rises g c = rise c.args.talkers.now c.as_slice-moments.result.now c.in-Ok.moments.items c.as_slice-moments.ensures.value c.in-Ok.ensures.moments
+with_moment-requires-clause-rises g c = rise c.args.talkers.now c.as_slice-moments.result.now c.in-Ok.moments.items
+    c.as_slice-moments.ensures.value c.in-Ok.ensures.moments
 
 pub with_moment-requires-clause-need : goal.with_moment-requires-clause-need
 with_moment-requires-clause-need g c = small c.args.talkers.now c.args.need c.requires.talkers c.requires.need
@@ -39,21 +41,29 @@ returns-in-Err-with_moment-clause-why g c =
     let talkers : List Talker = c.args.talkers.now in
     let xs : List ℕ = c.as_slice-moments.result.now in
     let ys : List ℕ = c.as_slice.result.now in
-    let come : AreArrivals (curve talkers) xs = subst (AreArrivals (curve talkers)) (sym c.as_slice-moments.ensures.value) c.in-Ok.ensures.moments in
-    let rows : AreSlots (may_by plan c.args.class) c.args.need 0 ys = subst (AreSlots (may_by plan c.args.class) c.args.need 0) (sym c.as_slice.ensures.value) c.in-Ok-slots_from.ensures.slots in
+    let come : AreArrivals (curve talkers) xs = subst (AreArrivals (curve talkers)) (sym c.as_slice-moments.ensures.value)
+    c.in-Ok.ensures.moments in
+    let rows : AreSlots (may_by plan c.args.class) c.args.need 0 ys = subst (AreSlots (may_by plan c.args.class) c.args.need 0)
+    (sym c.as_slice.ensures.value) c.in-Ok-slots_from.ensures.slots in
     let count : length xs ≡ c.args.frames = ap length c.as_slice-moments.ensures.value ∙ c.in-Ok.ensures.count in
     let many : length ys ≡ c.args.frames = ap length c.as_slice.ensures.value ∙ c.in-Ok-slots_from.ensures.count in
-    let read = read_of plan c.args.class talkers c.requires.sound c.requires.some c.requires.talkers c.args.need c.requires.need xs c.args.repeat come c.requires.repeat in
+    let read = read_of plan c.args.class talkers c.requires.sound c.requires.some c.requires.talkers c.args.need c.requires.need xs
+    c.args.repeat come c.requires.repeat in
     let told = c.in-Err-with_moment.ensures.why in
     subst (λ n. IsUnseen plan c.args.class c.args.need (curve talkers) n c.in-Err-with_moment.why) count
-    (by_end plan c.args.class c.args.need 0 ys xs c.args.repeat (curve talkers) c.in-Err-with_moment.why read rows (omega (arith, count, many)) told.0 told.1)
+    (by_end plan c.args.class c.args.need 0 ys xs c.args.repeat (curve talkers) c.in-Err-with_moment.why read rows
+    (omega (arith, count, many)) told.0 told.1)
 
 pub with_windows-requires-clause-need : goal.with_windows-requires-clause-need
-with_windows-requires-clause-need g c =
-    (some_need c.args.talkers.now c.args.need c.requires.some c.requires.talkers c.requires.need, small c.args.talkers.now c.args.need c.requires.talkers c.requires.need)
+with_windows-requires-clause-need g c = (
+  some_need c.args.talkers.now c.args.need c.requires.some c.requires.talkers c.requires.need,
+  small c.args.talkers.now c.args.need
+      c.requires.talkers c.requires.need,
+)
 
 pub with_windows-requires-clause-rises : goal.with_windows-requires-clause-rises
-with_windows-requires-clause-rises g c = rise c.args.talkers.now c.as_slice-moments.result.now c.in-Ok.moments.items c.as_slice-moments.ensures.value c.in-Ok.ensures.moments
+with_windows-requires-clause-rises g c = rise c.args.talkers.now c.as_slice-moments.result.now c.in-Ok.moments.items
+    c.as_slice-moments.ensures.value c.in-Ok.ensures.moments
 
 pub returns-in-Ok-with_windows-clause-least : goal.returns-in-Ok-with_windows-clause-least
 returns-in-Ok-with_windows-clause-least g c =
@@ -61,20 +71,28 @@ returns-in-Ok-with_windows-clause-least g c =
     let talkers : List Talker = c.args.talkers.now in
     let xs : List ℕ = c.as_slice-moments.result.now in
     let ys : List ℕ = c.as_slice.result.now in
-    let come : AreArrivals (curve talkers) xs = subst (AreArrivals (curve talkers)) (sym c.as_slice-moments.ensures.value) c.in-Ok.ensures.moments in
-    let rows : AreSlots (may_by plan c.args.class) c.args.need 0 ys = subst (AreSlots (may_by plan c.args.class) c.args.need 0) (sym c.as_slice.ensures.value) c.in-Ok-slots_from.ensures.slots in
+    let come : AreArrivals (curve talkers) xs = subst (AreArrivals (curve talkers)) (sym c.as_slice-moments.ensures.value)
+    c.in-Ok.ensures.moments in
+    let rows : AreSlots (may_by plan c.args.class) c.args.need 0 ys = subst (AreSlots (may_by plan c.args.class) c.args.need 0)
+    (sym c.as_slice.ensures.value) c.in-Ok-slots_from.ensures.slots in
     let many : length ys ≡ c.args.frames = ap length c.as_slice.ensures.value ∙ c.in-Ok-slots_from.ensures.count in
     let some = c.requires.frames in
-    let read = read_of plan c.args.class talkers c.requires.sound c.requires.some c.requires.talkers c.args.need c.requires.need xs c.args.repeat come c.requires.repeat in
-    are_least plan c.args.class talkers c.requires.sound c.requires.some c.requires.talkers c.args.need c.requires.need xs ys c.args.repeat read rows (omega (arith, many, some))
-    (record { wait = 0; most = 0 }) c.with_moment.new.bounds c.with_windows.new.bounds refl c.in-Ok-with_moment.reach c.in-Ok-with_moment.ensures.seen c.in-Ok-with_moment.ensures.bounds c.in-Ok-with_windows.ensures.seen
+    let read = read_of plan c.args.class talkers c.requires.sound c.requires.some c.requires.talkers c.args.need c.requires.need xs
+    c.args.repeat come c.requires.repeat in
+    are_least plan c.args.class talkers c.requires.sound c.requires.some c.requires.talkers c.args.need c.requires.need xs ys c.args.repeat
+    read rows (omega (arith, many, some))
+    (record { wait = 0; most = 0 }) c.with_moment.new.bounds c.with_windows.new.bounds refl c.in-Ok-with_moment.reach
+    c.in-Ok-with_moment.ensures.seen c.in-Ok-with_moment.ensures.bounds c.in-Ok-with_windows.ensures.seen
 
 pub returns-clause-why : goal.returns-clause-why
 returns-clause-why g c =
     let plan = c.args.schedule.now in
     let talkers : List Talker = c.args.talkers.now in
     let xs : List ℕ = c.as_slice-moments.result.now in
-    let come : AreArrivals (curve talkers) xs = subst (AreArrivals (curve talkers)) (sym c.as_slice-moments.ensures.value) c.in-Ok.ensures.moments in
+    let come : AreArrivals (curve talkers) xs = subst (AreArrivals (curve talkers)) (sym c.as_slice-moments.ensures.value)
+    c.in-Ok.ensures.moments in
     let count : length xs ≡ c.args.frames = ap length c.as_slice-moments.ensures.value ∙ c.in-Ok.ensures.count in
-    let read = read_of plan c.args.class talkers c.requires.sound c.requires.some c.requires.talkers c.args.need c.requires.need xs c.args.repeat come c.requires.repeat in
-    subst (λ n. IsUnseen plan c.args.class c.args.need (curve talkers) n c.in-Err-with_windows.why) count (c.in-Err-with_windows.ensures.why (curve talkers) read)
+    let read = read_of plan c.args.class talkers c.requires.sound c.requires.some c.requires.talkers c.args.need c.requires.need xs
+    c.args.repeat come c.requires.repeat in
+    subst (λ n. IsUnseen plan c.args.class c.args.need (curve talkers) n c.in-Err-with_windows.why) count
+    (c.in-Err-with_windows.ensures.why (curve talkers) read)
