@@ -90,7 +90,7 @@ lines-preserved-in-Ok-None g c = record {
       let past = past_taken read (Hears g.H.Watch.alerted) (Cuts g.H.Watch.alerted) g.R.Read.remaining _ _ _ _ _ _ _ _ _ tt _ _ tt (c.plain.invariant.watched read is c.lines.lines c.hand-hand.ensures c.lines_left-most.ensures (c.lines.invariant.watched read is)) c.plain.invariant.front c.hand-hand.ensures c.go_past.ensures.script in
       let a = advanced _ _ _ _ c.if-not-branch.false c.in_ok-next_heard.ensures.step.0 in
       let gone = goes_past read (Hears g.H.Watch.alerted) (Cuts g.H.Watch.alerted) _ _ _ tt _ _ _ tt past _ _ _ a e in
-      waited read (Hears g.H.Watch.alerted) (Cuts g.H.Watch.alerted) _ _ _ tt _ _ _ tt gone (hears_both g.H.Watch.alerted g.met.H.Watch.both) _ tt c.line_passed.ensures;
+      waited read (Hears g.H.Watch.alerted) (Cuts g.H.Watch.alerted) _ _ _ tt _ _ _ tt gone (hears_both g.H.Watch.alerted g.met.H.Watch.both) _ tt c.line_skipped.ensures;
 }
 
 pub lines-preserved-in_ok-take-in-Ok-Some-Asked : goal.lines-preserved-in_ok-take-in-Ok-Some-Asked
