@@ -11,6 +11,7 @@ import { Table } from "./tables.js";
 import { GREATEST, writeMoment } from "./moments.js";
 import { linesOf, readScript } from "./script.js";
 import { runVerdict } from "./frames.js";
+import { runOf, whySaid } from "./why.js";
 import { boundsIn, boundsVerdict, drawBounds } from "./bounds.js";
 import { dateOf, endOfRun, notYet, originOf, setClock, windowOf } from "./happens.js";
 import { count } from "./words.js";
@@ -30,6 +31,8 @@ const KEEP_AFTER = 300; // milliseconds after a change until one's own input is 
 const MOST_PAST = 30; // texts that Ctrl+Z goes back to
 const FIRST = "schedule.script"; // the example that is shown at first
 const GOES_ON = 1_000_000_000n; // how long a table's script, and a replay, goes on after its last frame, in picoseconds
+const REASONS_TOLD = 8; // reasons why a frame waits that are told below the picture
+const REASONS_IN_TIP = 3; // and in the tip
 const LONG = 500_000; // characters of answers after which the picture comes before the frames
 const MOST_LINK = 8_000; // characters of a link that most places take
 
@@ -132,14 +135,29 @@ function tipOf({ frame, band }) {
   const head = document.createElement("strong");
   head.textContent = `Frame ${frame.id}${frame.class === null ? "" : `, class ${frame.class}`}`;
   const lines = [head, line(`${frame.length} octets, arrives ${writeAt(frame.arrival)}`)];
-  if (frame.start !== null) lines.push(line(`starts ${writeAt(frame.start)}, ends ${writeAt(frame.end)}`), line(`waits ${writeTime(frame.wait)}`));
-  else lines.push(line(frame.fate === "left" ? "still waits at the end" : `dropped: ${frame.fate}`));
+  if (frame.start !== null) lines.push(line(`starts ${writeAt(frame.start)}, ends ${writeAt(frame.end)}`));
+  else if (frame.fate !== "left") lines.push(line(`dropped: ${frame.fate}`));
+  const why = whyOf(frame, REASONS_IN_TIP);
+  if (why) lines.push(line(why));
+  else if (frame.start !== null) lines.push(line(`waits ${writeTime(frame.wait)}`));
   return lines;
+}
+
+// Why a frame of the run that is shown waits, in a sentence.
+function whyOf(frame, most) {
+  ran.waits ??= runOf(ran.frames, ran.history, ran.port.rate, ran.until !== null && ran.until > ran.last ? ran.until : ran.last);
+  return whySaid(ran.waits, frame, { time: writeTime, at: writeAt }, most);
+}
+
+// Tells below the picture why the frame that is chosen waits.
+function tellWhy(frame) {
+  at("why").textContent = frame ? whyOf(frame, REASONS_TOLD) || (frame.start === null ? "" : `Frame ${frame.id} does not wait.`) : "";
 }
 
 // A frame is chosen in the table or in the picture: it is shown in both, and its line of the answers.
 function chooseFrame(frame, inPicture) {
   if (inPicture) viewer.find(frame);
+  tellWhy(frame);
   frameTable.mark(frame);
   markAnswer(frame.told);
 }
@@ -167,12 +185,14 @@ function findAnswered(event) {
   const frame = ran.frames.find((it) => it.told === number || it.taken === number);
   if (frame) {
     viewer.find(frame);
+    tellWhy(frame);
     frameTable.mark(frame);
   }
 }
 
 function hidePicture(why) {
   viewer.show(null);
+  tellWhy(null);
   at("zoom").hidden = true;
   at("save-picture").hidden = true;
   sayPicture(why);
@@ -223,6 +243,7 @@ function showPicture({ output }, values) {
 function layPicture() {
   const { text, shown } = ran.drawn;
   if (!shown) return;
+  tellWhy(ran.frames.includes(viewer.frame) ? viewer.frame : null);
   viewer.show(new Picture(text, shown, { origin: origin(), changes: ran.changes, frames: ran.frames }));
   const words = `from ${writeAt(shown.from)} to ${writeAt(shown.to)}, counted from ${at("origin").selectedOptions[0]?.textContent ?? "moment 0"}`;
   at("frame").setAttribute("aria-label", `Picture ${words}: a row for each class with its open time, its frames and how long they wait, and one for the wire. The table of frames says the same.`);
@@ -523,7 +544,7 @@ async function snapshot() {
   const values = await valuesFor(name, readMoments);
   if (name === "replay" && !second.length) throw new BadOption("capture", "No capture is chosen: choose a classic pcap file, or drop one on the page.");
   const { rate, mtu, room } = values;
-  return { job: name, text, beside: second, values, port: { rate, mtu, room }, until: null, frames: [], classes: [], changes: [], first: 0n, last: 0n, windows: [], bounds: [], schedules: [], source: null, why: "", drawn: null, window: null };
+  return { job: name, text, beside: second, values, port: { rate, mtu, room }, until: null, frames: [], classes: [], changes: [], history: null, first: 0n, last: 0n, windows: [], bounds: [], schedules: [], source: null, why: "", drawn: null, window: null, waits: null };
 }
 
 // Does a job for a run, and null where another run has begun since.
@@ -535,7 +556,7 @@ async function ask(mine, request) {
 // What a script and its answers come to.
 async function takeRun(mine, script, until, answers) {
   const told = await ask(mine, { job: "fates", script, answers, values: { ...ran.values, until } });
-  if (told) Object.assign(ran, { frames: told.frames, classes: told.classes, changes: told.changes, first: told.first, last: told.last, source: script, until });
+  if (told) Object.assign(ran, { frames: told.frames, classes: told.classes, changes: told.changes, history: told.history, first: told.first, last: told.last, source: script, until, waits: null });
   if (told && ["script", "replay"].includes(ran.job)) ran.window = windowOf(ran);
 }
 
@@ -1138,7 +1159,7 @@ function listenToResults() {
     if (ran.job === "bounds") sayVerdict("");
     await draw(mine);
   }));
-  at("ps").addEventListener("change", () => ran && (showTables(), ran.job === "bounds" && showBounds()));
+  at("ps").addEventListener("change", () => ran && (showTables(), tellWhy(viewer.frame), ran.job === "bounds" && showBounds()));
   at("answers").addEventListener("click", findAnswered);
   at("frames-box").addEventListener("toggle", () => at("frames-box").open && showFrames());
   at("save-frames").addEventListener("click", () => saveFrames().catch(showError));

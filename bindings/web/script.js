@@ -27,7 +27,7 @@ const PLAIN = /^(?:frame|clock) \d+(?: \d+)*$/; // a line whose words stand one 
  * The frames of a script in their order, with the moment of each, and the first moment at which something happens.
  *
  * @param {string} text
- * @returns {{arrivals: {id: string, length: string, moment: bigint}[], commands: {line: number, words: string[]}[], first: bigint, last: bigint}}
+ * @returns {{arrivals: {id: string, length: string, moment: bigint}[], commands: {line: number, words: string[], moment: bigint}[], first: bigint, last: bigint}}
  */
 export function readScript(text) {
   const found = { arrivals: [], commands: [], first: null, last: 0n };
@@ -42,7 +42,7 @@ export function readScript(text) {
     }
     found.first ??= now;
     if (words[0] === "frame") found.arrivals.push({ id: words[1], length: words[3], moment: now });
-    else if (words[0] === "tc") found.commands.push({ line: number, words });
+    else if (words[0] === "tc") found.commands.push({ line: number, words, moment: now });
   }
   found.last = now;
   found.first ??= 0n;

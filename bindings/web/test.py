@@ -14,7 +14,7 @@ import threading
 import time
 import zlib
 
-from bundle import options
+from bundle import modules, options
 from browsers import Broken, Chromium, Firefox, wait_for
 
 WEB = pathlib.Path(__file__).resolve().parent
@@ -428,6 +428,133 @@ def try_moments(page):
             page.answers(f"until {word}", answers)
 
 
+def random_gates(chance):
+    """A script of frames and schedules, some of them replaced or deleted before they come into force, and the options of its port."""
+    rate, mtu = chance.choice((100, 1000, 1000, 2500, 10000)), chance.choice((500, 1500, 1500, 9000))
+    unit = (mtu + 42) * 8_000_000 // rate
+    lines, now = [], 0
+    for frame in range(chance.randrange(8, 50)):
+        if chance.random() < 0.12 or not frame:
+            entries = " ".join(f"sched-entry S {chance.randrange(16):x} {chance.randrange(unit // 4, 3 * unit) // 1000 + 500}" for _ in range(chance.randrange(1, 5)))
+            cycle = chance.choice(("", "", f"cycle-time {chance.randrange(unit, 9 * unit) // 1000 + 1000}"))
+            extension = chance.choice(("", f"cycle-time-extension {chance.randrange(9 * unit) // 1000}"))
+            base = (now + chance.randrange(6 * unit)) // 1000
+            lines.append(chance.choice(("tc qdisc del dev base-time root", *[f"tc qdisc replace dev x root taprio num_tc 4 map 0 1 2 3 base-time {base} {cycle} {extension} {entries}"] * 5)))
+        if chance.random() < 0.6:
+            now += chance.randrange(1, 2 * unit)
+            lines.append(f"clock {now}")
+        lines.append(f"frame {frame} {chance.randrange(4)} {chance.choice((60, 300, mtu))}")
+    return "\n".join(lines) + f"\nclock {now + chance.randrange(1, 20 * unit)}\n", rate, mtu
+
+
+# What the page's own reasons are of the frames of a run that wait, by the same functions.
+REASONS = """
+const { rate, mtu } = PORT; const read = readScript(SCRIPT); const frames = framesOf(read.arrivals, ANSWERS, []);
+const run = runOf(frames, historyOf(read.commands, ANSWERS, { rate, mtu }), rate, read.last);
+const waits = frames.filter((it) => it.fate === 'left' || it.wait > 0n).map((it) => ({ id: it.id, ...partsOf(run, it) }));
+return JSON.stringify(waits, (name, it) => (name === 'frame' ? it.id : typeof it === 'bigint' ? String(it) : it))
+"""
+
+
+def with_queries(text, moments):
+    """A script with a report at each of these moments."""
+    lines, left = [], sorted(moments)
+    for line in text.splitlines():
+        if line.startswith("clock"):
+            upto = int(line.split()[1])
+            while left and left[0] < upto:
+                lines += [f"clock {left.pop(0)}", "query"]
+        lines.append(line)
+    return "\n".join([*lines, *(line for it in left for line in (f"clock {it}", "query"))]) + "\n"
+
+
+def untrue(part, frame, table, masks):
+    """What is not true of a reason, by the frames of the run and by the gates that the port reports."""
+    begin, end = int(part["from"]), int(part["to"])
+    def is_open(moment):
+        return masks[moment] >> frame["class"] & 1
+    if part["kind"] == "closed":
+        return any(is_open(it) for it in (begin, (begin + end) // 2, end - 1))
+    if part["kind"] == "wire":
+        named = table[part["frame"]]
+        return named["start"] is None or named["start"] > begin or named["end"] < end
+    has, need = int(part["has"]), int(part["need"])
+    named = frame if part["kind"] == "short" else table[part["frame"]]
+    earlier = [it for it in table.values() if it["class"] == named["class"] and it["place"] < named["place"]]
+    return any([
+        not is_open(begin), not is_open(begin + has - 1), is_open(begin + has), has >= need, end > begin + has, named["class"] != frame["class"],
+        named["start"] is not None and (named["end"] - named["start"] != need or named["start"] < end), any(it["start"] is None or it["start"] > begin for it in earlier),
+        part["kind"] == "behind" and named["place"] >= frame["place"]])
+
+
+def try_reasons(page):
+    """For 200 random runs: the reasons why a frame waits cover its wait, and each is true, by the port's table of frames and by its reports."""
+    chance, seen, seen_list = random.Random(78), {}, []
+    source = "".join(modules(it, seen_list) for it in ("why.js", "script.js", "frames.js"))
+    for number in range(200):
+        text, rate, mtu = random_gates(chance)
+        words = ["--rate", str(rate), "--mtu", str(mtu)]
+        answers = program("script", *words, text=text.encode())[1].decode()
+        rows = [it.split(",") for it in program("frames", *words, text=text.encode())[1].decode().splitlines()[1:]]
+        places = {it: place for place, it in enumerate(re.findall(r"^frame (\d+)", text, re.M))}
+        table = {it[0]: {"place": places[it[0]], "class": int(it[1]), "arrival": int(it[3]), **{name: int(it[at]) if it[at] else None for name, at in (("start", 4), ("end", 5))}, "fate": it[7]} for it in rows if it[7] in ("sent", "left")}
+        last = max(int(it) for it in re.findall(r"^clock (\d+)", text, re.M))
+        script = f"const [PORT, SCRIPT, ANSWERS] = {json.dumps([{'rate': rate, 'mtu': mtu}, text, answers])};"
+        waits = json.loads(page.do(source + script + REASONS))
+        page.same(f"frames that wait, of {text!r}", sorted(it["id"] for it in waits), sorted(key for key, it in table.items() if it["start"] != it["arrival"]))
+        moments = {it for wait in waits for part in wait["parts"] for begin, end in ((int(part["from"]), int(part["to"])),)
+                   for it in (begin, (begin + end) // 2, end - 1, *((begin + int(part["has"]) - 1, begin + int(part["has"])) if "has" in part else ()))}
+        told = program("script", *words, text=with_queries(text, moments).encode())[1].decode()
+        masks = {int(moment): int(mask, 16) for moment, mask in re.findall(r"^report now (\d+) mask (\w+)", told, re.M)}
+        for wait in waits:
+            frame, parts = table[wait["id"]], wait["parts"]
+            ends = [frame["arrival"], *(int(it["to"]) for it in parts)]
+            page.same(f"frame {wait['id']} of {text!r}", [wait["whole"], ends[-1], [int(it["from"]) for it in parts]], [True, last if frame["start"] is None else frame["start"], ends[:-1]])
+            page.same(f"frame {wait['id']} of {text!r}", [it for it in parts if untrue(it, frame, table, masks)], [])
+            for it in parts:
+                seen[it["kind"]] = seen.get(it["kind"], 0) + 1
+    page.same(f"reasons of each kind: {seen}", all(seen.get(it, 0) > 100 for it in ("wire", "closed", "short", "behind")), True)
+
+
+WHY_SCHEDULE = "Frame 1 waits 13.336 us: its gate closes too soon (it needs 12.304 us, and has 12.303 us) until 12.303 us; its gate is closed until 13.336 us."
+# A frame that is longer than each window of its class, over 300 cycles.
+NEVER = """tc qdisc replace dev x root taprio num_tc 2 map 0 1 base-time 0 sched-entry S 02 5000 sched-entry S 01 15000
+clock 20000000
+frame 1 1 1514
+frame 2 0 60
+clock 6000000000
+"""
+
+
+def try_why(page):
+    """A click on a frame tells why it waits: in the table, in the picture, and in the answers."""
+    page.choose("schedule.script")
+    page.do("at('frames-box').open = true")
+    wait_for(page.browser, "return document.querySelectorAll('#frames-table tbody tr').length === 2")
+    page.same("nothing is told before", page.text("why"), "")
+    page.do("[...document.querySelectorAll('#frames-table tbody tr')].find((it) => it.row.id === '1').click()")
+    page.same("a row tells it", page.text("why"), WHY_SCHEDULE)
+    page.do("[...document.querySelectorAll('#frames-table tbody tr')].find((it) => it.row.id === '2').click()")
+    page.same("a frame that does not wait", page.text("why"), "Frame 2 does not wait.")
+    page.do("at('canvas').scrollIntoView({ block: 'center' })")
+    page.do(f"{OVER} window.tipped = over([...document.querySelectorAll('#canvas path.w')].find((it) => /H/.test(it.getAttribute('d'))))")
+    page.same("a tip tells it", page.do("return window.tipped.split('\\n').at(-1)"), WHY_SCHEDULE)
+    place = page.do("const r = [...document.querySelectorAll('#canvas path.w')].find((it) => /H/.test(it.getAttribute('d'))).getBoundingClientRect(); return [(r.left + r.right) / 2, (r.top + r.bottom) / 2]")
+    page.browser.drag(place, place)
+    page.same("a click in the picture tells it", page.text("why"), WHY_SCHEDULE)
+    page.browser.shoot(SHOTS / f"{page.browser.name}-why.png")
+    page.do("at('origin').value = '0'; at('origin').dispatchEvent(new Event('change'))")
+    page.same("counted from moment 0", "until 32.303 us" in page.text("why"), True)
+    page.choose("priorities.script")
+    page.same("nothing is told of another run", page.text("why"), "")
+    page.do("at('text').focus()")
+    page.type(NEVER)
+    page.do("[...document.querySelectorAll('#frames-table tbody tr')].find((it) => it.row.id === '1').click()")
+    first = "Frame 1 still waits at the end of the run: its gate closes too soon (it needs 12.304 us, and has 5 us) until 5 us; its gate is closed until 20 us;"
+    page.same("over 300 cycles", [page.text("why")[: len(first)], page.text("why")[-12:]], [first, "; and so on."])
+    page.do("at('frames-box').open = false")
+
+
 def frames_of_table(table, script):
     """What the program makes of the frames of a table of streams among the lines of a script, run to a millisecond after its last line."""
     made = program("streams", "--with", EXAMPLES / script, text=(EXAMPLES / table).read_bytes())[1]
@@ -444,7 +571,7 @@ def try_frames(page):
     page.click("#frames-table tbody tr")
     page.same("marked in the picture", page.do("return !!document.querySelector('#canvas .ring')"), True)
     page.same("marked in the answers", page.do("return String(getSelection())"), "start 1 class 7 at 33336000 end 45640000")
-    page.same("tip", page.do("return at('tip').innerText"), "Frame 1, class 7\n1514 octets, arrives 0\nstarts 13.336 us, ends 25.64 us\nwaits 13.336 us")
+    page.same("tip", page.do("return at('tip').innerText"), "Frame 1, class 7\n1514 octets, arrives 0\nstarts 13.336 us, ends 25.64 us\n" + WHY_SCHEDULE)
     page.click("#frames-table th button")
     page.click("#frames-table th button")
     page.same("sorted", page.do("return document.querySelector('#frames-table tbody td').textContent"), "2")
@@ -1102,7 +1229,7 @@ def try_looks(page):
     shoot(page, "replay")
 
 
-TRIES = [try_examples, try_replay, try_typing, try_options, try_worked, try_faults, try_refused, try_zoom, try_keys, try_micros, try_moments, try_frames, try_drops, try_tips, try_marks, try_pictures, try_bounds,
+TRIES = [try_examples, try_replay, try_typing, try_options, try_worked, try_faults, try_refused, try_zoom, try_keys, try_micros, try_moments, try_frames, try_reasons, try_why, try_drops, try_tips, try_marks, try_pictures, try_bounds,
          try_story, try_tabs, try_kept, try_long, try_files, try_forgotten, try_dates, try_stale, try_link, try_stop, try_access, try_screens, try_sizes, try_looks]
 
 

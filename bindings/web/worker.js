@@ -2,6 +2,7 @@
 import { readMoments, run } from "./taprio.js";
 import { changesOf, readScript } from "./script.js";
 import { byClass, droppedIn, framesOf } from "./frames.js";
+import { historyOf } from "./why.js";
 import { INSTEAD } from "./support.js";
 
 let module = null;
@@ -28,7 +29,7 @@ function fatesIn({ script, answers, values }) {
   const { arrivals, commands, first, last } = readScript(script);
   const dropped = /^dropped /m.test(answers) ? droppedIn(answersTo(script, "frames", values)) : [];
   const classes = byClass(answersTo(script, "script", { ...values, summary: true }));
-  return { frames: framesOf(arrivals, answers, dropped), classes, changes: changesOf(commands, answers), first, last };
+  return { frames: framesOf(arrivals, answers, dropped), classes, changes: changesOf(commands, answers), history: historyOf(commands, answers, values), first, last };
 }
 
 // What is done beside the program's jobs.
