@@ -22,11 +22,15 @@ import { INSTEAD, lacking } from "./support.js";
 
 const SHOWN = 200_000; // characters of answers that are shown
 const RUNNING = "Running ..."; // what is said of a run that takes long
+const EARLIER = "What stands here now has a fault. What is shown is of an earlier text.";
 const STOPPED = "Stopped."; // and of one that was stopped
 const LOOKING = "The frames are being looked through ...";
 const OWN = "own"; // the example that is what was typed
 const KEPT = "taprio"; // under which name what stands in the page is kept for a reload
 const MOST_KEPT = 1_000_000; // characters that are kept so; of a longer text the kept input is opened again
+const RUN_AFTER = 300; // milliseconds after a key or a change of an option until what stands in the page is run
+const MOST_RUN_SO = 30_000; // characters that are run so
+const MOST_CAPTURE = 1_000_000; // and octets of a capture
 const KEEP_AFTER = 300; // milliseconds after a change until one's own input is kept
 const MOST_PAST = 30; // texts that Ctrl+Z goes back to
 const FIRST = "schedule.script"; // the example that is shown at first
@@ -50,6 +54,7 @@ const future = []; // and what was undone
 let entry = {}; // the kept input that stands in the page: its id and its stamp, once it has them
 let changed = false; // whether one's own input was changed since it was kept
 let keepTimer = 0;
+let runTimer = 0; // after which what was typed is run
 let timeGiven = false; // whether the time that is shown was given by an example, for its own text
 let keeping = Promise.resolve(); // the end of what is being kept
 let own = null; // what was typed, while an example is shown
@@ -241,7 +246,7 @@ function showPicture({ output }, values) {
 
 // Puts what was drawn into the page, with its marks of time.
 function layPicture() {
-  const { text, shown } = ran.drawn;
+  const { text, shown } = ran.drawn ?? {};
   if (!shown) return;
   tellWhy(ran.frames.includes(viewer.frame) ? viewer.frame : null);
   viewer.show(new Picture(text, shown, { origin: origin(), changes: ran.changes, frames: ran.frames }));
@@ -618,12 +623,20 @@ function fillWhich(names) {
   at("which").replaceChildren(...names.map((name, place) => new Option(name, String(place))));
 }
 
-async function work(mine) {
+async function work(mine, typed) {
   const next = await snapshot();
   if (mine !== turn) return;
   const told = await ask(mine, { job: next.job, input: encoded(next.text), beside: next.beside, values: next.values });
   if (!told) return;
+  clearFault();
+  if (typed && ran && told.status !== 0) {
+    keepEarlier();
+    showFault(told.fault);
+    return;
+  }
   ran = next;
+  viewer.hold();
+  tellWhy(null);
   const answers = new TextDecoder().decode(told.output);
   ran.answers = answers;
   // (of a long script the picture is drawn first, and its frames are found then)
@@ -662,25 +675,41 @@ async function takeLate(mine, answers) {
   else if (ran.drawn) layPicture();
 }
 
-function showError(error) {
+// What was typed has a fault: what is shown is still of an earlier text, and is marked as such.
+function keepEarlier() {
+  setStale(true, "");
+  say(EARLIER);
+}
+
+// Says why a run came to nothing. Of one that began by itself what is shown stays.
+function showError(error, typed) {
+  if (typed && ran && !(error instanceof Stopped)) {
+    clearFault();
+    keepEarlier();
+    showFault(error.message, error.field ?? null);
+    return;
+  }
   if (error instanceof Stopped) {
     say(STOPPED);
+    if (at("frame").classList.contains("held")) hidePicture("");
     if (at("verdict").textContent === LOOKING) at("verdict").textContent = "The frames were not looked through.";
   } else if (error instanceof BadOption) {
     say("A value is refused (status 2).");
     // (nothing is told of what stands here: what is shown would be of another run)
     clearVerdict();
+    if (working) hidePicture("");
     at("refused").hidden = true;
     at("results").hidden = true;
     showFault(error.message, error.field);
   } else {
     say("It could not be run.");
+    hidePicture("");
     showFault(error.message);
   }
 }
 
 // Begins a run of all or of the picture alone; one that still goes on is stopped.
-async function begin(what) {
+async function begin(what, typed = false) {
   const mine = ++turn;
   clearTimeout(slow);
   if (!at("stop").disabled) runner.stop();
@@ -688,9 +717,9 @@ async function begin(what) {
   const before = [at("status").textContent, at("status").classList.contains("done")];
   slow = setTimeout(() => (say(RUNNING)), 300);
   try {
-    await what(mine);
+    await what(mine, typed);
   } catch (error) {
-    if (mine === turn) showError(error);
+    if (mine === turn) showError(error, typed);
   } finally {
     if (mine === turn) {
       clearTimeout(slow);
@@ -700,16 +729,30 @@ async function begin(what) {
   }
 }
 
-// Begins a run of what stands in the page. What is shown is of another one until its answers come.
-async function runAll() {
-  keep();
-  clearFault();
-  hidePicture("");
+// Begins a run of what stands in the page. What is shown is of another one until its answers come, and stays as high as it is.
+async function runAll(typed = false) {
+  clearTimeout(runTimer);
+  if (!typed) {
+    keep();
+    clearFault();
+  }
   setStale(true, "");
   const mine = turn + 1;
   working = mine;
-  await begin(work);
+  await begin(work, typed);
   if (working === mine) working = 0;
+}
+
+// Whether what stands in the page is so short that it is run while it is typed.
+const isShort = () => editor.text.length + (["streams", "bounds"].includes(job()) ? beside.text.length : 0) <= MOST_RUN_SO && (job() !== "replay" || capture.length <= MOST_CAPTURE);
+
+// What stands in the page was changed: it is run after a moment without another change, where it is short.
+function runSoon() {
+  clearTimeout(runTimer);
+  if (isShort()) {
+    setStale(true, "");
+    runTimer = setTimeout(() => runAll(true), RUN_AFTER);
+  } else setStale(true);
 }
 
 // Draws anew what was run; of wishes that come while it draws the last is drawn next, and none while all is run.
@@ -718,7 +761,8 @@ async function runPicture() {
   again = drawing;
   if (drawing) return;
   drawing = true;
-  clearFault();
+  // (a fault of what stands here now stays, though an earlier picture is drawn anew)
+  if (!at("view").classList.contains("stale")) clearFault();
   if (at("status").textContent === STOPPED) say(ran.said, true);
   await begin(draw);
   drawing = false;
@@ -728,7 +772,7 @@ async function runPicture() {
 // 5. What stands in the page
 
 // What is shown is of another text or of other options than stand there now; a fault, too.
-function setStale(is, words = "Changed since this was run. Run it (Ctrl+Enter in the text).") {
+function setStale(is, words = "Changed since this was run, and too long to be run while you type. Run it (Ctrl+Enter in the text).") {
   for (const part of [at("view"), at("results"), at("fault")]) part.classList.toggle("stale", is);
   if (is && ran && words) say(words);
 }
@@ -932,7 +976,7 @@ function becomeOwn() {
   future.length = 0;
   dropLink();
   saySentence();
-  setStale(true);
+  runSoon();
   keep();
 }
 
@@ -1114,7 +1158,7 @@ function listenToDrops() {
 }
 
 function changeOption() {
-  setStale(true);
+  runSoon();
   dropLink();
   changed = exampleShown === OWN;
   keep();

@@ -814,6 +814,7 @@ def try_files(page):
     page.do("at('text').focus()")
     page.browser.press("a", control=True)
     page.browser.type(text.decode())
+    wait_for(page.browser, FRESH, 3)
     give(page, "my.pcapng", bytes.fromhex("0a0d0d0a1c000000"))
     page.same("pcapng", page.text("status"), "my.pcapng: this is a pcapng file. Make a classic one of it: editcap -F nsecpcap IN OUT")
     page.same("and the text stays", page.do("return at('text').value"), text.decode())
@@ -837,15 +838,30 @@ def try_files(page):
     page.same("its frames leave", page.text("verdict")[:51], "As a script, run to 1 ms after its end: 5 frames sent"[:51])
 
 
+STALE = "return ['view', 'results'].map((it) => at(it).classList.contains('stale'))"
+# What is too long to be run while it is typed.
+TOO_LONG = "# " + "long " * 6000 + "\n"
+
+
 def try_stale(page):
     page.choose("first.script")
-    page.same("fresh", page.do("return at('view').classList.contains('stale')"), False)
-    page.set("text", "frame 1 0 60\nclock 1000000\nquery\n")
-    page.same("stale", page.do("return at('view').classList.contains('stale')"), True)
+    page.same("fresh", page.do(STALE), [False, False])
+    text = f"{TOO_LONG}frame 1 0 60\nclock 1000000\nquery\n"
+    page.set("text", text)
+    page.same("stale", page.do(STALE), [True, True])
+    time.sleep(0.8)
+    page.same("it is not run by itself, and the page says so", [page.do(STALE), page.text("status")],
+              [[True, True], "Changed since this was run, and too long to be run while you type. Run it (Ctrl+Enter in the text)."])
     page.do("location.reload()")
     time.sleep(0.5)
     page.settle()
-    page.same("kept over a reload", page.do("return at('text').value"), "frame 1 0 60\nclock 1000000\nquery\n")
+    page.same("kept over a reload", page.do("return at('text').value"), text)
+    page.same("and run", page.do(STALE), [False, False])
+    page.set("rate", "100")
+    page.same("stale by an option", page.do(STALE), [True, True])
+    page.run()
+    page.same("run by the button", page.do(STALE), [False, False])
+    page.answers("what is too long, run by the button", program("script", "--rate", "100", text=text.encode())[1])
     page.choose("schedule.script")
     page.click("[data-step=nearer]")
     page.settle()
@@ -862,6 +878,65 @@ def try_stale(page):
     wait_for(page.browser, "return !document.getElementById('long-link').hidden")
     page.same("a long link", page.do("return at('link-row').hidden"), True)
     page.same("the text instead", page.saved("save-text").decode(), page.do("return at('text').value"))
+
+
+# How many workers of the page there are, and were at most at one time.
+COUNTED = """window.alive = 0; window.most = 0; const Old = window.Worker;
+    window.Worker = class extends Old { constructor(...words) { super(...words); this.ends = false; window.alive += 1; window.most = Math.max(window.most, window.alive); }
+        terminate() { if (!this.ends) window.alive -= 1; this.ends = true; super.terminate(); } };"""
+FRESH = "return document.getElementById('stop').disabled && !document.getElementById('view').classList.contains('stale')"
+
+
+def try_live(page):
+    """What is typed, and an option that is changed, is run by itself: one run at a time; a fault leaves the last picture."""
+    page.choose("first.script")
+    text = "frame 1 3 100\nframe 2 0 60\nclock 5000000\n"
+    page.do("at('text').focus()")
+    page.browser.press("a", control=True)
+    page.browser.type(text)
+    page.same("it is marked at once", page.do(STALE), [True, True])
+    wait_for(page.browser, FRESH, 3)
+    page.answers("what is typed", program("script", text=text.encode())[1])
+    page.picture("what is typed", text.encode())
+    page.same("the key stays in the text", page.do("return document.activeElement.id"), "text")
+    page.set("rate", "100")
+    wait_for(page.browser, FRESH, 3)
+    page.answers("an option", program("script", "--rate", "100", text=text.encode())[1])
+    drawn = page.do("return at('canvas').innerHTML")
+    page.do("at('text').focus()")
+    page.browser.press("a", control=True)
+    page.browser.type(f"{text}clok")
+    wait_for(page.browser, "return !document.getElementById('fault').hidden", 3)
+    page.same("a fault", page.text("fault-text"), "Line 4: UnknownLine, the first word of the line is none that may stand there.")
+    page.same("the last picture stays, as one of an earlier text", [page.do("return at('canvas').innerHTML") == drawn, page.do(STALE), page.text("status")],
+              [True, [True, True], "What stands here now has a fault. What is shown is of an earlier text."])
+    page.browser.shoot(SHOTS / f"{page.browser.name}-typed-fault.png")
+    page.click("[data-step=nearer]")
+    page.settle()
+    page.same("the fault stays when the picture is zoomed", page.do("return at('fault').hidden"), False)
+    page.set("until", "soon")
+    wait_for(page.browser, "return /until/.test(document.getElementById('fault-text').textContent)", 3)
+    page.same("a value that is refused", page.do("return [at('frame').hidden, at('results').hidden]"), [False, False])
+    page.set("until", "")
+    page.set("rate", "1000")
+    page.set("text", text)
+    wait_for(page.browser, FRESH, 3)
+    page.same("the fault goes", page.do("return at('fault').hidden"), True)
+    page.choose("planned.streams")
+    page.do(COUNTED)
+    page.set("text", "stream 1 7 60 20us 0us 1500000\n")
+    wait_for(page.browser, "return !document.getElementById('stop').disabled", 3)
+    table = "stream 1 7 60 250us 20us 2\n"
+    for it in (table + "#", table + "##", table):
+        time.sleep(0.4)
+        page.set("text", it)
+    wait_for(page.browser, FRESH, 5)
+    with tempfile.NamedTemporaryFile() as beside:
+        beside.write(page.do("return at('beside').value").encode())
+        beside.flush()
+        page.answers("a newer run", program("streams", "--with", beside.name, text=table.encode())[1])
+    page.same("one run at a time", page.do("return window.most"), 1)
+    page.open("")
 
 
 STORY = "return [...document.querySelectorAll('#example optgroup')[0].children].map((it) => it.value)"
@@ -1219,7 +1294,7 @@ def try_looks(page):
         page.run()
         shoot(page, "fault-dark", dark=True)
     page.choose("priorities.script")
-    page.set("text", "frame 1 0 60\nclock 1000000\n")
+    page.set("text", f"frame 1 0 60\nclock 1000000\n{TOO_LONG}")
     shoot(page, "stale")
     page.choose("windows.schedules")
     shoot(page, "check")
@@ -1230,7 +1305,7 @@ def try_looks(page):
 
 
 TRIES = [try_examples, try_replay, try_typing, try_options, try_worked, try_faults, try_refused, try_zoom, try_keys, try_micros, try_moments, try_frames, try_reasons, try_why, try_drops, try_tips, try_marks, try_pictures, try_bounds,
-         try_story, try_tabs, try_kept, try_long, try_files, try_forgotten, try_dates, try_stale, try_link, try_stop, try_access, try_screens, try_sizes, try_looks]
+         try_story, try_tabs, try_kept, try_long, try_files, try_forgotten, try_dates, try_stale, try_live, try_link, try_stop, try_access, try_screens, try_sizes, try_looks]
 
 
 def try_page(kind, address, server):
