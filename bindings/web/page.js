@@ -12,6 +12,7 @@ import { GREATEST, writeMoment } from "./moments.js";
 import { linesOf, readScript } from "./script.js";
 import { runVerdict } from "./frames.js";
 import { runOf, whySaid } from "./why.js";
+import { timesOf } from "./shades.js";
 import { boundsIn, boundsVerdict, drawBounds } from "./bounds.js";
 import { dateOf, endOfRun, notYet, originOf, setClock, windowOf } from "./happens.js";
 import { count } from "./words.js";
@@ -148,10 +149,15 @@ function tipOf({ frame, band }) {
   return lines;
 }
 
+// The frames of the run that is shown, as they are looked through for their waits.
+function waitsNow() {
+  ran.waits ??= runOf(ran.frames, ran.history, ran.port.rate, ran.until !== null && ran.until > ran.last ? ran.until : ran.last, ran.wire);
+  return ran.waits;
+}
+
 // Why a frame of the run that is shown waits, in a sentence.
 function whyOf(frame, most) {
-  ran.waits ??= runOf(ran.frames, ran.history, ran.port.rate, ran.until !== null && ran.until > ran.last ? ran.until : ran.last);
-  return whySaid(ran.waits, frame, { time: writeTime, at: writeAt }, most);
+  return whySaid(waitsNow(), frame, { time: writeTime, at: writeAt }, most);
 }
 
 // Tells below the picture why the frame that is chosen waits.
@@ -249,7 +255,9 @@ function layPicture() {
   const { text, shown } = ran.drawn ?? {};
   if (!shown) return;
   tellWhy(ran.frames.includes(viewer.frame) ? viewer.frame : null);
-  viewer.show(new Picture(text, shown, { origin: origin(), changes: ran.changes, frames: ran.frames }));
+  const picture = new Picture(text, shown, { origin: origin(), changes: ran.changes, frames: ran.frames, times: ran.times, kinds: ran.kinds });
+  viewer.show(picture);
+  picture.layLegend();
   const words = `from ${writeAt(shown.from)} to ${writeAt(shown.to)}, counted from ${at("origin").selectedOptions[0]?.textContent ?? "moment 0"}`;
   at("frame").setAttribute("aria-label", `Picture ${words}: a row for each class with its open time, its frames and how long they wait, and one for the wire. The table of frames says the same.`);
 }
@@ -549,7 +557,7 @@ async function snapshot() {
   const values = await valuesFor(name, readMoments);
   if (name === "replay" && !second.length) throw new BadOption("capture", "No capture is chosen: choose a classic pcap file, or drop one on the page.");
   const { rate, mtu, room } = values;
-  return { job: name, text, beside: second, values, port: { rate, mtu, room }, until: null, frames: [], classes: [], changes: [], history: null, first: 0n, last: 0n, windows: [], bounds: [], schedules: [], source: null, why: "", drawn: null, window: null, waits: null };
+  return { job: name, text, beside: second, values, port: { rate, mtu, room }, until: null, frames: [], wire: [], times: timesOf([]), classes: [], changes: [], history: null, kinds: null, first: 0n, last: 0n, windows: [], bounds: [], schedules: [], source: null, why: "", drawn: null, window: null, waits: null };
 }
 
 // Does a job for a run, and null where another run has begun since.
@@ -561,7 +569,7 @@ async function ask(mine, request) {
 // What a script and its answers come to.
 async function takeRun(mine, script, until, answers) {
   const told = await ask(mine, { job: "fates", script, answers, values: { ...ran.values, until } });
-  if (told) Object.assign(ran, { frames: told.frames, classes: told.classes, changes: told.changes, history: told.history, first: told.first, last: told.last, source: script, until, waits: null });
+  if (told) Object.assign(ran, { frames: told.frames, wire: told.wire, times: told.times, classes: told.classes, changes: told.changes, history: told.history, kinds: told.kinds, first: told.first, last: told.last, source: script, until, waits: null });
   if (told && ["script", "replay"].includes(ran.job)) ran.window = windowOf(ran);
 }
 

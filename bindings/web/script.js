@@ -62,6 +62,20 @@ export function cycleOf(words) {
 }
 
 /**
+ * The number of classes of a run's map, which the first accepted command that has one gives; null where there is none.
+ *
+ * @param {{words: string[]}[]} commands those of the script
+ * @param {string} answers
+ */
+export function kindsOf(commands, answers) {
+  const told = answers.match(/^(?:installed|refused|tc-fault)\b.*$/gm) ?? [];
+  const given = (words) => words[words.lastIndexOf("num_tc") + 1];
+  const numbers = told.map((it, place) => (it.startsWith("installed") && commands[place]?.words.includes("num_tc") ? given(commands[place].words) : ""));
+  const first = numbers.find((it) => /^\d+$/.test(it));
+  return first === undefined ? null : Number(first);
+}
+
+/**
  * The schedules that come into force in a run, each with its change moment and its cycle.
  *
  * @param {{words: string[]}[]} commands those of the script

@@ -542,6 +542,7 @@ def try_why(page):
     place = page.do("const r = [...document.querySelectorAll('#canvas path.w')].find((it) => /H/.test(it.getAttribute('d'))).getBoundingClientRect(); return [(r.left + r.right) / 2, (r.top + r.bottom) / 2]")
     page.browser.drag(place, place)
     page.same("a click in the picture tells it", page.text("why"), WHY_SCHEDULE)
+    page.browser.drag((1, 1), (1, 1))
     page.browser.shoot(SHOTS / f"{page.browser.name}-why.png")
     page.do("at('origin').value = '0'; at('origin').dispatchEvent(new Event('change'))")
     page.same("counted from moment 0", "until 32.303 us" in page.text("why"), True)
@@ -656,7 +657,7 @@ def try_dates(page):
     page.answers("the clock is set", program("script", text=moved.encode())[1])
     page.same("it is in force", ["No schedule is in force" in page.text("verdict"), page.do("return at('set-clock').checkVisibility()")], [False, False])
     page.same("marks count from the change", page.do(f"{ticks}.filter((it) => /^(0|[0-9]+ us)$/.test(it)).length") >= 4, True)
-    page.same("bands of the eight classes before it, and of the one that is open", page.do("return document.querySelectorAll('#canvas rect.o').length"), 9)
+    page.same("bands of the two classes before it, of which one stays open, and that of the legend", page.do("return document.querySelectorAll('#canvas rect.o').length"), 3)
     page.browser.shoot(SHOTS / f"{page.browser.name}-in-force.png")
     page.do("at('text').focus()")
     page.browser.press("z", control=True)
@@ -779,6 +780,137 @@ def try_bounds(page):
 COVERED = """const marks = [...document.querySelectorAll('#canvas .dl')].map((it) => it.getBBox());
     return [...document.querySelectorAll('#canvas .row text')].filter((it) => { const r = it.getBBox();
       return marks.some((m) => m.x - 1.5 < r.x + r.width && m.x + 1.5 > r.x && m.y < r.y + r.height && m.y + m.height > r.y); }).map((it) => it.textContent)"""
+
+
+# A frame of class 7 comes before there is a map of two classes; the frames of these wait, and one that has no class is dropped.
+ROWS = """frame 1 7 1514
+clock 20000000
+tc qdisc replace dev x root taprio num_tc 2 map 0 1 base-time 0 sched-entry S 02 100000 sched-entry S 01 100000
+clock 200000000
+frame 2 0 1514
+frame 3 16 1514
+clock 420000000
+"""
+LABELS = "return [...document.querySelectorAll('#canvas text')].map((it) => it.textContent).filter((it) => /^(class .|wire)$/.test(it)).sort().reverse()"
+# The parts of the legend that lie outside of the picture, or on one another.
+CUT = """const box = document.querySelector('#canvas svg').getBoundingClientRect(); const parts = [...document.querySelectorAll('#canvas .legend')].map((it) => it.getBoundingClientRect());
+    const frame = document.getElementById('frame').getBoundingClientRect(); const right = Math.min(box.right, frame.right);
+    return [parts.length, parts.filter((it, place) => it.left < box.left || it.right > right || it.bottom > box.bottom || it.top < box.top
+      || parts.some((other, at) => at < place && other.left < it.right && it.left < other.right && other.top < it.bottom - 2 && it.top < other.bottom - 2)).length]"""
+
+
+def try_rows(page):
+    """Only rows of classes of the map, and of frames, are shown; what lies in them is found and marked there; the legend is whole at each width."""
+    page.choose("first.script")
+    page.same("eight rows without a map", page.do(LABELS), ["wire", *(f"class {it}" for it in range(7, -1, -1))])
+    page.type(ROWS)
+    page.picture("rows", ROWS.encode())
+    page.same("rows of the map and of frames", page.do(LABELS), ["wire", "class 7", "class 1", "class 0"])
+    tops = page.do("""const top = (it) => it.getBoundingClientRect().top; const label = (name) => top([...document.querySelectorAll('#canvas text')].find((it) => it.textContent === name));
+        return ['change 1', 'class 7', 'class 1', 'class 0', 'wire'].map(label)""")
+    page.same(f"one below the other: {tops}", all(30 <= other - one <= 40 for one, other in zip(tops, tops[1:])), True)
+    page.do("at('canvas').scrollIntoView({ block: 'center' })")
+    for name, told in (("rect.f[y='68']", "Frame 1, class 7"), ("path.d:not(.h)", "Frame 3")):
+        page.same(f"tip of {name}", page.do(f"{OVER} return over(document.querySelector(`#canvas {name}`))").split("\n")[0], told)
+    page.same("tip of a band", page.do(f"{OVER} return over([...document.querySelectorAll('#canvas rect.o')].find((it) => Number(it.getAttribute('y')) === 58))").split("\n")[0], "Class 7 is open")
+    place = page.do("const r = document.querySelector(`#canvas rect.f[y='68']`).getBoundingClientRect(); return [(r.left + r.right) / 2, (r.top + r.bottom) / 2]")
+    page.browser.drag(place, place)
+    page.browser.drag((1, 1), (1, 1))
+    page.same("the ring is about its bar", page.do("""const [ring, bar] = ['.ring', `rect.f[y='68']`].map((it) => document.querySelector(`#canvas ${it}`).getBoundingClientRect());
+        return ring.top < bar.top && bar.bottom < ring.bottom && ring.bottom - ring.top < 40"""), True)
+    page.choose("schedule.script")
+    page.same("eight rows by a map of eight", len(page.do(LABELS)), 9)
+    for width in (1366, 820, 390, 320):
+        at_size(page, width, 800)
+        for number, text in enumerate((ROWS, many_frames(random.Random(5), 1500))):
+            page.set("text", text)
+            page.run()
+            page.same(f"legend at {width}", page.do(CUT), [5 + 2 * number, 0])
+    page.browser.look()
+
+
+def many_frames(chance, number):
+    """A script of so many frames, which come faster or slower from time to time."""
+    lines, now, slow = ["tc qdisc replace dev x root taprio num_tc 2 map 0 1 base-time 0 sched-entry S 02 10000 sched-entry S 01 10000"], 0, 3
+    for frame in range(number):
+        if frame % 500 == 0:
+            slow = chance.choice((1, 3, 12))
+        now += chance.randrange(1, slow * 3_000_000)
+        lines.append(f"clock {now}\nframe {frame} {chance.randrange(2)} {chance.choice((60, 60, 300))}")
+    return "\n".join(lines) + f"\nclock {now + 10**9}\n"
+
+
+MANY = many_frames(random.Random(6), 5000)
+SHADES = """return [...document.querySelectorAll('#canvas rect.v')].filter((it) => Number(it.getAttribute('y')) === 356)
+    .map((it) => ['x', 'width', 'fill-opacity'].map((name) => Number(it.getAttribute(name))))"""
+# The milliseconds that shades of 100,000 frames take, whose times the worker works out.
+SHADED = """
+const wire = Array.from({ length: 100000 }, (_, place) => ({ class: place % 8, start: 3000000n * BigInt(place) + 10n ** 18n, end: 3000000n * BigInt(place) + 10n ** 18n + 1000000n }));
+const made = () => { const svg = document.createElementNS('http://www.w3.org/2000/svg', 'svg'); for (let place = 0; place < 9; place += 1) svg.append(element('rect', { class: 'f', x: 64, y: 68 + 36 * place, width: 1104, height: 16 })); return svg; };
+const times = timesOf(wire);
+return [1, 2, 3].map(() => { const svg = made(); const begun = performance.now(); putShades(svg, { from: 10n ** 18n, to: 10n ** 18n + 300000000000n, width: 1200 }, times); return [performance.now() - begun, svg.querySelectorAll('.v').length]; });
+"""
+
+
+def try_shades(page):
+    """Where frames are closer than a pixel, each pixel of the wire is shaded by how full it is, by the program's table; bars of a pixel and more stay."""
+    page.choose("first.script")
+    for number, text in enumerate((MANY, many_frames(random.Random(7), 14000))):
+        give(page, "many.script", text.encode())
+        page.settle()
+        page.picture("many frames", text.encode())
+        wide = page.do("return Number(at('frame').dataset.width)") - 96
+        frames = [tuple(int(it) for it in row.split(",")[4:6]) for row in program("frames", text=text.encode())[1].decode().splitlines()[1:]]
+        last = int(re.findall(r"^clock (\d+)$", text, re.M)[-1])
+        full = [0.0] * (wide + 1)
+        for begin, end in frames:
+            left, right = begin * wide / last, end * wide / last
+            for pixel in range(int(left), int(right) + 1):
+                full[pixel] += max(0.0, min(right, pixel + 1) - max(left, pixel))
+        shades = [0.0] * (wide + 1)
+        for x, width, share in page.do(SHADES):
+            for pixel in range(int(x) - 64, int(x) - 64 + int(width)):
+                shades[pixel] = (share - 0.25) / 0.75
+        # (the shades are 32, and the page takes the end of the time that is shown from the ticks)
+        apart = [(pixel, one, other) for pixel, (one, other) in enumerate(zip(full, shades)) if abs(one - other) > 0.5 / 32 + 0.015 and not (other and one < 1 / 32)]
+        page.same(f"shades of {len(frames)} frames", apart[:5], [])
+        page.same("of full and of empty pixels", [max(shades) > 0.6, min(it for it in shades if it) < 0.3], [True, True])
+        page.same("no bar of many frames is seen", page.do("return [...document.querySelectorAll('#canvas rect.f')].filter((it) => it.checkVisibility() && it.getBoundingClientRect().width > 4 && Number(it.getAttribute('y')) < 380).length"), 0)
+        page.browser.shoot(SHOTS / f"{page.browser.name}-shades-{number}.png")
+    page.set("to", "60 us")
+    page.set("from", "0")
+    page.click("#draw")
+    page.settle()
+    page.same("no shades where each frame is seen", page.do("return [...document.querySelectorAll('#canvas .v, #canvas .u')].length"), 0)
+    page.choose("priorities.script")
+    page.same("none in an example", page.do("return [...document.querySelectorAll('#canvas .v, #canvas .u')].length"), 0)
+    told = page.do(modules("shades.js", []) + SHADED)
+    page.same(f"100,000 frames are shaded in 50 ms: {told}", [min(it[0] for it in told) < 50, told[0][1] > 1], [True, True])
+
+
+def try_whole(page):
+    """A run does not fold the result up and down, and all of the picture is printed."""
+    page.choose("schedule.script")
+    page.do("""window.heights = []; const note = () => heights.push(Math.round(at('view').getBoundingClientRect().height)); note();
+        window.watched = new ResizeObserver(note); watched.observe(at('view')); window.noted = new MutationObserver(note); noted.observe(at('view'), { childList: true, subtree: true, attributes: true })""")
+    for _ in range(3):
+        page.run()
+        time.sleep(0.1)
+    heights = page.do("watched.disconnect(); noted.disconnect(); return heights")
+    page.same(f"heights during a run: {sorted(set(heights))}", max(heights) - min(heights) <= 1 and len(heights) > 3, True)
+    if not isinstance(page.browser, Chromium):
+        return
+    for width in (1366, 390):
+        at_size(page, width, 800)
+        page.browser.call("Emulation.setEmulatedMedia", media="print", features=[])
+        page.browser.resize(700, 1000)
+        page.same(f"printed from {width}", page.do("""const [svg, frame] = ['#canvas svg', '#frame'].map((it) => document.querySelector(it).getBoundingClientRect());
+            return [svg.right <= frame.right + 1, svg.bottom <= frame.bottom + 1, frame.right <= innerWidth, at('zoom').checkVisibility(), at('run').checkVisibility(), document.documentElement.scrollWidth <= innerWidth,
+              at('text').scrollHeight <= at('text').clientHeight + 2]"""), [True, True, True, False, False, True, True])
+        page.browser.shoot(SHOTS / f"chromium-print-{width}.png")
+        page.browser.call("Emulation.setEmulatedMedia", media="", features=[])
+        page.browser.look()
+        page.settle()
 
 
 def try_story(page):
@@ -1304,7 +1436,7 @@ def try_looks(page):
     shoot(page, "replay")
 
 
-TRIES = [try_examples, try_replay, try_typing, try_options, try_worked, try_faults, try_refused, try_zoom, try_keys, try_micros, try_moments, try_frames, try_reasons, try_why, try_drops, try_tips, try_marks, try_pictures, try_bounds,
+TRIES = [try_examples, try_replay, try_typing, try_options, try_worked, try_faults, try_refused, try_zoom, try_keys, try_micros, try_moments, try_frames, try_reasons, try_why, try_drops, try_tips, try_marks, try_pictures, try_rows, try_shades, try_whole, try_bounds,
          try_story, try_tabs, try_kept, try_long, try_files, try_forgotten, try_dates, try_stale, try_live, try_link, try_stop, try_access, try_screens, try_sizes, try_looks]
 
 

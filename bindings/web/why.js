@@ -111,6 +111,9 @@ function gateAt(run, kind, moment, limit) {
 
 // 2. The frames of a run
 
+/** The frames that were sent, by their starts: these are told in their order. */
+export const sentByStart = (frames) => frames.filter((it) => it.start !== null).sort((one, other) => one.told - other.told);
+
 /**
  * What is looked at for the waits of a run's frames.
  *
@@ -118,10 +121,9 @@ function gateAt(run, kind, moment, limit) {
  * @param {object[] | null} history its accepted commands
  * @param {number} rate the line rate, in Mb/s
  * @param {bigint} end the moment to which the run goes
+ * @param {object[]} wire those that were sent, by their starts
  */
-export function runOf(frames, history, rate, end) {
-  // (starts are told in their order)
-  const wire = frames.filter((it) => it.start !== null).sort((one, other) => one.told - other.told);
+export function runOf(frames, history, rate, end, wire = sentByStart(frames)) {
   const queues = Array.from({ length: 8 }, () => []);
   for (const it of frames) if (it.start !== null || it.fate === "left") queues[it.class].push(it);
   const events = (history ?? []).flatMap((it) => [it.lead, it.change]).sort((one, other) => (one < other ? -1 : 1));
