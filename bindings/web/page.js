@@ -11,6 +11,8 @@ import { Table } from "./tables.js";
 import { GREATEST, writeMoment } from "./moments.js";
 import { linesOf, readScript } from "./script.js";
 import { runVerdict } from "./frames.js";
+import { runOf, whySaid } from "./why.js";
+import { timesOf } from "./shades.js";
 import { boundsIn, boundsVerdict, drawBounds } from "./bounds.js";
 import { dateOf, endOfRun, notYet, originOf, setClock, windowOf } from "./happens.js";
 import { count } from "./words.js";
@@ -21,15 +23,21 @@ import { INSTEAD, lacking } from "./support.js";
 
 const SHOWN = 200_000; // characters of answers that are shown
 const RUNNING = "Running ..."; // what is said of a run that takes long
+const EARLIER = "What stands here now has a fault. What is shown is of an earlier text.";
 const STOPPED = "Stopped."; // and of one that was stopped
 const LOOKING = "The frames are being looked through ...";
 const OWN = "own"; // the example that is what was typed
 const KEPT = "taprio"; // under which name what stands in the page is kept for a reload
 const MOST_KEPT = 1_000_000; // characters that are kept so; of a longer text the kept input is opened again
+const RUN_AFTER = 300; // milliseconds after a key or a change of an option until what stands in the page is run
+const MOST_RUN_SO = 30_000; // characters that are run so
+const MOST_CAPTURE = 1_000_000; // and octets of a capture
 const KEEP_AFTER = 300; // milliseconds after a change until one's own input is kept
 const MOST_PAST = 30; // texts that Ctrl+Z goes back to
 const FIRST = "schedule.script"; // the example that is shown at first
 const GOES_ON = 1_000_000_000n; // how long a table's script, and a replay, goes on after its last frame, in picoseconds
+const REASONS_TOLD = 8; // reasons why a frame waits that are told below the picture
+const REASONS_IN_TIP = 3; // and in the tip
 const LONG = 500_000; // characters of answers after which the picture comes before the frames
 const MOST_LINK = 8_000; // characters of a link that most places take
 
@@ -47,6 +55,7 @@ const future = []; // and what was undone
 let entry = {}; // the kept input that stands in the page: its id and its stamp, once it has them
 let changed = false; // whether one's own input was changed since it was kept
 let keepTimer = 0;
+let runTimer = 0; // after which what was typed is run
 let timeGiven = false; // whether the time that is shown was given by an example, for its own text
 let keeping = Promise.resolve(); // the end of what is being kept
 let own = null; // what was typed, while an example is shown
@@ -132,14 +141,34 @@ function tipOf({ frame, band }) {
   const head = document.createElement("strong");
   head.textContent = `Frame ${frame.id}${frame.class === null ? "" : `, class ${frame.class}`}`;
   const lines = [head, line(`${frame.length} octets, arrives ${writeAt(frame.arrival)}`)];
-  if (frame.start !== null) lines.push(line(`starts ${writeAt(frame.start)}, ends ${writeAt(frame.end)}`), line(`waits ${writeTime(frame.wait)}`));
-  else lines.push(line(frame.fate === "left" ? "still waits at the end" : `dropped: ${frame.fate}`));
+  if (frame.start !== null) lines.push(line(`starts ${writeAt(frame.start)}, ends ${writeAt(frame.end)}`));
+  else if (frame.fate !== "left") lines.push(line(`dropped: ${frame.fate}`));
+  const why = whyOf(frame, REASONS_IN_TIP);
+  if (why) lines.push(line(why));
+  else if (frame.start !== null) lines.push(line(`waits ${writeTime(frame.wait)}`));
   return lines;
+}
+
+// The frames of the run that is shown, as they are looked through for their waits.
+function waitsNow() {
+  ran.waits ??= runOf(ran.frames, ran.history, ran.port.rate, ran.until !== null && ran.until > ran.last ? ran.until : ran.last, ran.wire);
+  return ran.waits;
+}
+
+// Why a frame of the run that is shown waits, in a sentence.
+function whyOf(frame, most) {
+  return whySaid(waitsNow(), frame, { time: writeTime, at: writeAt }, most);
+}
+
+// Tells below the picture why the frame that is chosen waits.
+function tellWhy(frame) {
+  at("why").textContent = frame ? whyOf(frame, REASONS_TOLD) || (frame.start === null ? "" : `Frame ${frame.id} does not wait.`) : "";
 }
 
 // A frame is chosen in the table or in the picture: it is shown in both, and its line of the answers.
 function chooseFrame(frame, inPicture) {
   if (inPicture) viewer.find(frame);
+  tellWhy(frame);
   frameTable.mark(frame);
   markAnswer(frame.told);
 }
@@ -167,12 +196,14 @@ function findAnswered(event) {
   const frame = ran.frames.find((it) => it.told === number || it.taken === number);
   if (frame) {
     viewer.find(frame);
+    tellWhy(frame);
     frameTable.mark(frame);
   }
 }
 
 function hidePicture(why) {
   viewer.show(null);
+  tellWhy(null);
   at("zoom").hidden = true;
   at("save-picture").hidden = true;
   sayPicture(why);
@@ -221,9 +252,12 @@ function showPicture({ output }, values) {
 
 // Puts what was drawn into the page, with its marks of time.
 function layPicture() {
-  const { text, shown } = ran.drawn;
+  const { text, shown } = ran.drawn ?? {};
   if (!shown) return;
-  viewer.show(new Picture(text, shown, { origin: origin(), changes: ran.changes, frames: ran.frames }));
+  tellWhy(ran.frames.includes(viewer.frame) ? viewer.frame : null);
+  const picture = new Picture(text, shown, { origin: origin(), changes: ran.changes, frames: ran.frames, times: ran.times, kinds: ran.kinds });
+  viewer.show(picture);
+  picture.layLegend();
   const words = `from ${writeAt(shown.from)} to ${writeAt(shown.to)}, counted from ${at("origin").selectedOptions[0]?.textContent ?? "moment 0"}`;
   at("frame").setAttribute("aria-label", `Picture ${words}: a row for each class with its open time, its frames and how long they wait, and one for the wire. The table of frames says the same.`);
 }
@@ -523,7 +557,7 @@ async function snapshot() {
   const values = await valuesFor(name, readMoments);
   if (name === "replay" && !second.length) throw new BadOption("capture", "No capture is chosen: choose a classic pcap file, or drop one on the page.");
   const { rate, mtu, room } = values;
-  return { job: name, text, beside: second, values, port: { rate, mtu, room }, until: null, frames: [], classes: [], changes: [], first: 0n, last: 0n, windows: [], bounds: [], schedules: [], source: null, why: "", drawn: null, window: null };
+  return { job: name, text, beside: second, values, port: { rate, mtu, room }, until: null, frames: [], wire: [], times: timesOf([]), classes: [], changes: [], history: null, kinds: null, first: 0n, last: 0n, windows: [], bounds: [], schedules: [], source: null, why: "", drawn: null, window: null, waits: null };
 }
 
 // Does a job for a run, and null where another run has begun since.
@@ -535,7 +569,7 @@ async function ask(mine, request) {
 // What a script and its answers come to.
 async function takeRun(mine, script, until, answers) {
   const told = await ask(mine, { job: "fates", script, answers, values: { ...ran.values, until } });
-  if (told) Object.assign(ran, { frames: told.frames, classes: told.classes, changes: told.changes, first: told.first, last: told.last, source: script, until });
+  if (told) Object.assign(ran, { frames: told.frames, wire: told.wire, times: told.times, classes: told.classes, changes: told.changes, history: told.history, kinds: told.kinds, first: told.first, last: told.last, source: script, until, waits: null });
   if (told && ["script", "replay"].includes(ran.job)) ran.window = windowOf(ran);
 }
 
@@ -597,12 +631,20 @@ function fillWhich(names) {
   at("which").replaceChildren(...names.map((name, place) => new Option(name, String(place))));
 }
 
-async function work(mine) {
+async function work(mine, typed) {
   const next = await snapshot();
   if (mine !== turn) return;
   const told = await ask(mine, { job: next.job, input: encoded(next.text), beside: next.beside, values: next.values });
   if (!told) return;
+  clearFault();
+  if (typed && ran && told.status !== 0) {
+    keepEarlier();
+    showFault(told.fault);
+    return;
+  }
   ran = next;
+  viewer.hold();
+  tellWhy(null);
   const answers = new TextDecoder().decode(told.output);
   ran.answers = answers;
   // (of a long script the picture is drawn first, and its frames are found then)
@@ -641,25 +683,41 @@ async function takeLate(mine, answers) {
   else if (ran.drawn) layPicture();
 }
 
-function showError(error) {
+// What was typed has a fault: what is shown is still of an earlier text, and is marked as such.
+function keepEarlier() {
+  setStale(true, "");
+  say(EARLIER);
+}
+
+// Says why a run came to nothing. Of one that began by itself what is shown stays.
+function showError(error, typed) {
+  if (typed && ran && !(error instanceof Stopped)) {
+    clearFault();
+    keepEarlier();
+    showFault(error.message, error.field ?? null);
+    return;
+  }
   if (error instanceof Stopped) {
     say(STOPPED);
+    if (at("frame").classList.contains("held")) hidePicture("");
     if (at("verdict").textContent === LOOKING) at("verdict").textContent = "The frames were not looked through.";
   } else if (error instanceof BadOption) {
     say("A value is refused (status 2).");
     // (nothing is told of what stands here: what is shown would be of another run)
     clearVerdict();
+    if (working) hidePicture("");
     at("refused").hidden = true;
     at("results").hidden = true;
     showFault(error.message, error.field);
   } else {
     say("It could not be run.");
+    hidePicture("");
     showFault(error.message);
   }
 }
 
 // Begins a run of all or of the picture alone; one that still goes on is stopped.
-async function begin(what) {
+async function begin(what, typed = false) {
   const mine = ++turn;
   clearTimeout(slow);
   if (!at("stop").disabled) runner.stop();
@@ -667,9 +725,9 @@ async function begin(what) {
   const before = [at("status").textContent, at("status").classList.contains("done")];
   slow = setTimeout(() => (say(RUNNING)), 300);
   try {
-    await what(mine);
+    await what(mine, typed);
   } catch (error) {
-    if (mine === turn) showError(error);
+    if (mine === turn) showError(error, typed);
   } finally {
     if (mine === turn) {
       clearTimeout(slow);
@@ -679,16 +737,30 @@ async function begin(what) {
   }
 }
 
-// Begins a run of what stands in the page. What is shown is of another one until its answers come.
-async function runAll() {
-  keep();
-  clearFault();
-  hidePicture("");
+// Begins a run of what stands in the page. What is shown is of another one until its answers come, and stays as high as it is.
+async function runAll(typed = false) {
+  clearTimeout(runTimer);
+  if (!typed) {
+    keep();
+    clearFault();
+  }
   setStale(true, "");
   const mine = turn + 1;
   working = mine;
-  await begin(work);
+  await begin(work, typed);
   if (working === mine) working = 0;
+}
+
+// Whether what stands in the page is so short that it is run while it is typed.
+const isShort = () => editor.text.length + (["streams", "bounds"].includes(job()) ? beside.text.length : 0) <= MOST_RUN_SO && (job() !== "replay" || capture.length <= MOST_CAPTURE);
+
+// What stands in the page was changed: it is run after a moment without another change, where it is short.
+function runSoon() {
+  clearTimeout(runTimer);
+  if (isShort()) {
+    setStale(true, "");
+    runTimer = setTimeout(() => runAll(true), RUN_AFTER);
+  } else setStale(true);
 }
 
 // Draws anew what was run; of wishes that come while it draws the last is drawn next, and none while all is run.
@@ -697,7 +769,8 @@ async function runPicture() {
   again = drawing;
   if (drawing) return;
   drawing = true;
-  clearFault();
+  // (a fault of what stands here now stays, though an earlier picture is drawn anew)
+  if (!at("view").classList.contains("stale")) clearFault();
   if (at("status").textContent === STOPPED) say(ran.said, true);
   await begin(draw);
   drawing = false;
@@ -707,7 +780,7 @@ async function runPicture() {
 // 5. What stands in the page
 
 // What is shown is of another text or of other options than stand there now; a fault, too.
-function setStale(is, words = "Changed since this was run. Run it (Ctrl+Enter in the text).") {
+function setStale(is, words = "Changed since this was run, and too long to be run while you type. Run it (Ctrl+Enter in the text).") {
   for (const part of [at("view"), at("results"), at("fault")]) part.classList.toggle("stale", is);
   if (is && ran && words) say(words);
 }
@@ -911,7 +984,7 @@ function becomeOwn() {
   future.length = 0;
   dropLink();
   saySentence();
-  setStale(true);
+  runSoon();
   keep();
 }
 
@@ -1093,7 +1166,7 @@ function listenToDrops() {
 }
 
 function changeOption() {
-  setStale(true);
+  runSoon();
   dropLink();
   changed = exampleShown === OWN;
   keep();
@@ -1138,7 +1211,7 @@ function listenToResults() {
     if (ran.job === "bounds") sayVerdict("");
     await draw(mine);
   }));
-  at("ps").addEventListener("change", () => ran && (showTables(), ran.job === "bounds" && showBounds()));
+  at("ps").addEventListener("change", () => ran && (showTables(), tellWhy(viewer.frame), ran.job === "bounds" && showBounds()));
   at("answers").addEventListener("click", findAnswered);
   at("frames-box").addEventListener("toggle", () => at("frames-box").open && showFrames());
   at("save-frames").addEventListener("click", () => saveFrames().catch(showError));

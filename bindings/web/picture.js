@@ -1,17 +1,14 @@
 // A picture of the port within the page: what time it shows, how to move in it, and which frame lies where.
 import { GREATEST, ticks } from "./moments.js";
+import { putShades, shadeOf } from "./shades.js";
+import { BOTTOM, LEFT, RIGHT, ROW, STEP, TOP, placeOfRow } from "./sizes.js";
 import { element } from "./svg.js";
 
-const LEFT = 64; // where time begins in a picture, in pixels
-const RIGHT = 32; // what lies behind its end
-const TOP = 58; // the top of the row of class 7
-const STEP = 36; // from one row to the next
-const ROW = 28; // the height of a row
 const CROSS = 8; // the width and the height of a cross
-const BOTTOM = TOP + 9 * STEP; // below the row of the wire
 const ABOVE = 30; // what is cut off at the top, where the port writes a heading
-const HEIGHT = BOTTOM + 62 - ABOVE;
-const NARROW = 480; // a picture of less has its legend further to the left
+const LEGEND_TOP = BOTTOM + 34; // the top of the legend, and how far its lines are apart
+const LEGEND_STEP = 18;
+const LEGEND_GAP = 16; // pixels between the parts of a legend
 const LEAST = 1000n; // the shortest time that is zoomed to, in picoseconds
 const TAKEN = new Set(["svg", "title", "text", "path", "rect"]);
 const NAMED = new Set(["class", "x", "y", "width", "height", "d", "viewBox", "role"]);
@@ -132,9 +129,6 @@ function putInLayers(svg) {
 
 const isDropped = (frame) => frame.start === null && frame.fate !== "left";
 
-// The place of the row at a height of the port's picture, from the top: eight classes, and the wire.
-const placeOfRow = (y) => Math.floor((y - TOP + 4) / STEP);
-
 // The place of the row in which a frame's cross lies: that of its class, or that of the wire where it has none.
 const placeOfCross = (frame) => (frame.class === null ? 8 : 7 - frame.class);
 
@@ -146,16 +140,67 @@ function crossesIn(svg) {
   });
 }
 
-const LEGEND = [64, 134, 206, 280, 354]; // where the parts of the legend begin
-const MOVED_TO = [8, 84, 167, 247, 333]; // and where they do in a narrow picture, whose labels are wider
+// The height at which a part of the port's picture begins.
+const heightOf = (it) => Number(it.getAttribute("y") ?? /^M[\d.]+ ([\d.]+)/.exec(it.getAttribute("d") ?? "")?.[1] ?? 0);
 
-// Moves the parts of the legend to where they have room in a narrow picture.
-function moveLegend(svg) {
-  for (const it of svg.children) {
-    const [, atX, atY] = /^M([\d.]+) ([\d.]+)/.exec(it.getAttribute("d") ?? "") ?? [];
-    const [x, y] = [it.getAttribute("x") ?? atX, it.getAttribute("y") ?? atY].map(Number);
-    const part = LEGEND.findLastIndex((begin) => begin <= x);
-    if (y > BOTTOM + 20) it.setAttribute("transform", `translate(${MOVED_TO[part] - LEGEND[part]} 0)`);
+// Where a part of the port's picture begins, from the left.
+const leftOf = (it) => Number(it.getAttribute("x") ?? /^M([\d.]+)/.exec(it.getAttribute("d") ?? "")?.[1] ?? 0);
+
+// Takes the parts of the port's legend together, each sign with its words, and those of the page's own behind them.
+function groupLegend(svg, own) {
+  const lineOf = (it) => (heightOf(it) < LEGEND_TOP + LEGEND_STEP ? 0 : 1);
+  const all = [...svg.children].filter((it) => heightOf(it) > BOTTOM + 20).sort((one, other) => lineOf(one) - lineOf(other) || leftOf(one) - leftOf(other));
+  const parts = [[]];
+  for (const it of all) {
+    parts.at(-1).push(it);
+    if (it.localName === "text") parts.push([]);
+  }
+  return [...parts.filter((it) => it.length), ...own].map((part) => {
+    const group = element("g", { class: "legend" });
+    group.append(...part);
+    svg.append(group);
+    return group;
+  });
+}
+
+// The sign for pixels that are shaded, with its words, as a part of the legend.
+const shadedSign = () => [
+  ...[0.1, 0.5, 0.9].map((share, place) => element("rect", { class: "v", x: 64 + 8 * place, y: 452, width: 8, height: 12, "fill-opacity": shadeOf(share) })),
+  element("text", { x: 94, y: 462 }, "shade: how full a pixel is"),
+];
+
+/** The classes whose rows are shown: those of the map, all eight where there is none, and those of the frames. */
+export function kindsShown(kinds, frames) {
+  const used = [];
+  for (const it of frames) if (it.class !== null) used[it.class] = true;
+  return [0, 1, 2, 3, 4, 5, 6, 7].filter((it) => kinds === null || it < kinds || used[it]);
+}
+
+// How far each row moves down since rows below it are not shown; those that aren't shown have null. The row of the wire stays.
+function movesOf(shown) {
+  const moves = Array(9).fill(null);
+  moves[8] = 0;
+  let move = 0;
+  for (let place = 7; place >= 0; place -= 1) {
+    if (shown.includes(7 - place)) moves[place] = move;
+    else move += STEP;
+  }
+  return { moves, above: move };
+}
+
+// Takes away the rows that aren't shown, and moves those above them down to the others, with what stands above all rows.
+function moveRows(svg, { moves, above }) {
+  if (!above) return;
+  for (const it of [...svg.children]) {
+    const y = heightOf(it);
+    const lines = it.getAttribute("d");
+    if (y && y < TOP - 4 && lines) it.setAttribute("d", lines.replace(/^(M[\d.]+) [\d.]+/, `$1 ${y + above}`));
+    else if (y && y < TOP - 4) it.setAttribute("y", y + above);
+    else if (y >= TOP - 4 && y < BOTTOM) {
+      const move = moves[placeOfRow(y)];
+      if (move === null) it.remove();
+      else if (move) it.setAttribute("transform", `translate(0 ${move})`);
+    }
   }
 }
 
@@ -164,9 +209,10 @@ export class Picture {
   /**
    * @param {string} text the port's picture
    * @param {{from: bigint, to: bigint, width: number}} shown
-   * @param {{origin: bigint, changes: object[], frames: object[]}} run what is known of the run
+   * @param {{origin: bigint, changes: object[], frames: object[], times: object, kinds: number | null}} run what is known of the run:
+   *   `times` are those of the frames that were sent, as `timesOf` gives them, `kinds` is the number of classes of its map
    */
-  constructor(text, shown, { origin, changes, frames }) {
+  constructor(text, shown, { origin, changes, frames, times, kinds }) {
     this.shown = shown;
     this.frames = frames;
     // (its style goes before it is parsed: the page's policy refuses it)
@@ -177,12 +223,50 @@ export class Picture {
     putTicks(this.svg, shown, origin);
     putCycles(this.svg, shown, changes);
     putLeft(this.svg, shown, frames);
+    const shaded = putShades(this.svg, shown, times);
     this.svg.querySelector("text.t")?.remove();
-    if (shown.width < NARROW) moveLegend(this.svg);
-    this.svg.setAttribute("viewBox", `0 ${ABOVE} ${shown.width} ${HEIGHT}`);
-    this.svg.setAttribute("width", shown.width);
-    this.svg.setAttribute("height", HEIGHT);
+    this.rows = movesOf(kindsShown(kinds, frames));
+    moveRows(this.svg, this.rows);
+    this.legend = groupLegend(this.svg, shaded ? [shadedSign()] : []);
+    this.#size(1);
     this.ring = element("rect", { class: "ring" });
+  }
+
+  // Gives the picture its size, with so many lines of its legend.
+  #size(lines) {
+    const { above } = this.rows;
+    const height = LEGEND_TOP + LEGEND_STEP * lines + 10 - ABOVE - above;
+    this.svg.setAttribute("viewBox", `0 ${ABOVE + above} ${this.shown.width} ${height}`);
+    this.svg.setAttribute("width", this.shown.width);
+    this.svg.setAttribute("height", height);
+  }
+
+  /** Lays out the legend by the width of its words, once the picture is in the page: in as many lines as it needs. */
+  layLegend() {
+    const boxes = this.legend.map((it) => it.getBBox());
+    const whole = boxes.reduce((sum, it) => sum + it.width + LEGEND_GAP, 0);
+    const begin = LEFT + whole < this.shown.width ? LEFT : 8;
+    let [x, line] = [begin, 0];
+    for (const [place, part] of this.legend.entries()) {
+      const box = boxes[place];
+      if (x > begin && x + box.width > this.shown.width - 8) [x, line] = [begin, line + 1];
+      const y = LEGEND_TOP + LEGEND_STEP * line + 12 - Number(part.querySelector("text").getAttribute("y")) - 2;
+      part.setAttribute("transform", `translate(${x - box.x} ${y})`);
+      x += box.width + LEGEND_GAP;
+    }
+    this.#size(line + 1);
+  }
+
+  // The height in the port's picture of what lies at a height in the page's.
+  #portHeight(y) {
+    const at = y + ABOVE + this.rows.above;
+    const place = this.rows.moves.findIndex((move, row) => move !== null && placeOfRow(at - move) === row);
+    return place < 0 ? at : at - this.rows.moves[place];
+  }
+
+  // How far the row at a height of the port's picture is moved down.
+  #moved(y) {
+    return this.rows.moves[placeOfRow(y)] ?? 0;
   }
 
   /** The moment at a place, in pixels from the picture's left edge. */
@@ -192,8 +276,8 @@ export class Picture {
 
   /** The class of a row at a height in pixels, "wire", or null. */
   row(y) {
-    const place = placeOfRow(y + ABOVE);
-    return place < 0 || place > 8 ? null : place === 8 ? "wire" : 7 - place;
+    const place = placeOfRow(this.#portHeight(y));
+    return (this.rows.moves[place] ?? null) === null ? null : place === 8 ? "wire" : 7 - place;
   }
 
   /**
@@ -221,7 +305,8 @@ export class Picture {
 
   // The frame whose cross lies at a place.
   #droppedAt(x, y) {
-    const cross = this.crosses.find((it) => Math.abs(it.x - x) < CROSS && Math.abs(it.y - ABOVE - y) < CROSS);
+    const at = this.#portHeight(y);
+    const cross = this.crosses.find((it) => Math.abs(it.x - x) < CROSS && Math.abs(it.y - at) < CROSS);
     return cross && this.frames.find((it) => isDropped(it) && this.#isAt(cross, it));
   }
 
@@ -250,7 +335,7 @@ export class Picture {
     const right = Math.min(this.shown.width - RIGHT, xOf(this.shown, to));
     this.ring.setAttribute("x", left - 3);
     this.ring.setAttribute("width", Math.max(2, right - left) + 6);
-    this.ring.setAttribute("y", rowOf(frame.class) - 2);
+    this.ring.setAttribute("y", rowOf(frame.class) - 2 + this.#moved(rowOf(frame.class)));
     this.ring.setAttribute("height", ROW + 4);
     this.svg.append(this.ring);
   }
@@ -266,16 +351,18 @@ export class Picture {
   #ringCross(frame) {
     const cross = this.#crossOf(frame);
     if (!cross) return;
-    for (const [name, value] of [["x", cross.x - 8], ["y", cross.y - 8], ["width", 16], ["height", 16]]) this.ring.setAttribute(name, value);
+    for (const [name, value] of [["x", cross.x - 8], ["y", cross.y - 8 + this.#moved(cross.y)], ["width", 16], ["height", 16]]) this.ring.setAttribute(name, value);
     this.svg.append(this.ring);
   }
 
   /** Where a frame lies, in pixels: the middle of its bar, its cross, or where it begins to wait. */
   placeOf(frame) {
     const cross = isDropped(frame) ? this.#crossOf(frame) : null;
-    if (cross) return { x: cross.x, y: cross.y - ABOVE };
+    const above = ABOVE + this.rows.above;
+    if (cross) return { x: cross.x, y: cross.y + this.#moved(cross.y) - above };
     const x = xOf(this.shown, frame.start ?? frame.arrival) + (frame.start === null ? 0 : (xOf(this.shown, frame.end) - xOf(this.shown, frame.start)) / 2);
-    return { x, y: TOP + placeOfCross(frame) * STEP + ROW / 2 - ABOVE };
+    const place = placeOfCross(frame);
+    return { x, y: TOP + place * STEP + ROW / 2 + (this.rows.moves[place] ?? 0) - above };
   }
 }
 

@@ -27,7 +27,7 @@ const PLAIN = /^(?:frame|clock) \d+(?: \d+)*$/; // a line whose words stand one 
  * The frames of a script in their order, with the moment of each, and the first moment at which something happens.
  *
  * @param {string} text
- * @returns {{arrivals: {id: string, length: string, moment: bigint}[], commands: {line: number, words: string[]}[], first: bigint, last: bigint}}
+ * @returns {{arrivals: {id: string, length: string, moment: bigint}[], commands: {line: number, words: string[], moment: bigint}[], first: bigint, last: bigint}}
  */
 export function readScript(text) {
   const found = { arrivals: [], commands: [], first: null, last: 0n };
@@ -42,7 +42,7 @@ export function readScript(text) {
     }
     found.first ??= now;
     if (words[0] === "frame") found.arrivals.push({ id: words[1], length: words[3], moment: now });
-    else if (words[0] === "tc") found.commands.push({ line: number, words });
+    else if (words[0] === "tc") found.commands.push({ line: number, words, moment: now });
   }
   found.last = now;
   found.first ??= 0n;
@@ -59,6 +59,20 @@ export function cycleOf(words) {
     if (word === "sched-entry" && /^\d+$/.test(words[place + 3] ?? "")) length += BigInt(words[place + 3]);
   });
   return length > 0n ? length * 1000n : null;
+}
+
+/**
+ * The number of classes of a run's map, which the first accepted command that has one gives; null where there is none.
+ *
+ * @param {{words: string[]}[]} commands those of the script
+ * @param {string} answers
+ */
+export function kindsOf(commands, answers) {
+  const told = answers.match(/^(?:installed|refused|tc-fault)\b.*$/gm) ?? [];
+  const given = (words) => words[words.lastIndexOf("num_tc") + 1];
+  const numbers = told.map((it, place) => (it.startsWith("installed") && commands[place]?.words.includes("num_tc") ? given(commands[place].words) : ""));
+  const first = numbers.find((it) => /^\d+$/.test(it));
+  return first === undefined ? null : Number(first);
 }
 
 /**

@@ -113,7 +113,14 @@ export class Table {
   mark(value) {
     for (const row of this.box.querySelectorAll("tbody tr")) {
       row.classList.toggle("marked", row.row === value);
-      if (row.row === value) row.scrollIntoView({ block: "nearest" });
+      if (row.row === value) this.#reveal(row);
     }
+  }
+
+  // Brings a row in sight within the table: the page does not move away from the picture.
+  #reveal(row) {
+    const [box, at, head] = [this.box, row, this.box.querySelector("thead")].map((it) => it.getBoundingClientRect());
+    if (at.top < box.top + head.height) this.box.scrollTop -= box.top + head.height - at.top;
+    else if (at.bottom > box.top + this.box.clientHeight) this.box.scrollTop += at.bottom - box.top - this.box.clientHeight;
   }
 }

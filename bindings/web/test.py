@@ -14,7 +14,7 @@ import threading
 import time
 import zlib
 
-from bundle import options
+from bundle import modules, options
 from browsers import Broken, Chromium, Firefox, wait_for
 
 WEB = pathlib.Path(__file__).resolve().parent
@@ -428,6 +428,134 @@ def try_moments(page):
             page.answers(f"until {word}", answers)
 
 
+def random_gates(chance):
+    """A script of frames and schedules, some of them replaced or deleted before they come into force, and the options of its port."""
+    rate, mtu = chance.choice((100, 1000, 1000, 2500, 10000)), chance.choice((500, 1500, 1500, 9000))
+    unit = (mtu + 42) * 8_000_000 // rate
+    lines, now = [], 0
+    for frame in range(chance.randrange(8, 50)):
+        if chance.random() < 0.12 or not frame:
+            entries = " ".join(f"sched-entry S {chance.randrange(16):x} {chance.randrange(unit // 4, 3 * unit) // 1000 + 500}" for _ in range(chance.randrange(1, 5)))
+            cycle = chance.choice(("", "", f"cycle-time {chance.randrange(unit, 9 * unit) // 1000 + 1000}"))
+            extension = chance.choice(("", f"cycle-time-extension {chance.randrange(9 * unit) // 1000}"))
+            base = (now + chance.randrange(6 * unit)) // 1000
+            lines.append(chance.choice(("tc qdisc del dev base-time root", *[f"tc qdisc replace dev x root taprio num_tc 4 map 0 1 2 3 base-time {base} {cycle} {extension} {entries}"] * 5)))
+        if chance.random() < 0.6:
+            now += chance.randrange(1, 2 * unit)
+            lines.append(f"clock {now}")
+        lines.append(f"frame {frame} {chance.randrange(4)} {chance.choice((60, 300, mtu))}")
+    return "\n".join(lines) + f"\nclock {now + chance.randrange(1, 20 * unit)}\n", rate, mtu
+
+
+# What the page's own reasons are of the frames of a run that wait, by the same functions.
+REASONS = """
+const { rate, mtu } = PORT; const read = readScript(SCRIPT); const frames = framesOf(read.arrivals, ANSWERS, []);
+const run = runOf(frames, historyOf(read.commands, ANSWERS, { rate, mtu }), rate, read.last);
+const waits = frames.filter((it) => it.fate === 'left' || it.wait > 0n).map((it) => ({ id: it.id, ...partsOf(run, it) }));
+return JSON.stringify(waits, (name, it) => (name === 'frame' ? it.id : typeof it === 'bigint' ? String(it) : it))
+"""
+
+
+def with_queries(text, moments):
+    """A script with a report at each of these moments."""
+    lines, left = [], sorted(moments)
+    for line in text.splitlines():
+        if line.startswith("clock"):
+            upto = int(line.split()[1])
+            while left and left[0] < upto:
+                lines += [f"clock {left.pop(0)}", "query"]
+        lines.append(line)
+    return "\n".join([*lines, *(line for it in left for line in (f"clock {it}", "query"))]) + "\n"
+
+
+def untrue(part, frame, table, masks):
+    """What is not true of a reason, by the frames of the run and by the gates that the port reports."""
+    begin, end = int(part["from"]), int(part["to"])
+    def is_open(moment):
+        return masks[moment] >> frame["class"] & 1
+    if part["kind"] == "closed":
+        return any(is_open(it) for it in (begin, (begin + end) // 2, end - 1))
+    if part["kind"] == "wire":
+        named = table[part["frame"]]
+        return named["start"] is None or named["start"] > begin or named["end"] < end
+    has, need = int(part["has"]), int(part["need"])
+    named = frame if part["kind"] == "short" else table[part["frame"]]
+    earlier = [it for it in table.values() if it["class"] == named["class"] and it["place"] < named["place"]]
+    return any([
+        not is_open(begin), not is_open(begin + has - 1), is_open(begin + has), has >= need, end > begin + has, named["class"] != frame["class"],
+        named["start"] is not None and (named["end"] - named["start"] != need or named["start"] < end), any(it["start"] is None or it["start"] > begin for it in earlier),
+        part["kind"] == "behind" and named["place"] >= frame["place"]])
+
+
+def try_reasons(page):
+    """For 200 random runs: the reasons why a frame waits cover its wait, and each is true, by the port's table of frames and by its reports."""
+    chance, seen, seen_list = random.Random(78), {}, []
+    source = "".join(modules(it, seen_list) for it in ("why.js", "script.js", "frames.js"))
+    for number in range(200):
+        text, rate, mtu = random_gates(chance)
+        words = ["--rate", str(rate), "--mtu", str(mtu)]
+        answers = program("script", *words, text=text.encode())[1].decode()
+        rows = [it.split(",") for it in program("frames", *words, text=text.encode())[1].decode().splitlines()[1:]]
+        places = {it: place for place, it in enumerate(re.findall(r"^frame (\d+)", text, re.M))}
+        table = {it[0]: {"place": places[it[0]], "class": int(it[1]), "arrival": int(it[3]), **{name: int(it[at]) if it[at] else None for name, at in (("start", 4), ("end", 5))}, "fate": it[7]} for it in rows if it[7] in ("sent", "left")}
+        last = max(int(it) for it in re.findall(r"^clock (\d+)", text, re.M))
+        script = f"const [PORT, SCRIPT, ANSWERS] = {json.dumps([{'rate': rate, 'mtu': mtu}, text, answers])};"
+        waits = json.loads(page.do(source + script + REASONS))
+        page.same(f"frames that wait, of {text!r}", sorted(it["id"] for it in waits), sorted(key for key, it in table.items() if it["start"] != it["arrival"]))
+        moments = {it for wait in waits for part in wait["parts"] for begin, end in ((int(part["from"]), int(part["to"])),)
+                   for it in (begin, (begin + end) // 2, end - 1, *((begin + int(part["has"]) - 1, begin + int(part["has"])) if "has" in part else ()))}
+        told = program("script", *words, text=with_queries(text, moments).encode())[1].decode()
+        masks = {int(moment): int(mask, 16) for moment, mask in re.findall(r"^report now (\d+) mask (\w+)", told, re.M)}
+        for wait in waits:
+            frame, parts = table[wait["id"]], wait["parts"]
+            ends = [frame["arrival"], *(int(it["to"]) for it in parts)]
+            page.same(f"frame {wait['id']} of {text!r}", [wait["whole"], ends[-1], [int(it["from"]) for it in parts]], [True, last if frame["start"] is None else frame["start"], ends[:-1]])
+            page.same(f"frame {wait['id']} of {text!r}", [it for it in parts if untrue(it, frame, table, masks)], [])
+            for it in parts:
+                seen[it["kind"]] = seen.get(it["kind"], 0) + 1
+    page.same(f"reasons of each kind: {seen}", all(seen.get(it, 0) > 100 for it in ("wire", "closed", "short", "behind")), True)
+
+
+WHY_SCHEDULE = "Frame 1 waits 13.336 us: its gate closes too soon (it needs 12.304 us, and has 12.303 us) until 12.303 us; its gate is closed until 13.336 us."
+# A frame that is longer than each window of its class, over 300 cycles.
+NEVER = """tc qdisc replace dev x root taprio num_tc 2 map 0 1 base-time 0 sched-entry S 02 5000 sched-entry S 01 15000
+clock 20000000
+frame 1 1 1514
+frame 2 0 60
+clock 6000000000
+"""
+
+
+def try_why(page):
+    """A click on a frame tells why it waits: in the table, in the picture, and in the answers."""
+    page.choose("schedule.script")
+    page.do("at('frames-box').open = true")
+    wait_for(page.browser, "return document.querySelectorAll('#frames-table tbody tr').length === 2")
+    page.same("nothing is told before", page.text("why"), "")
+    page.do("[...document.querySelectorAll('#frames-table tbody tr')].find((it) => it.row.id === '1').click()")
+    page.same("a row tells it", page.text("why"), WHY_SCHEDULE)
+    page.do("[...document.querySelectorAll('#frames-table tbody tr')].find((it) => it.row.id === '2').click()")
+    page.same("a frame that does not wait", page.text("why"), "Frame 2 does not wait.")
+    page.do("at('canvas').scrollIntoView({ block: 'center' })")
+    page.do(f"{OVER} window.tipped = over([...document.querySelectorAll('#canvas path.w')].find((it) => /H/.test(it.getAttribute('d'))))")
+    page.same("a tip tells it", page.do("return window.tipped.split('\\n').at(-1)"), WHY_SCHEDULE)
+    place = page.do("const r = [...document.querySelectorAll('#canvas path.w')].find((it) => /H/.test(it.getAttribute('d'))).getBoundingClientRect(); return [(r.left + r.right) / 2, (r.top + r.bottom) / 2]")
+    page.browser.drag(place, place)
+    page.same("a click in the picture tells it", page.text("why"), WHY_SCHEDULE)
+    page.browser.drag((1, 1), (1, 1))
+    page.browser.shoot(SHOTS / f"{page.browser.name}-why.png")
+    page.do("at('origin').value = '0'; at('origin').dispatchEvent(new Event('change'))")
+    page.same("counted from moment 0", "until 32.303 us" in page.text("why"), True)
+    page.choose("priorities.script")
+    page.same("nothing is told of another run", page.text("why"), "")
+    page.do("at('text').focus()")
+    page.type(NEVER)
+    page.do("[...document.querySelectorAll('#frames-table tbody tr')].find((it) => it.row.id === '1').click()")
+    first = "Frame 1 still waits at the end of the run: its gate closes too soon (it needs 12.304 us, and has 5 us) until 5 us; its gate is closed until 20 us;"
+    page.same("over 300 cycles", [page.text("why")[: len(first)], page.text("why")[-12:]], [first, "; and so on."])
+    page.do("at('frames-box').open = false")
+
+
 def frames_of_table(table, script):
     """What the program makes of the frames of a table of streams among the lines of a script, run to a millisecond after its last line."""
     made = program("streams", "--with", EXAMPLES / script, text=(EXAMPLES / table).read_bytes())[1]
@@ -444,7 +572,7 @@ def try_frames(page):
     page.click("#frames-table tbody tr")
     page.same("marked in the picture", page.do("return !!document.querySelector('#canvas .ring')"), True)
     page.same("marked in the answers", page.do("return String(getSelection())"), "start 1 class 7 at 33336000 end 45640000")
-    page.same("tip", page.do("return at('tip').innerText"), "Frame 1, class 7\n1514 octets, arrives 0\nstarts 13.336 us, ends 25.64 us\nwaits 13.336 us")
+    page.same("tip", page.do("return at('tip').innerText"), "Frame 1, class 7\n1514 octets, arrives 0\nstarts 13.336 us, ends 25.64 us\n" + WHY_SCHEDULE)
     page.click("#frames-table th button")
     page.click("#frames-table th button")
     page.same("sorted", page.do("return document.querySelector('#frames-table tbody td').textContent"), "2")
@@ -529,7 +657,7 @@ def try_dates(page):
     page.answers("the clock is set", program("script", text=moved.encode())[1])
     page.same("it is in force", ["No schedule is in force" in page.text("verdict"), page.do("return at('set-clock').checkVisibility()")], [False, False])
     page.same("marks count from the change", page.do(f"{ticks}.filter((it) => /^(0|[0-9]+ us)$/.test(it)).length") >= 4, True)
-    page.same("bands of the eight classes before it, and of the one that is open", page.do("return document.querySelectorAll('#canvas rect.o').length"), 9)
+    page.same("bands of the two classes before it, of which one stays open, and that of the legend", page.do("return document.querySelectorAll('#canvas rect.o').length"), 3)
     page.browser.shoot(SHOTS / f"{page.browser.name}-in-force.png")
     page.do("at('text').focus()")
     page.browser.press("z", control=True)
@@ -654,6 +782,137 @@ COVERED = """const marks = [...document.querySelectorAll('#canvas .dl')].map((it
       return marks.some((m) => m.x - 1.5 < r.x + r.width && m.x + 1.5 > r.x && m.y < r.y + r.height && m.y + m.height > r.y); }).map((it) => it.textContent)"""
 
 
+# A frame of class 7 comes before there is a map of two classes; the frames of these wait, and one that has no class is dropped.
+ROWS = """frame 1 7 1514
+clock 20000000
+tc qdisc replace dev x root taprio num_tc 2 map 0 1 base-time 0 sched-entry S 02 100000 sched-entry S 01 100000
+clock 200000000
+frame 2 0 1514
+frame 3 16 1514
+clock 420000000
+"""
+LABELS = "return [...document.querySelectorAll('#canvas text')].map((it) => it.textContent).filter((it) => /^(class .|wire)$/.test(it)).sort().reverse()"
+# The parts of the legend that lie outside of the picture, or on one another.
+CUT = """const box = document.querySelector('#canvas svg').getBoundingClientRect(); const parts = [...document.querySelectorAll('#canvas .legend')].map((it) => it.getBoundingClientRect());
+    const frame = document.getElementById('frame').getBoundingClientRect(); const right = Math.min(box.right, frame.right);
+    return [parts.length, parts.filter((it, place) => it.left < box.left || it.right > right || it.bottom > box.bottom || it.top < box.top
+      || parts.some((other, at) => at < place && other.left < it.right && it.left < other.right && other.top < it.bottom - 2 && it.top < other.bottom - 2)).length]"""
+
+
+def try_rows(page):
+    """Only rows of classes of the map, and of frames, are shown; what lies in them is found and marked there; the legend is whole at each width."""
+    page.choose("first.script")
+    page.same("eight rows without a map", page.do(LABELS), ["wire", *(f"class {it}" for it in range(7, -1, -1))])
+    page.type(ROWS)
+    page.picture("rows", ROWS.encode())
+    page.same("rows of the map and of frames", page.do(LABELS), ["wire", "class 7", "class 1", "class 0"])
+    tops = page.do("""const top = (it) => it.getBoundingClientRect().top; const label = (name) => top([...document.querySelectorAll('#canvas text')].find((it) => it.textContent === name));
+        return ['change 1', 'class 7', 'class 1', 'class 0', 'wire'].map(label)""")
+    page.same(f"one below the other: {tops}", all(30 <= other - one <= 40 for one, other in zip(tops, tops[1:])), True)
+    page.do("at('canvas').scrollIntoView({ block: 'center' })")
+    for name, told in (("rect.f[y='68']", "Frame 1, class 7"), ("path.d:not(.h)", "Frame 3")):
+        page.same(f"tip of {name}", page.do(f"{OVER} return over(document.querySelector(`#canvas {name}`))").split("\n")[0], told)
+    page.same("tip of a band", page.do(f"{OVER} return over([...document.querySelectorAll('#canvas rect.o')].find((it) => Number(it.getAttribute('y')) === 58))").split("\n")[0], "Class 7 is open")
+    place = page.do("const r = document.querySelector(`#canvas rect.f[y='68']`).getBoundingClientRect(); return [(r.left + r.right) / 2, (r.top + r.bottom) / 2]")
+    page.browser.drag(place, place)
+    page.browser.drag((1, 1), (1, 1))
+    page.same("the ring is about its bar", page.do("""const [ring, bar] = ['.ring', `rect.f[y='68']`].map((it) => document.querySelector(`#canvas ${it}`).getBoundingClientRect());
+        return ring.top < bar.top && bar.bottom < ring.bottom && ring.bottom - ring.top < 40"""), True)
+    page.choose("schedule.script")
+    page.same("eight rows by a map of eight", len(page.do(LABELS)), 9)
+    for width in (1366, 820, 390, 320):
+        at_size(page, width, 800)
+        for number, text in enumerate((ROWS, many_frames(random.Random(5), 1500))):
+            page.set("text", text)
+            page.run()
+            page.same(f"legend at {width}", page.do(CUT), [5 + 2 * number, 0])
+    page.browser.look()
+
+
+def many_frames(chance, number):
+    """A script of so many frames, which come faster or slower from time to time."""
+    lines, now, slow = ["tc qdisc replace dev x root taprio num_tc 2 map 0 1 base-time 0 sched-entry S 02 10000 sched-entry S 01 10000"], 0, 3
+    for frame in range(number):
+        if frame % 500 == 0:
+            slow = chance.choice((1, 3, 12))
+        now += chance.randrange(1, slow * 3_000_000)
+        lines.append(f"clock {now}\nframe {frame} {chance.randrange(2)} {chance.choice((60, 60, 300))}")
+    return "\n".join(lines) + f"\nclock {now + 10**9}\n"
+
+
+MANY = many_frames(random.Random(6), 5000)
+SHADES = """return [...document.querySelectorAll('#canvas rect.v')].filter((it) => Number(it.getAttribute('y')) === 356)
+    .map((it) => ['x', 'width', 'fill-opacity'].map((name) => Number(it.getAttribute(name))))"""
+# The milliseconds that shades of 100,000 frames take, whose times the worker works out.
+SHADED = """
+const wire = Array.from({ length: 100000 }, (_, place) => ({ class: place % 8, start: 3000000n * BigInt(place) + 10n ** 18n, end: 3000000n * BigInt(place) + 10n ** 18n + 1000000n }));
+const made = () => { const svg = document.createElementNS('http://www.w3.org/2000/svg', 'svg'); for (let place = 0; place < 9; place += 1) svg.append(element('rect', { class: 'f', x: 64, y: 68 + 36 * place, width: 1104, height: 16 })); return svg; };
+const times = timesOf(wire);
+return [1, 2, 3].map(() => { const svg = made(); const begun = performance.now(); putShades(svg, { from: 10n ** 18n, to: 10n ** 18n + 300000000000n, width: 1200 }, times); return [performance.now() - begun, svg.querySelectorAll('.v').length]; });
+"""
+
+
+def try_shades(page):
+    """Where frames are closer than a pixel, each pixel of the wire is shaded by how full it is, by the program's table; bars of a pixel and more stay."""
+    page.choose("first.script")
+    for number, text in enumerate((MANY, many_frames(random.Random(7), 14000))):
+        give(page, "many.script", text.encode())
+        page.settle()
+        page.picture("many frames", text.encode())
+        wide = page.do("return Number(at('frame').dataset.width)") - 96
+        frames = [tuple(int(it) for it in row.split(",")[4:6]) for row in program("frames", text=text.encode())[1].decode().splitlines()[1:]]
+        last = int(re.findall(r"^clock (\d+)$", text, re.M)[-1])
+        full = [0.0] * (wide + 1)
+        for begin, end in frames:
+            left, right = begin * wide / last, end * wide / last
+            for pixel in range(int(left), int(right) + 1):
+                full[pixel] += max(0.0, min(right, pixel + 1) - max(left, pixel))
+        shades = [0.0] * (wide + 1)
+        for x, width, share in page.do(SHADES):
+            for pixel in range(int(x) - 64, int(x) - 64 + int(width)):
+                shades[pixel] = (share - 0.25) / 0.75
+        # (the shades are 32, and the page takes the end of the time that is shown from the ticks)
+        apart = [(pixel, one, other) for pixel, (one, other) in enumerate(zip(full, shades)) if abs(one - other) > 0.5 / 32 + 0.015 and not (other and one < 1 / 32)]
+        page.same(f"shades of {len(frames)} frames", apart[:5], [])
+        page.same("of full and of empty pixels", [max(shades) > 0.6, min(it for it in shades if it) < 0.3], [True, True])
+        page.same("no bar of many frames is seen", page.do("return [...document.querySelectorAll('#canvas rect.f')].filter((it) => it.checkVisibility() && it.getBoundingClientRect().width > 4 && Number(it.getAttribute('y')) < 380).length"), 0)
+        page.browser.shoot(SHOTS / f"{page.browser.name}-shades-{number}.png")
+    page.set("to", "60 us")
+    page.set("from", "0")
+    page.click("#draw")
+    page.settle()
+    page.same("no shades where each frame is seen", page.do("return [...document.querySelectorAll('#canvas .v, #canvas .u')].length"), 0)
+    page.choose("priorities.script")
+    page.same("none in an example", page.do("return [...document.querySelectorAll('#canvas .v, #canvas .u')].length"), 0)
+    told = page.do(modules("shades.js", []) + SHADED)
+    page.same(f"100,000 frames are shaded in 50 ms: {told}", [min(it[0] for it in told) < 50, told[0][1] > 1], [True, True])
+
+
+def try_whole(page):
+    """A run does not fold the result up and down, and all of the picture is printed."""
+    page.choose("schedule.script")
+    page.do("""window.heights = []; const note = () => heights.push(Math.round(at('view').getBoundingClientRect().height)); note();
+        window.watched = new ResizeObserver(note); watched.observe(at('view')); window.noted = new MutationObserver(note); noted.observe(at('view'), { childList: true, subtree: true, attributes: true })""")
+    for _ in range(3):
+        page.run()
+        time.sleep(0.1)
+    heights = page.do("watched.disconnect(); noted.disconnect(); return heights")
+    page.same(f"heights during a run: {sorted(set(heights))}", max(heights) - min(heights) <= 1 and len(heights) > 3, True)
+    if not isinstance(page.browser, Chromium):
+        return
+    for width in (1366, 390):
+        at_size(page, width, 800)
+        page.browser.call("Emulation.setEmulatedMedia", media="print", features=[])
+        page.browser.resize(700, 1000)
+        page.same(f"printed from {width}", page.do("""const [svg, frame] = ['#canvas svg', '#frame'].map((it) => document.querySelector(it).getBoundingClientRect());
+            return [svg.right <= frame.right + 1, svg.bottom <= frame.bottom + 1, frame.right <= innerWidth, at('zoom').checkVisibility(), at('run').checkVisibility(), document.documentElement.scrollWidth <= innerWidth,
+              at('text').scrollHeight <= at('text').clientHeight + 2]"""), [True, True, True, False, False, True, True])
+        page.browser.shoot(SHOTS / f"chromium-print-{width}.png")
+        page.browser.call("Emulation.setEmulatedMedia", media="", features=[])
+        page.browser.look()
+        page.settle()
+
+
 def try_story(page):
     """Each step of the story ends without a fault, and has its sentence."""
     for value in page.do("return [...document.querySelectorAll('#example optgroup')[0].children].map((it) => it.value)"):
@@ -687,6 +946,7 @@ def try_files(page):
     page.do("at('text').focus()")
     page.browser.press("a", control=True)
     page.browser.type(text.decode())
+    wait_for(page.browser, FRESH, 3)
     give(page, "my.pcapng", bytes.fromhex("0a0d0d0a1c000000"))
     page.same("pcapng", page.text("status"), "my.pcapng: this is a pcapng file. Make a classic one of it: editcap -F nsecpcap IN OUT")
     page.same("and the text stays", page.do("return at('text').value"), text.decode())
@@ -710,15 +970,30 @@ def try_files(page):
     page.same("its frames leave", page.text("verdict")[:51], "As a script, run to 1 ms after its end: 5 frames sent"[:51])
 
 
+STALE = "return ['view', 'results'].map((it) => at(it).classList.contains('stale'))"
+# What is too long to be run while it is typed.
+TOO_LONG = "# " + "long " * 6000 + "\n"
+
+
 def try_stale(page):
     page.choose("first.script")
-    page.same("fresh", page.do("return at('view').classList.contains('stale')"), False)
-    page.set("text", "frame 1 0 60\nclock 1000000\nquery\n")
-    page.same("stale", page.do("return at('view').classList.contains('stale')"), True)
+    page.same("fresh", page.do(STALE), [False, False])
+    text = f"{TOO_LONG}frame 1 0 60\nclock 1000000\nquery\n"
+    page.set("text", text)
+    page.same("stale", page.do(STALE), [True, True])
+    time.sleep(0.8)
+    page.same("it is not run by itself, and the page says so", [page.do(STALE), page.text("status")],
+              [[True, True], "Changed since this was run, and too long to be run while you type. Run it (Ctrl+Enter in the text)."])
     page.do("location.reload()")
     time.sleep(0.5)
     page.settle()
-    page.same("kept over a reload", page.do("return at('text').value"), "frame 1 0 60\nclock 1000000\nquery\n")
+    page.same("kept over a reload", page.do("return at('text').value"), text)
+    page.same("and run", page.do(STALE), [False, False])
+    page.set("rate", "100")
+    page.same("stale by an option", page.do(STALE), [True, True])
+    page.run()
+    page.same("run by the button", page.do(STALE), [False, False])
+    page.answers("what is too long, run by the button", program("script", "--rate", "100", text=text.encode())[1])
     page.choose("schedule.script")
     page.click("[data-step=nearer]")
     page.settle()
@@ -735,6 +1010,65 @@ def try_stale(page):
     wait_for(page.browser, "return !document.getElementById('long-link').hidden")
     page.same("a long link", page.do("return at('link-row').hidden"), True)
     page.same("the text instead", page.saved("save-text").decode(), page.do("return at('text').value"))
+
+
+# How many workers of the page there are, and were at most at one time.
+COUNTED = """window.alive = 0; window.most = 0; const Old = window.Worker;
+    window.Worker = class extends Old { constructor(...words) { super(...words); this.ends = false; window.alive += 1; window.most = Math.max(window.most, window.alive); }
+        terminate() { if (!this.ends) window.alive -= 1; this.ends = true; super.terminate(); } };"""
+FRESH = "return document.getElementById('stop').disabled && !document.getElementById('view').classList.contains('stale')"
+
+
+def try_live(page):
+    """What is typed, and an option that is changed, is run by itself: one run at a time; a fault leaves the last picture."""
+    page.choose("first.script")
+    text = "frame 1 3 100\nframe 2 0 60\nclock 5000000\n"
+    page.do("at('text').focus()")
+    page.browser.press("a", control=True)
+    page.browser.type(text)
+    page.same("it is marked at once", page.do(STALE), [True, True])
+    wait_for(page.browser, FRESH, 3)
+    page.answers("what is typed", program("script", text=text.encode())[1])
+    page.picture("what is typed", text.encode())
+    page.same("the key stays in the text", page.do("return document.activeElement.id"), "text")
+    page.set("rate", "100")
+    wait_for(page.browser, FRESH, 3)
+    page.answers("an option", program("script", "--rate", "100", text=text.encode())[1])
+    drawn = page.do("return at('canvas').innerHTML")
+    page.do("at('text').focus()")
+    page.browser.press("a", control=True)
+    page.browser.type(f"{text}clok")
+    wait_for(page.browser, "return !document.getElementById('fault').hidden", 3)
+    page.same("a fault", page.text("fault-text"), "Line 4: UnknownLine, the first word of the line is none that may stand there.")
+    page.same("the last picture stays, as one of an earlier text", [page.do("return at('canvas').innerHTML") == drawn, page.do(STALE), page.text("status")],
+              [True, [True, True], "What stands here now has a fault. What is shown is of an earlier text."])
+    page.browser.shoot(SHOTS / f"{page.browser.name}-typed-fault.png")
+    page.click("[data-step=nearer]")
+    page.settle()
+    page.same("the fault stays when the picture is zoomed", page.do("return at('fault').hidden"), False)
+    page.set("until", "soon")
+    wait_for(page.browser, "return /until/.test(document.getElementById('fault-text').textContent)", 3)
+    page.same("a value that is refused", page.do("return [at('frame').hidden, at('results').hidden]"), [False, False])
+    page.set("until", "")
+    page.set("rate", "1000")
+    page.set("text", text)
+    wait_for(page.browser, FRESH, 3)
+    page.same("the fault goes", page.do("return at('fault').hidden"), True)
+    page.choose("planned.streams")
+    page.do(COUNTED)
+    page.set("text", "stream 1 7 60 20us 0us 1500000\n")
+    wait_for(page.browser, "return !document.getElementById('stop').disabled", 3)
+    table = "stream 1 7 60 250us 20us 2\n"
+    for it in (table + "#", table + "##", table):
+        time.sleep(0.4)
+        page.set("text", it)
+    wait_for(page.browser, FRESH, 5)
+    with tempfile.NamedTemporaryFile() as beside:
+        beside.write(page.do("return at('beside').value").encode())
+        beside.flush()
+        page.answers("a newer run", program("streams", "--with", beside.name, text=table.encode())[1])
+    page.same("one run at a time", page.do("return window.most"), 1)
+    page.open("")
 
 
 STORY = "return [...document.querySelectorAll('#example optgroup')[0].children].map((it) => it.value)"
@@ -1092,7 +1426,7 @@ def try_looks(page):
         page.run()
         shoot(page, "fault-dark", dark=True)
     page.choose("priorities.script")
-    page.set("text", "frame 1 0 60\nclock 1000000\n")
+    page.set("text", f"frame 1 0 60\nclock 1000000\n{TOO_LONG}")
     shoot(page, "stale")
     page.choose("windows.schedules")
     shoot(page, "check")
@@ -1102,8 +1436,8 @@ def try_looks(page):
     shoot(page, "replay")
 
 
-TRIES = [try_examples, try_replay, try_typing, try_options, try_worked, try_faults, try_refused, try_zoom, try_keys, try_micros, try_moments, try_frames, try_drops, try_tips, try_marks, try_pictures, try_bounds,
-         try_story, try_tabs, try_kept, try_long, try_files, try_forgotten, try_dates, try_stale, try_link, try_stop, try_access, try_screens, try_sizes, try_looks]
+TRIES = [try_examples, try_replay, try_typing, try_options, try_worked, try_faults, try_refused, try_zoom, try_keys, try_micros, try_moments, try_frames, try_reasons, try_why, try_drops, try_tips, try_marks, try_pictures, try_rows, try_shades, try_whole, try_bounds,
+         try_story, try_tabs, try_kept, try_long, try_files, try_forgotten, try_dates, try_stale, try_live, try_link, try_stop, try_access, try_screens, try_sizes, try_looks]
 
 
 def try_page(kind, address, server):

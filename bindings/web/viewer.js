@@ -40,10 +40,19 @@ export class Viewer {
     this.canvas.style.transform = "";
     this.canvas.replaceChildren(...(picture ? [picture.svg] : []));
     this.box.hidden = !picture;
+    this.box.classList.remove("held");
     this.#hide();
     // (a frame of another run is not marked)
     if (!picture?.frames?.includes(this.frame)) this.frame = null;
     else picture.mark(this.frame);
+  }
+
+  /** Leaves the picture where it is while another run's comes: nothing in it can be found or moved any more. */
+  hold() {
+    this.picture = null;
+    this.frame = null;
+    this.#hide();
+    this.box.classList.add("held");
   }
 
   /** Marks a frame, and shows where it is; another time is wanted where it lies outside. */

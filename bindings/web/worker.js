@@ -1,7 +1,9 @@
 // The worker: does one job after the other, away from the page.
 import { readMoments, run } from "./taprio.js";
-import { changesOf, readScript } from "./script.js";
+import { changesOf, kindsOf, readScript } from "./script.js";
 import { byClass, droppedIn, framesOf } from "./frames.js";
+import { historyOf, sentByStart } from "./why.js";
+import { timesOf } from "./shades.js";
 import { INSTEAD } from "./support.js";
 
 let module = null;
@@ -28,7 +30,9 @@ function fatesIn({ script, answers, values }) {
   const { arrivals, commands, first, last } = readScript(script);
   const dropped = /^dropped /m.test(answers) ? droppedIn(answersTo(script, "frames", values)) : [];
   const classes = byClass(answersTo(script, "script", { ...values, summary: true }));
-  return { frames: framesOf(arrivals, answers, dropped), classes, changes: changesOf(commands, answers), first, last };
+  const frames = framesOf(arrivals, answers, dropped);
+  const wire = sentByStart(frames);
+  return { frames, wire, times: timesOf(wire), classes, changes: changesOf(commands, answers), kinds: kindsOf(commands, answers), history: historyOf(commands, answers, values), first, last };
 }
 
 // What is done beside the program's jobs.
