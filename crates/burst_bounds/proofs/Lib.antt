@@ -12,3 +12,4 @@ pub mod UnseenLaws
 pub mod TalkerLaws
 pub mod WalkLaws
 pub mod CommonLaws
+pub mod ShareLaws

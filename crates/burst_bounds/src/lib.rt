@@ -8,6 +8,7 @@ mod arrivals;
 mod busy;
 pub mod laws;
 mod moments;
+mod rate;
 mod repeats;
 mod slots;
 mod walk;
