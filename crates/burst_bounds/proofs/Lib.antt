@@ -13,3 +13,4 @@ pub mod TalkerLaws
 pub mod WalkLaws
 pub mod CommonLaws
 pub mod ShareLaws
+pub mod RateLaws

@@ -6,7 +6,8 @@ ghost use Rattle.gate_list.specs.Gate.{IsSchedule, in_ps, prefix};
 ghost use Rattle.list_position.specs.Position.{IsPlaced};
 ghost use Rattle.delay_bounds.specs.Walk.{may_by};
 ghost use Rattle.burst_bounds.specs.Overload.{IsOverloaded, IsShare, IsShareless, wholes};
-ghost use Rattle.burst_bounds.specs.Talkers.{IsTalker};
+ghost use Rattle.burst_bounds.specs.Talkers.{IsTalker, longest_need};
+ghost use Rattle.burst_bounds.specs.Unbound.{periods_in};
 ghost use Rattle.burst_bounds.specs.Walk.{AreBelow, talker_at};
 
 use crate::slots::{is_slot, next_slot};
@@ -103,24 +104,36 @@ fn share_of(schedule: &Schedule, first: &Position, class: u8, need: u128) -> Res
     }
 }
 
-/// What is left of a number of slots when each talker has had one for each whole period in its time; the rest of each
-/// time is kept. None: they don't suffice.
-fn slots_left(slots: u128, talkers: &[Talker], times: &mut [u128]) -> Option<u128> {
+/// By this each time is multiplied at a step.
+const STEP: u128 = 1 << 32;
+
+/// What is left of a number of slots when each talker has had one for each whole period in its time. None: they don't
+/// suffice.
+fn slots_left(slots: u128, talkers: &[Talker], times: &[u128]) -> Option<u128>
+    requires talkers { All IsTalker talkers.now }
+    requires times { length times.now ≡ length talkers.now }
+    ensures { MatchOption result (slots < wholes talkers.now times.now) (λ left. left + wholes talkers.now times.now ≡ slots) }
+{
     let mut left = slots;
     for (i, talker) in talkers.iter().enumerate() {
-        let time = times[i];
-        left = left.checked_sub(time / talker.period)?;
-        times[i] = time % talker.period;
+        let periods = times[i] / talker.period;
+        if left < periods {
+            return None;
+        }
+        left -= periods;
     }
     Some(left)
 }
 
-/// By this each time is multiplied at a step.
-const STEP: u128 = 1 << 32;
-
-fn longer(times: &mut [u128]) {
-    for time in times {
-        *time = *time * STEP;
+/// The rest of each time behind whole periods of its talker, multiplied.
+fn lengthen(talkers: &[Talker], times: &mut [u128])
+    requires talkers { All IsTalker talkers.now }
+    requires times { length times.old ≡ length talkers.now }
+    ensures count { length times.new ≡ length talkers.now }
+    ensures rests { (i : ℕ) → i < length talkers.now → slice_index times.new i ≡ (slice_index times.old i % (talker_at talkers.now i).period) * 2 ^ 32 }
+{
+    for (i, talker) in talkers.iter().enumerate() {
+        times[i] = (times[i] % talker.period) * STEP;
     }
 }
 
@@ -129,7 +142,9 @@ fn same_times<A: Allocator>(
     alloc: A,
     talkers: usize,
     time: u128,
-) -> Result<Vec<u128, A>, AllocError> {
+) -> Result<Vec<u128, A>, AllocError>
+    ensures { IfOk result (λ times. times.items ≡ replicate talkers time) }
+{
     let mut times = Vec::with_capacity(alloc, talkers)?;
     for _i in 0..talkers {
         times.push(time)?;
@@ -141,9 +156,15 @@ fn same_times<A: Allocator>(
 ///
 /// The time is multiplied by 2^32 again and again, and of the slots and of the whole periods only the difference is
 /// kept. Each step is a further digit of the fractions.
-fn is_more(share: Share, talkers: &[Talker], times: &mut [u128]) -> bool {
+fn is_more(share: Share, talkers: &[Talker], times: &mut [u128]) -> bool
+    requires few { length talkers.now < 2 ^ 60 }
+    requires talkers { All IsTalker talkers.now }
+    requires times { length times.old ≡ length talkers.now }
+    requires same { (i : ℕ) → i < length talkers.now → slice_index times.old i ≡ share.time }
+    ensures { IsTrue result → (n : ℕ) × (share.slots * n < periods_in (share.time * n) talkers.now) }
+{
     let mut slots = share.slots;
-    for _ in 0..3 * talkers.len() + 2 {
+    for _i in 0..3 * talkers.len() + 2 {
         let Some(left) = slots_left(slots, talkers, times) else {
             return true;
         };
@@ -151,7 +172,7 @@ fn is_more(share: Share, talkers: &[Talker], times: &mut [u128]) -> bool {
             return false;
         }
         slots = left * STEP;
-        longer(times);
+        lengthen(talkers, times);
     }
     false
 }
@@ -167,6 +188,13 @@ pub fn is_overloaded<A: Allocator>(
 ) -> Result<bool, Unbound>
 where
     A: Clone,
+    requires sound { IsSchedule schedule.now }
+    requires first { IsPlaced schedule.now 0 None 0 first.now }
+    requires class { class < CLASSES }
+    requires need { (0 < need) × (need ≤ greatest_moment) }
+    requires few { length talkers.now < 2 ^ 60 }
+    requires talkers { All IsTalker talkers.now }
+    ensures { IfOk result (λ more. IsTrue more → IsOverloaded schedule.now class need talkers.now) }
 {
     let share = share_of(schedule, first, class, need)?;
     let Ok(lent) = alloc.clone() else {
