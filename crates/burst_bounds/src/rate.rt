@@ -196,7 +196,10 @@ where
     requires talkers { All IsTalker talkers.now }
     ensures { IfOk result (λ more. IsTrue more → IsOverloaded schedule.now class need talkers.now) }
 {
-    let share = share_of(schedule, first, class, need)?;
+    let share = match share_of(schedule, first, class, need) {
+        Ok(share) => share,
+        Err(why) => return Err(why),
+    };
     let Ok(lent) = alloc.clone() else {
         return Err(Unbound::Memory);
     };
