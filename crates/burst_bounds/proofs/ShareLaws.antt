@@ -14,7 +14,7 @@ use Rattle.any_traffic.specs.Slots.{IsSlot}
 use Rattle.burst_bounds.specs.Overload.{IsShare, IsShareless, Takes}
 use Rattle.burst_bounds.specs.Slotless.{IsNoSlot}
 use Rattle.burst_bounds.specs.declared.Unbound.{Unbound}
-use Rattle.burst_bounds.specs.declared.Unbound.TheVariants.{Stuck, Long, Memory}
+use Rattle.burst_bounds.specs.declared.Unbound.TheVariants.{Overloaded, Stuck, Long, Memory}
 use Rattle.burst_bounds.specs.declared.rate.Share.{Share}
 use Rattle.burst_bounds.proofs.AlikeLaws.{one_behind_another}
 use Rattle.burst_bounds.proofs.SlotLaws.{slot_then}
@@ -27,6 +27,7 @@ pub shareless : (plan : Plan) (class d from : ℕ) (why : Unbound) → from ≤ 
 shareless plan class d from Long soon late = absurd (omega (arith, soon, late))
 shareless plan class d from Stuck soon stuck = stuck
 shareless plan class d from Memory soon none = none
+shareless plan class d from Overloaded soon none = none
 
 module _ (plan : Plan) (class d from begin : ℕ) (sound : IsSchedule plan) (above : 0 < d) (shut : may_by plan class from 1 ≡ false) (first : IsFirst (may_by plan class) d from begin) where
   abbrev may : ℕ → ℕ → Bool

@@ -8,3 +8,4 @@ pub mod Reach
 pub mod Good
 pub mod Laws
 pub mod Overload
+pub mod Answer

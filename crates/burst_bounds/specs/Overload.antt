@@ -10,7 +10,7 @@ use Rattle.burst_bounds.specs.Unbound.{IsStuck, periods_in}
 use Rattle.burst_bounds.specs.Walk.{talker_at}
 use Rattle.burst_bounds.specs.declared.Talker.{Talker}
 use Rattle.burst_bounds.specs.declared.Unbound.{Unbound}
-use Rattle.burst_bounds.specs.declared.Unbound.TheVariants.{Stuck, Long, Memory}
+use Rattle.burst_bounds.specs.declared.Unbound.TheVariants.{Stuck, Memory}
 use Rattle.burst_bounds.specs.declared.rate.Share.{Share}
 
 -- From some slot on so many further ones take just so many cycles. A plan repeats, so this goes on so: it is what the class takes in the
@@ -46,7 +46,13 @@ abbrev pub IsShareless : Plan → ℕ → ℕ → Unbound → Type 0
 IsShareless plan class d Stuck = IsStuck plan class d
 IsShareless plan class d why = ⊥
 
--- how many whole periods pass, of each talker in its own time; and what is left of each time
+-- or where memory is short
+abbrev pub IsShareUnknown : Plan → ℕ → ℕ → Unbound → Type 0
+IsShareUnknown plan class d Stuck = IsStuck plan class d
+IsShareUnknown plan class d Memory = Unit {0}
+IsShareUnknown plan class d why = ⊥
+
+-- how many whole periods pass, of each talker in its own time
 abbrev pub wholes : List Talker → List ℕ → ℕ
 wholes (t ∷ talkers) (x ∷ times) = x / t.period + wholes talkers times
 wholes _ _ = 0

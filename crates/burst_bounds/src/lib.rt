@@ -39,10 +39,11 @@ pub struct Bounds {
 /// Why a class has no bounds.
 #[derive(Clone, Copy, Debug, PartialEq, Eq)]
 pub enum Unbound {
+    /// In the long run more frames come than the windows take.
+    Overloaded,
     /// No window takes the longest frame.
     Stuck,
-    /// From some moment on the class is busy with more frames than may be looked at, or until the greatest moment. So it
-    /// is, too, where in the long run more frames come than the windows take.
+    /// From some moment on the class is busy with more frames than may be looked at, or until the greatest moment.
     Long,
     /// Out of memory.
     Memory,

@@ -5,7 +5,7 @@ ghost use Rattle.wire_time.specs.Moment.{greatest_moment};
 ghost use Rattle.gate_list.specs.Gate.{IsSchedule, in_ps, prefix};
 ghost use Rattle.list_position.specs.Position.{IsPlaced};
 ghost use Rattle.delay_bounds.specs.Walk.{may_by};
-ghost use Rattle.burst_bounds.specs.Overload.{IsOverloaded, IsShare, IsShareless, wholes};
+ghost use Rattle.burst_bounds.specs.Overload.{IsOverloaded, IsShare, IsShareless, IsShareUnknown, wholes};
 ghost use Rattle.burst_bounds.specs.Talkers.{IsTalker, longest_need};
 ghost use Rattle.burst_bounds.specs.Unbound.{periods_in};
 ghost use Rattle.burst_bounds.specs.Walk.{AreBelow, talker_at};
@@ -157,14 +157,13 @@ fn same_times<A: Allocator>(
 /// The time is multiplied by 2^32 again and again, and of the slots and of the whole periods only the difference is
 /// kept. Each step is a further digit of the fractions.
 fn is_more(share: Share, talkers: &[Talker], times: &mut [u128]) -> bool
-    requires few { length talkers.now < 2 ^ 60 }
     requires talkers { All IsTalker talkers.now }
     requires times { length times.old ≡ length talkers.now }
     requires same { (i : ℕ) → i < length talkers.now → slice_index times.old i ≡ share.time }
     ensures { IsTrue result → (n : ℕ) × (share.slots * n < periods_in (share.time * n) talkers.now) }
 {
     let mut slots = share.slots;
-    for _i in 0..3 * talkers.len() + 2 {
+    for _i in 0..talkers.len().saturating_mul(3).saturating_add(2) {
         let Some(left) = slots_left(slots, talkers, times) else {
             return true;
         };
@@ -192,9 +191,9 @@ where
     requires first { IsPlaced schedule.now 0 None 0 first.now }
     requires class { class < CLASSES }
     requires need { (0 < need) × (need ≤ greatest_moment) }
-    requires few { length talkers.now < 2 ^ 60 }
     requires talkers { All IsTalker talkers.now }
-    ensures { IfOk result (λ more. IsTrue more → IsOverloaded schedule.now class need talkers.now) }
+    ensures more { IfOk result (λ more. IsTrue more → IsOverloaded schedule.now class need talkers.now) }
+    ensures why { IfErr result (IsShareUnknown schedule.now class need) }
 {
     let share = match share_of(schedule, first, class, need) {
         Ok(share) => share,
