@@ -1,7 +1,7 @@
 -- The slots of one cycle, from a moment on at which the class is shut; and where it never is.
 use Rattle.std.proofs.Common.{◌≡◌, ◌<◌, ◌≤◌, ℕ, zero, suc, ◌+◌, ◌-◌, ◌*◌, ◌/◌, ◌%◌, ◌^◌, Bool, true, false, Some, None, length, inl, inr, refl, sym, ap, ◌∙◌, subst, arith, le_refl, add-mul}
 use Rattle.std.proofs.Math.Nat.{div-add-mod}
-use Rattle.std.proofs.lemmas.Bool.{both_ways, cases_Bool, cases_lt}
+use Rattle.std.proofs.lemmas.Bool.{both_ways, cases_lt}
 use Rattle.wire_time.specs.Moment.{greatest_moment}
 use Rattle.gate_list.specs.Gate.{IsSchedule, Plan, in_ps, mask_since, opens, prefix}
 use Rattle.gate_list.proofs.OpenLaws.{open_at, open_from, open_within}
@@ -11,25 +11,25 @@ use Rattle.delay_bounds.proofs.LongestWaitLaws.{closes_at}
 use Rattle.delay_bounds.specs.ForEver.{Repeats}
 use Rattle.delay_bounds.specs.Walk.{may_by}
 use Rattle.any_traffic.specs.Slots.{IsSlot}
-use Rattle.burst_bounds.specs.Overload.{IsShare, IsShareless, Takes}
+use Rattle.burst_bounds.specs.Overload.{IsShare, IsShareless}
 use Rattle.burst_bounds.specs.Slotless.{IsNoSlot}
 use Rattle.burst_bounds.specs.declared.Unbound.{Unbound}
 use Rattle.burst_bounds.specs.declared.Unbound.TheVariants.{Overloaded, Stuck, Long, Memory}
-use Rattle.burst_bounds.specs.declared.rate.Share.{Share}
 use Rattle.burst_bounds.proofs.AlikeLaws.{one_behind_another}
-use Rattle.burst_bounds.proofs.SlotLaws.{slot_then}
 
 fits_at : (may : ℕ → ℕ → Bool) (d t n s : ℕ) → IsSlot may d t n s → may s d ≡ true
 fits_at may d t zero s h = h.fits
 fits_at may d t (suc n) s h = fits_at may d (h.0 + d) n s h.2
 
-pub shareless : (plan : Plan) (class d from : ℕ) (why : Unbound) → from ≤ greatest_moment → IsNoSlot plan class d from why → IsShareless plan class d why
+pub shareless : (plan : Plan) (class d from : ℕ) (why : Unbound) → from ≤ greatest_moment → IsNoSlot plan class d from why
+    → IsShareless plan class d why
 shareless plan class d from Long soon late = absurd (omega (arith, soon, late))
 shareless plan class d from Stuck soon stuck = stuck
 shareless plan class d from Memory soon none = none
 shareless plan class d from Overloaded soon none = none
 
-module _ (plan : Plan) (class d from begin : ℕ) (sound : IsSchedule plan) (above : 0 < d) (shut : may_by plan class from 1 ≡ false) (first : IsFirst (may_by plan class) d from begin) where
+module _ (plan : Plan) (class d from begin : ℕ) (sound : IsSchedule plan) (above : 0 < d) (shut : may_by plan class from 1 ≡ false)
+    (first : IsFirst (may_by plan class) d from begin) where
   abbrev may : ℕ → ℕ → Bool
   may = may_by plan class
 
@@ -53,7 +53,8 @@ module _ (plan : Plan) (class d from begin : ℕ) (sound : IsSchedule plan) (abo
           | inr short ↦ omega (arith, short, low)
           | inl over ↦
               let there : from + cycle * 1 ≡ from + cycle = omega arith in
-              let opened : may (from + cycle) 1 ≡ true = open_within (mask_since (Some plan) 0 None) class at d (from + cycle) 1 (fits_at may d from n at slot) (omega (arith, before)) (omega (arith, over)) in
+              let opened : may (from + cycle) 1 ≡ true = open_within (mask_since (Some plan) 0 None) class at d (from + cycle) 1
+              (fits_at may d from n at slot) (omega (arith, before)) (omega (arith, over)) in
               absurd (both_ways _ shut (sym (again from 1) ∙ (ap (λ k. may k 1) there ∙ opened)))
         ]
       ]
@@ -67,25 +68,34 @@ module _ (plan : Plan) (class d from begin : ℕ) (sound : IsSchedule plan) (abo
         absurd (both_ways _ (h.least (begin + cycle) (ends n at slot less) over) fits)
   ]
 
-  pub cycle_is : (slots at : ℕ) → IsSlot may d from slots at → at ≡ begin + cycle → begin < 2 ^ 60 → IsShare plan class d (record { slots = slots; time = at - begin })
+  pub cycle_is : (slots at : ℕ) → IsSlot may d from slots at → at ≡ begin + cycle → begin < 2 ^ 60
+      → IsShare plan class d (record { slots = slots; time = at - begin })
   cycle_is slots at row is small =
       let length = sound.cycle in
       let one : cycle * 1 ≡ cycle = omega arith in
       record {
         cycles = 1;
         whole = omega (arith, is, one);
-        takes = record { from = from; slot = begin; first = first; later = subst (IsSlot may d from slots) (let e : at ≡ begin + cycle * 1 = omega (arith, is, one) in e) row };
+        takes = record {
+          from = from;
+          slot = begin;
+          first = first;
+          later = subst (IsSlot may d from slots)
+              (let e : at ≡ begin + cycle * 1 = omega (arith, is, one) in e) row;
+        };
         small = omega (arith, is, length);
       }
 
 -- ---- where it is never shut
 
-module _ (plan : Plan) (class d : ℕ) (sound : IsSchedule plan) (each : (i : ℕ) → i < length plan.entries → may_by plan class (prefix plan.entries i) 1 ≡ true) where
+module _ (plan : Plan) (class d : ℕ) (sound : IsSchedule plan) (each : (i : ℕ) → i < length plan.entries
+    → may_by plan class (prefix plan.entries i) 1 ≡ true) where
   abbrev mask : ℕ → ℕ
   mask = mask_since (Some plan) 0 None
 
   open_at_edge : (i : ℕ) → i < length plan.entries → opens (mask (prefix plan.entries i)) class ≡ true
-  open_at_edge i less = open_at mask class (prefix plan.entries i) 1 (each i less) (prefix plan.entries i) (le_refl (prefix plan.entries i)) (omega arith)
+  open_at_edge i less = open_at mask class (prefix plan.entries i) 1 (each i less) (prefix plan.entries i)
+      (le_refl (prefix plan.entries i)) (omega arith)
 
   same_phase : (m : ℕ) → may_by plan class m 1 ≡ may_by plan class (m % in_ps plan.cycle) 1
   same_phase m =
@@ -104,7 +114,8 @@ module _ (plan : Plan) (class d : ℕ) (sound : IsSchedule plan) (each : (i : �
       go true is before = subst (λ k. opens (mask k) class ≡ true) at is
       go false is before =
           let edge = closes_at plan class sound.plan_is.cycle sound.plan_is.entries t before is in
-          let shown : may_by plan class (t + 1) 1 ≡ true = same_phase (t + 1) ∙ (ap (λ k. may_by plan class k 1) (sym edge.2) ∙ each edge.0 edge.1) in
+          let shown : may_by plan class (t + 1) 1 ≡ true = same_phase (t + 1) ∙
+          (ap (λ k. may_by plan class k 1) (sym edge.2) ∙ each edge.0 edge.1) in
           absurd (both_ways _ is (open_at mask class (t + 1) 1 shown (t + 1) (le_refl (t + 1)) (omega arith)))
 
   fits : (t : ℕ) → may_by plan class t d ≡ true
@@ -123,6 +134,9 @@ module _ (plan : Plan) (class d : ℕ) (sound : IsSchedule plan) (each : (i : �
     small =
         let length = sound.cycle in
         let most : ℕ = 1000 * 2 ^ 40 in
-        let up : in_ps plan.cycle * d ≤ most * d = (let e : most * d ≡ in_ps plan.cycle * d + (most - in_ps plan.cycle) * d = (let s : most ≡ in_ps plan.cycle + (most - in_ps plan.cycle) = omega (arith, length) in ap (λ m. m * d) s ∙ add-mul (in_ps plan.cycle) (most - in_ps plan.cycle) d) in omega (arith, e)) in
+        let up : in_ps plan.cycle * d ≤ most * d =
+        (let e : most * d ≡ in_ps plan.cycle * d + (most - in_ps plan.cycle) * d =
+        (let s : most ≡ in_ps plan.cycle + (most - in_ps plan.cycle) = omega (arith, length) in ap (λ m. m * d) s ∙ add-mul
+        (in_ps plan.cycle) (most - in_ps plan.cycle) d) in omega (arith, e)) in
         omega (arith, up, within);
   }

@@ -1,6 +1,6 @@
 -- Overload: in the long run more frames come than the windows take.
-use Rattle.std.specs.Prelude.{◌≡◌, ◌<◌, ◌≤◌, ℕ, ◌+◌, ◌*◌, ◌/◌, ◌%◌, ◌^◌, Bool, false, true, List, [], ◌∷◌, length, slice_index}
-use Rattle.gate_list.specs.Gate.{Plan, in_ps, prefix}
+use Rattle.std.specs.Prelude.{◌≡◌, ◌<◌, ℕ, ◌+◌, ◌*◌, ◌/◌, ◌^◌, List, ◌∷◌, length}
+use Rattle.gate_list.specs.Gate.{Plan, in_ps}
 use Rattle.separation.specs.Served.{IsFirst}
 use Rattle.delay_bounds.specs.Walk.{may_by}
 use Rattle.any_traffic.specs.AnyTraffic.{AreCurveBounds}
@@ -31,7 +31,8 @@ pub record IsOverloaded (plan : Plan) (class d : ℕ) (talkers : List Talker) : 
 -- The law: where the class is overloaded no bounds hold.
 abbrev pub OverloadLaw : Type 0
 OverloadLaw =
-    (plan : Plan) (class d wait most : ℕ) (talkers : List Talker) → 0 < plan.cycle → ((i : ℕ) → i < length talkers → 0 < (talker_at talkers i).period)
+    (plan : Plan) (class d wait most : ℕ) (talkers : List Talker) → 0 < plan.cycle
+    → ((i : ℕ) → i < length talkers → 0 < (talker_at talkers i).period)
     → IsOverloaded plan class d talkers → AreCurveBounds plan class d (curve talkers) wait most → ⊥
 
 -- so many slots in so many picoseconds, which are whole cycles

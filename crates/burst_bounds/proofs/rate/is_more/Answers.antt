@@ -1,4 +1,4 @@
-use Rattle.std.proofs.Common.{◌≡◌, ◌<◌, ◌*◌, ◌%◌, ◌^◌, ℕ, List, All, length, get_or, refl, sym, ap, ◌∙◌, subst, arith}
+use Rattle.std.proofs.Common.{◌<◌, ◌*◌, ◌^◌, ℕ, List, All, length, refl}
 use Rattle.std.proofs.lemmas.List.Elements.{All-get_or}
 use Rattle.burst_bounds.specs.Talkers.{IsTalker}
 use Rattle.burst_bounds.specs.Walk.{talker_at}
@@ -17,11 +17,13 @@ loop-i-init c = record {
 
 pub returns-in_default : goal.returns-in_default
 returns-in_default c = λ yes.
-    digit_over c.args.talkers.now c.args.share.slots c.args.share.time c.loop-i.slots c.loop-i.times (periods c.args.talkers.now c.requires.talkers) c.loop-i.invariant.digit c.in_default.ensures
+    digit_over c.args.talkers.now c.args.share.slots c.args.share.time c.loop-i.slots c.loop-i.times
+    (periods c.args.talkers.now c.requires.talkers) c.loop-i.invariant.digit c.in_default.ensures
 
 pub loop-i-preserved : goal.loop-i-preserved
 loop-i-preserved c = record {
   count = c.lengthen.ensures.count;
-  digit = digit_next c.args.talkers.now c.args.share.slots c.args.share.time c.loop-i.slots c.in-Some.left (c.in-Some.left * 2 ^ 32) (2 ^ 32) c.loop-i.times c.lengthen.new.times
+  digit = digit_next c.args.talkers.now c.args.share.slots c.args.share.time c.loop-i.slots c.in-Some.left (c.in-Some.left * 2 ^ 32)
+      (2 ^ 32) c.loop-i.times c.lengthen.new.times
       c.loop-i.invariant.digit c.in-Some.ensures refl c.lengthen.ensures.count c.lengthen.ensures.rests;
 }

@@ -1,4 +1,4 @@
-use Rattle.std.proofs.Common.{◌≡◌, ◌<◌, ◌≤◌, ◌*◌, ◌%◌, ◌^◌, ℕ, length, get_or}
+use Rattle.std.proofs.Common.{◌≡◌, ◌<◌, ◌≤◌, ◌*◌, ◌%◌, ◌^◌, ℕ, get_or}
 use Rattle.burst_bounds.specs.Walk.{talker_at}
 use Rattle.burst_bounds.proofs.rate.lengthen.Given as goal
 

@@ -1,4 +1,4 @@
-use Rattle.std.proofs.Common.{◌≡◌, ◌*◌, ◌+◌, ℕ, subst, sym, arith}
+use Rattle.std.proofs.Common.{◌≡◌, ◌*◌, subst, arith}
 use Rattle.gate_list.specs.Gate.{in_ps}
 use Rattle.burst_bounds.specs.Overload.{IsShare}
 use Rattle.burst_bounds.proofs.ShareLaws.{always_is}
