@@ -1,7 +1,7 @@
 //! The bounds of a class that a schedule keeps apart, and whose talkers aren't synchronised: the longest wait of a
 //! frame, and the most that ever wait at once. Both are the least that hold.
 //!
-//! What is answered is that of `burst_bounds`. Its definitions are specs/Least.antt and specs/Unbound.antt.
+//! What is answered is that of `burst_bounds`: specs/Least.antt, or else specs/Answer.antt.
 #![tactic(auto)]
 
 mod arrivals;
