@@ -12,3 +12,5 @@ pub mod UnseenLaws
 pub mod TalkerLaws
 pub mod WalkLaws
 pub mod CommonLaws
+pub mod ShareLaws
+pub mod RateLaws

@@ -5,7 +5,7 @@ use Rattle.gate_list.specs.Gate.{Plan}
 use Rattle.delay_bounds.specs.Walk.{may_by}
 use Rattle.burst_bounds.specs.Slotless.{IsNoSlot, IsSlotless}
 use Rattle.burst_bounds.specs.declared.Unbound.{Unbound}
-use Rattle.burst_bounds.specs.declared.Unbound.TheVariants.{Stuck, Long, Memory}
+use Rattle.burst_bounds.specs.declared.Unbound.TheVariants.{Overloaded, Stuck, Long, Memory}
 use Rattle.burst_bounds.proofs.SlotLaws.{IsSought}
 
 pub slotless : (plan : Plan) (class d from i next count : ℕ) (why : Unbound) → from ≤ greatest_moment → i < count
@@ -20,3 +20,4 @@ slotless plan class d from i next count Long soon less sought late = elim sought
 ]
 slotless plan class d from i next count Stuck soon less sought stuck = stuck
 slotless plan class d from i next count Memory soon less sought none = absurd none
+slotless plan class d from i next count Overloaded soon less sought none = absurd none

@@ -7,3 +7,5 @@ pub mod Slotless
 pub mod Reach
 pub mod Good
 pub mod Laws
+pub mod Overload
+pub mod Answer

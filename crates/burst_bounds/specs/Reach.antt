@@ -12,7 +12,7 @@ use Rattle.burst_bounds.specs.Walk.{AreArrivals, AreBoundsFrom, talker_at}
 use Rattle.burst_bounds.specs.declared.Bounds.{Bounds}
 use Rattle.burst_bounds.specs.declared.Talker.{Talker}
 use Rattle.burst_bounds.specs.declared.Unbound.{Unbound}
-use Rattle.burst_bounds.specs.declared.Unbound.TheVariants.{Stuck, Long, Memory}
+use Rattle.burst_bounds.specs.declared.Unbound.TheVariants.{Overloaded, Stuck, Long, Memory}
 use Rattle.burst_bounds.specs.declared.repeats.Repeat.{Repeat}
 use Rattle.burst_bounds.specs.declared.moments.Reach.{Reach}
 use Rattle.burst_bounds.specs.declared.moments.Reach.TheVariants.{Idle, Again}
@@ -87,6 +87,7 @@ abbrev pub IsUnseen : Plan → ℕ → ℕ → (ℕ → ℕ) → ℕ → Unbound
 IsUnseen plan class d curve count Long = IsLong plan class d curve (count - 1)
 IsUnseen plan class d curve count Stuck = IsStuck plan class d
 IsUnseen plan class d curve count Memory = Unit {0}
+IsUnseen plan class d curve count Overloaded = ⊥
 
 -- Bounds have become so that they hold from all moments around the end of a window, and are still not greater than any that hold.
 pub record IsWindowSeen (plan : Plan) (class d end : ℕ) (moments : List ℕ) (repeat : Option Repeat) (old new : Bounds) : Type 0 where

@@ -4,11 +4,8 @@ use Rattle.wire_time.specs.Moment.{greatest_moment}
 use Rattle.gate_list.specs.Gate.{Plan}
 use Rattle.delay_bounds.specs.Walk.{may_by}
 use Rattle.any_traffic.specs.Slots.{IsSlot}
-use Rattle.burst_bounds.specs.Talkers.{curve, longest_need}
 use Rattle.burst_bounds.specs.Walk.{IsArrival}
 use Rattle.burst_bounds.specs.declared.Talker.{Talker}
-use Rattle.burst_bounds.specs.declared.Unbound.{Unbound}
-use Rattle.burst_bounds.specs.declared.Unbound.TheVariants.{Stuck, Long, Memory}
 
 -- No window takes d.
 abbrev pub IsStuck : Plan → ℕ → ℕ → Type 0
@@ -30,9 +27,3 @@ IsLate plan class d t frames = (n s : ℕ) × (n ≤ frames) × IsSlot (may_by p
 -- From some moment on the wire is busy for longer than so many frames, or than the greatest moment is away.
 abbrev pub IsLong : Plan → ℕ → ℕ → (ℕ → ℕ) → ℕ → Type 0
 IsLong plan class d curve frames = (t : ℕ) × (IsBusyFor plan class d curve t frames ⊎ IsLate plan class d t frames)
-
--- why talkers have no bounds, where so many frames of a busy time may be looked at
-abbrev pub IsUnbound : Plan → ℕ → List Talker → ℕ → Unbound → Type 0
-IsUnbound plan class talkers limit Stuck = IsStuck plan class (longest_need talkers)
-IsUnbound plan class talkers limit Long = IsLong plan class (longest_need talkers) (curve talkers) limit
-IsUnbound plan class talkers limit Memory = Unit {0}

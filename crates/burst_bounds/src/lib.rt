@@ -1,13 +1,14 @@
 //! The bounds of a class that a schedule keeps apart, and whose talkers aren't synchronised: the longest wait of a
 //! frame, and the most that ever wait at once. Both are the least that hold.
 //!
-//! What is answered is that of `burst_bounds`. Its definitions are specs/Least.antt and specs/Unbound.antt.
+//! What is answered is that of `burst_bounds`: specs/Least.antt, or else specs/Answer.antt.
 #![tactic(auto)]
 
 mod arrivals;
 mod busy;
 pub mod laws;
 mod moments;
+mod rate;
 mod repeats;
 mod slots;
 mod walk;
@@ -38,10 +39,11 @@ pub struct Bounds {
 /// Why a class has no bounds.
 #[derive(Clone, Copy, Debug, PartialEq, Eq)]
 pub enum Unbound {
+    /// In the long run more frames come than the windows take.
+    Overloaded,
     /// No window takes the longest frame.
     Stuck,
-    /// From some moment on the class is busy with more frames than may be looked at, or until the greatest moment. So it
-    /// is, too, where in the long run more frames come than the windows take.
+    /// From some moment on the class is busy with more frames than may be looked at, or until the greatest moment.
     Long,
     /// Out of memory.
     Memory,

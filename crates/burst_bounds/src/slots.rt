@@ -72,6 +72,7 @@ pub fn next_slot(
     requires need { need ≤ greatest_moment }
     ensures slot { IfOk result (λ at. IsFirst (may_by schedule.now class) need from at) }
     ensures soon { IfOk result (λ at. at < greatest_moment + in_ps schedule.now.cycle) }
+    ensures near { IfOk result (λ at. at < from + in_ps schedule.now.cycle) }
     ensures placed { IfOk result (λ at. IsPlaced schedule.now 0 None at position.new) }
     ensures why { IfErr result (λ why. IsNoSlot schedule.now class need from why) }
 {

@@ -6,10 +6,11 @@ ghost use Rattle.list_position.specs.Position.{IsPlaced};
 ghost use Rattle.burst_bounds.specs.Least.{AreLeast};
 ghost use Rattle.burst_bounds.specs.Reach.{IsCommon, IsUnseen};
 ghost use Rattle.burst_bounds.specs.Talkers.{IsTalker, curve, longest_need};
-ghost use Rattle.burst_bounds.specs.Unbound.{IsUnbound};
+ghost use Rattle.burst_bounds.specs.Answer.{IsUnbound};
 
 use crate::arrivals::arrivals;
 use crate::moments::{with_moment, with_windows};
+use crate::rate::is_overloaded;
 use crate::repeats::{Repeat, repeat_of};
 use crate::slots::slots_from;
 use crate::{Bounds, Talker, Unbound};
@@ -137,7 +138,8 @@ where
 /// come: until the wire is idle, or until all comes again. It takes memory for that many moments.
 ///
 /// # Errors
-/// `Stuck`: no window takes the longest frame. `Long`: some busy time has more than `limit` frames, or lasts until
+/// `Overloaded`: in the long run more frames come than the windows take, so that no bounds hold; `laws::overload` says
+/// so. `Stuck`: no window takes the longest frame. `Long`: some busy time has more than `limit` frames, or lasts until
 /// `MAX_MOMENT`. `Memory`: out of memory.
 ///
 /// IEEE Std 802.1Q-2018, 8.6.8.4 and 8.6.9. `any_traffic::any_traffic` says what the bounds are worth in every run.
@@ -159,6 +161,13 @@ where
     let _entries = schedule.len();
     let first = Position::first(schedule, 0, &mut Visits::zero());
     let need = longest_need(talkers);
+    let more = match is_overloaded(alloc, schedule, &first, class, need, talkers) {
+        Ok(more) => more,
+        Err(why) => return Err(why),
+    };
+    if more {
+        return Err(Unbound::Overloaded);
+    }
     let cycle = 1000 * u128::from(schedule.cycle_ns());
     let repeat = repeat_of(talkers, cycle, limit as usize);
     let most = limit as usize + 1;
