@@ -256,8 +256,9 @@ function layPicture() {
   if (!shown) return;
   tellWhy(ran.frames.includes(viewer.frame) ? viewer.frame : null);
   const picture = new Picture(text, shown, { origin: origin(), changes: ran.changes, frames: ran.frames, times: ran.times, kinds: ran.kinds });
+  at("frame").hidden = false;
+  picture.layLegend(at("canvas"));
   viewer.show(picture);
-  picture.layLegend();
   const words = `from ${writeAt(shown.from)} to ${writeAt(shown.to)}, counted from ${at("origin").selectedOptions[0]?.textContent ?? "moment 0"}`;
   at("frame").setAttribute("aria-label", `Picture ${words}: a row for each class with its open time, its frames and how long they wait, and one for the wire. The table of frames says the same.`);
 }
