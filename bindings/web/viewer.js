@@ -55,6 +55,11 @@ export class Viewer {
     this.box.classList.add("held");
   }
 
+  /** Whether the picture is of an earlier run than what is told beside it. */
+  get isHeld() {
+    return this.box.classList.contains("held");
+  }
+
   /** Marks a frame, and shows where it is; another time is wanted where it lies outside. */
   find(frame) {
     this.frame = frame;
