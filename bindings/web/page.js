@@ -157,12 +157,14 @@ function waitsNow() {
 
 // Why a frame of the run that is shown waits, in a sentence.
 function whyOf(frame, most) {
+  if (!ran.frames.includes(frame)) return "";
   return whySaid(waitsNow(), frame, { time: writeTime, at: writeAt }, most);
 }
 
 // Tells below the picture why the frame that is chosen waits.
 function tellWhy(frame) {
-  at("why").textContent = frame ? whyOf(frame, REASONS_TOLD) || (frame.start === null ? "" : `Frame ${frame.id} does not wait.`) : "";
+  const isThere = frame !== null && ran.frames.includes(frame);
+  at("why").textContent = isThere ? whyOf(frame, REASONS_TOLD) || (frame.start === null ? "" : `Frame ${frame.id} does not wait.`) : "";
 }
 
 // A frame is chosen in the table or in the picture: it is shown in both, and its line of the answers.
@@ -254,10 +256,11 @@ function showPicture({ output }, values) {
 function layPicture() {
   const { text, shown } = ran.drawn ?? {};
   if (!shown) return;
-  tellWhy(ran.frames.includes(viewer.frame) ? viewer.frame : null);
+  tellWhy(viewer.frame);
   const picture = new Picture(text, shown, { origin: origin(), changes: ran.changes, frames: ran.frames, times: ran.times, kinds: ran.kinds });
+  at("frame").hidden = false;
+  picture.layLegend(at("canvas"));
   viewer.show(picture);
-  picture.layLegend();
   const words = `from ${writeAt(shown.from)} to ${writeAt(shown.to)}, counted from ${at("origin").selectedOptions[0]?.textContent ?? "moment 0"}`;
   at("frame").setAttribute("aria-label", `Picture ${words}: a row for each class with its open time, its frames and how long they wait, and one for the wire. The table of frames says the same.`);
 }
@@ -631,13 +634,16 @@ function fillWhich(names) {
   at("which").replaceChildren(...names.map((name, place) => new Option(name, String(place))));
 }
 
+// Whether what is shown stays where what was typed has a fault: unless it is of two runs, of which the newer one was stopped before its picture came.
+const staysShown = (typed) => typed && ran !== null && !viewer.isHeld;
+
 async function work(mine, typed) {
   const next = await snapshot();
   if (mine !== turn) return;
   const told = await ask(mine, { job: next.job, input: encoded(next.text), beside: next.beside, values: next.values });
   if (!told) return;
   clearFault();
-  if (typed && ran && told.status !== 0) {
+  if (staysShown(typed) && told.status !== 0) {
     keepEarlier();
     showFault(told.fault);
     return;
@@ -691,7 +697,7 @@ function keepEarlier() {
 
 // Says why a run came to nothing. Of one that began by itself what is shown stays.
 function showError(error, typed) {
-  if (typed && ran && !(error instanceof Stopped)) {
+  if (staysShown(typed) && !(error instanceof Stopped)) {
     clearFault();
     keepEarlier();
     showFault(error.message, error.field ?? null);
@@ -699,7 +705,7 @@ function showError(error, typed) {
   }
   if (error instanceof Stopped) {
     say(STOPPED);
-    if (at("frame").classList.contains("held")) hidePicture("");
+    if (viewer.isHeld) hidePicture("");
     if (at("verdict").textContent === LOOKING) at("verdict").textContent = "The frames were not looked through.";
   } else if (error instanceof BadOption) {
     say("A value is refused (status 2).");

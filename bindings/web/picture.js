@@ -1,6 +1,6 @@
 // A picture of the port within the page: what time it shows, how to move in it, and which frame lies where.
 import { GREATEST, ticks } from "./moments.js";
-import { putShades, shadeOf } from "./shades.js";
+import { shadeOf, shaded } from "./shades.js";
 import { BOTTOM, LEFT, RIGHT, ROW, STEP, TOP, placeOfRow } from "./sizes.js";
 import { element } from "./svg.js";
 
@@ -141,15 +141,19 @@ function crossesIn(svg) {
 }
 
 // The height at which a part of the port's picture begins.
-const heightOf = (it) => Number(it.getAttribute("y") ?? /^M[\d.]+ ([\d.]+)/.exec(it.getAttribute("d") ?? "")?.[1] ?? 0);
+function heightOf(it) {
+  const [y, lines] = [it.getAttribute("y"), it.getAttribute("d")];
+  if (y !== null) return Number(y);
+  return lines === null ? 0 : parseFloat(lines.slice(lines.indexOf(" ") + 1));
+}
 
 // Where a part of the port's picture begins, from the left.
 const leftOf = (it) => Number(it.getAttribute("x") ?? /^M([\d.]+)/.exec(it.getAttribute("d") ?? "")?.[1] ?? 0);
 
 // Takes the parts of the port's legend together, each sign with its words, and those of the page's own behind them.
-function groupLegend(svg, own) {
+function groupLegend(legend, own) {
   const lineOf = (it) => (heightOf(it) < LEGEND_TOP + LEGEND_STEP ? 0 : 1);
-  const all = [...svg.children].filter((it) => heightOf(it) > BOTTOM + 20).sort((one, other) => lineOf(one) - lineOf(other) || leftOf(one) - leftOf(other));
+  const all = legend.sort((one, other) => lineOf(one) - lineOf(other) || leftOf(one) - leftOf(other));
   const parts = [[]];
   for (const it of all) {
     parts.at(-1).push(it);
@@ -158,14 +162,13 @@ function groupLegend(svg, own) {
   return [...parts.filter((it) => it.length), ...own].map((part) => {
     const group = element("g", { class: "legend" });
     group.append(...part);
-    svg.append(group);
     return group;
   });
 }
 
 // The sign for pixels that are shaded, with its words, as a part of the legend.
 const shadedSign = () => [
-  ...[0.1, 0.5, 0.9].map((share, place) => element("rect", { class: "v", x: 64 + 8 * place, y: 452, width: 8, height: 12, "fill-opacity": shadeOf(share) })),
+  ...[0.1, 0.5, 0.9].map((share, place) => shadeOf({ x: 64 + 8 * place, y: 452, width: 8, share }, 12)),
   element("text", { x: 94, y: 462 }, "shade: how full a pixel is"),
 ];
 
@@ -188,11 +191,14 @@ function movesOf(shown) {
   return { moves, above: move };
 }
 
-// Takes away the rows that aren't shown, and moves those above them down to the others, with what stands above all rows.
+// Takes away the rows that aren't shown, and moves those above them down to the others, with what stands above all rows. Gives what stands below
+// the axis: the legend.
 function moveRows(svg, { moves, above }) {
-  if (!above) return;
+  const legend = [];
   for (const it of [...svg.children]) {
     const y = heightOf(it);
+    if (y > BOTTOM + 20) legend.push(it);
+    if (!above || y > BOTTOM) continue;
     const lines = it.getAttribute("d");
     if (y && y < TOP - 4 && lines) it.setAttribute("d", lines.replace(/^(M[\d.]+) [\d.]+/, `$1 ${y + above}`));
     else if (y && y < TOP - 4) it.setAttribute("y", y + above);
@@ -202,6 +208,7 @@ function moveRows(svg, { moves, above }) {
       else if (move) it.setAttribute("transform", `translate(0 ${move})`);
     }
   }
+  return legend;
 }
 
 /** A picture in the page. */
@@ -216,34 +223,45 @@ export class Picture {
     this.shown = shown;
     this.frames = frames;
     // (its style goes before it is parsed: the page's policy refuses it)
-    const parsed = new DOMParser().parseFromString(text.replace(/<style>[^]*?<\/style>/, ""), "image/svg+xml").documentElement;
+    const bars = shaded(text, shown, times);
+    const parsed = new DOMParser().parseFromString(bars.text.replace(/<style>[^]*?<\/style>/, ""), "image/svg+xml").documentElement;
     this.svg = safe(parsed);
     this.crosses = crossesIn(this.svg);
     putInLayers(this.svg);
     putTicks(this.svg, shown, origin);
     putCycles(this.svg, shown, changes);
     putLeft(this.svg, shown, frames);
-    const shaded = putShades(this.svg, shown, times);
+    this.svg.querySelector("rect.f")?.before(...bars.shades.map((it) => shadeOf(it)));
+    this.svg.dataset.shaded = bars.number;
     this.svg.querySelector("text.t")?.remove();
     this.rows = movesOf(kindsShown(kinds, frames));
-    moveRows(this.svg, this.rows);
-    this.legend = groupLegend(this.svg, shaded ? [shadedSign()] : []);
-    this.#size(1);
+    this.legend = groupLegend(moveRows(this.svg, this.rows), bars.number ? [shadedSign()] : []);
     this.ring = element("rect", { class: "ring" });
   }
 
-  // Gives the picture its size, with so many lines of its legend.
-  #size(lines) {
+  // Gives a picture its size, with so many lines of a legend.
+  #size(svg, lines) {
     const { above } = this.rows;
     const height = LEGEND_TOP + LEGEND_STEP * lines + 10 - ABOVE - above;
-    this.svg.setAttribute("viewBox", `0 ${ABOVE + above} ${this.shown.width} ${height}`);
-    this.svg.setAttribute("width", this.shown.width);
-    this.svg.setAttribute("height", height);
+    svg.setAttribute("viewBox", `0 ${ABOVE + above} ${this.shown.width} ${height}`);
+    svg.setAttribute("width", this.shown.width);
+    svg.setAttribute("height", height);
   }
 
-  /** Lays out the legend by the width of its words, once the picture is in the page: in as many lines as it needs. */
-  layLegend() {
+  // The boxes of the legend's parts, by a picture of nothing else: all of the picture is laid out once.
+  #boxesIn(place) {
+    const alone = element("svg");
+    this.#size(alone, 1);
+    alone.append(...this.legend);
+    place.append(alone);
     const boxes = this.legend.map((it) => it.getBBox());
+    alone.remove();
+    return boxes;
+  }
+
+  /** Lays out the legend by the width of its words, in as many lines as it needs, before the picture is put into a place of the page. */
+  layLegend(canvas) {
+    const boxes = this.#boxesIn(canvas);
     const whole = boxes.reduce((sum, it) => sum + it.width + LEGEND_GAP, 0);
     const begin = LEFT + whole < this.shown.width ? LEFT : 8;
     let [x, line] = [begin, 0];
@@ -254,7 +272,8 @@ export class Picture {
       part.setAttribute("transform", `translate(${x - box.x} ${y})`);
       x += box.width + LEGEND_GAP;
     }
-    this.#size(line + 1);
+    this.svg.append(...this.legend);
+    this.#size(this.svg, line + 1);
   }
 
   // The height in the port's picture of what lies at a height in the page's.

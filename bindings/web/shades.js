@@ -1,15 +1,13 @@
 // Frames that are closer than a pixel: the pixels that they lie in are shaded by how full they are.
-import { BOTTOM, LEFT, RIGHT, placeOfRow } from "./sizes.js";
+import { LEFT, RIGHT, placeOfRow } from "./sizes.js";
 import { element } from "./svg.js";
+import { countFirst } from "./why.js";
 
 const BAR = 16; // the height of a bar
 const NARROWEST = 2; // the width of the narrowest bar of the port
 const NEAR = 0.03; // pixels that a bar of the port may lie beside its frame
 const PALEST = 0.25; // the shade of a pixel in which hardly anything lies
 const LEVELS = 32; // shades that are told apart
-
-/** The shade of a pixel that is so full. */
-export const shadeOf = (share) => (PALEST + (1 - PALEST) * Math.min(1, share)).toFixed(3);
 
 /** The starts and the ends of frames as numbers, counted from the first start, and their classes. */
 export function timesOf(wire) {
@@ -44,26 +42,38 @@ function fullness(times, { from, to, width }) {
     else row.short += 1;
     addFrame(row.full, left, right);
   };
-  for (let place = 0; place < starts.length; place += 1) {
+  for (let place = countFirst(ends, (it) => it <= begin); place < starts.length; place += 1) {
     const left = Math.max(0, (starts[place] - begin) * scale);
     const right = Math.min(pixels, (ends[place] - begin) * scale);
     if (left >= pixels) break;
-    if (right <= 0) continue;
     add(rows[7 - kinds[place]], left, right);
     add(rows[8], left, right);
   }
   return rows;
 }
 
-// The bars of the port in each row, from left to right.
-function barsIn(svg) {
+// A bar as the port writes it; that of the legend is less high.
+const WRITTEN = /<rect class="f(?: s)?" x="([\d.]+)" y="(\d+)" width="([\d.]+)" height="16"\/>\n/g;
+
+// The bars of a picture of the port in each row, from left to right, each with its place in the text.
+function barsIn(text) {
   const rows = Array.from({ length: 9 }, () => []);
-  for (const it of svg.querySelectorAll("rect.f")) {
-    const [x, y, width] = ["x", "y", "width"].map((name) => Number(it.getAttribute(name)));
-    if (y < BOTTOM) rows[placeOfRow(y)].push({ it, x, y, right: x + width });
+  for (const { 0: line, 1: x, 2: y, 3: width, index } of text.matchAll(WRITTEN)) {
+    rows[placeOfRow(Number(y))]?.push({ x: Number(x), y: Number(y), right: Number(x) + Number(width), begin: index, end: index + line.length });
   }
   for (const row of rows) row.sort((one, other) => one.x - other.x);
   return rows;
+}
+
+// A text without the lines of bars.
+function without(text, bars) {
+  const parts = [];
+  let from = 0;
+  for (const { begin, end } of bars.sort((one, other) => one.begin - other.begin)) {
+    parts.push(text.slice(from, begin));
+    from = end;
+  }
+  return parts.join("") + text.slice(from);
 }
 
 // Whether a bar is that of one frame which is a pixel long or longer.
@@ -92,24 +102,21 @@ function stretchesOf(bars, { full }) {
 }
 
 /**
- * Puts shaded pixels in the place of bars that make a row look fuller than it is.
+ * A picture of the port without the bars that make a row look fuller than it is, and the shaded pixels that go in their place.
  *
- * @param {SVGElement} svg the port's picture
+ * @param {string} text the picture
  * @param {{from: bigint, to: bigint, width: number}} shown
  * @param {ReturnType<typeof timesOf>} times those of the frames that were sent, by their starts
- * @returns {boolean} whether there are such
+ * @returns {{text: string, shades: {x: number, y: number, width: number, share: number}[], number: number}} how many bars there were, too
  */
-export function putShades(svg, shown, times) {
+export function shaded(text, shown, times) {
   const rows = fullness(times, shown);
-  if (!rows[8].short) return false;
-  let found = false;
-  barsIn(svg).forEach((all, place) => {
-    const bars = rows[place].short ? misleading(all, rows[place]) : [];
-    if (!bars.length) return;
-    found = true;
-    const made = stretchesOf(bars, rows[place]).map(({ x, width, share }) => element("rect", { class: "v", x, y: bars[0].y, width, height: BAR, "fill-opacity": shadeOf(share) }));
-    bars[0].it.before(...made);
-    for (const { it } of bars) it.classList.add("u");
-  });
-  return found;
+  if (!rows[8].short) return { text, shades: [], number: 0 };
+  const found = barsIn(text).map((bars, place) => (rows[place].short ? misleading(bars, rows[place]) : []));
+  const shades = found.flatMap((bars, place) => stretchesOf(bars, rows[place]).map((it) => ({ ...it, y: bars[0].y })));
+  const all = found.flat();
+  return { text: all.length ? without(text, all) : text, shades, number: all.length };
 }
+
+/** A shaded pixel, or several alike, of a picture. */
+export const shadeOf = ({ x, y, width, share }, height = BAR) => element("rect", { class: "v", x, y, width, height, "fill-opacity": (PALEST + (1 - PALEST) * Math.min(1, share)).toFixed(3) });

@@ -55,6 +55,11 @@ export class Viewer {
     this.box.classList.add("held");
   }
 
+  /** Whether the picture is of an earlier run than what is told beside it. */
+  get isHeld() {
+    return this.box.classList.contains("held");
+  }
+
   /** Marks a frame, and shows where it is; another time is wanted where it lies outside. */
   find(frame) {
     this.frame = frame;
@@ -215,11 +220,13 @@ export class Viewer {
   #showTip(parts, x, y) {
     this.tip.replaceChildren(...parts);
     this.tip.hidden = false;
+    this.tip.style.left = "4px"; // (so that it is as wide as its words where there is room)
     const scale = this.#scale();
     const room = this.box.clientWidth - this.tip.offsetWidth - 8;
     this.tip.style.left = `${Math.max(4, Math.min(room, x * scale + 14))}px`;
     const under = y * scale + 18;
-    this.tip.style.top = `${under + this.tip.offsetHeight > this.box.clientHeight ? Math.max(4, y * scale - this.tip.offsetHeight - 12) : under}px`;
+    const over = y * scale - this.tip.offsetHeight - 12;
+    this.tip.style.top = `${under + this.tip.offsetHeight > this.box.clientHeight && over >= 4 ? over : under}px`;
   }
 
   #hide() {

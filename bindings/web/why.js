@@ -130,8 +130,8 @@ export function runOf(frames, history, rate, end, wire = sentByStart(frames)) {
   return { wire, queues, history, events, octet: 8_000_000n / BigInt(rate), end, steps: 0 };
 }
 
-// The number of the first items that pass, of a list whose items that pass come first.
-function countFirst(list, pass) {
+/** The number of the first items that pass, of a list whose items that pass come first. */
+export function countFirst(list, pass) {
   let [low, high] = [0, list.length];
   while (low < high) {
     const middle = (low + high) >> 1;
