@@ -15,7 +15,7 @@ use script::{ScriptFault, Watch, limit_fault};
 use std::alloc::Allocator;
 use std::io::Read;
 use std::marker::Model;
-use traffic::{Stream, StreamsFault, StreamsInput, read_stream_line, tell_stream};
+use traffic::{Stream, StreamsFault, StreamsInput, has_ids, read_stream_line, tell_stream};
 
 /// The streams of a table, in its order.
 #[derive(Drop)]
@@ -113,7 +113,7 @@ pub(crate) fn stream_by<A: Allocator>(streams: &Option<Streams<A>>, id: u64) -> 
 fn with_ids(stream: Stream) -> Result<Stream, ScriptFault>
     ensures { result ≡ with_ids stream }
 {
-    if u128::from(stream.first_id) + u128::from(stream.count) > 1 << 64 {
+    if !has_ids(&stream) {
         return Err(ScriptFault::BadNumber);
     }
     Ok(stream)

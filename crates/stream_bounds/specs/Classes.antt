@@ -11,6 +11,7 @@ use Rattle.abstract_port.specs.declared.Refused.{Refused}
 use Rattle.delay_bounds.specs.declared.Flow.{Flow}
 use Rattle.schedule_check.specs.Refusals.{port_with}
 use Rattle.stream_bounds.specs.declared.settings.BoundsSettings.{BoundsSettings}
+use Rattle.traffic.specs.Table.{earliest}
 use Rattle.traffic.specs.declared.table.Stream.{Stream}
 
 -- the port before a change: a new one, which has a map already where one is given
@@ -44,7 +45,7 @@ streams_of s c class streams = filter (λ x. is_class class (class_of s c x)) st
 
 -- a stream as a flow that goes on for ever
 abbrev pub flow_of : ℕ → Stream → Flow
-flow_of ps x = record { need = occupancy_of ps x.len; period = x.period; offset = x.offset }
+flow_of ps x = record { need = occupancy_of ps x.len; period = x.period; offset = earliest x }
 
 -- the flows of a class
 abbrev pub flows_of : BoundsSettings → Change → ℕ → List Stream → List Flow
@@ -58,4 +59,4 @@ ids_of s c class streams = map (λ x. x.first_id) (streams_of s c class streams)
 pub record IsPeriodic (x : Stream) : Type 0 where
   pub above : 0 < x.period
   pub period : x.period ≤ greatest_moment
-  pub offset : x.offset ≤ greatest_moment
+  pub offset : earliest x ≤ greatest_moment

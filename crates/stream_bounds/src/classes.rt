@@ -14,7 +14,7 @@ use delay_bounds::Flow;
 use port::default_class;
 use schedule_check::map_after;
 use std::alloc::Allocator;
-use traffic::Stream;
+use traffic::{Stream, earliest};
 use wire_time::{CLASSES, Frame, Rate, occupancy, sdu};
 
 /// The first frame of a stream.
@@ -95,7 +95,7 @@ fn flow_of(rate: Rate, stream: &Stream) -> Flow
     Flow {
         need: occupancy(rate, stream.len),
         period: stream.period,
-        offset: stream.offset,
+        offset: earliest(stream),
     }
 }
 

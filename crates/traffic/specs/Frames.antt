@@ -1,13 +1,14 @@
 -- The frames of streams, by the moments at which they come.
 use Rattle.std.specs.Prelude.{ℕ, zero, suc, ◌+◌, ◌-◌, ◌*◌, nat_le, List, [], ◌∷◌, Option, Some, None, if◌then◌else◌}
 use Rattle.std.specs.List.{flat_map}
+use Rattle.traffic.specs.Table.{earliest}
 use Rattle.traffic.specs.declared.table.Stream.{Stream}
 use Rattle.traffic.specs.declared.turn.Coming.{Coming}
 
 -- the frame of a stream that comes after so many others of it, and when it comes
 abbrev pub frame_after : Stream → ℕ → Coming
 frame_after s k = record {
-  moment = s.offset + s.period * k;
+  moment = earliest s + s.period * k;
   frame = record { id = s.first_id + k; priority = s.priority; len = s.len; tagged = s.tagged };
 }
 

@@ -1,5 +1,6 @@
 pub mod Faults
 pub mod TableRead
+pub mod Parts
 pub mod Table
 pub mod Frames
 pub mod Kept

@@ -1,5 +1,5 @@
 -- What the lines of a table of streams say.
-use Rattle.std.specs.Prelude.{◌≤◌, ◌^◌, ◌-◌, ◌+◌, ◌*◌, nat_le, List, ℕ, Bool, true, false, [], ◌∷◌, Option, Some, None, Result, Ok, Err, codes, if◌then◌else◌}
+use Rattle.std.specs.Prelude.{◌≤◌, ◌^◌, ◌-◌, ◌+◌, ◌*◌, nat_le, List, ℕ, Bool, true, false, [], ◌∷◌, Option, Some, None, Result, Ok, Err, unwrap_or, codes, if◌then◌else◌}
 use Rattle.std.specs.Str.{bytes_eq}
 use Rattle.wire_time.specs.Moment.{greatest_moment}
 use Rattle.words.specs.Words.{words_of}
@@ -11,31 +11,37 @@ use Rattle.script.specs.Requests.{is_comment}
 use Rattle.script.specs.declared.faults.ScriptFault.{ScriptFault}
 use Rattle.script.specs.declared.faults.ScriptFault.TheVariants.{UnknownLine, WordCount, BadNumber, ClockTooLate}
 use Rattle.traffic.specs.declared.table.Stream.{Stream}
-use Rattle.traffic.specs.declared.table.Ends.{Ends}
+use Rattle.traffic.specs.Parts.{ends_in}
+use Rattle.traffic.specs.declared.parts.Ends.{Ends}
 
 -- 1. Streams
+
+-- the earliest moment of a stream's first frame; 0 where it is not known
+abbrev pub earliest : Stream → ℕ
+earliest s = unwrap_or s.offset 0
 
 -- the times of a stream are at most the greatest moment
 pub record HasTimes (s : Stream) : Type 0 where
   pub period : s.period ≤ greatest_moment
-  pub offset : s.offset ≤ greatest_moment
+  pub offset : earliest s ≤ greatest_moment
+  pub jitter : s.jitter ≤ greatest_moment
 
 -- a stream with each frame so much later
 abbrev pub moved : ℕ → Stream → Stream
-moved from s = record s { offset = from + s.offset }
+moved from s = record s { offset = Some (from + earliest s) }
 
 -- the ids of a stream's frames are all less than 2^64
 abbrev pub has_ids : Stream → Bool
 has_ids s = nat_le (s.first_id + s.count) (2 ^ 64)
 
--- its last frame comes by the greatest moment
+-- its last frame comes by the greatest moment, however late it may be
 abbrev pub ends_in_time : Stream → Bool
-ends_in_time s = nat_le (s.offset + s.period * (s.count - 1)) greatest_moment
+ends_in_time s = nat_le (earliest s + s.jitter + s.period * (s.count - 1)) greatest_moment
 
 -- a stream whose frames can be frames of a script
 pub record IsStream (s : Stream) : Type 0 where
   pub ids : s.first_id + s.count ≤ 2 ^ 64
-  pub ends : s.offset + s.period * (s.count - 1) ≤ greatest_moment
+  pub ends : earliest s + s.jitter + s.period * (s.count - 1) ≤ greatest_moment
 
 -- such a stream, or its fault
 abbrev pub judged_now : Stream → Result Stream ScriptFault
@@ -50,38 +56,52 @@ abbrev pub by_number : Option ℕ → (ℕ → Result Stream ScriptFault) → Re
 by_number None f = Err BadNumber
 by_number (Some n) f = f n
 
--- a stream of words: ID, PRIORITY, LEN, PERIOD, OFFSET and COUNT, each a number of its width or a time
+-- a moment, or any, of which nothing is known
+abbrev pub offset_at : Option ℕ → Result (Option ℕ) ScriptFault
+offset_at (Some moment) = Ok (Some moment)
+offset_at None = Err BadNumber
+
+abbrev pub offset_in : List ℕ → Result (Option ℕ) ScriptFault
+offset_in w = if bytes_eq w (codes "any") then Ok None else offset_at (time_in greatest_moment w)
+
+abbrev pub by_offset : Result (Option ℕ) ScriptFault → (Option ℕ → Result Stream ScriptFault) → Result Stream ScriptFault
+by_offset (Ok offset) f = f offset
+by_offset (Err fault) f = Err fault
+
+-- octets of the shortest frame: of the longest, where none are said; they are at most those
+abbrev pub no_longer : (len shortest : ℕ) → Option ℕ
+no_longer len shortest = if nat_le shortest len then Some shortest else None
+
+abbrev pub shortest_of : Option ℕ → ℕ → Option ℕ
+shortest_of said len = no_longer len (unwrap_or said len)
+
+-- a stream of words: ID, PRIORITY, LEN, PERIOD, OFFSET and COUNT, each a number of its width or a time, and OFFSET also any
 abbrev pub stream_in_words : List ℕ → List ℕ → List ℕ → List ℕ → List ℕ → List ℕ → Ends → Result Stream ScriptFault
 stream_in_words id priority len period offset count ends =
     by_number (number_in 10 (2 ^ 64 - 1) id) (λ id.
     by_number (number_in 10 (2 ^ 8 - 1) priority) (λ priority.
     by_number (number_in 10 (2 ^ 32 - 1) len) (λ len.
     by_number (time_in greatest_moment period) (λ period.
-    by_number (time_in greatest_moment offset) (λ offset.
+    by_offset (offset_in offset) (λ offset.
     by_number (number_in 10 (2 ^ 32 - 1) count) (λ count.
-    Ok (record { first_id = id; priority = priority; len = len; period = period; offset = offset; count = count; tagged = ends.tagged; deadline = ends.deadline })))))))
+    by_number (shortest_of ends.shortest len) (λ shortest.
+    Ok (record {
+      first_id = id;
+      priority = priority;
+      len = len;
+      shortest = shortest;
+      period = period;
+      offset = offset;
+      jitter = unwrap_or ends.jitter 0;
+      count = count;
+      tagged = ends.tagged;
+      deadline = ends.deadline;
+    }))))))))
 
 -- by the next word and those after it, where there is one
 abbrev pub by_word : List (List ℕ) → (List ℕ → List (List ℕ) → Result Stream ScriptFault) → Result Stream ScriptFault
 by_word [] f = Err WordCount
 by_word (w ∷ ws) f = f w ws
-
--- with a deadline, where its word is a time
-abbrev pub with_deadline : Bool → Option ℕ → Result Ends ScriptFault
-with_deadline tagged (Some deadline) = Ok (record { tagged = tagged; deadline = Some deadline })
-with_deadline tagged None = Err BadNumber
-
--- what the last words say where a deadline may still come: there are none, or deadline and a time
-abbrev pub deadline_in : Bool → List (List ℕ) → Result Ends ScriptFault
-deadline_in tagged [] = Ok (record { tagged = tagged; deadline = None })
-deadline_in tagged (w ∷ []) = Err WordCount
-deadline_in tagged (w ∷ time ∷ []) = if bytes_eq w (codes "deadline") then with_deadline tagged (time_in greatest_moment time) else Err WordCount
-deadline_in tagged (w ∷ time ∷ more ∷ ws) = Err WordCount
-
--- what the last words say: tagged or nothing, and then a deadline or nothing
-abbrev pub ends_in : List (List ℕ) → Result Ends ScriptFault
-ends_in [] = deadline_in false []
-ends_in (w ∷ ws) = if bytes_eq w (codes "tagged") then deadline_in true ws else deadline_in false (w ∷ ws)
 
 -- by the last words
 abbrev pub by_ends : Result Ends ScriptFault → (Ends → Result Stream ScriptFault) → Result Stream ScriptFault

@@ -21,7 +21,9 @@ pub use Rattle.traffic.specs.Outcome.{merging, outcome_among, outcome_by_lines, 
 pub use Rattle.traffic.specs.Room.{AreCounted, IsRoomFor, IsRoomLeft, clock_count, counted_line, counted_with, crowded_line, limit_passed, line_feeds, lines_known, lines_taken, room_beside, unless_passed}
 unfoldable pub use Rattle.traffic.specs.Room.{counted_in, line_count, passed_on}
 pub use Rattle.traffic.specs.TableRead.{ReadsTable}
-pub use Rattle.traffic.specs.Table.{HasTimes, IsStream, Table, deadline_in, ends_in, judged, line_judged, line_said, moved, stream_in_words, stream_said, table_of}
+pub use Rattle.traffic.specs.Table.{HasTimes, IsStream, Table, earliest, ends_in_time, has_ids, judged, line_judged, line_said, moved, offset_in, shortest_of, stream_in_words, stream_said, table_of}
+pub use Rattle.traffic.specs.Parts.{ends_in, is_part, length_of, said_by, tagged_in, time_of, values_in}
+unfoldable pub use Rattle.traffic.specs.Parts.{are_parts, value_of}
 pub use Rattle.traffic.specs.Tournament.{IsBefore, IsNode, IsTournament, first_of_two, found_at, head_of, is_before}
 unfoldable pub use Rattle.traffic.specs.Tournament.{heads_from}
 pub use Rattle.traffic.specs.Turns.{earlier, left_of, left_of_all}

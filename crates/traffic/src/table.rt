@@ -1,8 +1,9 @@
 //! What the lines of a table of streams say.
 
-ghost use Rattle.std.specs.Prelude.{◌≡◌, ◌≤◌, ◌∷◌, IfSome, IfOk, true};
-ghost use Rattle.traffic.specs.Words.{greatest_moment, words_of, words_left, deadline_in, ends_in, judged, line_judged, line_said, moved, stream_in_words, stream_said, HasTimes, IsStream};
+ghost use Rattle.std.specs.Prelude.{◌≡◌, ◌≤◌, IfSome, IfOk};
+ghost use Rattle.traffic.specs.Words.{earliest, ends_in_time, greatest_moment, has_ids, judged, line_judged, line_said, moved, offset_in, shortest_of, stream_in_words, stream_said, words_left, words_of, HasTimes, IsStream};
 
+use crate::parts::{Ends, ends_in};
 use script::{ScriptFault, Watch};
 use times::time;
 use wire_time::MAX_MOMENT;
@@ -15,12 +16,19 @@ pub struct Stream {
     pub first_id: u64,
     /// The priority of the frames: 0 to 15 have a class.
     pub priority: u8,
-    /// Octets of a frame from the destination address to the end of the payload, without the frame check sequence.
+    /// Octets of a frame, of the longest, from the destination address to the end of the payload, without the frame
+    /// check sequence.
     pub len: u32,
+    /// Octets of the shortest, at most those of the longest.
+    pub shortest: u32,
     /// From one frame to the next, in picoseconds.
     pub period: u128,
-    /// The moment of the first frame, in picoseconds.
-    pub offset: u128,
+    /// The earliest moment of the first frame, in picoseconds; each further one has its own a period later. None
+    /// where nothing is known of when frames come, but how close together they do: n of them span at least n - 1
+    /// periods without the jitter.
+    pub offset: Option<u128>,
+    /// By how much a frame may come later than its earliest moment, in picoseconds.
+    pub jitter: u128,
     /// How many frames come.
     pub count: u32,
     /// Whether the frames have a customer VLAN tag.
@@ -29,16 +37,30 @@ pub struct Stream {
     pub deadline: Option<u128>,
 }
 
+/// The earliest moment of the first frame of a stream, in picoseconds; 0 where it isn't known.
+pub fn earliest(stream: &Stream) -> u128
+    ensures { result ≡ earliest stream.now }
+{
+    stream.offset.unwrap_or(0)
+}
+
 /// A stream with each frame so much later, in picoseconds.
 fn moved(stream: Stream, from: u128) -> Stream
     requires from { from ≤ greatest_moment }
-    requires offset { stream.offset ≤ greatest_moment }
+    requires times { HasTimes stream }
     ensures moved { result ≡ moved from stream }
 {
     Stream {
-        offset: from + stream.offset,
+        offset: Some(from + earliest(&stream)),
         ..stream
     }
+}
+
+/// Whether the ids of a stream's frames are all less than 2^64.
+pub fn has_ids(stream: &Stream) -> bool
+    ensures { result ≡ has_ids stream.now }
+{
+    u128::from(stream.first_id) + u128::from(stream.count) <= 1 << 64
 }
 
 /// A stream whose frames can be frames of a script, each so much later, in picoseconds; or its fault.
@@ -49,11 +71,11 @@ pub(crate) fn judged(stream: Stream, from: u128) -> Result<Stream, ScriptFault>
     ensures fits { IfOk result IsStream }
 {
     let stream = moved(stream, from);
-    if u128::from(stream.first_id) + u128::from(stream.count) > 1 << 64 {
+    if !has_ids(&stream) {
         return Err(ScriptFault::BadNumber);
     }
     let others = u128::from(stream.count.saturating_sub(1));
-    if stream.offset + stream.period * others > MAX_MOMENT {
+    if earliest(&stream) + stream.jitter + stream.period * others > MAX_MOMENT {
         return Err(ScriptFault::ClockTooLate);
     }
     Ok(stream)
@@ -70,16 +92,34 @@ struct StreamWords<'a> {
     count: &'a [u8],
 }
 
-/// What a stream's line says at its end: whether the frames are tagged, and their deadline, in picoseconds, where there
-/// is one.
-#[derive(Clone, Copy, Debug, PartialEq, Eq)]
-pub(crate) struct Ends {
-    pub tagged: bool,
-    pub deadline: Option<u128>,
+/// The moment that a word says, in picoseconds; None for `any`.
+fn offset_in(word: &[u8]) -> Result<Option<u128>, ScriptFault>
+    ensures said { result ≡ offset_in word.now }
+    ensures within { IfOk result (λ offset. IfSome offset (λ moment. moment ≤ greatest_moment)) }
+{
+    if word == b"any".as_slice() {
+        return Ok(None);
+    }
+    match time(word, MAX_MOMENT) {
+        Some(moment) => Ok(Some(moment)),
+        None => Err(ScriptFault::BadNumber),
+    }
+}
+
+/// Octets of the shortest frame, where the longest has so many; or none where that is shorter.
+fn shortest_of(said: Option<u32>, len: u32) -> Option<u32>
+    ensures { result ≡ shortest_of said len }
+{
+    let shortest = said.unwrap_or(len);
+    if shortest > len {
+        return None;
+    }
+    Some(shortest)
 }
 
 /// The stream that words say.
 fn stream_in_words(words: &StreamWords<'_>, ends: Ends) -> Result<Stream, ScriptFault>
+    requires { IfSome ends.jitter (λ time. time ≤ greatest_moment) }
     ensures times { IfOk result HasTimes }
     ensures said { result ≡ stream_in_words words.now.id.now words.now.priority.now words.now.len.now words.now.period.now words.now.offset.now words.now.count.now ends }
 {
@@ -95,63 +135,25 @@ fn stream_in_words(words: &StreamWords<'_>, ends: Ends) -> Result<Stream, Script
     let Some(period) = time(words.period, MAX_MOMENT) else {
         return Err(ScriptFault::BadNumber);
     };
-    let Some(offset) = time(words.offset, MAX_MOMENT) else {
+    let offset = offset_in(words.offset)?;
+    let Some(count) = number(words.count, u128::from(u32::MAX)) else {
         return Err(ScriptFault::BadNumber);
     };
-    let Some(count) = number(words.count, u128::from(u32::MAX)) else {
+    let Some(shortest) = shortest_of(ends.shortest, len as u32) else {
         return Err(ScriptFault::BadNumber);
     };
     Ok(Stream {
         first_id: id as u64,
         priority: priority as u8,
         len: len as u32,
+        shortest,
         period,
         offset,
+        jitter: ends.jitter.unwrap_or(0),
         count: count as u32,
         tagged: ends.tagged,
         deadline: ends.deadline,
     })
-}
-
-/// The end of a line that has this word and those after it, where a deadline may still come.
-fn deadline_in(tagged: bool, word: &[u8], mut words: Words<'_>) -> Result<Ends, ScriptFault>
-    ensures { result ≡ deadline_in tagged (word.now ∷ words_left words.entry) }
-{
-    let Some(last) = words.next_word() else {
-        return Err(ScriptFault::WordCount);
-    };
-    if words.next_word().is_some() || word != b"deadline".as_slice() {
-        return Err(ScriptFault::WordCount);
-    }
-    match time(last, MAX_MOMENT) {
-        Some(deadline) => Ok(Ends {
-            tagged,
-            deadline: Some(deadline),
-        }),
-        None => Err(ScriptFault::BadNumber),
-    }
-}
-
-/// What the last words of a line say: `tagged` or nothing, and then `deadline` with a time or nothing.
-fn ends_in(mut words: Words<'_>) -> Result<Ends, ScriptFault>
-    ensures { result ≡ ends_in (words_left words.entry) }
-{
-    let Some(first) = words.next_word() else {
-        return Ok(Ends {
-            tagged: false,
-            deadline: None,
-        });
-    };
-    if first != b"tagged".as_slice() {
-        return deadline_in(false, first, words);
-    }
-    let Some(word) = words.next_word() else {
-        return Ok(Ends {
-            tagged: true,
-            deadline: None,
-        });
-    };
-    deadline_in(true, word, words)
 }
 
 /// The stream that the words after the first say.

@@ -6,7 +6,7 @@ ghost use Rattle.wire_time.specs.Moment.{greatest_moment};
 ghost use Rattle.traffic.specs.Frames.{next_of_stream};
 ghost use Rattle.traffic.specs.Table.{IsStream};
 
-use crate::table::Stream;
+use crate::table::{Stream, earliest};
 use wire_time::Frame;
 
 /// A frame that is to come.
@@ -29,7 +29,7 @@ fn frame_after(stream: &Stream, come: u32) -> Option<Coming>
         return None;
     }
     Some(Coming {
-        moment: stream.offset + stream.period * u128::from(come),
+        moment: earliest(stream) + stream.period * u128::from(come),
         frame: Frame {
             id: stream.first_id + u64::from(come),
             priority: stream.priority,
